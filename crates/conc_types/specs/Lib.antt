@@ -1,0 +1,12 @@
+pub mod Words
+pub mod Texts
+pub mod Decimals
+pub mod Stages
+pub mod Fields
+pub mod Shifts
+pub mod Sets
+pub mod Setups
+pub mod Scripts
+pub mod Tables
+pub mod Expansion
+pub mod Plans

@@ -1,0 +1,17 @@
+ghost use Rattle.std.specs.Prelude.{⊤};
+
+use std::alloc::AllocError;
+use thiserror::Error;
+
+/// Memory was wanted, and there was none.
+#[derive(Clone, Copy, Debug, PartialEq, Eq, Error)]
+#[error("no memory")]
+pub struct NoMemory;
+
+impl From<AllocError> for NoMemory {
+    ghost from_gives = { λ _ _. ⊤ };
+
+    fn from(_: AllocError) -> Self {
+        NoMemory
+    }
+}

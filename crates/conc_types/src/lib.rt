@@ -1,0 +1,37 @@
+//! The values of the batch system: what a setup, a script and a clock say, the events of a
+//! history, and what stands after them.
+#![tactic(auto)]
+
+mod decimal;
+mod error;
+mod event;
+mod facts;
+mod item;
+mod manager;
+mod name;
+mod plan;
+mod program;
+mod refusal;
+mod script;
+mod seq;
+mod set;
+mod setup;
+mod stage;
+mod table;
+
+pub use decimal::{put_decimal, read_decimal};
+pub use error::NoMemory;
+pub use event::{Event, Extent, Moment, Outcome, Phase, PlaceId, RequestId, Status};
+pub use facts::{Facts, Standing};
+pub use item::{Entry, Item, Reach, Scope};
+pub use manager::{Manager, Rule, Shift};
+pub use name::{Name, is_name};
+pub use plan::{Plan, Req};
+pub use program::{Filter, Job, Program, Test};
+pub use refusal::{FileKind, Refusal};
+pub use script::{Act, Order, Reading, Readings, Script};
+pub use seq::Seq;
+pub use set::SetDef;
+pub use setup::Setup;
+pub use stage::{Stage, StageSet};
+pub use table::{Bytes, Row, Table, Text};

@@ -1,0 +1,66 @@
+ghost use Rattle.std.specs.Prelude.{◌≡◌, IsTrue};
+ghost use Rattle.std.specs.List.{list_all};
+ghost use Rattle.std.specs.Str.{is_utf8 as is_utf8_of};
+ghost use Rattle.conc_types.specs.Texts.{is_name as is_name_of, is_printable as is_printable_of};
+
+use std::marker::Model;
+
+/// A name: 1 to 80 bytes of UTF-8 without control bytes, which are those below 32 and 127.
+/// Contracts see its bytes.
+#[derive(Drop)]
+pub struct Name {
+    bytes: Vec<u8>,
+}
+
+impl Model for Name {
+    ghost use Rattle.std.specs.Prelude.{List, ℕ, IsTrue};
+    ghost use Rattle.conc_types.specs.Texts.{is_name};
+
+    ghost Value = { List ℕ };
+
+    ghost view = { λ n. n.bytes.items };
+
+    ghost invariant = { λ n. IsTrue (is_name n.bytes.items) };
+}
+
+impl Name {
+    /// The name with these bytes, which `is_name` accepts. It takes no memory.
+    pub fn from_vec(bytes: Vec<u8>) -> Self
+        requires { IsTrue (is_name_of bytes.items) }
+        ensures { result ≡ bytes.items }
+    {
+        Name { bytes }
+    }
+
+    /// The bytes of the name.
+    pub fn as_bytes(&self) -> &[u8]
+        ensures { result.now ≡ self.now }
+    {
+        self.bytes.as_slice()
+    }
+}
+
+fn is_printable(byte: u8) -> bool
+    ensures { result ≡ is_printable_of byte }
+{
+    32 <= byte && byte != 127
+}
+
+fn are_printable(bytes: &[u8]) -> bool
+    ensures { result ≡ list_all is_printable_of bytes.now }
+{
+    bytes.iter().all(|byte| is_printable(*byte))
+}
+
+fn is_utf8(bytes: &[u8]) -> bool
+    ensures { result ≡ is_utf8_of bytes.now }
+{
+    str::from_utf8(bytes).is_ok()
+}
+
+/// Whether these bytes are a name.
+pub fn is_name(bytes: &[u8]) -> bool
+    ensures { result ≡ is_name_of bytes.now }
+{
+    1 <= bytes.len() && bytes.len() <= 80 && are_printable(bytes) && is_utf8(bytes)
+}
