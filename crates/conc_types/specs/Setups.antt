@@ -1,6 +1,6 @@
 -- What an accepted setup keeps.
-use Rattle.std.specs.Prelude.{ℕ, ◌%◌, Bool, ◌&&◌, ◌||◌, ◌==◌, nat_le, nat_lt, if◌then◌else◌, List, ◌++◌, length, map, Option, is_none, is_some}
-use Rattle.std.specs.List.{enumerate_from, list_all}
+use Rattle.std.specs.Prelude.{ℕ, Bool, ◌&&◌, nat_lt, List, ◌++◌, length, map}
+use Rattle.std.specs.List.{list_all}
 use Rattle.std.specs.Str.{bytes_eq}
 use Rattle.conc_types.specs.declared.item.Entry.{Entry}
 use Rattle.conc_types.specs.declared.item.Item.{Item}
@@ -9,9 +9,8 @@ use Rattle.conc_types.specs.declared.manager.Manager.{Manager}
 use Rattle.conc_types.specs.declared.program.Program.{Program}
 use Rattle.conc_types.specs.declared.manager.Rule.{Rule}
 use Rattle.conc_types.specs.declared.set.SetDef.{SetDef}
-use Rattle.conc_types.specs.declared.manager.Shift.{Shift}
 use Rattle.conc_types.specs.declared.stage.Stage.{Stage}
-use Rattle.conc_types.specs.Words.{are_distinct, greatest, is_empty, none_or}
+use Rattle.conc_types.specs.Words.{are_distinct, none_or}
 
 -- ---- names
 

@@ -1,5 +1,5 @@
 -- Work shifts and rules.
-use Rattle.std.specs.Prelude.{ℕ, ◌%◌, Bool, ◌&&◌, ◌||◌, ◌==◌, nat_le, nat_lt, if◌then◌else◌, List, map, Option, is_none, is_some}
+use Rattle.std.specs.Prelude.{ℕ, if◌then◌else◌, List, map}
 use Rattle.conc_types.specs.declared.manager.Shift.{Shift}
 use Rattle.conc_types.specs.Words.{greatest, is_empty}
 
