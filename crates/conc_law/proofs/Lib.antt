@@ -1,2 +1,4 @@
 pub mod FirstBy
 pub mod EqualEvents
+pub mod Numbering
+pub mod ForcedKinds
