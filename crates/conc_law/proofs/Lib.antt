@@ -6,3 +6,4 @@ pub mod Symmetry
 pub mod Prefixes
 pub mod Running
 pub mod BegunStages
+pub mod AloneLawful
