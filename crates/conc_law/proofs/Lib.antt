@@ -7,3 +7,4 @@ pub mod Prefixes
 pub mod Running
 pub mod BegunStages
 pub mod AloneLawful
+pub mod LawfulIsPast
