@@ -8,3 +8,6 @@ pub mod Running
 pub mod BegunStages
 pub mod AloneLawful
 pub mod LawfulIsPast
+pub mod Positions
+pub mod AloneHistory
+pub mod AloneUnique
