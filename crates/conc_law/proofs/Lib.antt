@@ -1,0 +1,2 @@
+pub mod FirstBy
+pub mod EqualEvents
