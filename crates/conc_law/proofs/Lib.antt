@@ -7,3 +7,10 @@ pub mod Prefixes
 pub mod Running
 pub mod BegunStages
 pub mod AloneLawful
+pub mod Options
+pub mod FactsAt
+pub mod ForcedBy
+pub mod Comes
+pub mod RunningPlace
+pub mod RunningIsLet
+pub mod OnePlace
