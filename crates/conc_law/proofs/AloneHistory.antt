@@ -1,5 +1,5 @@
 -- A run without workers that goes on from a lawful history makes a lawful one.
-use Rattle.std.proofs.Common.{◌≡◌, ℕ, zero, suc, ◌+◌, ◌<◌, ◌≤◌, true, false, not, List, [], ◌∷◌, ◌++◌, length, reverse, take, Option, None, Some, refl, sym, ◌∙◌, ap, arith}
+use Rattle.std.proofs.Common.{◌≡◌, ℕ, zero, suc, ◌+◌, ◌≤◌, true, false, not, List, [], ◌∷◌, ◌++◌, length, reverse, take, Option, Some, refl, sym, ◌∙◌, ap, arith}
 use Rattle.std.specs.Prelude.{slice_get}
 use Rattle.std.proofs.lemmas.Bool.{and_from, cond-false}
 use Rattle.std.proofs.lemmas.List.{length-append, length-reverse, take_all, take_at}
@@ -18,10 +18,12 @@ use Rattle.conc_law.proofs.Positions.{is_empty-long, reverse-push, slice_get-som
 
 -- ---- the opening
 
+-- a resume may follow any event
 resume_follows : (plan : Plan) (readings : Option (List Reading)) (past : List Event) → is_empty past ≡ false → may_follow plan readings past event.Resume ≡ true
 unfolding may_follow may_come standing
 resume_follows plan readings past h = ap not h
 
+-- a resume after a lawful list makes a lawful one
 resume_lawful : (plan : Plan) (readings : List Reading) (past : List Event) → is_past plan past ≡ true → is_empty past ≡ false → is_lawful plan readings (event.Resume ∷ past) ≡ true
 unfolding is_lawful
 resume_lawful plan readings past h some = and_from _ _ h (resume_follows plan (Some readings) past some)
@@ -36,6 +38,7 @@ opening-lawful plan readings (e ∷ es) h =
 
 -- ---- one event more
 
+-- what comes next in a run without workers makes a lawful list of one
 next_lawful : (plan : Plan) (readings : List Reading) (past : List Event) (e : Event) → is_lawful plan readings past ≡ true → next_alone plan readings past ≡ Some e
     → is_lawful plan readings (e ∷ past) ≡ true
 unfolding is_lawful
@@ -45,6 +48,7 @@ next_lawful plan readings past e h next =
 
 -- ---- all of them
 
+-- what begins with a lawful front, and goes on by what comes next, is lawful up to each position
 lawful_to : (plan : Plan) (readings : List Reading) (n : ℕ) (history : List Event) → is_lawful plan readings (reverse (take n history)) ≡ true → Follows plan readings n history
     → (k : ℕ) → n + k ≤ length history → is_lawful plan readings (reverse (take (n + k) history)) ≡ true
 lawful_to plan readings n history start each zero h = let same : n + zero ≡ n = omega arith in ap (λ i. is_lawful plan readings (reverse (take i history))) same ∙ start

@@ -1,8 +1,7 @@
 -- From one beginning a run without workers makes one history.
-use Rattle.std.proofs.Common.{◌≡◌, ◌⊎◌, ℕ, zero, suc, ◌+◌, ◌<◌, ◌≤◌, Bool, true, false, not, ◌&&◌, ◌||◌, List, [], ◌∷◌, ◌++◌, length, reverse, take, Option, None, Some, is_none, refl, sym, ◌∙◌, ap, inl, inr, arith}
+use Rattle.std.proofs.Common.{◌≡◌, ℕ, zero, suc, ◌+◌, ◌<◌, ◌≤◌, Bool, true, false, not, ◌&&◌, List, [], ◌∷◌, ◌++◌, length, reverse, take, Option, None, Some, is_none, refl, sym, ◌∙◌, ap, inl, inr, arith}
 use Rattle.std.specs.Prelude.{slice_get}
 use Rattle.std.specs.List.{find, list_any}
-use Rattle.std.specs.Option.{option_and_then, option_or}
 use Rattle.std.proofs.lemmas.Bool.{and_left, and_parts, cases_order, not-true, or_parts}
 use Rattle.std.proofs.lemmas.List.{take_all}
 use Rattle.conc_types.specs.declared.event.Event.{Event}
@@ -20,6 +19,7 @@ use Rattle.conc_law.proofs.Positions.{slice_get-some, take-suc_at}
 
 -- ---- where a history is finished nothing comes next
 
+-- an option that passes the test for none is none
 none_from_is_none : {T : Type 0} (o : Option T) → is_none o ≡ true → o ≡ None
 none_from_is_none None h = refl
 none_from_is_none (Some x) h = cc
@@ -32,19 +32,23 @@ find-none test less (x ∷ xs) h k =
     let miss : less x ≡ false = k x p.0 in
     rw miss (find-none test less xs p.1 k)
 
+-- where nothing runs nothing ends
 first_end-none : (plan : Plan) (s : Standing) → list_any (runs_somewhere s) plan.requests ≡ false → first_end plan s ≡ None
 unfolding first_end
 first_end-none plan s h = rw (find-none (runs_somewhere s) (runs_somewhere s) plan.requests h (λ r k. k))
 
+-- where nothing may start nothing starts
 first_start-none : (plan : Plan) (s : Standing) → list_any (may_start_somewhere plan s) plan.requests ≡ false → first_start plan s ≡ None
 unfolding first_start
 first_start-none plan s h =
     rw (find-none (may_start_somewhere plan s) (λ x. may_start_somewhere plan s x && not (list_any (λ y. may_start_somewhere plan s y && precedes y x) plan.requests)) plan.requests h (λ r k. and_left _ _ k))
 
+-- without a reading there is no tick
 next_tick-none : (plan : Plan) (s : Standing) (next : Option Reading) → next ≡ None → next_tick plan s next ≡ None
 unfolding next_tick
 next_tick-none plan s next h = rw h
 
+-- at rest and without a reading nothing is chosen
 choice-none : (plan : Plan) (s : Standing) (next : Option Reading) → is_at_rest plan s ≡ true → next ≡ None → choice plan s next ≡ None
 unfolding choice is_at_rest
 choice-none plan s next rest none =
@@ -64,6 +68,7 @@ next_alone-finished plan readings history h =
 
 -- ---- two that begin alike are alike
 
+-- two that begin alike, and go on by what comes next, agree up to each position of both
 agree_to : (plan : Plan) (readings : List Reading) (n : ℕ) (one another : List Event) → take n one ≡ take n another → Follows plan readings n one → Follows plan readings n another
     → (k : ℕ) → n + k ≤ length one → n + k ≤ length another → take (n + k) one ≡ take (n + k) another
 agree_to plan readings n one another start f g zero h k =

@@ -10,7 +10,7 @@ use Rattle.conc_types.specs.declared.facts.Standing.{Standing}
 use Rattle.conc_types.specs.declared.plan.Plan.{Plan}
 use Rattle.conc_types.specs.declared.script.Reading.{Reading}
 use Rattle.conc_types.specs.Scripts.{are_in_order}
-use Rattle.conc_types.specs.Words.{none_or, some_and}
+use Rattle.conc_types.specs.Words.{none_or}
 use Rattle.conc_law.specs.Events.{event_eq}
 use Rattle.conc_law.specs.Kinds.{is_resume}
 use Rattle.conc_law.specs.Law.{is_lawful, is_past, may_follow}
@@ -20,14 +20,17 @@ use Rattle.conc_law.specs.Readings.{life_readings, next_reading, ticks}
 use Rattle.conc_law.specs.Standing.{is_not_earlier, now, standing}
 use Rattle.conc_law.proofs.EqualEvents.{moment_same}
 use Rattle.conc_law.proofs.ForcedKinds.{forced_kind, is_forced_kind}
+use Rattle.conc_law.proofs.Options.{some_and-some}
 
 -- ---- lists
 
+-- an element of a list passes where its first does and each later one does
 passes_at : {T : Type 0} (test : T → Bool) (y : T) (ys : List T) (x : T) → test y ≡ true → ((k : ℕ) → slice_get ys k ≡ Some x → test x ≡ true)
     → (i : ℕ) → slice_get (y ∷ ys) i ≡ Some x → test x ≡ true
 passes_at test y ys x hit later zero h = let e : y ≡ x = cc in subst (λ z. test z ≡ true) e hit
 passes_at test y ys x hit later (suc k) h = later k h
 
+-- each element of a filtered list passes the filter
 filter-passes : {T : Type 0} (test : T → Bool) (xs : List T) (i : ℕ) (x : T) → slice_get (filter test xs) i ≡ Some x → test x ≡ true
 filter-passes test [] i x h = cc
 filter-passes test (y ∷ ys) i x h = elim (cases_Bool (test y)) [
@@ -36,6 +39,7 @@ filter-passes test (y ∷ ys) i x h = elim (cases_Bool (test y)) [
   | inr miss ↦ filter-passes test ys i x (ap (λ l. slice_get l i) (sym (cond-false (test y) (y ∷ filter test ys) (filter test ys) miss)) ∙ h)
 ]
 
+-- what holds of all elements holds of those that a filter keeps
 all-filter : {T : Type 0} (p test : T → Bool) (xs : List T) → list_all p xs ≡ true → list_all p (filter test xs) ≡ true
 all-filter p test [] h = refl
 all-filter p test (y ∷ ys) h =
@@ -46,6 +50,7 @@ all-filter p test (y ∷ ys) h =
       | inr miss ↦ ap (list_all p) (cond-false (test y) (y ∷ filter test ys) (filter test ys) miss) ∙ r
     ]
 
+-- readings in order stay in order under a filter
 in_order-filter : (test : Reading → Bool) (xs : List Reading) → are_in_order xs ≡ true → are_in_order (filter test xs) ≡ true
 in_order-filter test [] h = refl
 in_order-filter test (y ∷ ys) h =
@@ -57,11 +62,13 @@ in_order-filter test (y ∷ ys) h =
       | inr miss ↦ ap are_in_order (cond-false (test y) (y ∷ filter test ys) (filter test ys) miss) ∙ r
     ]
 
+-- what holds of all elements holds of the one at a position
 all-get : {T : Type 0} (p : T → Bool) (xs : List T) (i : ℕ) (x : T) → list_all p xs ≡ true → slice_get xs i ≡ Some x → p x ≡ true
 all-get p [] i x h g = cc
 all-get p (y ∷ ys) zero x h g = let e : y ≡ x = cc in subst (λ z. p z ≡ true) e (and_parts _ _ h).0
 all-get p (y ∷ ys) (suc i) x h g = all-get p ys i x (and_parts (p y) _ h).1 g
 
+-- of readings in order none is earlier than the one before it
 in_order-next : (xs : List Reading) (i : ℕ) (q r : Reading) → are_in_order xs ≡ true → slice_get xs i ≡ Some q → slice_get xs (suc i) ≡ Some r
     → nat_le q.moment.seconds r.moment.seconds ≡ true
 in_order-next [] i q r h a b = cc
@@ -78,16 +85,13 @@ LastTick readings past =
     ((ticks past ≡ 0) × (now past ≡ now (earlier_lives past)))
     ⊎ ((k : ℕ) × (q : Reading) × (ticks past ≡ suc k) × (slice_get (life_readings readings past) k ≡ Some q) × (now past ≡ Some q.moment))
 
-some-and : {T : Type 0} (test : T → Bool) (o : Option T) → some_and test o ≡ true → (x : T) × (o ≡ Some x) × (test x ≡ true)
-some-and test None h = cc
-some-and test (Some x) h = (x, refl, h)
-
+-- a tick that obeys is the next reading, and nothing is due
 tick_by : (plan : Plan) (s : Standing) (next : Option Reading) (t : Moment) → (due : Option Event) → none_or is_forced_kind due ≡ true
     → obeys plan s (Some next) (event.Tick t) due ≡ true → (q : Reading) × (next ≡ Some q) × (t ≡ q.moment) × (due ≡ None)
 unfolding is_allowed may_tick event_eq
 tick_by plan s next t None kind h =
     let p : (q : Reading) × (next ≡ Some q) × ((t.seconds == q.moment.seconds && may_take plan s q) ≡ true) =
-    some-and (λ q. t.seconds == q.moment.seconds && may_take plan s q) next h in
+    some_and-some (λ q. t.seconds == q.moment.seconds && may_take plan s q) next h in
     (p.0, p.1, moment_same t p.0.moment (eqb-true t.seconds p.0.moment.seconds (and_parts _ _ p.2).0), refl)
 tick_by plan s next t (Some (event.Tick u)) kind h = cc
 tick_by plan s next t (Some _) kind h = cc
@@ -97,12 +101,14 @@ abbrev IsRead : Plan → List Reading → List Event → Moment → Type 0
 IsRead plan readings past t =
     (q : Reading) × (next_reading readings past ≡ Some q) × (t ≡ q.moment) × (forced plan (standing plan past) ≡ None)
 
+-- a tick that may follow is the next reading, and nothing is forced
 tick_read : (plan : Plan) (readings : List Reading) (past : List Event) (t : Moment) → may_follow plan (Some readings) past (event.Tick t) ≡ true
     → IsRead plan readings past t
 unfolding may_follow may_come
 tick_read plan readings past t h =
     tick_by plan (standing plan past) (next_reading readings past) t (forced plan (standing plan past)) (forced_kind plan (standing plan past)) h
 
+-- the last tick of a lawful list is the last reading taken
 last_tick : (plan : Plan) (readings : List Reading) (past : List Event) → is_lawful plan readings past ≡ true → LastTick readings past
 unfolding is_lawful ticks now earlier_lives last_life life_readings next_reading
 last_tick plan readings [] h = inl (refl, refl)
@@ -114,6 +120,7 @@ last_tick plan readings (_ ∷ past) h = last_tick plan readings past (and_parts
 
 -- ---- one event
 
+-- the next reading is not earlier than the last tick
 not_earlier : (readings : List Reading) (past : List Event) (q : Reading) → are_in_order readings ≡ true → next_reading readings past ≡ Some q → LastTick readings past
     → is_not_earlier (now past) q.moment ≡ true
 unfolding next_reading life_readings is_not_earlier
@@ -126,10 +133,12 @@ not_earlier readings past q order next (inr some) =
     ap (none_or (λ n. nat_le n.seconds q.moment.seconds)) some.4
     ∙ in_order-next (life_readings readings past) some.0 some.1 q (in_order-filter (λ r. is_not_earlier (now (earlier_lives past)) r.moment) readings order) some.3 here
 
+-- a tick that is not earlier than the last may follow where no readings are known
 tick_without : (plan : Plan) (past : List Event) (t : Moment) → forced plan (standing plan past) ≡ None → is_not_earlier (now past) t ≡ true → may_follow plan None past (event.Tick t) ≡ true
 unfolding may_follow may_come is_allowed may_tick standing
 tick_without plan past t none h = ap (obeys plan (standing plan past) None (event.Tick t)) none ∙ h
 
+-- what may follow a lawful list may follow it where no readings are known
 same_but_tick : (plan : Plan) (readings : List Reading) (past : List Event) (e : Event) → is_lawful plan readings past ≡ true → are_in_order readings ≡ true
     → may_follow plan (Some readings) past e ≡ true → may_follow plan None past e ≡ true
 unfolding may_follow may_come is_allowed
@@ -142,6 +151,7 @@ same_but_tick plan readings past e lawful order h = by (forced plan (standing pl
   by None k = k
   by (Some d) k = k
 
+-- a resume may follow any list where no readings are known, as it may where they are
 resume_follows : (plan : Plan) (readings : List Reading) (past : List Event) (e : Event) → is_resume e ≡ true → may_follow plan (Some readings) past e ≡ true → may_follow plan None past e ≡ true
 unfolding may_follow may_come
 resume_follows plan readings past event.Resume r h = h

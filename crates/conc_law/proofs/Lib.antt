@@ -11,3 +11,10 @@ pub mod LawfulIsPast
 pub mod Positions
 pub mod AloneHistory
 pub mod AloneUnique
+pub mod Options
+pub mod FactsAt
+pub mod ForcedBy
+pub mod Comes
+pub mod RunningPlace
+pub mod RunningIsLet
+pub mod OnePlace
