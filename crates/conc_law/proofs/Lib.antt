@@ -14,3 +14,5 @@ pub mod Comes
 pub mod RunningPlace
 pub mod RunningIsLet
 pub mod OnePlace
+pub mod LiveApart
+pub mod Intervals
