@@ -16,3 +16,4 @@ pub mod RunningIsLet
 pub mod OnePlace
 pub mod LiveApart
 pub mod Intervals
+pub mod Completed
