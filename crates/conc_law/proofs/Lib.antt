@@ -17,3 +17,4 @@ pub mod OnePlace
 pub mod LiveApart
 pub mod Intervals
 pub mod Completed
+pub mod FirstEvent
