@@ -1,5 +1,5 @@
 -- What comes next in a run without workers is lawful.
-use Rattle.std.proofs.Common.{◌≡◌, ◌==◌, ◌⊎◌, ℕ, Bool, true, false, not, ◌&&◌, List, length, Option, None, Some, if◌then◌else◌, refl, sym, ◌∙◌, ap, subst, inl, inr, arith}
+use Rattle.std.proofs.Common.{◌≡◌, ◌==◌, ℕ, Bool, true, false, not, ◌&&◌, List, length, Option, None, Some, if◌then◌else◌, refl, sym, ◌∙◌, ap, subst, inl, inr, arith}
 use Rattle.std.specs.Prelude.{nat_lt}
 use Rattle.std.specs.Option.{option_and_then, option_map, option_or}
 use Rattle.std.specs.Bool.{then_some}
@@ -34,55 +34,41 @@ use Rattle.conc_law.proofs.EqualEvents.{eqb-refl, event_eq-refl}
 use Rattle.conc_law.proofs.FirstBy.{find-some}
 use Rattle.conc_law.proofs.ForcedKinds.{forced_kind, forced_no_resume, is_forced_kind}
 use Rattle.conc_law.proofs.Numbering.{numbered_plan}
+use Rattle.conc_law.proofs.Options.{and_then-some, map-some, or-some, then_some-some}
 
 -- ---- a report has a text, and one of three outcomes
 
+-- the report has a text, and the outcome of one that ran to its end
 abbrev IsGood : Report → Type 0
 IsGood made = (is_report_outcome made.outcome ≡ true) × (nat_lt 0 (length made.text) ≡ true)
 
+-- the outcome by the number of rows is one of the three
 outcome_by-good : (job : Job) (rows : List Row) → is_report_outcome (outcome_by job rows) ≡ true
 unfolding outcome_by
 outcome_by-good job rows = grind arith
 
+-- the text of a report is not empty
 full_text-long : (job : Job) (table : Table) (rows : List Row) → nat_lt 0 (length (full_text job table rows)) ≡ true
 unfolding full_text header
 full_text-long job table rows = lt-ltb _ _ (omega arith)
 
+-- the one of two good reports that a test picks is good
 good_if : (b : Bool) (x y : Report) → IsGood x → IsGood y → IsGood (if b then x else y)
 good_if true x y h k = h
 good_if false x y h k = k
 
+-- a report on some rows is good
 report_by-good : (job : Job) (table : Table) (rows : List Row) (bad : Option Row) → IsGood (report_by job table rows bad)
 report_by-good job table rows (Some row) = (refl, lt-ltb _ _ (omega arith))
 report_by-good job table rows None =
     good_if (nat_lt 1048576 (length (full_text job table rows))) _ _ (refl, refl) (outcome_by-good job rows, full_text-long job table rows)
 
+-- the report of a job is good
 report-good : (job : Job) (argument : List ℕ) (table : Table) → IsGood (report job argument table)
 unfolding report
 report-good job argument table = report_by-good job table (passing job argument table) (first_bad job table (passing job argument table))
 
--- ---- the ways to an event
-
--- what a second step gives comes from what the first gives
-pub and_then-some : {A B : Type 0} (f : A → Option B) (o : Option A) (y : B) → option_and_then f o ≡ Some y → (x : A) × (o ≡ Some x) × (f x ≡ Some y)
-and_then-some f None y h = cc
-and_then-some f (Some x) y h = (x, refl, h)
-
--- what a map gives comes from what it is given
-pub map-some : {A B : Type 0} (f : A → B) (o : Option A) (y : B) → option_map f o ≡ Some y → (x : A) × (o ≡ Some x) × (f x ≡ y)
-map-some f None y h = cc
-map-some f (Some x) y h = let k : f x ≡ y = cc in (x, refl, k)
-
--- what a test lets through is what it is given
-pub then_some-some : {A : Type 0} (b : Bool) (x y : A) → then_some b x ≡ Some y → (b ≡ true) × (x ≡ y)
-then_some-some true x y h = let k : x ≡ y = cc in (refl, k)
-then_some-some false x y h = cc
-
--- what one of two gives comes from one of them
-pub or-some : {A : Type 0} (a b : Option A) (y : A) → option_or a b ≡ Some y → (a ≡ Some y) ⊎ (b ≡ Some y)
-or-some None b y h = inr h
-or-some (Some x) b y h = inl h
-
+-- the report of a request is good
 report_of-good : (plan : Plan) (r : Req) (made : Report) → report_of plan r ≡ Some made → IsGood made
 unfolding report_of
 report_of-good plan r made h =
@@ -94,10 +80,12 @@ report_of-good plan r made h =
 
 -- ---- an end
 
+-- a request that is to stop may end as terminated
 may_end-stopping : (s : Standing) (r : Req) → is_running (facts_at s r) ≡ true → is_stopping (facts_at s r) ≡ true → may_end s r outcome.Terminated None ≡ true
 unfolding may_end
 may_end-stopping s r run stop = and_from _ _ run (cond-true _ _ _ stop)
 
+-- a request that runs on may end with a good report at the end of the spool
 may_end-report : (s : Standing) (r : Req) (made : Report) (offset : ℕ) → is_running (facts_at s r) ≡ true → is_stopping (facts_at s r) ≡ false
     → s.used ≡ Some offset → IsGood made → may_end s r made.outcome (Some (record { offset = offset; length = length made.text })) ≡ true
 unfolding may_end is_next_extent
@@ -125,6 +113,7 @@ end_allowed plan s next r e hr run false is h =
     ap (some_and (λ y. may_end s y p.0.outcome x)) (numbered_plan plan r hr) ∙ may_end-report s r p.0 q.0 run is q.1 (report_of-good plan r p.0 p.1) in
     subst (λ d. is_allowed plan s next d ≡ true) q.2 ok
 
+-- the end of the first request that runs is allowed
 first_end-allowed : (plan : Plan) (s : Standing) (next : Option (Option Reading)) (e : Event) → first_end plan s ≡ Some e → is_allowed plan s next e ≡ true
 unfolding first_end runs_somewhere
 first_end-allowed plan s next e h =
@@ -135,6 +124,7 @@ first_end-allowed plan s next e h =
 
 -- ---- a start
 
+-- the start of the first request that may start is allowed
 first_start-allowed : (plan : Plan) (s : Standing) (next : Option (Option Reading)) (e : Event) → first_start plan s ≡ Some e → is_allowed plan s next e ≡ true
 unfolding first_start is_allowed
 first_start-allowed plan s next e h =
@@ -150,6 +140,7 @@ first_start-allowed plan s next e h =
 
 -- ---- a tick
 
+-- the tick of the next reading is allowed
 next_tick-allowed : (plan : Plan) (s : Standing) (next : Option Reading) (e : Event) → next_tick plan s next ≡ Some e → is_allowed plan s (Some next) e ≡ true
 unfolding next_tick is_allowed may_tick
 next_tick-allowed plan s next e h =
@@ -162,19 +153,22 @@ next_tick-allowed plan s next e h =
 
 -- ---- one event
 
+-- no resume is allowed as a free event
 allowed_no_resume : (plan : Plan) (s : Standing) (next : Option (Option Reading)) (e : Event) → is_allowed plan s next e ≡ true → is_resume e ≡ false
 unfolding is_allowed
 allowed_no_resume plan s next event.Resume h = cc
 allowed_no_resume plan s next _ h = refl
 
+-- the choice is no resume, and is the forced event or one that is allowed
 comes_by : (plan : Plan) (s : Standing) (next : Option Reading) (e : Event) → (due : Option Event) → forced plan s ≡ due
     → none_or is_forced_kind due ≡ true
     → option_or due (option_or (first_end plan s) (option_or (first_start plan s) (next_tick plan s next))) ≡ Some e
     → (is_resume e ≡ false) × (obeys plan s (Some next) e (forced plan s) ≡ true)
 comes_by plan s next e (Some d) is kind h =
-    let same : d ≡ e = cc in
-    (subst (λ x. is_resume x ≡ false) same (forced_no_resume d kind),
-    ap (obeys plan s (Some next) e) is ∙ subst (λ x. event_eq e x ≡ true) (sym same) (event_eq-refl e))
+    let same : d ≡ e = cc in (
+      subst (λ x. is_resume x ≡ false) same (forced_no_resume d kind),
+      ap (obeys plan s (Some next) e) is ∙ subst (λ x. event_eq e x ≡ true) (sym same) (event_eq-refl e),
+    )
 comes_by plan s next e None is kind h =
     let ok : is_allowed plan s (Some next) e ≡ true = elim (or-some (first_end plan s) _ e h) [
       | inl a ↦ first_end-allowed plan s (Some next) e a

@@ -1,5 +1,5 @@
 -- The stages of a set that have begun are those whose event stands.
-use Rattle.std.proofs.Common.{◌≡◌, ℕ, ◌<◌, ◌-◌, ◌/◌, ◌%◌, ◌^◌, max, Bool, true, false, ◌&&◌, ◌||◌, ◌==◌, List, [], ◌∷◌, if◌then◌else◌, refl, sym, ◌∙◌, ap, inl, inr, arith}
+use Rattle.std.proofs.Common.{◌≡◌, ℕ, ◌<◌, ◌-◌, ◌^◌, Bool, true, false, ◌&&◌, ◌||◌, ◌==◌, List, [], ◌∷◌, refl, sym, ◌∙◌, ap, inl, inr, arith}
 use Rattle.std.specs.Prelude.{bit_or}
 use Rattle.std.specs.Bool.{then_some}
 use Rattle.std.specs.Int.{bit_at}
@@ -18,12 +18,14 @@ use Rattle.conc_law.specs.Words.{id_eq}
 
 -- ---- bits
 
+-- the bit that is set is set
 bit_at-or_same : (bits i : ℕ) → bit_at (bit_or bits (2 ^ i)) i ≡ 1
 bit_at-or_same bits i =
     let one : bit_at (2 ^ i) i ≡ 1 = bit_at-pow_same i in
     let small : bit_at bits i < 2 = bit_at-lt bits i in
     bit_at_or bits (2 ^ i) i ∙ omega arith
 
+-- each other bit is kept
 bit_at-or_other : (bits k i : ℕ) → (i ≡ k → ⊥) → bit_at (bit_or bits (2 ^ k)) i ≡ bit_at bits i
 bit_at-or_other bits k i other =
     let none : bit_at (2 ^ k) i ≡ 0 = bit_at-pow_other k i other in
@@ -36,19 +38,23 @@ has_stage-bit : (bits stage : ℕ) → is_between 1 64 stage ≡ true → has_st
 unfolding has_stage
 has_stage-bit bits stage h = ap (λ b. b && has_bit bits (stage - 1)) h
 
+-- a stage from 1 to 64 sets its bit
 with_stage-in : (bits k : ℕ) → is_between 1 64 k ≡ true → with_stage bits k ≡ bit_or bits (2 ^ (k - 1))
 unfolding with_stage
 with_stage-in bits k h = cond-true (is_between 1 64 k) _ _ h
 
+-- any other stage changes nothing
 with_stage-out : (bits k : ℕ) → is_between 1 64 k ≡ false → with_stage bits k ≡ bits
 unfolding with_stage
 with_stage-out bits k h = cond-false (is_between 1 64 k) _ _ h
 
+-- a set with a stage has the stage
 has_stage-with_same : (bits stage : ℕ) → is_between 1 64 stage ≡ true → has_stage (with_stage bits stage) stage ≡ true
 has_stage-with_same bits stage h =
     has_stage-bit (with_stage bits stage) stage h ∙ ap (λ n. has_bit n (stage - 1)) (with_stage-in bits stage h)
     ∙ eq-eqb _ _ (bit_at-or_same bits (stage - 1))
 
+-- a set with one stage more has no other stage more
 has_stage-with_other : (bits k stage : ℕ) → is_between 1 64 stage ≡ true → (k == stage) ≡ false → has_stage (with_stage bits k) stage ≡ has_stage bits stage
 has_stage-with_other bits k stage h other = elim (cases_Bool (is_between 1 64 k)) [
   | inl within ↦
@@ -73,11 +79,13 @@ has_stage-with bits k stage h = elim (cases_Bool (k == stage)) [
 
 -- ---- events
 
+-- a set of stages to which a test adds a stage or not
 has_stage-then : (bits k stage : ℕ) (b : Bool) → is_between 1 64 stage ≡ true
     → has_stage (option_map_or (λ n. with_stage bits n) (then_some b k) bits) stage ≡ ((b && k == stage) || has_stage bits stage)
 has_stage-then bits k stage true h = has_stage-with bits k stage h
 has_stage-then bits k stage false h = refl
 
+-- the empty set has no stage
 has_stage-zero : (stage : ℕ) → has_stage 0 stage ≡ false
 unfolding has_stage
 has_stage-zero stage = and_right (is_between 1 64 stage) _ (ap (λ n. n == 1) (bit_at-zero (stage - 1)))

@@ -25,6 +25,7 @@ moment_same t u e =
     (λ h. ap (λ k. record { seconds = t.seconds; civil = k }) (le_prop t.civil h))
     u.civil
 
+-- outcomes that the test calls equal are one
 outcome_same : (o p : Outcome) → outcome_eq o p ≡ true → o ≡ p
 outcome_same outcome.Normal outcome.Normal h = refl
 outcome_same outcome.Warning outcome.Warning h = refl
@@ -33,6 +34,7 @@ outcome_same outcome.Terminated outcome.Terminated h = refl
 outcome_same outcome.Cancelled outcome.Cancelled h = refl
 outcome_same _ _ h = cc
 
+-- extents that the test calls equal are one
 extent_same : (x y : Option Extent) → extent_eq x y ≡ true → x ≡ y
 extent_same None None h = refl
 extent_same (Some x) (Some y) h =
@@ -73,6 +75,7 @@ event_same _ _ h = cc
 pub eqb-refl : (n : ℕ) → (n == n) ≡ true
 eqb-refl n = eq-eqb n n refl
 
+-- an outcome is equal to itself
 outcome_eq-refl : (o : Outcome) → outcome_eq o o ≡ true
 outcome_eq-refl outcome.Normal = refl
 outcome_eq-refl outcome.Warning = refl
@@ -80,6 +83,7 @@ outcome_eq-refl outcome.Error = refl
 outcome_eq-refl outcome.Terminated = refl
 outcome_eq-refl outcome.Cancelled = refl
 
+-- an extent is equal to itself
 extent_eq-refl : (x : Option Extent) → extent_eq x x ≡ true
 extent_eq-refl None = refl
 extent_eq-refl (Some x) = and_from _ _ (eqb-refl x.offset) (eqb-refl x.length)

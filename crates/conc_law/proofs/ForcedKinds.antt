@@ -33,30 +33,37 @@ forced_no_resume _ h = refl
 abbrev Holds : Option Event → Type 0
 Holds o = none_or is_forced_kind o ≡ true
 
+-- the first of two holds what both hold
 either : (a b : Option Event) → Holds a → Holds b → Holds (option_or a b)
 either None b h k = k
 either (Some e) b h k = h
 
+-- what a map gives is of such a kind where each of its values is
 mapped : {A : Type 0} (f : A → Event) (o : Option A) → ((x : A) → is_forced_kind (f x) ≡ true) → Holds (option_map f o)
 mapped f None h = refl
 mapped f (Some x) h = h x
 
+-- what a second step gives is of such a kind where each of its answers is
 chained : {A : Type 0} (f : A → Option Event) (o : Option A) → ((x : A) → Holds (f x)) → Holds (option_and_then f o)
 chained f None h = refl
 chained f (Some x) h = h x
 
+-- what a test lets through is of such a kind where what it is given is
 tested : (b : Bool) (e : Event) → is_forced_kind e ≡ true → Holds (then_some b e)
 tested true e h = h
 tested false e h = refl
 
+-- a stage is followed by a stage or by a close
 after : (plan : Plan) (s : Standing) (set : Req) (last : ℕ) (next : Option ℕ) → is_forced_kind (after_stage plan s set last next) ≡ true
 after plan s set last None = refl
 after plan s set last (Some n) = refl
 
+-- the step of a set is a stage or a close
 stepped : (plan : Plan) (s : Standing) (set : Req) (current : Option ℕ) → Holds (step_from plan s set current)
 stepped plan s set None = refl
 stepped plan s set (Some stage) = tested (has_ended plan s set stage) _ (after plan s set stage (next_stage plan s set stage))
 
+-- what is let out is a set that opens, or a request
 let_kind : (r : Req) (b : Bool) → is_forced_kind (if b then event.OpenSet r.number else event.LetOut r.number) ≡ true
 let_kind r true = refl
 let_kind r false = refl

@@ -7,6 +7,10 @@ pub mod Prefixes
 pub mod Running
 pub mod BegunStages
 pub mod AloneLawful
+pub mod LawfulIsPast
+pub mod Positions
+pub mod AloneHistory
+pub mod AloneUnique
 pub mod Options
 pub mod FactsAt
 pub mod ForcedBy

@@ -4,7 +4,7 @@ use Rattle.std.proofs.lemmas.Bool.{and_parts}
 use Rattle.std.proofs.lemmas.List.{reverse-append}
 use Rattle.conc_types.specs.declared.event.Event.{Event}
 use Rattle.conc_types.specs.declared.plan.Plan.{Plan}
-use Rattle.conc_law.specs.Law.{is_past, may_follow}
+use Rattle.conc_law.specs.Law.{is_past}
 
 -- the events before any of those of a lawful list are lawful
 pub is_past-after : (plan : Plan) (later past : List Event) → is_past plan (later ++ past) ≡ true → is_past plan past ≡ true

@@ -1,5 +1,5 @@
 -- Exclusion is symmetric.
-use Rattle.std.proofs.Common.{◌≡◌, ◌∙◌, ℕ, Bool, true, false, not, ◌&&◌, ◌||◌, ◌==◌, Option, refl, sym, ap, inl, inr}
+use Rattle.std.proofs.Common.{◌≡◌, ◌∙◌, ℕ, not, ◌&&◌, ◌||◌, ◌==◌, Option, sym, ap, inl, inr}
 use Rattle.std.proofs.Math.Bool.{or_comm}
 use Rattle.std.proofs.lemmas.Bool.{cases_Bool, eq-eqb, eqb-true, false_from_ne_true, both_ways}
 use Rattle.conc_types.specs.declared.item.Item.{Item}
@@ -9,16 +9,19 @@ use Rattle.conc_types.specs.Words.{some_and}
 use Rattle.conc_law.specs.Exclusion.{excludes, excludes_from, is_kin}
 use Rattle.conc_law.specs.Words.{id_eq}
 
+-- the test of equal numbers is symmetric
 eqb_comm : (m n : ℕ) → (m == n) ≡ (n == m)
 eqb_comm m n = elim (cases_Bool (m == n)) [
   | inl same ↦ same ∙ sym (eq-eqb n m (sym (eqb-true m n same)))
   | inr other ↦ other ∙ sym (false_from_ne_true (n == m) (λ same. both_ways (m == n) other (eq-eqb m n (sym (eqb-true n m same)))))
 ]
 
+-- kinship is symmetric
 is_kin_comm : (x y : Req) → is_kin x y ≡ is_kin y x
 unfolding is_kin
 is_kin_comm x y = or_comm (some_and (id_eq y.number) x.parent) (some_and (id_eq x.number) y.parent)
 
+-- exclusion is symmetric
 pub excludes_comm : (setup : Setup) (x y : Req) (x_parent y_parent : Option Item) → excludes setup x y x_parent y_parent ≡ excludes setup y x y_parent x_parent
 unfolding excludes
 excludes_comm setup x y x_parent y_parent =
