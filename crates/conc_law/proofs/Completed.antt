@@ -1,8 +1,8 @@
 -- In a lawful history a let request is not completed, so no start stands after its completion.
-use Rattle.std.proofs.Common.{◌≡◌, ◌⊎◌, ℕ, ◌++◌, Bool, true, false, not, ◌&&◌, ◌||◌, List, [], ◌∷◌, Option, None, Some, is_some, if◌then◌else◌, refl, sym, ◌∙◌, ap, subst, inl, inr, reverse}
+use Rattle.std.proofs.Common.{◌≡◌, ◌⊎◌, ℕ, ◌++◌, Bool, true, false, not, ◌&&◌, ◌||◌, List, [], ◌∷◌, Option, None, Some, is_some, refl, sym, ◌∙◌, ap, subst, inl, inr, reverse}
 use Rattle.std.specs.Bool.{then_some}
 use Rattle.std.specs.Option.{option_or}
-use Rattle.std.proofs.lemmas.Bool.{and_from, and_left, and_parts, and_right, both_ways, cases_Bool, cond-false, cond-true, not-false, not-true, not_from_false, not_from_true, or_cases, or_from, or_parts, or_right}
+use Rattle.std.proofs.lemmas.Bool.{and_from, and_left, and_parts, and_right, both_ways, cases_Bool, cond-false, cond-true, not-false, not_from_false, not_from_true, or_cases, or_from, or_parts, or_right}
 use Rattle.std.proofs.lemmas.List.{reverse-append}
 use Rattle.conc_types.specs.declared.event.Event.{Event}
 use Rattle.conc_types.specs.declared.event.Event.TheVariants as event
@@ -13,7 +13,7 @@ use Rattle.conc_types.specs.declared.event.RequestId.{RequestId}
 use Rattle.conc_types.specs.declared.plan.Plan.{Plan}
 use Rattle.conc_types.specs.declared.plan.Req.{Req}
 use Rattle.conc_types.specs.Plans.{request}
-use Rattle.conc_types.specs.Stages.{has_bit, has_stage}
+use Rattle.conc_types.specs.Stages.{has_stage}
 use Rattle.conc_types.specs.Words.{is_between, some_and}
 use Rattle.conc_law.specs.Facts.{cancels, completes, completion, holds, is_idle, is_let, is_open, stages_begun, unlets, waits_for_stage, was_completed}
 use Rattle.conc_law.specs.Kinds.{begins_stage, closes, opens, stops}
@@ -21,7 +21,7 @@ use Rattle.conc_law.specs.Law.{is_past, may_follow}
 use Rattle.conc_law.specs.Next.{may_let}
 use Rattle.conc_law.specs.Past.{stands, stands_since}
 use Rattle.conc_law.specs.Plans.{parent}
-use Rattle.conc_law.specs.Standing.{facts_at, is_completed, is_waiting, standing}
+use Rattle.conc_law.specs.Standing.{standing}
 use Rattle.conc_law.specs.Words.{Has, id_eq, is_set}
 use Rattle.conc_law.proofs.BegunStages.{stages_begun-stand}
 use Rattle.conc_law.proofs.Comes.{close_comes, Opened, same_request, stage_comes}
@@ -34,6 +34,7 @@ use Rattle.conc_law.proofs.RunningIsLet.{start_let}
 
 -- ---- what is completed stays so
 
+-- what is completed stays so
 was_completed-more : (plan : Plan) (past : List Event) (r : Req) (e : Event) → was_completed plan past r ≡ true → was_completed plan (e ∷ past) r ≡ true
 unfolding was_completed completion
 was_completed-more plan past r e h = by (completion plan past r) h where
@@ -41,6 +42,7 @@ was_completed-more plan past r e h = by (completion plan past r) h where
   by None k = cc
   by (Some x) k = refl
 
+-- an event that completes a request leaves it completed
 was_completed-by : (plan : Plan) (past : List Event) (r : Req) (e : Event) → is_some (completes plan past (completion plan past) r e) ≡ true
     → was_completed plan (e ∷ past) r ≡ true
 unfolding was_completed completion
@@ -49,6 +51,7 @@ was_completed-by plan past r e h = by (completion plan past r) (completes plan p
   by None p k = k
   by (Some x) p k = refl
 
+-- a request that was not completed, and that the event does not complete, is not
 was_completed-neither : (plan : Plan) (past : List Event) (r : Req) (e : Event) → was_completed plan past r ≡ false
     → is_some (completes plan past (completion plan past) r e) ≡ false → was_completed plan (e ∷ past) r ≡ false
 unfolding was_completed completion
@@ -59,15 +62,18 @@ was_completed-neither plan past r e h k = by (completion plan past r) (completes
 
 -- ---- a set of which a stage has begun
 
+-- the close of a set completes it
 close_completes : (plan : Plan) (past : List Event) (set : Req) (s : RequestId) (o : Outcome) → id_eq s set.number ≡ true
     → is_some (completes plan past (completion plan past) set (event.CloseSet s o)) ≡ true
 unfolding completes
 close_completes plan past set s o h = ap is_some (cond-true (id_eq s set.number) _ _ h)
 
+-- the same, by the kind of the event
 closed_set : (plan : Plan) (past : List Event) (set : Req) (e : Event) → closes set.number e ≡ true → was_completed plan (e ∷ past) set ≡ true
 closed_set plan past set (event.CloseSet s o) h = was_completed-by plan past set (event.CloseSet s o) (close_completes plan past set s o h)
 closed_set plan past set _ h = cc
 
+-- a set stays open until it is closed
 still_open : (past : List Event) (set : Req) (e : Event) → is_open past set ≡ true → closes set.number e ≡ false → is_open (e ∷ past) set ≡ true
 unfolding is_open
 still_open past set e h k =
@@ -80,6 +86,7 @@ opened_open plan past r hr o =
     let same : o.req ≡ r = same_request plan o.req r o.element hr o.number in
     subst (λ z. is_open past z ≡ true) same (sym (opened-standing plan past o.req o.element) ∙ o.opened)
 
+-- a set of which a stage begins is open
 stage_open : (plan : Plan) (past : List Event) (set : Req) (k : ℕ) (e : Event) → Has plan.requests set → may_follow plan None past e ≡ true
     → begins_stage set.number k e ≡ true → is_open (e ∷ past) set ≡ true
 stage_open plan past set k (event.Stage s l) hs h b =
@@ -108,18 +115,22 @@ begun_set plan (e ∷ past) set k hs lawful h =
 
 -- ---- stages that have begun
 
+-- a stage of a set of stages is one of 1 to 64
 has_stage-between : (bits k : ℕ) → has_stage bits k ≡ true → is_between 1 64 k ≡ true
 unfolding has_stage
 has_stage-between bits k h = (and_parts (is_between 1 64 k) _ h).0
 
+-- the event of a stage that has begun stands
 begun-stands : (past : List Event) (set : RequestId) (k : ℕ) → has_stage (stages_begun past set) k ≡ true → stands (begins_stage set k) past ≡ true
 begun-stands past set k h = sym (stages_begun-stand past set k (has_stage-between (stages_begun past set) k h)) ∙ h
 
+-- a stage that has begun stays so
 begun-more : (past : List Event) (set : RequestId) (k : ℕ) (e : Event) → has_stage (stages_begun past set) k ≡ true
     → has_stage (stages_begun (e ∷ past) set) k ≡ true
 begun-more past set k e h =
     stages_begun-stand (e ∷ past) set k (has_stage-between (stages_begun past set) k h) ∙ or_right _ _ (begun-stands past set k h)
 
+-- a member that does not wait for its stage waits no more
 waits-more : (plan : Plan) (past : List Event) (r : Req) (e : Event) → waits_for_stage plan past r ≡ false → waits_for_stage plan (e ∷ past) r ≡ false
 unfolding waits_for_stage
 waits-more plan past r e h = by (parent plan r) h where
@@ -130,6 +141,7 @@ waits-more plan past r e h = by (parent plan r) h where
 
 -- ---- a let request
 
+-- a let request does not wait for its stage
 let_waits_no_more : (plan : Plan) (past : List Event) (r : Req) → Has plan.requests r → is_past plan past ≡ true → is_let plan past r ≡ true
     → waits_for_stage plan past r ≡ false
 unfolding is_past is_let
@@ -143,6 +155,7 @@ let_waits_no_more plan (e ∷ past) r hr lawful h =
       | inr s ↦ let_waits_no_more plan past r hr p.0 s.1
     ])
 
+-- a let request is no set
 let_no_set : (plan : Plan) (past : List Event) (r : Req) → Has plan.requests r → is_past plan past ≡ true → is_let plan past r ≡ true → is_set r.item ≡ false
 unfolding is_past is_let
 let_no_set plan [] r hr lawful h = cc
@@ -155,9 +168,11 @@ let_no_set plan (e ∷ past) r hr lawful h =
 
 -- ---- a let request is not completed
 
+-- a test that fails gives no outcome
 none_if : (b : Bool) (o : Outcome) → b ≡ false → is_some (then_some b o) ≡ false
 none_if b o h = ap (λ c. is_some (then_some c o)) h
 
+-- an open or completed request is not idle
 idle_not : (plan : Plan) (past : List Event) (set : Req) → (is_open past set ≡ true) ⊎ (was_completed plan past set ≡ true)
     → is_idle past (completion plan past) set ≡ false
 unfolding is_idle was_completed
@@ -168,6 +183,7 @@ idle_not plan past set h =
     ] in
     and_right _ _ (and_right _ _ rest)
 
+-- a request that is not idle is not cancelled
 cancels_not : (plan : Plan) (past : List Event) (set : Req) (e : Event) → is_idle past (completion plan past) set ≡ false
     → cancels plan past (completion plan past) set e ≡ false
 unfolding cancels
@@ -183,6 +199,7 @@ parent_begun plan past r set h w =
     ap (some_and (λ z. not (has_stage (stages_begun past z.number) r.stage))) (sym h) ∙ w in
     ((found plan p.0 set p.2).1, not-false _ n)
 
+-- the set of a let member is not cancelled
 parent_cancel : (plan : Plan) (past : List Event) (r : Req) (e : Event) → is_past plan past ≡ true → waits_for_stage plan past r ≡ false
     → (o : Option Req) → parent plan r ≡ o → some_and (λ set. cancels plan past (completion plan past) set e) o ≡ false
 parent_cancel plan past r e lawful w None is = refl
@@ -190,6 +207,7 @@ parent_cancel plan past r e lawful w (Some set) is =
     let p : Has plan.requests set × (has_stage (stages_begun past set.number) r.stage ≡ true) = parent_begun plan past r set is w in
     cancels_not plan past set e (idle_not plan past set (begun_set plan past set r.stage p.0 lawful (begun-stands past set.number r.stage p.1)))
 
+-- an event after which a request is let neither stops nor cancels it
 unlets-parts : (plan : Plan) (past : List Event) (r : Req) (e : Event) → unlets plan r past e ≡ false
     → (stops r.number e ≡ false) × (cancels plan past (completion plan past) r e ≡ false)
 unfolding unlets
@@ -221,6 +239,7 @@ completes_not plan past r (event.Command n) hr lawful m l u =
     (parent_cancel plan past r (event.Command n) lawful (let_waits_no_more plan past r hr lawful l) (parent plan r) refl))
 completes_not plan past r _ hr lawful m l u = refl
 
+-- no let completes its request
 let_completes_not : (plan : Plan) (past : List Event) (r : Req) → is_some (completes plan past (completion plan past) r (event.LetOut r.number)) ≡ false
 unfolding completes
 let_completes_not plan past r = refl

@@ -1,5 +1,5 @@
 -- Before the first event nothing is forced, and only a tick is allowed.
-use Rattle.std.proofs.Common.{◌≡◌, ℕ, Bool, true, false, not, ◌&&◌, List, [], ◌∷◌, Option, None, Some, is_some, map, refl, reverse, sym, ◌∙◌, ap}
+use Rattle.std.proofs.Common.{◌≡◌, Bool, true, false, not, ◌&&◌, List, [], ◌∷◌, Option, None, Some, is_some, refl, reverse, sym, ◌∙◌, ap}
 use Rattle.std.specs.Prelude.{unwrap_or}
 use Rattle.std.specs.List.{enumerate_from, find, list_any}
 use Rattle.std.specs.Option.{option_and_then, option_map, option_or}
@@ -9,10 +9,8 @@ use Rattle.conc_types.specs.declared.event.Event.TheVariants as event
 use Rattle.conc_types.specs.declared.event.Extent.{Extent}
 use Rattle.conc_types.specs.declared.event.Outcome.{Outcome}
 use Rattle.conc_types.specs.declared.event.PlaceId.{PlaceId}
-use Rattle.conc_types.specs.declared.facts.Facts.{Facts}
 use Rattle.conc_types.specs.declared.plan.Plan.{Plan}
 use Rattle.conc_types.specs.declared.plan.Req.{Req}
-use Rattle.conc_types.specs.declared.script.Order.{Order}
 use Rattle.conc_types.specs.Plans.{request}
 use Rattle.conc_types.specs.Words.{numbered, some_and}
 use Rattle.conc_law.specs.Facts.{completion, current_stage, facts_of, is_entered, is_held, is_let, is_open, running_place, stages_begun, was_started, was_terminated}
@@ -23,21 +21,24 @@ use Rattle.conc_law.specs.Past.{last_life}
 use Rattle.conc_law.specs.Plans.{precedes}
 use Rattle.conc_law.specs.Stages.{set_step}
 use Rattle.conc_law.specs.Standing.{facts_at, has_come, is_running, no_facts, now, standing}
-use Rattle.conc_law.specs.Words.{first_by, is_set}
+use Rattle.conc_law.specs.Words.{is_set}
 use Rattle.conc_law.proofs.FactsAt.{numbered-map}
 use Rattle.conc_law.proofs.Options.{some_and-some}
 use Rattle.conc_law.proofs.Prefixes.{is_past-prefix}
 
+-- a search finds nothing where nothing passes
 find-none : {T : Type 0} (test : T → Bool) (xs : List T) → ((x : T) → test x ≡ false) → find test xs ≡ None
 find-none test [] h = refl
 find-none test (x ∷ xs) h = cond-false (test x) (Some x) (find test xs) (h x) ∙ find-none test xs h
 
 -- ---- no request has a fact
 
+-- no event says anything of a request
 facts_of-none : (plan : Plan) (r : Req) → facts_of plan [] r ≡ no_facts
 unfolding facts_of is_entered is_held is_open current_stage stages_begun is_let running_place was_started was_terminated completion last_life
 facts_of-none plan r = ap (λ b. record no_facts { opened = b }) (and_right (is_set r.item) false refl)
 
+-- nothing stands of a request
 facts_at-none : (plan : Plan) (r : Req) → facts_at (standing plan []) r ≡ no_facts
 unfolding facts_at standing
 facts_at-none plan r =
@@ -49,6 +50,7 @@ facts_at-none plan r =
 
 -- ---- nothing is forced
 
+-- no interrupt is forced
 no_interrupt : (plan : Plan) → forced_interrupt plan (standing plan []) ≡ None
 unfolding forced_interrupt is_left_running
 no_interrupt plan =
@@ -56,12 +58,14 @@ no_interrupt plan =
     ap (option_map (λ r. event.Interrupt r.number))
     (find-none (is_left_running s) plan.requests (λ r. ap (λ f. is_running f && not f.started) (facts_at-none plan r)))
 
+-- no command is forced
 no_command : (plan : Plan) → forced_command plan (standing plan []) ≡ None
 unfolding forced_command is_due has_come standing now
 no_command plan =
     ap (option_map (λ order. event.Command order.0))
     (find-none (is_due (standing plan [])) (enumerate_from 1 plan.script.commands) (λ order. and_right _ false refl))
 
+-- no step of a set is forced
 no_step : (plan : Plan) → forced_step plan (standing plan []) ≡ None
 unfolding forced_step has_step
 no_step plan =
@@ -69,10 +73,12 @@ no_step plan =
     ap (option_and_then (set_step plan s))
     (find-none (has_step plan s) plan.requests (λ r. and_left _ _ (ap (λ f. f.opened) (facts_at-none plan r))))
 
+-- no request can be let
 none_lettable : (plan : Plan) (r : Req) → may_let plan (standing plan []) r ≡ false
 unfolding may_let
 none_lettable plan r = and_left _ _ (ap (λ f. f.entered) (facts_at-none plan r))
 
+-- no let is forced
 no_let : (plan : Plan) → forced_let plan (standing plan []) ≡ None
 unfolding forced_let
 no_let plan =
@@ -81,6 +87,7 @@ no_let plan =
     (find-none (λ x. may_let plan s x && not (list_any (λ y. may_let plan s y && precedes y x) plan.requests)) plan.requests
     (λ x. and_left _ _ (none_lettable plan x)))
 
+-- no event is forced
 none_forced : (plan : Plan) → forced plan (standing plan []) ≡ None
 unfolding forced
 none_forced plan =
@@ -92,10 +99,12 @@ none_forced plan =
 
 -- ---- only a tick is allowed
 
+-- no request may start
 none_starts : (plan : Plan) (r : Req) (place : PlaceId) → may_start plan (standing plan []) r place ≡ false
 unfolding may_start
 none_starts plan r place = and_left _ _ (ap (λ f. f.let_out) (facts_at-none plan r))
 
+-- no request may end
 none_ends : (plan : Plan) (r : Req) (o : Outcome) (x : Option Extent) → may_end (standing plan []) r o x ≡ false
 unfolding may_end
 none_ends plan r o x = and_left _ _ (ap (λ f. is_running f) (facts_at-none plan r))

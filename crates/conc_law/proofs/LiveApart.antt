@@ -1,5 +1,5 @@
 -- In a lawful history two live requests never exclude each other.
-use Rattle.std.proofs.Common.{◌≡◌, ◌⊎◌, Bool, true, false, not, ◌&&◌, ◌||◌, List, [], ◌∷◌, Option, None, Some, refl, sym, ◌∙◌, ap, subst, inl, inr}
+use Rattle.std.proofs.Common.{◌≡◌, ◌⊎◌, Bool, true, false, not, ◌&&◌, ◌||◌, List, [], ◌∷◌, Option, None, refl, sym, ◌∙◌, ap, subst, inl, inr}
 use Rattle.std.specs.List.{list_any}
 use Rattle.std.proofs.lemmas.Bool.{and_from, and_left, and_parts, and_right, both_ways, eq-eqb, not-true, not_from_true, or_cases, or_left, or_right}
 use Rattle.conc_types.specs.declared.event.Event.{Event}
@@ -26,6 +26,7 @@ use Rattle.conc_law.proofs.Symmetry.{excludes_comm}
 
 -- ---- exclusion
 
+-- exclusion is symmetric
 pub are_exclusive_comm : (plan : Plan) (x y : Req) → are_exclusive plan x y ≡ are_exclusive plan y x
 unfolding are_exclusive
 are_exclusive_comm plan x y = excludes_comm plan.setup x y (parent_item plan x) (parent_item plan y)
@@ -41,14 +42,17 @@ not_itself plan x y n = and_left _ _ (not_from_true _ (eq-eqb _ _ (ap (λ k. k.n
 abbrev pub GoesLive : Req → Event → Type 0
 GoesLive r e = (e ≡ event.LetOut r.number) ⊎ (e ≡ event.OpenSet r.number)
 
+-- the event that lets r out
 pub lets-event : (r : RequestId) (e : Event) → lets r e ≡ true → e ≡ event.LetOut r
 lets-event r (event.LetOut q) h = ap (λ x. event.LetOut x) (id_same q r h)
 lets-event r _ h = cc
 
+-- the event that opens a set
 pub opens-event : (r : RequestId) (e : Event) → opens r e ≡ true → e ≡ event.OpenSet r
 opens-event r (event.OpenSet q) h = ap (λ x. event.OpenSet x) (id_same q r h)
 opens-event r _ h = cc
 
+-- a request that is let is let out by this event, or was let and is not unlet by it
 pub is_let-more : (plan : Plan) (past : List Event) (r : Req) (e : Event) → is_let plan (e ∷ past) r ≡ true
     → (e ≡ event.LetOut r.number) ⊎ ((unlets plan r past e ≡ false) × (is_let plan past r ≡ true))
 unfolding is_let
@@ -57,6 +61,7 @@ is_let-more plan past r e h = elim (or_cases (lets r.number e) _ h) [
   | inr s ↦ let p : (not (unlets plan r past e) ≡ true) × (is_let plan past r ≡ true) = and_parts _ _ s in inr (not-true _ p.0, p.1)
 ]
 
+-- a set that is open is opened by this event, or was open and is not closed by it
 pub is_open-more : (past : List Event) (r : Req) (e : Event) → is_open (e ∷ past) r ≡ true
     → (e ≡ event.OpenSet r.number) ⊎ ((closes r.number e ≡ false) × (is_open past r ≡ true))
 unfolding is_open
@@ -68,6 +73,7 @@ is_open-more past r e h =
       | inr s ↦ let q : (not (closes r.number e) ≡ true) × (since ≡ true) = and_parts _ _ s in inr (not-true _ q.0, and_from _ _ p.0 q.1)
     ]
 
+-- a request that is live goes live by this event, or was live
 is_live-more : (plan : Plan) (past : List Event) (r : Req) (e : Event) → is_live (facts_of plan (e ∷ past) r) ≡ true
     → (is_live (facts_of plan past r) ≡ true) ⊎ GoesLive r e
 unfolding facts_of
@@ -93,6 +99,7 @@ pub open_could : (plan : Plan) (readings : Option (List Reading)) (past : List E
     → may_follow plan readings past (event.OpenSet r.number) ≡ true → (may_let plan (standing plan past) r ≡ true) × (is_set r.item ≡ true)
 open_could plan readings past r hr h = lettable_could plan (standing plan past) r true hr (open_comes plan readings past r.number h)
 
+-- a request that goes live could be let
 went_live : (plan : Plan) (past : List Event) (r : Req) (e : Event) → Has plan.requests r → may_follow plan None past e ≡ true → GoesLive r e
     → may_let plan (standing plan past) r ≡ true
 went_live plan past r e hr h (inl l) = (let_could plan None past r hr (subst (λ d. may_follow plan None past d ≡ true) l h)).0
@@ -130,6 +137,7 @@ live_number x y e (inr g) (inr h) = let k : event.OpenSet x.number ≡ event.Ope
 live_number x y e (inl g) (inr h) = let k : event.LetOut x.number ≡ event.OpenSet y.number = sym g ∙ h in cc
 live_number x y e (inr g) (inl h) = let k : event.OpenSet x.number ≡ event.LetOut y.number = sym g ∙ h in cc
 
+-- before the first event no request is live
 none_live : (plan : Plan) (r : Req) → is_live (facts_of plan [] r) ≡ false
 unfolding facts_of is_let is_open
 none_live plan r = and_right (is_set r.item) false refl
