@@ -1,5 +1,5 @@
 -- What holds where an event comes next.
-use Rattle.std.proofs.Common.{◌≡◌, ◌⊎◌, ℕ, Bool, true, false, not, ◌&&◌, List, Option, None, Some, if◌then◌else◌, refl, sym, ◌∙◌, ap, subst, inl, inr}
+use Rattle.std.proofs.Common.{◌≡◌, ◌⊎◌, ℕ, Bool, true, false, not, ◌&&◌, List, Option, None, Some, refl, sym, ◌∙◌, ap, inl, inr}
 use Rattle.std.specs.Option.{option_map}
 use Rattle.std.specs.Prelude.{is_some}
 use Rattle.std.proofs.lemmas.Bool.{and_parts, both_ways, cond-false, not-true}
@@ -19,7 +19,6 @@ use Rattle.conc_law.specs.Law.{may_follow}
 use Rattle.conc_law.specs.Managers.{admits}
 use Rattle.conc_law.specs.Next.{forced, has_step, is_allowed, is_vacant, may_come, may_let, may_start, obeys}
 use Rattle.conc_law.specs.Places.{is_usable, place_of}
-use Rattle.conc_law.specs.Plans.{AreNumbered}
 use Rattle.conc_law.specs.Readings.{next_reading}
 use Rattle.conc_law.specs.Stages.{set_step}
 use Rattle.conc_law.specs.Standing.{facts_at, is_running, standing}
@@ -97,6 +96,7 @@ pub record Lettable (plan : Plan) (s : Standing) (id : RequestId) (set : Bool) :
   pub could : may_let plan s req ≡ true
   pub kind : is_set req.item ≡ set
 
+-- a forced let is that of a request that could be let
 let_by : (plan : Plan) (s : Standing) (id : RequestId) → ForcedBy plan s (event.LetOut id) → Lettable plan s id false
 let_by plan s id (by_interrupt r hr p e) = cc
 let_by plan s id (by_command n e) = cc
@@ -108,6 +108,7 @@ let_by plan s id (by_let r hr p (inr e)) =
     let n : r.number ≡ id = cc in
     record { req = r; element = hr; number = n; could = p; kind = e.0 }
 
+-- a forced opening is that of a set that could be opened
 open_by : (plan : Plan) (s : Standing) (id : RequestId) → ForcedBy plan s (event.OpenSet id) → Lettable plan s id true
 open_by plan s id (by_interrupt r hr p e) = cc
 open_by plan s id (by_command n e) = cc
@@ -142,10 +143,12 @@ pub record Opened (plan : Plan) (s : Standing) (id : RequestId) : Type 0 where
   pub number : req.number ≡ id
   pub opened : (facts_at s req).opened ≡ true
 
+-- a set that has a step is open
 has_step-opened : (plan : Plan) (s : Standing) (set : Req) → has_step plan s set ≡ true → (facts_at s set).opened ≡ true
 unfolding has_step
 has_step-opened plan s set h = (and_parts (facts_at s set).opened (is_some (set_step plan s set)) h).0
 
+-- a forced stage is one of an open set
 stage_by : (plan : Plan) (s : Standing) (id : RequestId) (stage : ℕ) → ForcedBy plan s (event.Stage id stage) → Opened plan s id
 stage_by plan s id stage (by_interrupt r hr p e) = cc
 stage_by plan s id stage (by_command n e) = cc
@@ -157,6 +160,7 @@ stage_by plan s id stage (by_step set hs p (inr e)) = let k : event.Stage id sta
 stage_by plan s id stage (by_let r hr p (inl e)) = let k : event.Stage id stage ≡ event.OpenSet r.number = e.1 in cc
 stage_by plan s id stage (by_let r hr p (inr e)) = let k : event.Stage id stage ≡ event.LetOut r.number = e.1 in cc
 
+-- a forced close is that of an open set
 close_by : (plan : Plan) (s : Standing) (id : RequestId) (o : Outcome) → ForcedBy plan s (event.CloseSet id o) → Opened plan s id
 close_by plan s id o (by_interrupt r hr p e) = cc
 close_by plan s id o (by_command n e) = cc

@@ -4,15 +4,13 @@ use Rattle.std.specs.Prelude.{slice_get, unwrap_or}
 use Rattle.std.specs.Option.{option_and_then, option_map}
 use Rattle.std.proofs.lemmas.Option.{slice_get-map}
 use Rattle.conc_types.specs.declared.event.Event.{Event}
-use Rattle.conc_types.specs.declared.event.Outcome.{Outcome}
-use Rattle.conc_types.specs.declared.event.PlaceId.{PlaceId}
 use Rattle.conc_types.specs.declared.event.RequestId.{RequestId}
 use Rattle.conc_types.specs.declared.plan.Plan.{Plan}
 use Rattle.conc_types.specs.declared.plan.Req.{Req}
 use Rattle.conc_types.specs.Plans.{request}
 use Rattle.conc_types.specs.Stages.{has_stage}
 use Rattle.conc_types.specs.Words.{numbered, some_and}
-use Rattle.conc_law.specs.Facts.{completion, facts_of, is_entered, is_held, is_let, is_open, running_place, runs, stages_begun, waits_for_stage, was_completed}
+use Rattle.conc_law.specs.Facts.{facts_of, is_let, is_open, running_place, runs, stages_begun, waits_for_stage, was_completed}
 use Rattle.conc_law.specs.Plans.{parent}
 use Rattle.conc_law.specs.Standing.{facts_at, is_completed, is_live, is_running, is_waiting, no_facts, standing}
 use Rattle.conc_law.specs.Words.{Has}
@@ -35,31 +33,37 @@ facts_at-standing plan past r has =
 
 -- ---- each of them
 
+-- it is let
 pub let_out-standing : (plan : Plan) (past : List Event) (r : Req) → Has plan.requests r
     → (facts_at (standing plan past) r).let_out ≡ is_let plan past r
 unfolding facts_of
 let_out-standing plan past r has = ap (λ f. f.let_out) (facts_at-standing plan past r has)
 
+-- it is open
 pub opened-standing : (plan : Plan) (past : List Event) (r : Req) → Has plan.requests r
     → (facts_at (standing plan past) r).opened ≡ is_open past r
 unfolding facts_of
 opened-standing plan past r has = ap (λ f. f.opened) (facts_at-standing plan past r has)
 
+-- the place at which it runs
 pub place-standing : (plan : Plan) (past : List Event) (r : Req) → Has plan.requests r
     → (facts_at (standing plan past) r).place ≡ running_place past r.number
 unfolding facts_of
 place-standing plan past r has = ap (λ f. f.place) (facts_at-standing plan past r has)
 
+-- it runs
 pub is_running-standing : (plan : Plan) (past : List Event) (r : Req) → Has plan.requests r
     → is_running (facts_at (standing plan past) r) ≡ runs past r.number
 unfolding facts_of runs
 is_running-standing plan past r has = ap (λ f. is_running f) (facts_at-standing plan past r has)
 
+-- it is completed
 pub is_completed-standing : (plan : Plan) (past : List Event) (r : Req) → Has plan.requests r
     → is_completed (facts_at (standing plan past) r) ≡ was_completed plan past r
 unfolding facts_of was_completed
 is_completed-standing plan past r has = ap (λ f. is_completed f) (facts_at-standing plan past r has)
 
+-- it is live
 pub is_live-standing : (plan : Plan) (past : List Event) (r : Req) → Has plan.requests r
     → is_live (facts_at (standing plan past) r) ≡ is_live (facts_of plan past r)
 is_live-standing plan past r has = ap (λ f. is_live f) (facts_at-standing plan past r has)

@@ -1,6 +1,5 @@
 -- By which of the four ways an event is forced.
-use Rattle.std.proofs.Common.{◌≡◌, ◌⊎◌, ℕ, Bool, true, false, not, ◌&&◌, List, Option, None, Some, if◌then◌else◌, refl, sym, ◌∙◌, ap, subst, inl, inr}
-use Rattle.std.specs.Bool.{then_some}
+use Rattle.std.proofs.Common.{◌≡◌, ◌⊎◌, ℕ, true, false, not, ◌&&◌, Option, None, Some, refl, sym, ◌∙◌, subst, inl, inr}
 use Rattle.std.specs.List.{enumerate_from, find, list_any}
 use Rattle.std.proofs.lemmas.Bool.{and_parts, cases_Bool, cond-true, cond-false}
 use Rattle.conc_types.specs.declared.event.Event.{Event}
@@ -24,10 +23,12 @@ use Rattle.conc_law.proofs.Options.{and_then-some, map-some, or-some, then_some-
 abbrev pub IsStep : Req → Event → Type 0
 IsStep set e = ((k : ℕ) × (e ≡ event.Stage set.number k)) ⊎ ((o : Outcome) × (e ≡ event.CloseSet set.number o))
 
+-- what follows a stage is a step
 after_stage-step : (plan : Plan) (s : Standing) (set : Req) (last : ℕ) (next : Option ℕ) → IsStep set (after_stage plan s set last next)
 after_stage-step plan s set last None = inr (set_outcome plan s set last, refl)
 after_stage-step plan s set last (Some next) = inl (next, refl)
 
+-- what follows the current stage is a step
 step_from-step : (plan : Plan) (s : Standing) (set : Req) (current : Option ℕ) (e : Event) → step_from plan s set current ≡ Some e → IsStep set e
 step_from-step plan s set None e h = let k : event.Stage set.number 1 ≡ e = cc in inl (1, sym k)
 step_from-step plan s set (Some stage) e h =
@@ -43,6 +44,7 @@ set_step-step plan s set e h = step_from-step plan s set (facts_at s set).stage 
 abbrev pub IsLet : Req → Event → Type 0
 IsLet r e = ((is_set r.item ≡ true) × (e ≡ event.OpenSet r.number)) ⊎ ((is_set r.item ≡ false) × (e ≡ event.LetOut r.number))
 
+-- the event that lets a request out opens it, if it is a set
 pub let_event-let : (r : Req) (e : Event) → let_event r ≡ e → IsLet r e
 let_event-let r e h = elim (cases_Bool (is_set r.item)) [
   | inl t ↦ inl (t, sym h ∙ cond-true (is_set r.item) (event.OpenSet r.number) (event.LetOut r.number) t)
@@ -51,12 +53,14 @@ let_event-let r e h = elim (cases_Bool (is_set r.item)) [
 
 -- ---- the four ways
 
+-- the event is an interrupt of a request left running, a command, a step of an open set, or a let of a request that can be let
 pub data ForcedBy (plan : Plan) (s : Standing) (e : Event) : Type 0 where
   by_interrupt : (r : Req) → Has plan.requests r → is_left_running s r ≡ true → e ≡ event.Interrupt r.number → ForcedBy plan s e
   by_command : (n : ℕ) → e ≡ event.Command n → ForcedBy plan s e
   by_step : (set : Req) → Has plan.requests set → has_step plan s set ≡ true → IsStep set e → ForcedBy plan s e
   by_let : (r : Req) → Has plan.requests r → may_let plan s r ≡ true → IsLet r e → ForcedBy plan s e
 
+-- the first way
 interrupt-by : (plan : Plan) (s : Standing) (e : Event) → forced_interrupt plan s ≡ Some e → ForcedBy plan s e
 unfolding forced_interrupt
 interrupt-by plan s e h =
@@ -65,6 +69,7 @@ interrupt-by plan s e h =
     let f : (is_left_running s p.0 ≡ true) × Has plan.requests p.0 = find-some (is_left_running s) plan.requests p.0 p.1 in
     by_interrupt p.0 f.1 f.0 (sym p.2)
 
+-- the second
 command-by : (plan : Plan) (s : Standing) (e : Event) → forced_command plan s ≡ Some e → ForcedBy plan s e
 unfolding forced_command
 command-by plan s e h =
@@ -72,6 +77,7 @@ command-by plan s e h =
     map-some (λ order. event.Command order.0) (find (is_due s) (enumerate_from 1 plan.script.commands)) e h in
     by_command p.0.0 (sym p.2)
 
+-- the third
 step-by : (plan : Plan) (s : Standing) (e : Event) → forced_step plan s ≡ Some e → ForcedBy plan s e
 unfolding forced_step
 step-by plan s e h =
@@ -80,6 +86,7 @@ step-by plan s e h =
     let f : (has_step plan s p.0 ≡ true) × Has plan.requests p.0 = find-some (has_step plan s) plan.requests p.0 p.1 in
     by_step p.0 f.1 f.0 (set_step-step plan s p.0 e p.2)
 
+-- the fourth
 let-by : (plan : Plan) (s : Standing) (e : Event) → forced_let plan s ≡ Some e → ForcedBy plan s e
 unfolding forced_let
 let-by plan s e h =

@@ -18,3 +18,7 @@ pub mod Comes
 pub mod RunningPlace
 pub mod RunningIsLet
 pub mod OnePlace
+pub mod LiveApart
+pub mod Intervals
+pub mod Completed
+pub mod FirstEvent

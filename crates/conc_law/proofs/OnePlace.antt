@@ -1,5 +1,5 @@
 -- In a lawful history no two requests run at one place, and each runs at the place of its last start.
-use Rattle.std.proofs.Common.{◌≡◌, ◌⊎◌, Bool, true, false, not, ◌&&◌, ◌||◌, ◌==◌, List, [], ◌∷◌, Option, None, Some, if◌then◌else◌, refl, sym, ◌∙◌, ap, subst, inl, inr}
+use Rattle.std.proofs.Common.{◌≡◌, Bool, true, false, not, ◌&&◌, ◌||◌, ◌==◌, List, [], ◌∷◌, Option, None, Some, if◌then◌else◌, refl, sym, ◌∙◌, ap, subst, inl, inr}
 use Rattle.std.specs.Bool.{then_some}
 use Rattle.std.specs.Option.{option_or}
 use Rattle.std.proofs.lemmas.Bool.{and_left, and_parts, both_ways, not-true}
@@ -13,9 +13,9 @@ use Rattle.conc_types.specs.Words.{some_and}
 use Rattle.conc_law.specs.Facts.{running_place, runs}
 use Rattle.conc_law.specs.Kinds.{start_place, starts_at, stops}
 use Rattle.conc_law.specs.Law.{is_past, may_follow}
-use Rattle.conc_law.specs.Next.{is_vacant, may_start, runs_at}
-use Rattle.conc_law.specs.Past.{latest_since, stands_since}
-use Rattle.conc_law.specs.Standing.{facts_at, is_running, standing}
+use Rattle.conc_law.specs.Next.{is_vacant, runs_at}
+use Rattle.conc_law.specs.Past.{stands_since}
+use Rattle.conc_law.specs.Standing.{facts_at, standing}
 use Rattle.conc_law.specs.Words.{Has, id_eq}
 use Rattle.conc_law.proofs.Comes.{may_start-parts, start_comes}
 use Rattle.conc_law.proofs.EqualEvents.{eqb-refl}
@@ -67,18 +67,22 @@ starts_idle plan past r place hr h = by (running_place past r.number) refl where
   by None is = is
   by (Some p) is = absurd (both_ways _ idle (place-runs past r.number p is))
 
+-- a test that gives nothing fails
 then_some-none : (b : Bool) (p : PlaceId) → then_some b p ≡ None → b ≡ false
 then_some-none true p h = cc
 then_some-none false p h = refl
 
+-- an event that starts r nowhere does not start it at the place
 no_start-at : (r : RequestId) (place : PlaceId) (e : Event) → start_place r e ≡ None → starts_at r place e ≡ false
 no_start-at r place (event.Started q p) h = and_left _ _ (then_some-none (id_eq q r) p h)
 no_start-at r place _ h = refl
 
+-- what is kept unless the test holds
 passes-if : (test : PlaceId → Bool) (b : Bool) (o : Option PlaceId) → some_and test (if b then None else o) ≡ (not b && some_and test o)
 passes-if test true o = refl
 passes-if test false o = refl
 
+-- a test, or nothing
 or-false : (b : Bool) → b ≡ (b || false)
 or-false true = refl
 or-false false = refl

@@ -1,5 +1,5 @@
 -- In a lawful history a request that runs is let.
-use Rattle.std.proofs.Common.{◌≡◌, ◌⊎◌, true, false, not, ◌&&◌, ◌||◌, List, [], ◌∷◌, Option, None, Some, refl, sym, ◌∙◌, ap, subst, inl, inr}
+use Rattle.std.proofs.Common.{◌≡◌, true, false, List, [], ◌∷◌, Option, None, Some, refl, sym, ◌∙◌, subst, inl, inr}
 use Rattle.std.proofs.lemmas.Bool.{and_from, and_left, and_parts, and_right, not_from_false, not_from_true, or_from, or_right}
 use Rattle.conc_types.specs.declared.event.Event.{Event}
 use Rattle.conc_types.specs.declared.event.Event.TheVariants as event
@@ -23,6 +23,7 @@ pub start_let : (plan : Plan) (readings : Option (List Reading)) (past : List Ev
 start_let plan readings past r place hr h =
     sym (let_out-standing plan past r hr) ∙ (may_start-parts plan (standing plan past) r place (start_comes plan readings past r place hr h)).0
 
+-- a request that runs is not idle
 running_not_idle : (past : List Event) (c : Req → Option Outcome) (r : Req) → runs past r.number ≡ true → is_idle past c r ≡ false
 unfolding is_idle
 running_not_idle past c r run = and_right _ _ (and_left _ _ (not_from_true _ run))
@@ -36,15 +37,18 @@ running_not_unlet plan past r e run goes_on =
     (or_from _ _ (and_right _ _ (running_not_idle past (completion plan past) r run))
     (and_right _ _ (running_not_idle past (completion plan past) r run)))
 
+-- a start leaves its request let
 start_not_unlet : (plan : Plan) (past : List Event) (r : Req) (place : PlaceId) → unlets plan r past (event.Started r.number place) ≡ false
 unfolding unlets holds cancels act_of
 start_not_unlet plan past r place = refl
 
+-- a let request stays so until an event unlets it
 stays_let : (plan : Plan) (past : List Event) (r : Req) (e : Event) → is_let plan past r ≡ true → unlets plan r past e ≡ false
     → is_let plan (e ∷ past) r ≡ true
 unfolding is_let
 stays_let plan past r e before stays = or_right _ _ (and_from _ _ (not_from_false _ stays) before)
 
+-- a request that runs at a place is let
 runs_let_at : (plan : Plan) (past : List Event) (r : Req) (p : PlaceId) → Has plan.requests r → is_past plan past ≡ true
     → running_place past r.number ≡ Some p → is_let plan past r ≡ true
 unfolding is_past running_place

@@ -1,15 +1,13 @@
 -- How a request comes to run, and goes on.
-use Rattle.std.proofs.Common.{◌≡◌, ◌⊎◌, Bool, true, false, not, ◌&&◌, ◌||◌, List, [], ◌∷◌, Option, None, Some, if◌then◌else◌, refl, sym, ◌∙◌, ap, inl, inr}
-use Rattle.std.specs.Bool.{then_some}
-use Rattle.std.specs.Option.{option_or}
+use Rattle.std.proofs.Common.{◌≡◌, ◌⊎◌, Bool, true, false, List, ◌∷◌, Option, None, Some, if◌then◌else◌, refl, ◌∙◌, ap, inl, inr}
 use Rattle.std.specs.Prelude.{is_some}
 use Rattle.conc_types.specs.declared.event.Event.{Event}
 use Rattle.conc_types.specs.declared.event.Event.TheVariants as event
 use Rattle.conc_types.specs.declared.event.PlaceId.{PlaceId}
 use Rattle.conc_types.specs.declared.event.RequestId.{RequestId}
 use Rattle.conc_law.specs.Facts.{running_place, runs}
-use Rattle.conc_law.specs.Kinds.{start_place, starts, stops}
-use Rattle.conc_law.specs.Past.{latest_since, stands_since}
+use Rattle.conc_law.specs.Kinds.{start_place, stops}
+use Rattle.conc_law.specs.Past.{latest_since}
 use Rattle.conc_law.specs.Words.{id_eq}
 use Rattle.conc_law.proofs.EqualEvents.{id_same}
 use Rattle.conc_law.proofs.Options.{or-some, then_some-some}
