@@ -60,7 +60,7 @@ fn is_done(standing: &Standing, number: u32) -> bool
 fn is_due(standing: &Standing, number: u32, order: &Order) -> bool
     ensures { result ≡ is_due_of standing.now (number, order.now) }
 {
-    !is_done(standing, number) && has_come(standing.now, order.at)
+    !is_done(standing, number) && has_come(standing.time, order.at)
 }
 
 // The number of the first command that is due, of those from this number on.
@@ -147,7 +147,7 @@ fn may_let(plan: &Plan, standing: &Standing, r: &Req) -> bool
         && !is_live(facts)
         && !is_completed(facts)
         && !facts.held
-        && has_come(standing.now, r.start)
+        && has_come(standing.time, r.start)
         && can_run(plan, r)
         && !is_waiting(plan, standing, r)
         && is_free(plan, standing, r)

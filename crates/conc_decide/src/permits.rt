@@ -10,7 +10,9 @@ use crate::equality::is_same_event;
 use crate::forcing::forced;
 use crate::lookup::{facts_at, is_not_earlier, is_running, is_stopping};
 use conc_time::{is_admitted_at, is_usable, place_count};
-use conc_types::{Event, Extent, Moment, Outcome, PlaceId, Plan, Reading, Req, RequestId, Standing};
+use conc_types::{
+    Event, Extent, Moment, Outcome, PlaceId, Plan, Reading, Req, RequestId, Standing,
+};
 
 // ---- starts
 
@@ -41,9 +43,9 @@ fn is_vacant(plan: &Plan, standing: &Standing, place: PlaceId) -> bool
 }
 
 fn is_usable_now(plan: &Plan, standing: &Standing, place: PlaceId) -> bool
-    ensures { result ≡ some_and (λ t. is_usable_of plan.now t place) standing.now.now }
+    ensures { result ≡ some_and (λ t. is_usable_of plan.now t place) standing.now.time }
 {
-    match standing.now {
+    match standing.time {
         Some(t) => is_usable(plan, t, place),
         None => false,
     }
@@ -169,7 +171,7 @@ fn may_tick(plan: &Plan, standing: &Standing, next: Option<Option<Reading>>, t: 
             t.seconds == reading.moment.seconds && may_take(plan, standing, reading)
         }
         Some(None) => false,
-        None => is_not_earlier(standing.now, t),
+        None => is_not_earlier(standing.time, t),
     }
 }
 

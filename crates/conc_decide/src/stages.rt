@@ -85,12 +85,7 @@ fn worst_member(standing: &Standing, set: RequestId, stage: u32, requests: &[Req
 fn stage_outcome(plan: &Plan, standing: &Standing, set: &Req, stage: u32) -> Outcome
     ensures { result ≡ stage_outcome_of plan.now standing.now set.now stage }
 {
-    of_severity(worst_member(
-        standing,
-        set.number,
-        stage,
-        plan.requests.as_slice(),
-    ))
+    of_severity(worst_member(standing, set.number, stage, plan.requests.as_slice()))
 }
 
 fn link(stage: &Stage, outcome: Outcome) -> Option<u32>

@@ -23,7 +23,7 @@ fn waiting_status(plan: &Plan, standing: &Standing, r: &Req, facts: Facts) -> (P
 {
     if is_waiting(plan, standing, r) {
         (Phase::Pending, Status::Waiting)
-    } else if !has_come(standing.now, r.start) {
+    } else if !has_come(standing.time, r.start) {
         (Phase::Pending, Status::Scheduled)
     } else if facts.let_out {
         (Phase::Pending, Status::Normal)

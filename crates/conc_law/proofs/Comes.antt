@@ -80,7 +80,7 @@ pub may_start-parts : (plan : Plan) (s : Standing) (r : Req) (place : PlaceId) �
 unfolding may_start
 may_start-parts plan s r place h =
     let admitted : Bool = some_and (λ p. admits p.manager r) (place_of plan place) in
-    let usable : Bool = some_and (λ t. is_usable plan t place) s.now in
+    let usable : Bool = some_and (λ t. is_usable plan t place) s.time in
     let a : ((facts_at s r).let_out ≡ true) × ((not (is_running (facts_at s r)) && (admitted && (usable && is_vacant plan s place))) ≡ true) = and_parts _ _ h in
     let b : (not (is_running (facts_at s r)) ≡ true) × ((admitted && (usable && is_vacant plan s place)) ≡ true) = and_parts _ _ a.1 in
     let c : (usable && is_vacant plan s place) ≡ true = (and_parts admitted _ b.1).1 in

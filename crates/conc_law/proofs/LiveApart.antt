@@ -112,11 +112,11 @@ unfolding may_let
 may_let-parts plan s r h =
     let f = facts_at s r in
     let last : Bool = not (is_waiting plan s r) && is_free plan s r in
-    let come : Bool = has_come s.now r.start && (can_run plan r && last) in
+    let come : Bool = has_come s.time r.start && (can_run plan r && last) in
     let open_part : (not (is_completed f) ≡ true) × ((not f.held && come) ≡ true) =
     and_parts _ _ (and_parts (not (is_live f)) _ (and_parts f.entered _ h).1).1 in
     let rest : last ≡ true =
-    (and_parts (can_run plan r) _ (and_parts (has_come s.now r.start) _ (and_parts (not f.held) _ open_part.1).1).1).1 in
+    (and_parts (can_run plan r) _ (and_parts (has_come s.time r.start) _ (and_parts (not f.held) _ open_part.1).1).1).1 in
     let both : (not (is_waiting plan s r) ≡ true) × (is_free plan s r ≡ true) = and_parts _ _ rest in
     (not-true _ open_part.0, not-true _ both.0, both.1)
 

@@ -37,7 +37,7 @@ forced_interrupt plan s = option_map (λ r. event.Interrupt r.number) (find (is_
 
 -- the command, which is given with its number, is due: it is not done, and its moment has come
 unfoldable pub is_due : Standing → ℕ × Order → Bool
-is_due s order = not (unwrap_or (numbered s.done order.0) false) && has_come s.now order.1.at
+is_due s order = not (unwrap_or (numbered s.done order.0) false) && has_come s.time order.1.at
 
 -- 2. the first command that is due
 unfoldable pub forced_command : Plan → Standing → Option Event
@@ -71,7 +71,7 @@ may_let plan s r =
     && (not (is_live (facts_at s r))
     && (not (is_completed (facts_at s r))
     && (not (facts_at s r).held
-    && (has_come s.now r.start
+    && (has_come s.time r.start
     && (can_run plan r
     && (not (is_waiting plan s r)
     && is_free plan s r))))))
@@ -107,7 +107,7 @@ may_start plan s r place =
     (facts_at s r).let_out
     && (not (is_running (facts_at s r))
     && (some_and (λ p. admits p.manager r) (place_of plan place)
-    && (some_and (λ t. is_usable plan t place) s.now
+    && (some_and (λ t. is_usable plan t place) s.time
     && is_vacant plan s place)))
 
 -- the extent is not empty, and begins where all earlier ones end
@@ -153,7 +153,7 @@ may_take plan s q = q.early || is_at_rest plan s
 -- a tick is allowed. In the last life it is the next reading, if one is left; in an earlier life, whose readings are not known, any moment that is not earlier than the last tick
 unfoldable pub may_tick : Plan → Standing → Option (Option Reading) → Moment → Bool
 may_tick plan s (Some next) t = some_and (λ q. t.seconds == q.moment.seconds && may_take plan s q) next
-may_tick plan s None t = is_not_earlier s.now t
+may_tick plan s None t = is_not_earlier s.time t
 
 -- the event is allowed, where nothing is forced
 unfoldable pub is_allowed : Plan → Standing → Option (Option Reading) → Event → Bool
