@@ -30,7 +30,7 @@ used-step past e = fitting-add (used past) (extent_length e) (used (e ∷ past))
     (omega (arith, sum_by-cons extent_length e past))
 
 -- two with the same parts are the same
-Standing-alike : (a b : Standing) → a.empty ≡ b.empty → a.now ≡ b.now → a.used ≡ b.used → a.done ≡ b.done → a.facts ≡ b.facts → a ≡ b
+Standing-alike : (a b : Standing) → a.empty ≡ b.empty → a.time ≡ b.time → a.used ≡ b.used → a.done ≡ b.done → a.facts ≡ b.facts → a ≡ b
 Standing-alike a b e n u d f = grind arith
 
 -- what is after an event is what stands after it
@@ -40,7 +40,7 @@ unfolding standing now
 standing-next plan old new e past after is =
     Standing-alike new (standing plan (e ∷ past))
     after.empty
-    (after.now ∙ ap (λ s. option_or (tick_of e) s.now) is)
+    (after.time ∙ ap (λ s. option_or (tick_of e) s.time) is)
     (after.used ∙ ap (λ s. used_after s.used e) is ∙ used-step past e)
     (after.done ∙ ap (λ s. done_after s.done e) is ∙ done-step past e plan.script.commands)
     (after.facts

@@ -38,7 +38,7 @@ map-not_done n (x ∷ xs) = ap (λ z. false ∷ z) (map-not_done (n + 1) xs)
 -- all that stands
 pub standing-none : (plan : Plan) (done : List Bool) (facts : List Facts) → done ≡ map (λ (order : Order). false) plan.script.commands
     → facts ≡ map (λ (r : Req). no_facts) plan.requests
-    → ◌≡◌ {A = Standing} record { empty = true; now = None; used = Some 0; done = done; facts = facts } (standing plan [])
+    → ◌≡◌ {A = Standing} record { empty = true; time = None; used = Some 0; done = done; facts = facts } (standing plan [])
 unfolding standing now used
 standing-none plan done facts d f =
     rw (d ∙ map-not_done 1 plan.script.commands, f ∙ map-no_facts plan plan.requests) refl
