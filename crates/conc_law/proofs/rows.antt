@@ -1,0 +1,12 @@
+pub mod Plans
+pub mod Computed
+pub mod Incompatible
+pub mod Sets
+pub mod Links
+pub mod Managers
+pub mod Commands
+pub mod Restarts
+pub mod Precedence
+pub mod Reports
+pub mod Department
+pub mod Texts
