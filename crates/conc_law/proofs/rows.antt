@@ -10,3 +10,9 @@ pub mod Precedence
 pub mod Reports
 pub mod Department
 pub mod Texts
+pub mod OracleWords
+pub mod OracleRuns
+pub mod OracleRestarts
+pub mod OracleWalks
+pub mod OracleRules
+pub mod OracleReports

@@ -1,10 +1,8 @@
 -- What the theorems of this folder compute.
-use Rattle.std.proofs.Common.{◌≡◌, ℕ, zero, suc, Bool, ◌&&◌, List, [], ◌∷◌, map, reverse, take, Option, None, Some, is_none}
+use Rattle.std.proofs.Common.{◌≡◌, ℕ, zero, suc, Bool, ◌&&◌, List, [], ◌∷◌, reverse, take, Option, None, Some, is_none}
 use Rattle.std.specs.Fmt.{digits}
 use Rattle.conc_types.specs.declared.event.Event.{Event}
 use Rattle.conc_types.specs.declared.event.Event.TheVariants as event
-use Rattle.conc_types.specs.declared.event.Phase.{Phase}
-use Rattle.conc_types.specs.declared.event.Status.{Status}
 use Rattle.conc_types.specs.declared.plan.Plan.{Plan}
 use Rattle.conc_types.specs.declared.script.Reading.{Reading}
 use Rattle.conc_types.specs.Plans.{request}
@@ -66,7 +64,3 @@ finished plan readings history =
 -- the first events of a history and then this one are lawful
 abbrev pub lawful_after : Plan → List Reading → ℕ → List Event → Event → Bool
 lawful_after plan readings n history e = is_lawful plan readings (e ∷ reverse (take n history))
-
--- the statuses of all requests
-abbrev pub statuses : Plan → List Event → List (Option (Phase × Status))
-statuses plan history = map (status_of plan (standing plan (reverse history))) plan.requests

@@ -1,5 +1,5 @@
 -- A setup as a department writes it: its places, what excludes its member, and a run.
-use Rattle.std.proofs.Common.{◌≡◌, ℕ, true, false, List, [], ◌∷◌, ◌++◌, map, length, ◌+◌, ◌*◌, ◌%◌, ◌<◌, lit<, lit≤, mod-lt, arith, None, Some, refl, reverse}
+use Rattle.std.proofs.Common.{◌≡◌, ℕ, true, false, List, [], ◌∷◌, ◌++◌, map, length, ◌+◌, ◌*◌, lit≤, None, Some, refl, reverse}
 use Rattle.std.specs.Prelude.{codes}
 use Rattle.conc_types.specs.declared.event.Event.{Event}
 use Rattle.conc_types.specs.declared.event.Event.TheVariants as event
@@ -16,7 +16,7 @@ use Rattle.conc_types.specs.declared.script.Order.{Order}
 use Rattle.conc_types.specs.declared.set.SetDef.{SetDef}
 use Rattle.conc_types.specs.declared.setup.Setup.{Setup}
 use Rattle.conc_law.specs.Text.{item_name, table_text}
-use Rattle.conc_law.proofs.rows.Plans.{texts, nine, id, entry, shift, stage, set, no_links, once, start}
+use Rattle.conc_law.proofs.rows.Plans.{moment, texts, nine, id, entry, shift, stage, set, no_links, once, start}
 use Rattle.conc_law.proofs.rows.Computed.{the_law, RunsTo, lawful, finished, lawful_after}
 use Rattle.conc_types.specs.declared.program.Test.TheVariants as test
 use Rattle.conc_types.specs.Expansion.{expansion}
@@ -111,12 +111,9 @@ department = record {
 
 -- ---- its places
 
-day_is_civil : (day time : ℕ) → 86400 * (day % 3652059) + time % 86400 < 315537897600
-day_is_civil day time = omega (arith, mod-lt day {m = 3652059} (lit< tt), mod-lt time {m = 86400} (lit< tt))
-
 -- a day, counted from 0 for 0001-01-01, and a time in seconds
 abbrev on : ℕ → ℕ → Moment
-on day time = record { seconds = 86400 * (day % 3652059) + time % 86400; civil = day_is_civil day time }
+on day time = moment (86400 * day + time)
 
 -- the places at 00:00:00, 07:59:59, 08:00:00, 17:59:59, 18:00:00 and 23:59:59 of a day
 abbrev places_on : ℕ → List ℕ

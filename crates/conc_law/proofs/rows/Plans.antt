@@ -1,5 +1,5 @@
 -- The parts of the plans and histories that this folder computes with.
-use Rattle.std.proofs.Common.{ℕ, ◌+◌, ◌*◌, ◌%◌, ◌<◌, ◌≤◌, Bool, true, false, ◌&&◌, List, [], ◌∷◌, length, lit<, lit≤, refl, arith, Option, None, Some, mod-lt}
+use Rattle.std.proofs.Common.{ℕ, ◌+◌, ◌*◌, ◌%◌, ◌<◌, ◌≤◌, Bool, true, false, ◌&&◌, List, [], ◌∷◌, length, lit<, lit≤, refl, Option, None, Some, mod-lt}
 use Rattle.std.specs.Prelude.{codes, nat_le, IsTrue}
 use Rattle.std.specs.List.{sum_by}
 use Rattle.std.specs.Str.{is_utf8, chars}
@@ -43,15 +43,16 @@ texts = tt
 
 -- ---- moments and requests
 
-pub monday_is_civil : (time : ℕ) → 63876556800 + time % 86400 < 315537897600
-monday_is_civil time = omega (arith, mod-lt time {m = 86400} (lit< tt))
+pub is_civil : (seconds : ℕ) → seconds % 315537897600 < 315537897600
+is_civil seconds = mod-lt seconds {m = 315537897600} (lit< tt)
+
+-- so many seconds after 0001-01-01T00:00:00
+abbrev pub moment : ℕ → Moment
+moment seconds = record { seconds = seconds % 315537897600; civil = is_civil seconds }
 
 -- a time of Monday 2025-03-03
 abbrev pub monday : ℕ → ℕ → ℕ → Moment
-monday hour minute second = record {
-  seconds = 63876556800 + (3600 * hour + 60 * minute + second) % 86400;
-  civil = monday_is_civil (3600 * hour + 60 * minute + second);
-}
+monday hour minute second = moment (63876556800 + 3600 * hour + 60 * minute + second)
 
 abbrev pub nine : Moment
 nine = monday 9 0 0

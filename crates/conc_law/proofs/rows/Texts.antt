@@ -1,7 +1,7 @@
 -- Texts of moments, names and decimals.
-use Rattle.std.proofs.Common.{◌≡◌, ℕ, true, false, List, [], ◌∷◌, map, replicate, ◌%◌, ◌<◌, lit<, mod-lt, None, Some, refl}
+use Rattle.std.proofs.Common.{◌≡◌, true, false, [], ◌∷◌, map, replicate, None, Some, refl}
 use Rattle.std.specs.Prelude.{codes}
-use Rattle.conc_law.proofs.rows.Plans.{texts, nine}
+use Rattle.conc_law.proofs.rows.Plans.{moment, texts, nine}
 use Rattle.conc_law.proofs.rows.Computed.{the_law}
 use Rattle.conc_types.specs.Texts.{is_name}
 use Rattle.conc_types.specs.Decimals.{decimal_value}
@@ -9,15 +9,9 @@ use Rattle.conc_law.specs.Moments.{date_text, moment_text}
 
 -- ---- the texts of moments
 
-pub is_civil : (seconds : ℕ) → seconds % 315537897600 < 315537897600
-is_civil seconds = mod-lt seconds {m = 315537897600} (lit< tt)
-
-abbrev text_at : ℕ → List ℕ
-text_at seconds = moment_text (record { seconds = seconds % 315537897600; civil = is_civil seconds })
-
 -- the first second and the last one, and the first of the days counted from 0
 borders_of_time :
-    map text_at (0 ∷ 86399 ∷ 86400 ∷ 315537897599 ∷ [])
+    map (λ n. moment_text (moment n)) (0 ∷ 86399 ∷ 86400 ∷ 315537897599 ∷ [])
     ≡ codes "0001-01-01T00:00:00" ∷ codes "0001-01-01T23:59:59" ∷ codes "0001-01-02T00:00:00" ∷ codes "9999-12-31T23:59:59" ∷ []
 unfolding the_law
 borders_of_time = refl
