@@ -19,3 +19,5 @@ pub mod Report
 pub mod Alone
 pub mod Moments
 pub mod Text
+pub mod Ends
+pub mod Remaining

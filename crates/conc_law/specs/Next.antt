@@ -1,5 +1,5 @@
 -- The event that is forced at a position, and those that are allowed where none is.
-use Rattle.std.specs.Prelude.{ℕ, Bool, true, false, not, ◌&&◌, ◌||◌, ◌==◌, nat_lt, if◌then◌else◌, Option, None, Some, is_none, is_some, unwrap_or}
+use Rattle.std.specs.Prelude.{ℕ, ◌^◌, Bool, true, false, not, ◌&&◌, ◌||◌, ◌==◌, nat_lt, if◌then◌else◌, Option, None, Some, is_none, is_some, unwrap_or}
 use Rattle.std.specs.List.{enumerate_from, find, list_any}
 use Rattle.std.specs.Option.{option_and_then, option_map, option_or}
 use Rattle.conc_types.specs.declared.event.Event.{Event}
@@ -37,7 +37,7 @@ forced_interrupt plan s = option_map (λ r. event.Interrupt r.number) (find (is_
 
 -- the command, which is given with its number, is due: it is not done, and its moment has come
 unfoldable pub is_due : Standing → ℕ × Order → Bool
-is_due s order = not (unwrap_or (numbered s.done order.0) false) && has_come s.now order.1.at
+is_due s order = not (unwrap_or (numbered s.done order.0) false) && has_come s.time order.1.at
 
 -- 2. the first command that is due
 unfoldable pub forced_command : Plan → Standing → Option Event
@@ -71,7 +71,7 @@ may_let plan s r =
     && (not (is_live (facts_at s r))
     && (not (is_completed (facts_at s r))
     && (not (facts_at s r).held
-    && (has_come s.now r.start
+    && (has_come s.time r.start
     && (can_run plan r
     && (not (is_waiting plan s r)
     && is_free plan s r))))))
@@ -107,12 +107,12 @@ may_start plan s r place =
     (facts_at s r).let_out
     && (not (is_running (facts_at s r))
     && (some_and (λ p. admits p.manager r) (place_of plan place)
-    && (some_and (λ t. is_usable plan t place) s.now
+    && (some_and (λ t. is_usable plan t place) s.time
     && is_vacant plan s place)))
 
--- the extent is not empty, and begins where all earlier ones end
+-- the extent begins where all earlier ones end, and has a length of 32 bits that is not 0
 unfoldable pub is_next_extent : Standing → Extent → Bool
-is_next_extent s x = some_and (λ n. x.offset == n) s.used && nat_lt 0 x.length
+is_next_extent s x = some_and (λ n. x.offset == n) s.used && (nat_lt 0 x.length && nat_lt x.length (2 ^ 32))
 
 abbrev pub is_report_outcome : Outcome → Bool
 is_report_outcome outcome.Normal = true
@@ -153,7 +153,7 @@ may_take plan s q = q.early || is_at_rest plan s
 -- a tick is allowed. In the last life it is the next reading, if one is left; in an earlier life, whose readings are not known, any moment that is not earlier than the last tick
 unfoldable pub may_tick : Plan → Standing → Option (Option Reading) → Moment → Bool
 may_tick plan s (Some next) t = some_and (λ q. t.seconds == q.moment.seconds && may_take plan s q) next
-may_tick plan s None t = is_not_earlier s.now t
+may_tick plan s None t = is_not_earlier s.time t
 
 -- the event is allowed, where nothing is forced
 unfoldable pub is_allowed : Plan → Standing → Option (Option Reading) → Event → Bool

@@ -9,20 +9,22 @@ use Rattle.conc_types.specs.Shifts.{most_places}
 use Rattle.conc_types.specs.Words.{some_and}
 use Rattle.conc_law.specs.Managers.{places}
 
--- a place of a manager, by its number within it, from 1
+-- a place: the number of the manager that has it, from 1, this manager, and the place's number within it, from 1
 pub record Place : Type 0 where
+  pub owner : ℕ
   pub manager : Manager
   pub number : ℕ
 
-abbrev pub place_among : List Manager → ℕ → Option Place
-place_among [] index = None
-place_among (manager ∷ managers) index =
+-- the place with this index among those of the managers, the first of which has this number
+abbrev pub place_from : ℕ → List Manager → ℕ → Option Place
+place_from owner [] index = None
+place_from owner (manager ∷ managers) index =
     if nat_lt index (most_places manager.shifts)
-    then Some (record { manager = manager; number = index + 1 })
-    else place_among managers (index - most_places manager.shifts)
+    then Some (record { owner = owner; manager = manager; number = index + 1 })
+    else place_from (owner + 1) managers (index - most_places manager.shifts)
 
 unfoldable pub place_of : Plan → PlaceId → Option Place
-place_of plan place = place_among plan.setup.managers place.index
+place_of plan place = place_from 1 plan.setup.managers place.index
 
 -- the place may be used at the moment
 unfoldable pub is_usable : Plan → Moment → PlaceId → Bool
@@ -35,9 +37,3 @@ count_of_places plan = sum_by (λ m. most_places m.shifts) plan.setup.managers
 -- all places
 unfoldable pub all_places : Plan → List PlaceId
 all_places plan = map (λ index. record { index = index }) (range_with_len 0 (count_of_places plan))
-
--- the number of the manager that has the place with this index, from 1
-abbrev pub owner_among : List Manager → ℕ → ℕ
-owner_among [] index = 0
-owner_among (manager ∷ managers) index =
-    if nat_lt index (most_places manager.shifts) then 1 else owner_among managers (index - most_places manager.shifts) + 1

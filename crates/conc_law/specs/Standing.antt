@@ -35,7 +35,7 @@ fitting n = then_some (nat_lt n (2 ^ 64)) n
 unfoldable pub standing : Plan → List Event → Standing
 standing plan past = record {
   empty = is_empty past;
-  now = now past;
+  time = now past;
   used = fitting (used past);
   done = map (is_done past) (enumerate_from 1 plan.script.commands);
   facts = map (facts_of plan past) plan.requests;

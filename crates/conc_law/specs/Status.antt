@@ -26,7 +26,7 @@ status_of_outcome outcome.Cancelled = status.Cancelled
 unfoldable pub waiting_status : Plan → Standing → Req → Facts → Phase × Status
 waiting_status plan s r facts =
     if is_waiting plan s r then (phase.Pending, status.Waiting)
-    else (if not (has_come s.now r.start) then (phase.Pending, status.Scheduled)
+    else (if not (has_come s.time r.start) then (phase.Pending, status.Scheduled)
     else (if facts.let_out then (phase.Pending, status.Normal)
     else (phase.Pending, status.Standby)))
 

@@ -19,7 +19,7 @@ use Rattle.conc_types.specs.declared.plan.Req.{Req}
 use Rattle.conc_types.specs.declared.item.Item.{Item}
 use Rattle.conc_types.specs.declared.item.Item.TheVariants as item
 use Rattle.conc_law.specs.Moments.{moment_text}
-use Rattle.conc_law.specs.Places.{owner_among, place_of}
+use Rattle.conc_law.specs.Places.{place_of}
 use Rattle.conc_law.specs.Standing.{standing}
 use Rattle.conc_law.specs.Status.{status_of}
 
@@ -60,8 +60,7 @@ id_word r = decimal r.number
 -- M.N, the manager's and the place's number
 unfoldable pub place_word : Plan → PlaceId → List ℕ
 place_word plan place =
-    decimal (owner_among plan.setup.managers place.index) ++ codes "."
-    ++ option_map_or (λ p. decimal p.number) (place_of plan place) []
+    option_map_or (λ p. decimal p.owner ++ codes "." ++ decimal p.number) (place_of plan place) []
 
 abbrev pub extent_words : Option Extent → List (List ℕ)
 extent_words None = []

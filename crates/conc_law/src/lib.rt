@@ -2,7 +2,7 @@
 //! laws over all histories. Each function here has an empty body; its contract is the law.
 #![tactic(auto)]
 
-ghost use Rattle.std.specs.Prelude.{◌≡◌, ◌==◌, ◌∷◌, ◌++◌, [], ℕ, List, Option, Some, IsFalse, IsSome, IsTrue, reverse};
+ghost use Rattle.std.specs.Prelude.{◌≡◌, ◌==◌, ◌∷◌, ◌++◌, ◌<◌, [], ℕ, List, Option, Some, IsFalse, IsSome, IsTrue, None, length, reverse};
 ghost use Rattle.conc_types.specs.declared.event.Event.{Event};
 ghost use Rattle.conc_types.specs.declared.event.PlaceId.{PlaceId};
 ghost use Rattle.conc_types.specs.declared.event.RequestId.{RequestId};
@@ -15,13 +15,15 @@ ghost use Rattle.conc_types.specs.declared.setup.Setup.{Setup};
 ghost use Rattle.conc_types.specs.Plans.{request};
 ghost use Rattle.conc_types.specs.Stages.{has_stage};
 ghost use Rattle.conc_types.specs.Words.{is_between, some_and};
-ghost use Rattle.conc_law.specs.Alone.{Alone, next_alone};
+ghost use Rattle.conc_law.specs.Alone.{Alone, next_alone, opening};
+ghost use Rattle.conc_law.specs.Ends.{AreReported};
 ghost use Rattle.conc_law.specs.Exclusion.{excludes};
 ghost use Rattle.conc_law.specs.Facts.{is_let, running_place, runs, stages_begun, was_completed};
-ghost use Rattle.conc_law.specs.Kinds.{begins_stage, starts, starts_at, stops, tick_of};
-ghost use Rattle.conc_law.specs.Law.{Lawful, may_follow, Past};
+ghost use Rattle.conc_law.specs.Kinds.{begins_stage, is_resume, starts, starts_at, stops, tick_of};
+ghost use Rattle.conc_law.specs.Law.{Finished, Lawful, may_follow, Past};
 ghost use Rattle.conc_law.specs.Overlap.{NoOverlap};
 ghost use Rattle.conc_law.specs.Past.{stands, stands_since};
+ghost use Rattle.conc_law.specs.Remaining.{remaining};
 ghost use Rattle.conc_law.specs.Words.{Has};
 
 // ---- exclusion and plans
@@ -95,6 +97,25 @@ pub fn choice_is_lawful()
 pub fn alone_is_lawful()
     ensures { (plan : Plan) (readings : List Reading) (found history : List Event) →
         Past plan found → Alone plan readings found history → Lawful plan readings history }
+{}
+
+/// Where nothing comes next in a run without workers, the history is finished.
+pub fn alone_finishes()
+    ensures { (plan : Plan) (readings : List Reading) (history : List Event) → Past plan history →
+        next_alone plan readings (reverse history) ≡ None → Finished plan readings history }
+{}
+
+/// Each end that a run without workers adds tells what the report of its request says.
+pub fn alone_reports()
+    ensures { (plan : Plan) (readings : List Reading) (found history : List Event) →
+        Alone plan readings found history → AreReported plan (length (opening found)) history }
+{}
+
+/// A life ends: each event but a resume lowers the bound on the events that it still has.
+pub fn each_event_uses_up()
+    ensures { (plan : Plan) (readings : List Reading) (history : List Event) (e : Event) → Past plan history →
+        IsTrue (may_follow plan (Some readings) (reverse history) e) → IsFalse (is_resume e) →
+        remaining plan readings (e ∷ reverse history) < remaining plan readings (reverse history) }
 {}
 
 /// From one beginning a run without workers makes one history.

@@ -1,6 +1,6 @@
 ghost use Rattle.std.specs.Prelude.{⊤};
 
-use std::alloc::AllocError;
+use std::alloc::{AllocError, AllocFailed};
 use thiserror::Error;
 
 /// Memory was wanted, and there was none.
@@ -12,6 +12,14 @@ impl From<AllocError> for NoMemory {
     ghost from_gives = { λ _ _. ⊤ };
 
     fn from(_: AllocError) -> Self {
+        NoMemory
+    }
+}
+
+impl<T: Drop> From<AllocFailed<T>> for NoMemory {
+    ghost from_gives = { λ _ _. ⊤ };
+
+    fn from(_: AllocFailed<T>) -> Self {
         NoMemory
     }
 }

@@ -31,7 +31,7 @@ pub struct Standing {
     /// There is no event.
     pub empty: bool,
     /// The moment of the last tick.
-    pub now: Option<Moment>,
+    pub time: Option<Moment>,
     /// How many bytes of the spool the extents take, where 64 bits hold it.
     pub used: Option<u64>,
     /// For each command of the script, whether it is done.

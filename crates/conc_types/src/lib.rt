@@ -18,6 +18,8 @@ mod set;
 mod setup;
 mod stage;
 mod table;
+#[cfg(test)]
+mod tests;
 
 pub use decimal::{put_decimal, read_decimal};
 pub use error::NoMemory;

@@ -1,4 +1,4 @@
-ghost use Rattle.std.specs.Prelude.{◌≡◌, length, IsTrue, ◌↔◌, []};
+ghost use Rattle.std.specs.Prelude.{◌≡◌, ◌<◌, ◌↔◌, [], length, slice_set, IsTrue};
 
 use std::marker::Model;
 
@@ -50,5 +50,15 @@ impl<T> Seq<T> {
         ensures { IsTrue result ↔ (self.now ≡ []) }
     {
         self.inner.is_empty()
+    }
+}
+
+impl<T: Copy> Seq<T> {
+    /// Puts a value in place of the one at an index.
+    pub fn set(&mut self, index: usize, value: T)
+        requires { index < length self.old }
+        ensures { self.new ≡ slice_set self.old index value }
+    {
+        self.inner[index] = value;
     }
 }

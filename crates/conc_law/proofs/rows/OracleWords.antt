@@ -50,7 +50,7 @@ more_facts plan past r = values (facts_at (standing plan past) r)
 -- what stands of no single request
 abbrev pub overall : Plan → List Event → (Bool × Option Moment) × (Option ℕ × List Bool)
 overall plan past =
-    (((standing plan past).empty, (standing plan past).now), ((standing plan past).used, (standing plan past).done))
+    (((standing plan past).empty, (standing plan past).time), ((standing plan past).used, (standing plan past).done))
 
 abbrev pub all_facts : Plan → List Event → List (List Bool)
 all_facts plan past = map (facts plan past) plan.requests

@@ -1,0 +1,104 @@
+ghost use Rattle.std.specs.Prelude.{◌≡◌, ◌&&◌, ◌+◌, ◌<◌, ◌^◌, not, map, List};
+ghost use Rattle.std.specs.List.{find, list_any, range_with_len};
+ghost use Rattle.std.specs.Option.{option_copied};
+ghost use Rattle.conc_law.specs.Alone.{first_start as first_start_of, next_tick as next_tick_of, start_of as start_of_of};
+ghost use Rattle.conc_law.specs.Next.{may_start as may_start_of, may_start_somewhere as may_start_somewhere_of, runs_somewhere as runs_somewhere_of};
+ghost use Rattle.conc_law.specs.Plans.{precedes as precedes_of};
+ghost use Rattle.conc_law.specs.Words.{first_by};
+
+use crate::permits::{may_start, may_start_somewhere, may_take, runs_somewhere};
+use conc_rules::precedes;
+use conc_time::place_count;
+use conc_types::{Event, PlaceId, Plan, Reading, Req, Standing};
+
+// The first of so many places from an index on at which r may start.
+fn first_place(plan: &Plan, standing: &Standing, r: &Req, from: u32, count: u32) -> Option<PlaceId>
+    requires { from + count < 2 ^ 32 }
+    ensures { result ≡ find (may_start_of plan.now standing.now r.now) (map (λ index. record { index = index }) (range_with_len from count)) }
+{
+    if count == 0 {
+        return None;
+    }
+    if may_start(plan, standing, r, PlaceId { index: from }) {
+        return Some(PlaceId { index: from });
+    }
+    first_place(plan, standing, r, from + 1, count - 1)
+}
+
+#[tactic(auto, unfolding(conc_law::specs::Places::all_places))]
+fn start_of(plan: &Plan, standing: &Standing, r: &Req) -> Option<Event>
+    ensures { result ≡ start_of_of plan.now standing.now r.now }
+{
+    match first_place(plan, standing, r, 0, place_count(plan)) {
+        Some(place) => Some(Event::Started {
+            request: r.number,
+            place,
+        }),
+        None => None,
+    }
+}
+
+fn stands_before(plan: &Plan, standing: &Standing, r: &Req, q: &Req) -> bool
+    ensures { result ≡ (may_start_somewhere_of plan.now standing.now q.now && precedes_of q.now r.now) }
+{
+    may_start_somewhere(plan, standing, q) && precedes(q, r)
+}
+
+fn is_behind(plan: &Plan, standing: &Standing, r: &Req) -> bool
+    ensures { result ≡ list_any (λ q. may_start_somewhere_of plan.now standing.now q && precedes_of q r.now) plan.now.requests }
+{
+    plan.requests
+        .as_slice()
+        .iter()
+        .any(|q| stands_before(plan, standing, r, q))
+}
+
+fn is_first(plan: &Plan, standing: &Standing, r: &Req) -> bool
+    ensures { result ≡ (may_start_somewhere_of plan.now standing.now r.now && not (list_any (λ q. may_start_somewhere_of plan.now standing.now q && precedes_of q r.now) plan.now.requests)) }
+{
+    may_start_somewhere(plan, standing, r) && !is_behind(plan, standing, r)
+}
+
+fn first_to_start<'a>(plan: &'a Plan, standing: &Standing) -> Option<&'a Req>
+    ensures { option_copied result ≡ first_by precedes_of (may_start_somewhere_of plan.now standing.now) plan.now.requests }
+{
+    plan.requests
+        .as_slice()
+        .iter()
+        .find(|r| is_first(plan, standing, r))
+}
+
+/// The start of the first let request in precedence that has an allowed place, at the first such
+/// place; None exactly where no start is allowed.
+#[tactic(auto, unfolding(conc_law::specs::Alone::first_start))]
+pub fn first_start(plan: &Plan, standing: &Standing) -> Option<Event>
+    ensures { result ≡ first_start_of plan.now standing.now }
+{
+    match first_to_start(plan, standing) {
+        Some(r) => start_of(plan, standing, r),
+        None => None,
+    }
+}
+
+/// The request with the least number of those that run; None exactly where none runs.
+pub fn first_running<'a>(plan: &'a Plan, standing: &Standing) -> Option<&'a Req>
+    ensures { option_copied result ≡ find (runs_somewhere_of standing.now) plan.now.requests }
+{
+    plan.requests
+        .as_slice()
+        .iter()
+        .find(|r| runs_somewhere(standing, r))
+}
+
+/// The tick of the next reading, if one is left and may be taken.
+#[tactic(auto, unfolding(conc_law::specs::Alone::next_tick))]
+pub fn next_tick(plan: &Plan, standing: &Standing, next: Option<Reading>) -> Option<Event>
+    ensures { result ≡ next_tick_of plan.now standing.now next }
+{
+    match next {
+        Some(reading) if may_take(plan, standing, reading) => Some(Event::Tick {
+            moment: reading.moment,
+        }),
+        _ => None,
+    }
+}

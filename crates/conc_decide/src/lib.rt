@@ -1,0 +1,19 @@
+//! What the law says at a position, decided from what stands there: the event that is forced, the
+//! events that are allowed, whether the system is at rest, the status of each request, and what
+//! comes next where nothing is left to choice.
+#![tactic(auto)]
+
+mod alone;
+mod equality;
+mod forcing;
+mod lookup;
+mod permits;
+mod stages;
+mod statuses;
+
+pub use alone::{first_running, first_start, next_tick};
+pub use equality::is_same_event;
+pub use forcing::forced;
+pub use lookup::facts_at;
+pub use permits::{is_at_rest, may_come, may_end, may_start, may_take};
+pub use statuses::status;

@@ -1,0 +1,96 @@
+ghost use Rattle.std.specs.Prelude.{◌≡◌, is_some};
+ghost use Rattle.conc_types.specs.Words.{some_and};
+ghost use Rattle.conc_law.specs.Standing.{facts_at as facts_at_of, has_come as has_come_of, is_completed as is_completed_of, is_live as is_live_of, is_not_earlier as is_not_earlier_of, is_running as is_running_of, is_stopping as is_stopping_of, is_waiting as is_waiting_of, no_facts as no_facts_of};
+
+use conc_rules::parent;
+use conc_types::{Facts, Moment, Plan, Req, StageSet, Standing};
+
+// The facts of a request of which no event speaks.
+fn no_facts() -> Facts
+    ensures { result ≡ no_facts_of }
+{
+    Facts {
+        entered: false,
+        held: false,
+        opened: false,
+        stage: None,
+        begun: StageSet::EMPTY,
+        let_out: false,
+        place: None,
+        started: false,
+        terminated: false,
+        outcome: None,
+    }
+}
+
+/// The facts of a request.
+#[tactic(auto, unfolding(conc_law::specs::Standing::facts_at))]
+pub fn facts_at(standing: &Standing, r: &Req) -> Facts
+    ensures { result ≡ facts_at_of standing.now r.now }
+{
+    if r.number.number == 0 {
+        return no_facts();
+    }
+    let index = r.number.number as usize - 1;
+    standing
+        .facts
+        .as_slice()
+        .get(index)
+        .copied()
+        .unwrap_or(no_facts())
+}
+
+pub(crate) fn is_running(facts: Facts) -> bool
+    ensures { result ≡ is_running_of facts }
+{
+    facts.place.is_some()
+}
+
+pub(crate) fn is_stopping(facts: Facts) -> bool
+    ensures { result ≡ is_stopping_of facts }
+{
+    is_running(facts) && facts.terminated
+}
+
+pub(crate) fn is_live(facts: Facts) -> bool
+    ensures { result ≡ is_live_of facts }
+{
+    facts.let_out || facts.opened
+}
+
+pub(crate) fn is_completed(facts: Facts) -> bool
+    ensures { result ≡ is_completed_of facts }
+{
+    facts.outcome.is_some()
+}
+
+// Whether r is a member whose stage has not begun.
+#[tactic(auto, unfolding(conc_law::specs::Standing::is_waiting))]
+pub(crate) fn is_waiting(plan: &Plan, standing: &Standing, r: &Req) -> bool
+    ensures { result ≡ is_waiting_of plan.now standing.now r.now }
+{
+    match parent(plan, r) {
+        Some(set) => !facts_at(standing, set).begun.contains(r.stage),
+        None => false,
+    }
+}
+
+#[tactic(auto, unfolding(conc_law::specs::Standing::has_come))]
+pub(crate) fn has_come(now: Option<Moment>, t: Moment) -> bool
+    ensures { result ≡ has_come_of now t }
+{
+    match now {
+        Some(n) => t.seconds <= n.seconds,
+        None => false,
+    }
+}
+
+#[tactic(auto, unfolding(conc_law::specs::Standing::is_not_earlier))]
+pub(crate) fn is_not_earlier(now: Option<Moment>, t: Moment) -> bool
+    ensures { result ≡ is_not_earlier_of now t }
+{
+    match now {
+        Some(n) => n.seconds <= t.seconds,
+        None => true,
+    }
+}

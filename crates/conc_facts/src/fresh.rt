@@ -1,0 +1,62 @@
+ghost use Rattle.std.specs.Prelude.{◌≡◌, [], Bool, IfOk, List, false, map};
+ghost use Rattle.conc_types.specs.declared.script.Order.{Order};
+ghost use Rattle.conc_law.specs.Facts.{facts_of};
+ghost use Rattle.conc_law.specs.Standing.{no_facts as no_facts_of, standing};
+
+use conc_types::{Facts, NoMemory, Order, Plan, Req, Seq, StageSet, Standing};
+use std::alloc::Global;
+
+// The facts of a request of which no event speaks.
+pub(crate) fn no_facts() -> Facts
+    ensures { result ≡ no_facts_of }
+{
+    Facts {
+        entered: false,
+        held: false,
+        opened: false,
+        stage: None,
+        begun: StageSet::EMPTY,
+        let_out: false,
+        place: None,
+        started: false,
+        terminated: false,
+        outcome: None,
+    }
+}
+
+fn all_facts(alloc: Global, requests: &[Req]) -> Result<Seq<Facts>, NoMemory>
+    ensures { IfOk result (λ all. all ≡ map (λ (r : Req). no_facts_of) requests.now) }
+{
+    let mut all = Vec::with_capacity(alloc, requests.len())?;
+    for r in requests {
+        let _r = r;
+        all.push(no_facts())?;
+    }
+    Ok(Seq::from_vec(all))
+}
+
+fn no_flags(alloc: Global, orders: &[Order]) -> Result<Seq<bool>, NoMemory>
+    ensures { IfOk result (λ flags. flags ≡ map (λ (order : Order). false) orders.now) }
+{
+    let mut flags = Vec::with_capacity(alloc, orders.len())?;
+    for order in orders {
+        let _order = order;
+        flags.push(false)?;
+    }
+    Ok(Seq::from_vec(flags))
+}
+
+/// What stands after no events. It takes all the memory that `advance` needs.
+pub fn begin(alloc: Global, plan: &Plan) -> Result<Standing, NoMemory>
+    ensures { IfOk result (λ s. s ≡ standing plan.now []) }
+{
+    let facts = all_facts(alloc, plan.requests.as_slice())?;
+    let done = no_flags(alloc, plan.script.commands.as_slice())?;
+    Ok(Standing {
+        empty: true,
+        now: None,
+        used: Some(0),
+        done,
+        facts,
+    })
+}

@@ -1,0 +1,161 @@
+ghost use Rattle.std.specs.Prelude.{◌≡◌, ◌<◌, ◌^◌};
+ghost use Rattle.std.specs.Option.{option_copied};
+ghost use Rattle.conc_types.specs.Words.{some_and};
+ghost use Rattle.conc_law.specs.Kinds.{act_of, closes as closes_of, extent_length as extent_length_of, is_cancel, is_command as is_command_of, is_hold, is_resume as is_resume_of, is_terminate, is_unhold, lets as lets_of, opens as opens_of, stage_begun_by as stage_begun_by_of, start_place as start_place_of, starts as starts_of, stops as stops_of, tick_of as tick_of_of};
+
+use conc_types::{Act, Event, Moment, PlaceId, Plan, RequestId};
+
+pub(crate) fn is_resume(e: Event) -> bool
+    ensures { result ≡ is_resume_of e }
+{
+    matches!(e, Event::Resume)
+}
+
+pub(crate) fn tick_of(e: Event) -> Option<Moment>
+    ensures { result ≡ tick_of_of e }
+{
+    match e {
+        Event::Tick { moment } => Some(moment),
+        _ => None,
+    }
+}
+
+pub(crate) fn is_command(number: u32, e: Event) -> bool
+    ensures { result ≡ is_command_of number e }
+{
+    match e {
+        Event::Command { number: n } => n == number,
+        _ => false,
+    }
+}
+
+pub(crate) fn opens(set: RequestId, e: Event) -> bool
+    ensures { result ≡ opens_of set e }
+{
+    match e {
+        Event::OpenSet { set: s } => s.number == set.number,
+        _ => false,
+    }
+}
+
+pub(crate) fn closes(set: RequestId, e: Event) -> bool
+    ensures { result ≡ closes_of set e }
+{
+    match e {
+        Event::CloseSet { set: s, .. } => s.number == set.number,
+        _ => false,
+    }
+}
+
+pub(crate) fn lets(r: RequestId, e: Event) -> bool
+    ensures { result ≡ lets_of r e }
+{
+    match e {
+        Event::LetOut { request } => request.number == r.number,
+        _ => false,
+    }
+}
+
+pub(crate) fn starts(r: RequestId, e: Event) -> bool
+    ensures { result ≡ starts_of r e }
+{
+    match e {
+        Event::Started { request, .. } => request.number == r.number,
+        _ => false,
+    }
+}
+
+pub(crate) fn start_place(r: RequestId, e: Event) -> Option<PlaceId>
+    ensures { result ≡ start_place_of r e }
+{
+    match e {
+        Event::Started { request, place } if request.number == r.number => Some(place),
+        _ => None,
+    }
+}
+
+pub(crate) fn stops(r: RequestId, e: Event) -> bool
+    ensures { result ≡ stops_of r e }
+{
+    match e {
+        Event::Ended { request, .. } | Event::Interrupt { request } => request.number == r.number,
+        _ => false,
+    }
+}
+
+pub(crate) fn stage_begun_by(set: RequestId, e: Event) -> Option<u32>
+    ensures { result ≡ stage_begun_by_of set e }
+{
+    match e {
+        Event::Stage { set: s, stage } if s.number == set.number => Some(stage),
+        _ => None,
+    }
+}
+
+pub(crate) fn extent_length(e: Event) -> u32
+    ensures { result ≡ extent_length_of e }
+{
+    match e {
+        Event::Ended {
+            extent: Some(extent),
+            ..
+        } => extent.length,
+        _ => 0,
+    }
+}
+
+// ---- commands
+
+#[tactic(auto, unfolding(conc_law::specs::Kinds::act_of))]
+pub(crate) fn act(plan: &Plan, e: Event) -> Option<&Act>
+    ensures { option_copied result ≡ act_of plan.now e }
+{
+    match e {
+        Event::Command { number } => {
+            if number == 0 {
+                return None;
+            }
+            match plan.script.commands.as_slice().get(number as usize - 1) {
+                Some(order) => Some(&order.act),
+                None => None,
+            }
+        }
+        _ => None,
+    }
+}
+
+pub(crate) fn is_hold_of(plan: &Plan, r: RequestId, e: Event) -> bool
+    ensures { result ≡ some_and (is_hold r) (act_of plan.now e) }
+{
+    match act(plan, e) {
+        Some(Act::Hold { request }) => request.number == r.number,
+        _ => false,
+    }
+}
+
+pub(crate) fn is_unhold_of(plan: &Plan, r: RequestId, e: Event) -> bool
+    ensures { result ≡ some_and (is_unhold r) (act_of plan.now e) }
+{
+    match act(plan, e) {
+        Some(Act::Unhold { request }) => request.number == r.number,
+        _ => false,
+    }
+}
+
+pub(crate) fn is_cancel_of(plan: &Plan, r: RequestId, e: Event) -> bool
+    ensures { result ≡ some_and (is_cancel r) (act_of plan.now e) }
+{
+    match act(plan, e) {
+        Some(Act::Cancel { request }) => request.number == r.number,
+        _ => false,
+    }
+}
+
+pub(crate) fn is_terminate_of(plan: &Plan, r: RequestId, e: Event) -> bool
+    ensures { result ≡ some_and (is_terminate r) (act_of plan.now e) }
+{
+    match act(plan, e) {
+        Some(Act::Terminate { request }) => request.number == r.number,
+        _ => false,
+    }
+}

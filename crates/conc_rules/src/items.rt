@@ -1,0 +1,32 @@
+ghost use Rattle.std.specs.Prelude.{◌≡◌};
+ghost use Rattle.conc_types.specs.Words.{some_and};
+ghost use Rattle.conc_law.specs.Words.{id_eq, is_set as is_set_of, item_eq};
+
+use conc_types::{Item, RequestId};
+
+/// Whether the item is a set.
+pub fn is_set(item: Item) -> bool
+    ensures { result ≡ is_set_of item }
+{
+    matches!(item, Item::Set(_))
+}
+
+pub(crate) fn is_same_item(a: Item, b: Item) -> bool
+    ensures { result ≡ item_eq a b }
+{
+    match (a, b) {
+        (Item::Program(x), Item::Program(y)) => x == y,
+        (Item::Set(x), Item::Set(y)) => x == y,
+        _ => false,
+    }
+}
+
+// Whether there is an id, and it is this one.
+pub(crate) fn is_id(a: Option<RequestId>, b: RequestId) -> bool
+    ensures { result ≡ some_and (id_eq b) a }
+{
+    match a {
+        Some(id) => b.number == id.number,
+        None => false,
+    }
+}

@@ -1,0 +1,16 @@
+//! Which requests never run at the same time, which requests a manager admits, and what else the
+//! law reads of a plan.
+#![tactic(auto)]
+
+mod admission;
+mod exclusion;
+mod items;
+mod plans;
+
+pub use admission::admits;
+pub use exclusion::excludes;
+pub use items::is_set;
+pub use plans::{
+    are_exclusive, can_run, has_restart, is_admitted, is_enabled, is_member, parent, precedes,
+    program_of, stages_of,
+};
