@@ -22,3 +22,4 @@ pub mod LiveApart
 pub mod Intervals
 pub mod Completed
 pub mod FirstEvent
+pub mod Reported
