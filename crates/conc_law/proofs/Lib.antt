@@ -23,3 +23,14 @@ pub mod Intervals
 pub mod Completed
 pub mod FirstEvent
 pub mod Reported
+pub mod Weights
+pub mod Sums
+pub mod Stops
+pub mod OpenSets
+pub mod Others
+pub mod Due
+pub mod Numbers
+pub mod Links
+pub mod UsesUp
+pub mod SetsUseUp
+pub mod Remaining
