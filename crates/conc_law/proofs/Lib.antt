@@ -34,3 +34,5 @@ pub mod Links
 pub mod UsesUp
 pub mod SetsUseUp
 pub mod Remaining
+pub mod Used
+pub mod Finishes

@@ -65,7 +65,7 @@ about_less plan readings past r (event.Command n) hr lawful m h = cc
 about_less plan readings past r event.Resume hr lawful m h = cc
 
 -- the event is about a request of the plan
-abbrev IsAboutOne : Plan → Event → Type 0
+abbrev pub IsAboutOne : Plan → Event → Type 0
 IsAboutOne plan e = (r : Req) × Has plan.requests r × (is_about r.number e ≡ true)
 
 -- equal numbers pass the test
@@ -85,7 +85,7 @@ start_about plan readings past id p h =
     (q.0, f.1, eq-eqb _ _ (sym f.0))
 
 -- an end is
-end_about : (plan : Plan) (readings : Option (List Reading)) (past : List Event) (id : RequestId) (o : Outcome) (x : Option Extent) → may_follow plan readings past (event.Ended id o x) ≡ true
+pub end_about : (plan : Plan) (readings : Option (List Reading)) (past : List Event) (id : RequestId) (o : Outcome) (x : Option Extent) → may_follow plan readings past (event.Ended id o x) ≡ true
     → IsAboutOne plan (event.Ended id o x)
 unfolding may_follow is_allowed
 end_about plan readings past id o x h =

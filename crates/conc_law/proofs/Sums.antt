@@ -47,6 +47,11 @@ one_if-false : (b : Bool) → b ≡ false → one_if b ≡ 0
 one_if-false true h = cc
 one_if-false false h = refl
 
+-- one at most
+one_if-most : (b : Bool) → one_if b ≤ 1
+one_if-most true = omega arith
+one_if-most false = omega arith
+
 -- no more where the test of the second holds where that of the first does
 one_if-le : (a b : Bool) → (a ≡ true → b ≡ true) → one_if a ≤ one_if b
 one_if-le false b h = omega arith
@@ -56,6 +61,11 @@ one_if-le true false h = absurd (both_ways _ refl (h refl))
 -- the length of a filtered list, by its first element
 filter-cons : {T : Type 0} (test : T → Bool) (x : T) (xs : List T) → length (filter test (x ∷ xs)) ≡ one_if (test x) + length (filter test xs)
 filter-cons test x xs = elim (cases_Bool (test x)) [ inl t ↦ rw t (omega arith) | inr f ↦ rw f (omega arith) ]
+
+-- a filter keeps no more than there are
+pub filter-within : {T : Type 0} (f : T → Bool) (xs : List T) → length (filter f xs) ≤ length xs
+filter-within f [] = omega arith
+filter-within f (x ∷ xs) = omega (arith, filter-cons f x xs, one_if-most (f x), filter-within f xs)
 
 -- a filter that passes less keeps no more
 pub filter-fewer : {T : Type 0} (f g : T → Bool) (xs : List T) → ((y : T) → f y ≡ true → g y ≡ true) → length (filter f xs) ≤ length (filter g xs)
