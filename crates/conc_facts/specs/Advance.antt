@@ -54,7 +54,7 @@ used_after used e = option_and_then (λ n. fitting (n + extent_length e)) used
 -- all that stands after one more event
 pub record IsAfter (plan : Plan) (old new : Standing) (e : Event) : Type 0 where
   pub empty : new.empty ≡ false
-  pub now : new.now ≡ option_or (tick_of e) old.now
+  pub time : new.time ≡ option_or (tick_of e) old.time
   pub used : new.used ≡ used_after old.used e
   pub done : new.done ≡ done_after old.done e
   pub facts : new.facts ≡ all_after plan (named_facts old.facts (named_by plan e)) e plan.requests old.facts

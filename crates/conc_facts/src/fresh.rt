@@ -54,7 +54,7 @@ pub fn begin(alloc: Global, plan: &Plan) -> Result<Standing, NoMemory>
     let done = no_flags(alloc, plan.script.commands.as_slice())?;
     Ok(Standing {
         empty: true,
-        now: None,
+        time: None,
         used: Some(0),
         done,
         facts,

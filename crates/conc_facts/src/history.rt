@@ -89,7 +89,7 @@ fn step(plan: &Plan, standing: &mut Standing, e: Event)
     step_all(plan, named, e, &mut standing.facts);
     mark_done(&mut standing.done, e);
     standing.used = used_after(standing.used, e);
-    standing.now = tick_of(e).or(standing.now);
+    standing.time = tick_of(e).or(standing.time);
     standing.empty = false;
 }
 

@@ -6,5 +6,5 @@ mod history;
 mod kinds;
 mod step;
 
-pub use history::{advance, standing_after};
 pub use fresh::begin;
+pub use history::{advance, standing_after};

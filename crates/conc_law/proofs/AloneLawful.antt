@@ -1,10 +1,14 @@
 -- What comes next in a run without workers is lawful.
-use Rattle.std.proofs.Common.{◌≡◌, ◌==◌, ℕ, Bool, true, false, not, ◌&&◌, List, length, Option, None, Some, if◌then◌else◌, refl, sym, ◌∙◌, ap, subst, inl, inr, arith}
-use Rattle.std.specs.Prelude.{nat_lt}
+use Rattle.std.proofs.Common.{◌≡◌, ◌==◌, ◌<◌, ◌≤◌, ◌+◌, ◌^◌, ◌++◌, [], ◌∷◌, lit≤, ℕ, Bool, true, false, not, ◌&&◌, List, length, Option, None, Some, if◌then◌else◌, refl, sym, ◌∙◌, ap, subst, inl, inr, arith}
+use Rattle.std.specs.Prelude.{codes, is_none, nat_lt}
 use Rattle.std.specs.Option.{option_and_then, option_map, option_or}
 use Rattle.std.specs.Bool.{then_some}
-use Rattle.std.specs.List.{find, list_any}
-use Rattle.std.proofs.lemmas.Bool.{and_from, lt-ltb, cond-true, cond-false}
+use Rattle.std.specs.Fmt.{decimal}
+use Rattle.std.specs.List.{enumerate_from, filter, find, list_any}
+use Rattle.std.proofs.lemmas.Bool.Decides.{nat_tests}
+use Rattle.std.proofs.lemmas.Fmt.{length-decimal-le}
+use Rattle.std.proofs.lemmas.List.{length-append}
+use Rattle.std.proofs.lemmas.Bool.{and_from, cases_Bool, lt-ltb, cond-true, cond-false}
 use Rattle.conc_types.specs.declared.event.Event.{Event}
 use Rattle.conc_types.specs.declared.event.Event.TheVariants as event
 use Rattle.conc_types.specs.declared.event.Extent.{Extent}
@@ -27,7 +31,8 @@ use Rattle.conc_law.specs.Next.{forced, is_allowed, is_next_extent, is_report_ou
 use Rattle.conc_law.specs.Places.{all_places}
 use Rattle.conc_law.specs.Plans.{precedes, program_of}
 use Rattle.conc_law.specs.Readings.{next_reading}
-use Rattle.conc_law.specs.Report.{first_bad, full_text, header, outcome_by, passing, report, Report, report_by, Row}
+use Rattle.conc_law.specs.Numbers.{whole_number}
+use Rattle.conc_law.specs.Report.{cell, first_bad, passes, full_text, header, outcome_by, passing, report, Report, report_by, Row}
 use Rattle.conc_law.specs.Standing.{facts_at, is_running, is_stopping, standing}
 use Rattle.conc_law.specs.Words.{first_by, Has}
 use Rattle.conc_law.proofs.EqualEvents.{eqb-refl, event_eq-refl}
@@ -38,9 +43,11 @@ use Rattle.conc_law.proofs.Options.{and_then-some, map-some, or-some, then_some-
 
 -- ---- a report has a text, and one of three outcomes
 
--- the report has a text, and the outcome of one that ran to its end
-abbrev IsGood : Report → Type 0
-IsGood made = (is_report_outcome made.outcome ≡ true) × (nat_lt 0 (length made.text) ≡ true)
+-- the report has a text of 1 to 2^20 bytes, and the outcome of one that ran to its end
+pub record IsGood (made : Report) : Type 0 where
+  pub outcome : is_report_outcome made.outcome ≡ true
+  pub some : 0 < length made.text
+  pub short : length made.text ≤ 1048576
 
 -- the outcome by the number of rows is one of the three
 outcome_by-good : (job : Job) (rows : List Row) → is_report_outcome (outcome_by job rows) ≡ true
@@ -48,25 +55,63 @@ unfolding outcome_by
 outcome_by-good job rows = grind arith
 
 -- the text of a report is not empty
-full_text-long : (job : Job) (table : Table) (rows : List Row) → nat_lt 0 (length (full_text job table rows)) ≡ true
+full_text-long : (job : Job) (table : Table) (rows : List Row) → 0 < length (full_text job table rows)
 unfolding full_text header
-full_text-long job table rows = lt-ltb _ _ (omega arith)
+full_text-long job table rows = omega arith
 
--- the one of two good reports that a test picks is good
-good_if : (b : Bool) (x y : Report) → IsGood x → IsGood y → IsGood (if b then x else y)
-good_if true x y h k = h
-good_if false x y h k = k
+-- an element of a part of a list is one of the list
+Has-filter : {T : Type 0} (test : T → Bool) (xs : List T) (x : T) → Has (filter test xs) x → Has xs x
+Has-filter test [] x h = absurd h
+Has-filter test (y ∷ ys) x h = elim (cases_Bool (test y)) [
+  | inl hit ↦ elim (subst (λ l. Has l x) (cond-true (test y) (y ∷ filter test ys) (filter test ys) hit) h) [
+    | inl same ↦ inl same
+    | inr later ↦ inr (Has-filter test ys x later)
+  ]
+  | inr miss ↦ inr (Has-filter test ys x (subst (λ l. Has l x) (cond-false (test y) (y ∷ filter test ys) (filter test ys) miss) h))
+]
 
--- a report on some rows is good
-report_by-good : (job : Job) (table : Table) (rows : List Row) (bad : Option Row) → IsGood (report_by job table rows bad)
-report_by-good job table rows (Some row) = (refl, lt-ltb _ _ (omega arith))
-report_by-good job table rows None =
-    good_if (nat_lt 1048576 (length (full_text job table rows))) _ _ (refl, refl) (outcome_by-good job rows, full_text-long job table rows)
+-- the numbers of a list stay below its end
+enumerated-below : {T : Type 0} (n : ℕ) (xs : List T) (x : ℕ × T) → Has (enumerate_from n xs) x → x.0 < n + length xs
+enumerated-below n [] x h = absurd h
+enumerated-below n (y ∷ ys) x h = elim h [
+  | inl same ↦ let e : x.0 ≡ n = ap (λ z. z.0) same in omega (arith, e)
+  | inr later ↦ let k : x.0 < n + 1 + length ys = enumerated-below (n + 1) ys x later in omega (arith, k)
+]
+
+-- the row that is named is one of the table
+first_bad-row : (job : Job) (argument : List ℕ) (table : Table) (row : Row) → first_bad job table (passing job argument table) ≡ Some row → row.0 ≤ 1114112
+unfolding first_bad passing
+first_bad-row job argument table row h =
+    let rows : List Row = filter (passes job argument table) (enumerate_from 1 table.rows) in
+    let f : List ℕ → Option Row = λ column. find (λ r. is_none (whole_number (cell table column r))) rows in
+    let p : (column : List ℕ) × (job.sum ≡ Some column) × (f column ≡ Some row) = and_then-some f job.sum row h in
+    let q : (is_none (whole_number (cell table p.0 row)) ≡ true) × Has rows row = find-some (λ r. is_none (whole_number (cell table p.0 r))) rows row p.2 in
+    let below : row.0 < 1 + length table.rows = enumerated-below 1 table.rows row (Has-filter (passes job argument table) (enumerate_from 1 table.rows) row q.1) in
+    let few : length table.rows ≤ 1114112 = table.few in
+    omega (arith, below, few)
+
+-- the report on a row that is no number is good
+bad_row-good : (row : Row) → row.0 ≤ 1114112 → IsGood (record { outcome = outcome.Error; text = codes "row " ++ decimal row.0 ++ codes ": not a whole number\n" })
+bad_row-good row h =
+    let short : length (decimal row.0) ≤ 7 = length-decimal-le 7 row.0 (lit≤ tt) (omega (arith, h)) (omega (arith, h)) in
+    let joined : length (decimal row.0 ++ codes ": not a whole number\n") ≡ length (decimal row.0) + 21 = length-append (decimal row.0) (codes ": not a whole number\n") in
+    record { outcome = refl; some = omega arith; short = omega (arith, short, joined) }
+
+-- a text within the limit is the report, and else the report says that it is too long
+long-good : (job : Job) (table : Table) (rows : List Row) → IsGood (report_by job table rows None)
+long-good job table rows = elim (cases_Bool (nat_lt 1048576 (length (full_text job table rows)))) [
+  | inl long ↦ subst IsGood (sym (cond-true (nat_lt 1048576 (length (full_text job table rows))) _ _ long)) (record { outcome = refl; some = omega arith; short = omega arith })
+  | inr fits ↦ subst IsGood (sym (cond-false (nat_lt 1048576 (length (full_text job table rows))) _ _ fits))
+      (record { outcome = outcome_by-good job rows; some = full_text-long job table rows; short = grind (arith, nat_tests) })
+]
 
 -- the report of a job is good
 report-good : (job : Job) (argument : List ℕ) (table : Table) → IsGood (report job argument table)
 unfolding report
-report-good job argument table = report_by-good job table (passing job argument table) (first_bad job table (passing job argument table))
+report-good job argument table = by (first_bad job table (passing job argument table)) refl where
+  by : (bad : Option Row) → first_bad job table (passing job argument table) ≡ bad → IsGood (report_by job table (passing job argument table) bad)
+  by (Some row) h = bad_row-good row (first_bad-row job argument table row h)
+  by None h = long-good job table (passing job argument table)
 
 -- the report of a request is good
 report_of-good : (plan : Plan) (r : Req) (made : Report) → report_of plan r ≡ Some made → IsGood made
@@ -90,8 +135,10 @@ may_end-report : (s : Standing) (r : Req) (made : Report) (offset : ℕ) → is_
     → s.used ≡ Some offset → IsGood made → may_end s r made.outcome (Some (record { offset = offset; length = length made.text })) ≡ true
 unfolding may_end is_next_extent
 may_end-report s r made offset run going used good =
+    let wide : length made.text < 2 ^ 32 = omega (arith, good.short) in
+    let fits : (nat_lt 0 (length made.text) && nat_lt (length made.text) (2 ^ 32)) ≡ true = and_from _ _ (lt-ltb _ _ good.some) (lt-ltb _ _ wide) in
     and_from _ _ run (cond-false (is_stopping (facts_at s r)) _ _ going
-    ∙ and_from _ _ good.0 (and_from _ _ (ap (some_and (λ n. offset == n)) used ∙ eqb-refl offset) good.1))
+    ∙ and_from _ _ good.outcome (and_from _ _ (ap (some_and (λ n. offset == n)) used ∙ eqb-refl offset) fits))
 
 -- the end of a request that runs is allowed
 end_allowed : (plan : Plan) (s : Standing) (next : Option (Option Reading)) (r : Req) (e : Event) → Has plan.requests r → is_running (facts_at s r) ≡ true

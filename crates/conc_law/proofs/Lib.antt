@@ -36,3 +36,4 @@ pub mod SetsUseUp
 pub mod Remaining
 pub mod Used
 pub mod Finishes
+pub mod rows

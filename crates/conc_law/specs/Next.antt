@@ -1,5 +1,5 @@
 -- The event that is forced at a position, and those that are allowed where none is.
-use Rattle.std.specs.Prelude.{ℕ, Bool, true, false, not, ◌&&◌, ◌||◌, ◌==◌, nat_lt, if◌then◌else◌, Option, None, Some, is_none, is_some, unwrap_or}
+use Rattle.std.specs.Prelude.{ℕ, ◌^◌, Bool, true, false, not, ◌&&◌, ◌||◌, ◌==◌, nat_lt, if◌then◌else◌, Option, None, Some, is_none, is_some, unwrap_or}
 use Rattle.std.specs.List.{enumerate_from, find, list_any}
 use Rattle.std.specs.Option.{option_and_then, option_map, option_or}
 use Rattle.conc_types.specs.declared.event.Event.{Event}
@@ -110,9 +110,9 @@ may_start plan s r place =
     && (some_and (λ t. is_usable plan t place) s.time
     && is_vacant plan s place)))
 
--- the extent is not empty, and begins where all earlier ones end
+-- the extent begins where all earlier ones end, and has a length of 32 bits that is not 0
 unfoldable pub is_next_extent : Standing → Extent → Bool
-is_next_extent s x = some_and (λ n. x.offset == n) s.used && nat_lt 0 x.length
+is_next_extent s x = some_and (λ n. x.offset == n) s.used && (nat_lt 0 x.length && nat_lt x.length (2 ^ 32))
 
 abbrev pub is_report_outcome : Outcome → Bool
 is_report_outcome outcome.Normal = true

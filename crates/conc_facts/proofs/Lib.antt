@@ -1,0 +1,6 @@
+pub mod FactSteps
+pub mod Passes
+pub mod Flags
+pub mod AllFacts
+pub mod NextStanding
+pub mod NoEvents

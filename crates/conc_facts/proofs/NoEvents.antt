@@ -1,0 +1,44 @@
+-- What stands after no events.
+use Rattle.std.proofs.Common.{◌≡◌, ℕ, ◌+◌, Bool, true, false, ◌&&◌, List, [], ◌∷◌, map, None, Some, refl, ◌∙◌, ap}
+use Rattle.std.specs.List.{enumerate_from}
+use Rattle.conc_types.specs.declared.facts.Facts.{Facts}
+use Rattle.conc_types.specs.declared.facts.Standing.{Standing}
+use Rattle.conc_types.specs.declared.plan.Plan.{Plan}
+use Rattle.conc_types.specs.declared.plan.Req.{Req}
+use Rattle.conc_types.specs.declared.script.Order.{Order}
+use Rattle.conc_law.specs.Facts.{completion, current_stage, facts_of, is_entered, is_held, is_let, is_open, running_place, stages_begun, was_started, was_terminated}
+use Rattle.conc_law.specs.Past.{last_life}
+use Rattle.conc_law.specs.Standing.{is_done, no_facts, now, standing, used}
+use Rattle.conc_law.specs.Words.{is_set}
+
+-- nothing holds together with what does not hold
+and-no : (b : Bool) → (b && false) ≡ false
+and-no true = refl
+and-no false = refl
+
+-- no event speaks of a request
+facts_of-none : (plan : Plan) (r : Req) → facts_of plan [] r ≡ no_facts
+unfolding facts_of is_entered is_held is_open current_stage stages_begun is_let running_place was_started was_terminated completion last_life
+facts_of-none plan r = rw (and-no (is_set r.item)) refl
+
+-- so all have no facts
+map-no_facts : (plan : Plan) (rs : List Req) → map (λ (r : Req). no_facts) rs ≡ map (facts_of plan []) rs
+map-no_facts plan [] = refl
+map-no_facts plan (r ∷ rs) =
+    let a : facts_of plan [] r ≡ no_facts = facts_of-none plan r in
+    let b : map (λ (r : Req). no_facts) rs ≡ map (facts_of plan []) rs = map-no_facts plan rs in
+    cc
+
+-- and no command is done
+map-not_done : (n : ℕ) (xs : List Order) → map (λ (order : Order). false) xs ≡ map (is_done []) (enumerate_from n xs)
+unfolding is_done
+map-not_done n [] = refl
+map-not_done n (x ∷ xs) = ap (λ z. false ∷ z) (map-not_done (n + 1) xs)
+
+-- all that stands
+pub standing-none : (plan : Plan) (done : List Bool) (facts : List Facts) → done ≡ map (λ (order : Order). false) plan.script.commands
+    → facts ≡ map (λ (r : Req). no_facts) plan.requests
+    → ◌≡◌ {A = Standing} record { empty = true; time = None; used = Some 0; done = done; facts = facts } (standing plan [])
+unfolding standing now used
+standing-none plan done facts d f =
+    rw (d ∙ map-not_done 1 plan.script.commands, f ∙ map-no_facts plan plan.requests) refl

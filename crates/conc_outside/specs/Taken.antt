@@ -1,0 +1,11 @@
+-- The bytes that a sink took.
+use Rattle.std.specs.Prelude.{◌≡◌, ℕ, List, ◌++◌, Option, take}
+use Rattle.std.specs.Option.{option_map}
+
+-- where the sink tells, it took exactly these bytes after what it had
+abbrev pub Took : Option (List ℕ) → Option (List ℕ) → List ℕ → Type 0
+Took old new bytes = new ≡ option_map (λ taken. taken ++ bytes) old
+
+-- it took a prefix of these bytes
+abbrev pub TookPrefix : Option (List ℕ) → Option (List ℕ) → List ℕ → Type 0
+TookPrefix old new bytes = (n : ℕ) × Took old new (take n bytes)
