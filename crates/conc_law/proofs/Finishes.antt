@@ -35,6 +35,7 @@ use Rattle.conc_law.proofs.LawfulIsPast.{all-get}
 use Rattle.conc_law.proofs.LiveApart.{is_let-more, let_could}
 use Rattle.conc_law.proofs.Options.{some_and-some}
 use Rattle.conc_law.proofs.RunningIsLet.{runs_let}
+use Rattle.conc_law.proofs.Used.{used_fits}
 
 -- ---- options and searches that give nothing
 
@@ -166,16 +167,17 @@ none_left plan s (Some q) rest h =
 
 -- ---- all of them
 
--- where nothing comes next, and the spool has room, the history is finished
-pub next_alone-none : (plan : Plan) (readings : List Reading) (history : List Event) (n : ℕ) → is_past plan (reverse history) ≡ true
-    → (standing plan (reverse history)).used ≡ Some n → next_alone plan readings (reverse history) ≡ None → Finished plan readings history
+-- where nothing comes next in a run without workers, the history is finished
+pub next_alone-none : (plan : Plan) (readings : List Reading) (history : List Event) → is_past plan (reverse history) ≡ true
+    → next_alone plan readings (reverse history) ≡ None → Finished plan readings history
 unfolding next_alone choice is_at_rest
-next_alone-none plan readings history n lawful room h =
+next_alone-none plan readings history lawful h =
     let past = reverse history in
     let s = standing plan past in
+    let room : (n : ℕ) × (s.used ≡ Some n) = used_fits plan past lawful in
     let a : (forced plan s ≡ None) × (option_or (first_end plan s) (option_or (first_start plan s) (next_tick plan s (next_reading readings past))) ≡ None) = or-none _ _ h in
     let b : (first_end plan s ≡ None) × (option_or (first_start plan s) (next_tick plan s (next_reading readings past)) ≡ None) = or-none _ _ a.1 in
     let c : (first_start plan s ≡ None) × (next_tick plan s (next_reading readings past) ≡ None) = or-none _ _ b.1 in
     let rest : (is_none (forced plan s) && (not (list_any (runs_somewhere s) plan.requests) && not (list_any (may_start_somewhere plan s) plan.requests))) ≡ true =
-    and_from _ _ (ap is_none a.0) (and_from _ _ (not_from_false _ (none_runs plan past n lawful room b.0)) (not_from_false _ (none_starts plan s c.0))) in
+    and_from _ _ (ap is_none a.0) (and_from _ _ (not_from_false _ (none_runs plan past room.0 lawful room.1 b.0)) (not_from_false _ (none_starts plan s c.0))) in
     (rest, none_left plan s (next_reading readings past) rest c.1)
