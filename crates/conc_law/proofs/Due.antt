@@ -1,36 +1,31 @@
 -- What holds of the command and of the stage that an event begins.
-use Rattle.std.proofs.Common.{◌≡◌, ◌⊎◌, ℕ, zero, suc, ◌+◌, ◌-◌, ◌<◌, ◌≤◌, Bool, true, false, not, ◌&&◌, ◌==◌, List, [], ◌∷◌, length, Option, None, Some, if◌then◌else◌, refl, sym, ◌∙◌, ap, subst, inl, inr, arith}
-use Rattle.std.specs.Prelude.{nat_le, nat_lt, slice_get, unwrap_or}
-use Rattle.std.specs.List.{enumerate_from, find, list_all, list_any}
-use Rattle.std.specs.Option.{option_and_then, option_flatten, option_map, option_map_or}
-use Rattle.std.specs.Bool.{then_some}
-use Rattle.std.proofs.lemmas.Bool.{and_parts, leb-true, ltb-true, not-true}
+use Rattle.std.proofs.Common.{◌≡◌, ℕ, true, false, not, List, Option, Some, refl, sym, ◌∙◌, ap, inl, inr}
+use Rattle.std.specs.Prelude.{unwrap_or}
+use Rattle.std.specs.List.{enumerate_from, find}
+use Rattle.std.specs.Option.{option_map}
+use Rattle.std.proofs.lemmas.Bool.{and_parts, not-true}
 use Rattle.conc_types.specs.declared.event.Event.{Event}
 use Rattle.conc_types.specs.declared.event.Event.TheVariants as event
-use Rattle.conc_types.specs.declared.event.Outcome.{Outcome}
 use Rattle.conc_types.specs.declared.event.RequestId.{RequestId}
 use Rattle.conc_types.specs.declared.facts.Standing.{Standing}
 use Rattle.conc_types.specs.declared.plan.Plan.{Plan}
 use Rattle.conc_types.specs.declared.plan.Req.{Req}
 use Rattle.conc_types.specs.declared.script.Order.{Order}
 use Rattle.conc_types.specs.declared.script.Reading.{Reading}
-use Rattle.conc_types.specs.declared.set.SetDef.{SetDef}
-use Rattle.conc_types.specs.declared.stage.Stage.{Stage}
-use Rattle.conc_types.specs.Sets.{leads_on}
-use Rattle.conc_types.specs.Words.{none_or, numbered}
+use Rattle.conc_types.specs.Words.{numbered}
 use Rattle.conc_law.specs.Law.{may_follow}
 use Rattle.conc_law.specs.Next.{forced, forced_command, forced_interrupt, forced_let, forced_step, has_step, is_allowed, is_due, is_left_running, let_event, may_let}
-use Rattle.conc_law.specs.Plans.{precedes, set_at, stages_of}
+use Rattle.conc_law.specs.Plans.{precedes}
 use Rattle.conc_law.specs.Readings.{next_reading}
-use Rattle.conc_law.specs.Stages.{after_stage, has_ended, link, link_place, next_stage, set_outcome, set_step, stage_outcome, step_from}
-use Rattle.conc_law.specs.Standing.{facts_at, has_come, is_done, standing}
+use Rattle.conc_law.specs.Stages.{set_step}
+use Rattle.conc_law.specs.Standing.{has_come, is_done, standing}
 use Rattle.conc_law.specs.Words.{first_by, Has}
 use Rattle.conc_law.proofs.Comes.{came}
 use Rattle.conc_law.proofs.FactsAt.{numbered-map}
 use Rattle.conc_law.proofs.FirstBy.{find-some}
 use Rattle.conc_law.proofs.ForcedBy.{let_event-let, set_step-step}
 use Rattle.conc_law.proofs.Numbers.{enumerated-numbered}
-use Rattle.conc_law.proofs.Options.{and_then-some, map-some, or-some, then_some-some}
+use Rattle.conc_law.proofs.Options.{and_then-some, map-some, or-some}
 
 -- ---- a command
 

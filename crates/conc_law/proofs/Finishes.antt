@@ -1,14 +1,12 @@
 -- Where nothing comes next in a run without workers, the history is finished.
-use Rattle.std.proofs.Common.{◌≡◌, ℕ, Bool, true, false, not, ◌&&◌, ◌||◌, List, [], ◌∷◌, reverse, length, Option, None, Some, is_none, if◌then◌else◌, refl, sym, ◌∙◌, ap, subst, inl, inr}
-use Rattle.std.specs.Prelude.{slice_get}
+use Rattle.std.proofs.Common.{◌≡◌, ℕ, Bool, true, false, not, ◌&&◌, ◌||◌, List, [], ◌∷◌, reverse, Option, None, Some, is_none, if◌then◌else◌, refl, sym, ◌∙◌, ap, subst, inl, inr}
 use Rattle.std.specs.List.{find, list_all, list_any}
 use Rattle.std.specs.Option.{option_and_then, option_map, option_or}
 use Rattle.std.specs.Bool.{then_some}
-use Rattle.std.proofs.lemmas.Bool.{and_from, and_parts, both_ways, cases_Bool, not_from_false, or_cases, or_from, or_parts, or_right}
+use Rattle.std.proofs.lemmas.Bool.{and_from, and_parts, both_ways, cases_Bool, not_from_false, or_cases, or_right}
 use Rattle.conc_types.specs.declared.event.Event.{Event}
 use Rattle.conc_types.specs.declared.event.Event.TheVariants as event
 use Rattle.conc_types.specs.declared.event.Outcome.TheVariants as outcome
-use Rattle.conc_types.specs.declared.event.PlaceId.{PlaceId}
 use Rattle.conc_types.specs.declared.facts.Standing.{Standing}
 use Rattle.conc_types.specs.declared.item.Item.{Item}
 use Rattle.conc_types.specs.declared.item.Item.TheVariants as item
@@ -18,19 +16,18 @@ use Rattle.conc_types.specs.declared.program.Program.{Program}
 use Rattle.conc_types.specs.declared.script.Reading.{Reading}
 use Rattle.conc_types.specs.declared.table.Table.{Table}
 use Rattle.conc_types.specs.Tables.{can_report, has_columns, table_named}
-use Rattle.conc_types.specs.Words.{some_and}
 use Rattle.conc_law.specs.Alone.{choice, end_of, end_with, first_end, first_start, next_alone, next_tick, report_of, start_of}
 use Rattle.conc_law.specs.Facts.{is_let}
 use Rattle.conc_law.specs.Law.{Finished, is_past, may_follow}
-use Rattle.conc_law.specs.Next.{can_run, forced, is_at_rest, is_free, may_let, may_start, may_start_somewhere, may_take, runs_somewhere}
+use Rattle.conc_law.specs.Next.{can_run, forced, is_at_rest, may_let, may_start, may_start_somewhere, may_take, runs_somewhere}
 use Rattle.conc_law.specs.Places.{all_places}
 use Rattle.conc_law.specs.Plans.{is_admitted, is_enabled, precedes, program_at, program_of}
 use Rattle.conc_law.specs.Readings.{next_reading}
 use Rattle.conc_law.specs.Report.{report, Report}
-use Rattle.conc_law.specs.Standing.{facts_at, has_come, is_completed, is_live, is_running, is_stopping, is_waiting, standing}
+use Rattle.conc_law.specs.Standing.{facts_at, has_come, is_completed, is_live, is_running, is_stopping, standing}
 use Rattle.conc_law.specs.Words.{first_by, Has, is_set}
 use Rattle.conc_law.proofs.FactsAt.{is_running-standing}
-use Rattle.conc_law.proofs.FirstBy.{any-some, find-found, find-some, first_by-none, none_any, precedes-order}
+use Rattle.conc_law.proofs.FirstBy.{find-found, find-some, first_by-none, none_any, precedes-order}
 use Rattle.conc_law.proofs.LawfulIsPast.{all-get}
 use Rattle.conc_law.proofs.LiveApart.{is_let-more, let_could}
 use Rattle.conc_law.proofs.Options.{some_and-some}

@@ -1,5 +1,5 @@
 -- In a lawful history an open set is not completed.
-use Rattle.std.proofs.Common.{◌≡◌, Bool, true, false, List, [], ◌∷◌, None, is_some, refl, sym, ◌∙◌, ap, subst, inl, inr}
+use Rattle.std.proofs.Common.{◌≡◌, true, false, List, [], ◌∷◌, None, is_some, refl, sym, ◌∙◌, ap, subst, inl, inr}
 use Rattle.std.proofs.lemmas.Bool.{and_left, and_parts, and_right, both_ways, cases_Bool, cond-false, or_from}
 use Rattle.conc_types.specs.declared.event.Event.{Event}
 use Rattle.conc_types.specs.declared.event.Event.TheVariants as event
@@ -10,7 +10,6 @@ use Rattle.conc_law.specs.Facts.{completes, completion, is_open, runs, waits_for
 use Rattle.conc_law.specs.Kinds.{closes}
 use Rattle.conc_law.specs.Law.{is_past, may_follow}
 use Rattle.conc_law.specs.Next.{may_let}
-use Rattle.conc_law.specs.Past.{stands_since}
 use Rattle.conc_law.specs.Plans.{parent}
 use Rattle.conc_law.specs.Standing.{standing}
 use Rattle.conc_law.specs.Words.{Has, id_eq, is_set}

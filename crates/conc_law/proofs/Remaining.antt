@@ -1,6 +1,6 @@
 -- Each event but a resume lowers the bound on the events that a life still has.
-use Rattle.std.proofs.Common.{◌≡◌, ◌==◌, ℕ, suc, ◌+◌, ◌-◌, ◌*◌, ◌<◌, ◌≤◌, Bool, true, false, not, List, ◌∷◌, length, Option, None, Some, refl, sym, ◌∙◌, ap, subst, inl, inr, arith}
-use Rattle.std.specs.List.{enumerate_from, filter, sum_by}
+use Rattle.std.proofs.Common.{◌≡◌, ℕ, suc, ◌+◌, ◌-◌, ◌*◌, ◌<◌, ◌≤◌, Bool, true, false, not, List, ◌∷◌, length, Option, Some, refl, sym, ◌∙◌, ap, subst, inl, inr, arith}
+use Rattle.std.specs.List.{enumerate_from, sum_by}
 use Rattle.std.specs.Option.{option_map}
 use Rattle.std.proofs.Math.Nat.{mul-le-mul_right, suc-mul}
 use Rattle.std.proofs.lemmas.Bool.{cases_Bool, eq-eqb, not-true, not_from_false, not_from_true, or_left, or_parts}
@@ -18,13 +18,13 @@ use Rattle.conc_types.specs.declared.script.Order.{Order}
 use Rattle.conc_types.specs.declared.script.Reading.{Reading}
 use Rattle.conc_types.specs.Plans.{request}
 use Rattle.conc_types.specs.Words.{some_and}
-use Rattle.conc_law.specs.Facts.{facts_of, is_let}
+use Rattle.conc_law.specs.Facts.{facts_of}
 use Rattle.conc_law.specs.Kinds.{is_command, is_resume}
 use Rattle.conc_law.specs.Law.{is_past, may_follow}
 use Rattle.conc_law.specs.Next.{is_allowed, may_end, may_start}
-use Rattle.conc_law.specs.Past.{earlier_lives, last_life, stands}
+use Rattle.conc_law.specs.Past.{earlier_lives, last_life}
 use Rattle.conc_law.specs.Readings.{life_readings, next_reading, ticks}
-use Rattle.conc_law.specs.Remaining.{commands_left, events_left, remaining}
+use Rattle.conc_law.specs.Remaining.{commands_left, remaining}
 use Rattle.conc_law.specs.Standing.{is_done, standing}
 use Rattle.conc_law.specs.Words.{Has, id_eq}
 use Rattle.conc_law.proofs.Comes.{close_comes, comes_allowed, let_comes, Lettable, open_comes, Opened, stage_comes}

@@ -1,6 +1,5 @@
 -- Each end that a run without workers adds tells what the report of its request says.
-use Rattle.std.proofs.Common.{◌≡◌, ℕ, ◌≤◌, Bool, true, false, List, length, reverse, take, Option, None, Some, if◌then◌else◌, refl, sym, ◌∙◌, ap, inl, inr}
-use Rattle.std.specs.Prelude.{slice_get}
+use Rattle.std.proofs.Common.{◌≡◌, ℕ, Bool, true, false, List, length, reverse, take, Option, None, Some, if◌then◌else◌, sym, ◌∙◌, ap, inl, inr}
 use Rattle.std.specs.Option.{option_and_then, option_map}
 use Rattle.std.specs.Bool.{then_some}
 use Rattle.std.specs.List.{find}

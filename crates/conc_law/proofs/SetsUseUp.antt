@@ -1,5 +1,5 @@
 -- The opening, a stage and the close of a set each lower its bound.
-use Rattle.std.proofs.Common.{◌≡◌, ℕ, ◌+◌, ◌-◌, ◌<◌, ◌≤◌, Bool, true, false, List, ◌∷◌, Option, Some, refl, sym, ◌∙◌, ap, subst, arith}
+use Rattle.std.proofs.Common.{◌≡◌, ℕ, ◌+◌, ◌-◌, ◌<◌, ◌≤◌, true, false, List, ◌∷◌, Option, Some, refl, ◌∙◌, ap, subst, arith}
 use Rattle.std.specs.Prelude.{unwrap_or}
 use Rattle.std.proofs.lemmas.Bool.{and_from, or_left}
 use Rattle.conc_types.specs.declared.event.Event.{Event}
@@ -9,7 +9,7 @@ use Rattle.conc_types.specs.declared.event.RequestId.{RequestId}
 use Rattle.conc_types.specs.declared.plan.Plan.{Plan}
 use Rattle.conc_types.specs.declared.plan.Req.{Req}
 use Rattle.conc_types.specs.declared.script.Reading.{Reading}
-use Rattle.conc_law.specs.Facts.{cancels, current_stage, facts_of, holds, is_let, is_open, running_place, runs, unlets, was_completed}
+use Rattle.conc_law.specs.Facts.{cancels, current_stage, facts_of, holds, is_let, is_open, running_place, runs, unlets}
 use Rattle.conc_law.specs.Kinds.{act_of}
 use Rattle.conc_law.specs.Law.{is_past, may_follow}
 use Rattle.conc_law.specs.Next.{may_let}

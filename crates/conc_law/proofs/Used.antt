@@ -1,8 +1,7 @@
 -- How many bytes all extents take: at most one extent for each completed request.
-use Rattle.std.proofs.Common.{◌≡◌, ◌==◌, ℕ, suc, ◌+◌, ◌*◌, ◌^◌, ◌<◌, ◌≤◌, Bool, true, false, ◌&&◌, if◌then◌else◌, List, [], ◌∷◌, length, Option, None, Some, refl, sym, ◌∙◌, ap, subst, inl, inr, arith}
+use Rattle.std.proofs.Common.{◌≡◌, ◌==◌, ℕ, suc, ◌+◌, ◌*◌, ◌^◌, ◌<◌, ◌≤◌, Bool, true, false, ◌&&◌, if◌then◌else◌, List, [], ◌∷◌, length, Option, None, Some, refl, sym, subst, arith}
 use Rattle.std.specs.Prelude.{is_none, nat_lt}
-use Rattle.std.specs.List.{filter, list_all, sum_by}
-use Rattle.std.specs.Option.{option_map}
+use Rattle.std.specs.List.{filter, list_all}
 use Rattle.std.proofs.Math.Nat.{mul-le-mul_right, suc-mul}
 use Rattle.std.proofs.lemmas.Bool.{and_from, and_parts, lt-ltb, ltb-true}
 use Rattle.std.proofs.lemmas.List.Sums.{sum_by-cons}
@@ -20,7 +19,7 @@ use Rattle.conc_law.specs.Kinds.{extent_length}
 use Rattle.conc_law.specs.Law.{is_past, may_follow}
 use Rattle.conc_law.specs.Next.{is_next_extent, is_report_outcome, is_terminated, may_end}
 use Rattle.conc_law.specs.Standing.{facts_at, fitting, is_running, is_stopping, standing, used}
-use Rattle.conc_law.specs.Words.{Has, id_eq}
+use Rattle.conc_law.specs.Words.{Has}
 use Rattle.conc_law.proofs.Completed.{let_not_completed, was_completed-more}
 use Rattle.conc_law.proofs.EqualEvents.{id_same}
 use Rattle.conc_law.proofs.Remaining.{end_about, IsAboutOne}
@@ -48,7 +47,7 @@ none_short : (id : RequestId) (o : Outcome) (x : Option Extent) → is_none x �
 none_short id o None h = refl
 none_short id o (Some x) h = cc
 
--- a request ends with no extent that is not short
+-- the extent with which a request may end is short
 may_end-short : (s : Standing) (r : Req) (id : RequestId) (o : Outcome) (x : Option Extent) → may_end s r o x ≡ true → is_short (event.Ended id o x) ≡ true
 unfolding may_end
 may_end-short s r id o x h = by (is_stopping (facts_at s r)) (and_parts (is_running (facts_at s r)) _ h).1 where

@@ -1,37 +1,31 @@
--- Each event but a command and a tick lowers the bound of the request that it is about.
-use Rattle.std.proofs.Common.{◌≡◌, ℕ, ◌+◌, ◌-◌, ◌<◌, ◌≤◌, Bool, true, false, not, ◌&&◌, List, ◌∷◌, Option, None, Some, is_some, refl, sym, ◌∙◌, ap, subst, inl, inr, arith}
+-- A start, an end, an interrupt and a let each lower the bound of their request.
+use Rattle.std.proofs.Common.{◌≡◌, ℕ, ◌<◌, ◌≤◌, true, false, not, ◌&&◌, List, ◌∷◌, Option, is_some, refl, sym, ◌∙◌, ap, inl, inr, arith}
 use Rattle.std.specs.Bool.{then_some}
-use Rattle.std.proofs.lemmas.Bool.{and_from, and_left, and_parts, and_right, both_ways, cases_Bool, cond-true, not-true, not_from_true, or_from, or_left, or_parts}
+use Rattle.std.proofs.lemmas.Bool.{and_left, and_parts, both_ways, cases_Bool, not-true, not_from_true, or_left, or_parts}
 use Rattle.conc_types.specs.declared.event.Event.{Event}
 use Rattle.conc_types.specs.declared.event.Event.TheVariants as event
 use Rattle.conc_types.specs.declared.event.Extent.{Extent}
 use Rattle.conc_types.specs.declared.event.Outcome.{Outcome}
 use Rattle.conc_types.specs.declared.event.PlaceId.{PlaceId}
 use Rattle.conc_types.specs.declared.event.RequestId.{RequestId}
-use Rattle.conc_types.specs.declared.facts.Facts.{Facts}
 use Rattle.conc_types.specs.declared.plan.Plan.{Plan}
 use Rattle.conc_types.specs.declared.plan.Req.{Req}
 use Rattle.conc_types.specs.declared.script.Reading.{Reading}
-use Rattle.conc_law.specs.Facts.{cancels, completes, completion, current_stage, facts_of, holds, is_let, is_open, running_place, runs, unlets, was_completed, was_started}
-use Rattle.conc_law.specs.Kinds.{act_of}
+use Rattle.conc_law.specs.Facts.{completes, completion, facts_of, is_let, is_open, running_place, runs, unlets, was_completed, was_started}
 use Rattle.conc_law.specs.Law.{is_past, may_follow}
 use Rattle.conc_law.specs.Next.{may_let}
 use Rattle.conc_law.specs.Past.{last_life}
 use Rattle.conc_law.specs.Remaining.{events_left}
 use Rattle.conc_law.specs.Standing.{facts_at, is_completed, is_live, is_running, standing}
-use Rattle.conc_law.specs.Words.{Has, id_eq, is_set}
-use Rattle.conc_law.proofs.Comes.{close_comes, may_start-parts, same_request, start_comes}
-use Rattle.conc_law.proofs.Completed.{let_no_set, let_not_completed, opened_open, was_completed-by}
-use Rattle.conc_law.proofs.Due.{IsStepped, stage_stepped}
-use Rattle.conc_law.proofs.EqualEvents.{eqb-refl, id_same}
+use Rattle.conc_law.specs.Words.{Has, is_set}
+use Rattle.conc_law.proofs.Comes.{may_start-parts, start_comes}
+use Rattle.conc_law.proofs.Completed.{let_no_set, let_not_completed, was_completed-by}
+use Rattle.conc_law.proofs.EqualEvents.{eqb-refl}
 use Rattle.conc_law.proofs.FactsAt.{facts_at-standing, is_completed-standing, is_live-standing, is_running-standing, let_out-standing}
-use Rattle.conc_law.proofs.Links.{set_step-later}
-use Rattle.conc_law.proofs.LiveApart.{let_could, may_let-parts, open_could}
-use Rattle.conc_law.proofs.OpenSets.{open_not_completed, open_set, set_runs_not}
-use Rattle.conc_law.proofs.Others.{is_about}
+use Rattle.conc_law.proofs.LiveApart.{let_could, may_let-parts}
 use Rattle.conc_law.proofs.RunningIsLet.{runs_let}
 use Rattle.conc_law.proofs.Stops.{end_runs, interrupt_left, interrupt_runs}
-use Rattle.conc_law.proofs.Weights.{left-completed, left-left_running, left-let, left-let-le, left-open, left-open-le, left-running, left-started, left-unopened, left-waiting, left-waiting-le}
+use Rattle.conc_law.proofs.Weights.{left-completed, left-left_running, left-let, left-let-le, left-running, left-started, left-waiting, left-waiting-le}
 
 -- the bound of r after these events
 abbrev pub left : Plan → List Event → Req → ℕ
