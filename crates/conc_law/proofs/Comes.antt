@@ -35,7 +35,7 @@ same_request plan q r hq hr n =
     cc
 
 -- an event that may come is a resume, or forced, or allowed where nothing is forced
-came : (plan : Plan) (s : Standing) (next : Option (Option Reading)) (e : Event) → is_resume e ≡ false → may_come plan s next e ≡ true
+pub came : (plan : Plan) (s : Standing) (next : Option (Option Reading)) (e : Event) → is_resume e ≡ false → may_come plan s next e ≡ true
     → (forced plan s ≡ Some e) ⊎ ((forced plan s ≡ None) × (is_allowed plan s next e ≡ true))
 unfolding may_come
 came plan s next e r h =

@@ -35,7 +35,7 @@ use Rattle.conc_law.proofs.RunningIsLet.{start_let}
 -- ---- what is completed stays so
 
 -- what is completed stays so
-was_completed-more : (plan : Plan) (past : List Event) (r : Req) (e : Event) → was_completed plan past r ≡ true → was_completed plan (e ∷ past) r ≡ true
+pub was_completed-more : (plan : Plan) (past : List Event) (r : Req) (e : Event) → was_completed plan past r ≡ true → was_completed plan (e ∷ past) r ≡ true
 unfolding was_completed completion
 was_completed-more plan past r e h = by (completion plan past r) h where
   by : (o : Option Outcome) → is_some o ≡ true → is_some (option_or o (completes plan past (completion plan past) r e)) ≡ true
@@ -43,7 +43,7 @@ was_completed-more plan past r e h = by (completion plan past r) h where
   by (Some x) k = refl
 
 -- an event that completes a request leaves it completed
-was_completed-by : (plan : Plan) (past : List Event) (r : Req) (e : Event) → is_some (completes plan past (completion plan past) r e) ≡ true
+pub was_completed-by : (plan : Plan) (past : List Event) (r : Req) (e : Event) → is_some (completes plan past (completion plan past) r e) ≡ true
     → was_completed plan (e ∷ past) r ≡ true
 unfolding was_completed completion
 was_completed-by plan past r e h = by (completion plan past r) (completes plan past (completion plan past) r e) h where
@@ -52,7 +52,7 @@ was_completed-by plan past r e h = by (completion plan past r) (completes plan p
   by (Some x) p k = refl
 
 -- a request that was not completed, and that the event does not complete, is not
-was_completed-neither : (plan : Plan) (past : List Event) (r : Req) (e : Event) → was_completed plan past r ≡ false
+pub was_completed-neither : (plan : Plan) (past : List Event) (r : Req) (e : Event) → was_completed plan past r ≡ false
     → is_some (completes plan past (completion plan past) r e) ≡ false → was_completed plan (e ∷ past) r ≡ false
 unfolding was_completed completion
 was_completed-neither plan past r e h k = by (completion plan past r) (completes plan past (completion plan past) r e) h k where
@@ -69,7 +69,7 @@ unfolding completes
 close_completes plan past set s o h = ap is_some (cond-true (id_eq s set.number) _ _ h)
 
 -- the same, by the kind of the event
-closed_set : (plan : Plan) (past : List Event) (set : Req) (e : Event) → closes set.number e ≡ true → was_completed plan (e ∷ past) set ≡ true
+pub closed_set : (plan : Plan) (past : List Event) (set : Req) (e : Event) → closes set.number e ≡ true → was_completed plan (e ∷ past) set ≡ true
 closed_set plan past set (event.CloseSet s o) h = was_completed-by plan past set (event.CloseSet s o) (close_completes plan past set s o h)
 closed_set plan past set _ h = cc
 
@@ -81,7 +81,7 @@ still_open past set e h k =
     and_from _ _ p.0 (or_right _ _ (and_from _ _ (not_from_false _ k) p.1))
 
 -- a request of the plan that is opened by its number is open
-opened_open : (plan : Plan) (past : List Event) (r : Req) → Has plan.requests r → Opened plan (standing plan past) r.number → is_open past r ≡ true
+pub opened_open : (plan : Plan) (past : List Event) (r : Req) → Has plan.requests r → Opened plan (standing plan past) r.number → is_open past r ≡ true
 opened_open plan past r hr o =
     let same : o.req ≡ r = same_request plan o.req r o.element hr o.number in
     subst (λ z. is_open past z ≡ true) same (sym (opened-standing plan past o.req o.element) ∙ o.opened)
@@ -131,7 +131,7 @@ begun-more past set k e h =
     stages_begun-stand (e ∷ past) set k (has_stage-between (stages_begun past set) k h) ∙ or_right _ _ (begun-stands past set k h)
 
 -- a member that does not wait for its stage waits no more
-waits-more : (plan : Plan) (past : List Event) (r : Req) (e : Event) → waits_for_stage plan past r ≡ false → waits_for_stage plan (e ∷ past) r ≡ false
+pub waits-more : (plan : Plan) (past : List Event) (r : Req) (e : Event) → waits_for_stage plan past r ≡ false → waits_for_stage plan (e ∷ past) r ≡ false
 unfolding waits_for_stage
 waits-more plan past r e h = by (parent plan r) h where
   by : (o : Option Req) → some_and (λ set. not (has_stage (stages_begun past set.number) r.stage)) o ≡ false
@@ -156,7 +156,7 @@ let_waits_no_more plan (e ∷ past) r hr lawful h =
     ])
 
 -- a let request is no set
-let_no_set : (plan : Plan) (past : List Event) (r : Req) → Has plan.requests r → is_past plan past ≡ true → is_let plan past r ≡ true → is_set r.item ≡ false
+pub let_no_set : (plan : Plan) (past : List Event) (r : Req) → Has plan.requests r → is_past plan past ≡ true → is_let plan past r ≡ true → is_set r.item ≡ false
 unfolding is_past is_let
 let_no_set plan [] r hr lawful h = cc
 let_no_set plan (e ∷ past) r hr lawful h =
@@ -169,11 +169,11 @@ let_no_set plan (e ∷ past) r hr lawful h =
 -- ---- a let request is not completed
 
 -- a test that fails gives no outcome
-none_if : (b : Bool) (o : Outcome) → b ≡ false → is_some (then_some b o) ≡ false
+pub none_if : (b : Bool) (o : Outcome) → b ≡ false → is_some (then_some b o) ≡ false
 none_if b o h = ap (λ c. is_some (then_some c o)) h
 
 -- an open or completed request is not idle
-idle_not : (plan : Plan) (past : List Event) (set : Req) → (is_open past set ≡ true) ⊎ (was_completed plan past set ≡ true)
+pub idle_not : (plan : Plan) (past : List Event) (set : Req) → (is_open past set ≡ true) ⊎ (was_completed plan past set ≡ true)
     → is_idle past (completion plan past) set ≡ false
 unfolding is_idle was_completed
 idle_not plan past set h =
@@ -184,7 +184,7 @@ idle_not plan past set h =
     and_right _ _ (and_right _ _ rest)
 
 -- a request that is not idle is not cancelled
-cancels_not : (plan : Plan) (past : List Event) (set : Req) (e : Event) → is_idle past (completion plan past) set ≡ false
+pub cancels_not : (plan : Plan) (past : List Event) (set : Req) (e : Event) → is_idle past (completion plan past) set ≡ false
     → cancels plan past (completion plan past) set e ≡ false
 unfolding cancels
 cancels_not plan past set e h = and_right _ _ h
@@ -200,7 +200,7 @@ parent_begun plan past r set h w =
     ((found plan p.0 set p.2).1, not-false _ n)
 
 -- the set of a let member is not cancelled
-parent_cancel : (plan : Plan) (past : List Event) (r : Req) (e : Event) → is_past plan past ≡ true → waits_for_stage plan past r ≡ false
+pub parent_cancel : (plan : Plan) (past : List Event) (r : Req) (e : Event) → is_past plan past ≡ true → waits_for_stage plan past r ≡ false
     → (o : Option Req) → parent plan r ≡ o → some_and (λ set. cancels plan past (completion plan past) set e) o ≡ false
 parent_cancel plan past r e lawful w None is = refl
 parent_cancel plan past r e lawful w (Some set) is =

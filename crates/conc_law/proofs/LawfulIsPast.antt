@@ -63,7 +63,7 @@ in_order-filter test (y ∷ ys) h =
     ]
 
 -- what holds of all elements holds of the one at a position
-all-get : {T : Type 0} (p : T → Bool) (xs : List T) (i : ℕ) (x : T) → list_all p xs ≡ true → slice_get xs i ≡ Some x → p x ≡ true
+pub all-get : {T : Type 0} (p : T → Bool) (xs : List T) (i : ℕ) (x : T) → list_all p xs ≡ true → slice_get xs i ≡ Some x → p x ≡ true
 all-get p [] i x h g = cc
 all-get p (y ∷ ys) zero x h g = let e : y ≡ x = cc in subst (λ z. p z ≡ true) e (and_parts _ _ h).0
 all-get p (y ∷ ys) (suc i) x h g = all-get p ys i x (and_parts (p y) _ h).1 g
@@ -97,12 +97,12 @@ tick_by plan s next t (Some (event.Tick u)) kind h = cc
 tick_by plan s next t (Some _) kind h = cc
 
 -- a tick of the last life is its next reading, and nothing is forced
-abbrev IsRead : Plan → List Reading → List Event → Moment → Type 0
+abbrev pub IsRead : Plan → List Reading → List Event → Moment → Type 0
 IsRead plan readings past t =
     (q : Reading) × (next_reading readings past ≡ Some q) × (t ≡ q.moment) × (forced plan (standing plan past) ≡ None)
 
 -- a tick that may follow is the next reading, and nothing is forced
-tick_read : (plan : Plan) (readings : List Reading) (past : List Event) (t : Moment) → may_follow plan (Some readings) past (event.Tick t) ≡ true
+pub tick_read : (plan : Plan) (readings : List Reading) (past : List Event) (t : Moment) → may_follow plan (Some readings) past (event.Tick t) ≡ true
     → IsRead plan readings past t
 unfolding may_follow may_come
 tick_read plan readings past t h =

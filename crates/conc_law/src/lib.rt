@@ -99,6 +99,25 @@ pub fn alone_is_lawful()
         Past plan found → Alone plan readings found history → Lawful plan readings history }
 {}
 
+/// Where nothing comes next in a run without workers, the history is finished.
+pub fn alone_finishes()
+    ensures { (plan : Plan) (readings : List Reading) (history : List Event) → Past plan history →
+        next_alone plan readings (reverse history) ≡ None → Finished plan readings history }
+{}
+
+/// Each end that a run without workers adds tells what the report of its request says.
+pub fn alone_reports()
+    ensures { (plan : Plan) (readings : List Reading) (found history : List Event) →
+        Alone plan readings found history → AreReported plan (length (opening found)) history }
+{}
+
+/// A life ends: each event but a resume lowers the bound on the events that it still has.
+pub fn each_event_uses_up()
+    ensures { (plan : Plan) (readings : List Reading) (history : List Event) (e : Event) → Past plan history →
+        IsTrue (may_follow plan (Some readings) (reverse history) e) → IsFalse (is_resume e) →
+        remaining plan readings (e ∷ reverse history) < remaining plan readings (reverse history) }
+{}
+
 /// From one beginning a run without workers makes one history.
 pub fn alone_is_unique()
     ensures { (plan : Plan) (readings : List Reading) (found one another : List Event) →
