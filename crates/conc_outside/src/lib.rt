@@ -1,9 +1,18 @@
+//! The outside: where files are read from and where bytes are written to.
 #![tactic(auto)]
 
 mod error;
+mod memory_shelf;
+mod memory_sink;
+mod real;
 mod shelf;
 mod sink;
+#[cfg(test)]
+mod tests;
 
 pub use error::{Failed, ShelfFail};
+pub use memory_shelf::MemShelf;
+pub use memory_sink::MemSink;
+pub use real::{FileShelf, WriterSink};
 pub use shelf::Shelf;
 pub use sink::{Sink, write_all};

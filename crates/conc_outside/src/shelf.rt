@@ -7,6 +7,9 @@ use crate::ShelfFail;
 use conc_types::Name;
 use std::alloc::Global;
 
+/// How much of a file is read.
+pub(crate) const MOST_BYTES: usize = 67_108_865;
+
 /// A shelf of files, each with a name of its own.
 pub trait Shelf {
     /// The files, if the shelf tells them.

@@ -1,0 +1,12 @@
+use Rattle.std.proofs.Common.{◌≡◌, ℕ, ◌≤◌, List, ◌++◌, length}
+use Rattle.conc_outside.specs.Taken.{Took}
+use Rattle.conc_outside.proofs.sink.write_all.Given as goal
+
+abbrev pub invariant-loop-rest : goal.invariant-loop-rest
+invariant-loop-rest g l = record {
+  faults : g.O.Sink.faults l.fn.out ≤ g.O.Sink.faults l.out;
+  written : (written : List ℕ) × (written ++ l.rest ≡ l.fn.bytes) × Took (g.O.Sink.taken l.fn.out) (g.O.Sink.taken l.out) written;
+}
+
+abbrev pub decreases-loop-rest : goal.decreases-loop-rest
+decreases-loop-rest g l = length l.rest

@@ -1,0 +1,8 @@
+-- What is in the files and pieces that stand in memory.
+use Rattle.std.specs.Prelude.{ℕ, List, map, Vec}
+use Rattle.std.specs.declared.alloc.Global.{Global}
+use Rattle.conc_outside.specs.Files.{Files}
+
+-- names and vectors as a shelf tells them
+abbrev pub told : List (List ℕ × Vec ℕ Global) → Files
+told files = map (λ f. (f.0, f.1.items)) files

@@ -1,0 +1,81 @@
+ghost use Rattle.std.specs.Prelude.{◌≡◌, map, Some, IsTrue};
+ghost use Rattle.std.specs.List.{find};
+ghost use Rattle.std.specs.Option.{option_copied};
+ghost use Rattle.std.specs.Str.{bytes_eq};
+ghost use Rattle.conc_types.specs.Words.{are_distinct};
+ghost use Rattle.conc_outside.specs.Files.{file_named as file_named_of};
+ghost use Rattle.conc_outside.specs.Told.{told};
+
+use crate::shelf::MOST_BYTES;
+use crate::{Shelf, ShelfFail};
+use conc_types::Name;
+use std::alloc::Global;
+
+/// A shelf whose files stand in memory. Listed reads of it fail.
+#[derive(Drop)]
+pub struct MemShelf {
+    files: Vec<(Name, Vec<u8>)>,
+    fails: Vec<u64>,
+    reads: u64,
+    absences: u64,
+    faults: u64,
+}
+
+impl MemShelf {
+    /// A shelf of these files, no two of one name. The reads with these numbers, counted from 0,
+    /// are to fail where the file is there. It takes no memory.
+    pub fn new(files: Vec<(Name, Vec<u8>)>, fails: Vec<u64>) -> Self
+        requires { IsTrue (are_distinct bytes_eq (map (λ f. f.0) files.items)) }
+        ensures files { ⟦<MemShelf as Shelf>⟧.files result ≡ Some (told files.items) }
+        ensures absences { ⟦<MemShelf as Shelf>⟧.absences result ≡ 0 }
+        ensures faults { ⟦<MemShelf as Shelf>⟧.faults result ≡ 0 }
+    {
+        MemShelf {
+            files,
+            fails,
+            reads: 0,
+            absences: 0,
+            faults: 0,
+        }
+    }
+}
+
+fn row_named<'a>(files: &'a [(Name, Vec<u8>)], name: &Name) -> Option<&'a (Name, Vec<u8>)>
+    ensures { option_copied result ≡ find (λ f. bytes_eq f.0 name.now) files.now }
+{
+    files
+        .iter()
+        .find(|file| file.0.as_bytes() == name.as_bytes())
+}
+
+fn file_named<'a>(files: &'a [(Name, Vec<u8>)], name: &Name) -> Option<&'a [u8]>
+    ensures { option_copied result ≡ file_named_of (told files.now) name.now }
+{
+    match row_named(files, name) {
+        Some(file) => Some(file.1.as_slice()),
+        None => None,
+    }
+}
+
+impl Shelf for MemShelf {
+    ghost files = { λ s. Some (told s.files.items) };
+
+    ghost absences = { λ s. s.absences };
+
+    ghost faults = { λ s. s.faults };
+
+    fn read_file(&mut self, alloc: Global, name: &Name) -> Result<Vec<u8>, ShelfFail> {
+        let number = self.reads;
+        self.reads = number.saturating_add(1);
+        let Some(bytes) = file_named(&self.files, name) else {
+            self.absences = self.absences.saturating_add(1);
+            return Err(ShelfFail::Absent);
+        };
+        if self.fails.contains(&number) {
+            self.faults = self.faults.saturating_add(1);
+            return Err(ShelfFail::Failed);
+        }
+        let front = &bytes[..MOST_BYTES.min(bytes.len())];
+        Ok(front.to_vec(alloc)?)
+    }
+}

@@ -1,0 +1,72 @@
+ghost use Rattle.std.specs.Prelude.{◌≡◌, ◌≤◌, [], Some};
+
+use crate::{Failed, Sink};
+use std::alloc::Global;
+
+/// A sink that keeps what it takes in memory. Listed writes to it fail.
+#[derive(Drop)]
+pub struct MemSink {
+    bytes: Vec<u8>,
+    fails: Vec<u64>,
+    writes: u64,
+    starved: u64,
+    faults: u64,
+    ghost counted: { starved ≤ faults },
+}
+
+impl MemSink {
+    ghost use Rattle.conc_outside.specs.Starved.{starved_of};
+
+    /// A sink that has taken nothing. The writes with these numbers, counted from 0, are to fail.
+    /// It takes no memory.
+    pub fn new(alloc: Global, fails: Vec<u64>) -> Self
+        ensures taken { ⟦<MemSink as Sink>⟧.taken result ≡ Some [] }
+        ensures faults { ⟦<MemSink as Sink>⟧.faults result ≡ 0 }
+        ensures starved { starved_of result ≡ 0 }
+    {
+        MemSink {
+            bytes: Vec::new(alloc),
+            fails,
+            writes: 0,
+            starved: 0,
+            faults: 0,
+        }
+    }
+
+    /// The bytes taken so far.
+    pub fn bytes(&self) -> &[u8]
+        ensures { ⟦<MemSink as Sink>⟧.taken self.now ≡ Some result.now }
+    {
+        &self.bytes
+    }
+
+    /// How often a write found no memory, a count that stands still at its end. Each of them is a
+    /// fault too.
+    pub fn starved(&self) -> u64
+        ensures count { result ≡ starved_of self.now }
+        ensures within { result ≤ ⟦<MemSink as Sink>⟧.faults self.now }
+    {
+        self.starved
+    }
+}
+
+impl Sink for MemSink {
+    ghost taken = { λ s. Some s.bytes.items };
+
+    ghost faults = { λ s. s.faults };
+
+    fn write(&mut self, piece: &[u8]) -> Result<usize, Failed> {
+        let number = self.writes;
+        self.writes = number.saturating_add(1);
+        if self.fails.contains(&number) {
+            self.faults = self.faults.saturating_add(1);
+            return Err(Failed);
+        }
+        if self.bytes.extend_from_slice(piece).is_err() {
+            self.starved = self.starved.saturating_add(1);
+            self.faults = self.faults.saturating_add(1);
+            return Err(Failed);
+        }
+        Ok(piece.len())
+    }
+}
