@@ -1,10 +1,16 @@
 //! The commands of the program, over a shelf of files and a sink.
 #![tactic(auto)]
 
+mod accepting;
 mod exit;
+mod given;
 mod line;
 mod names;
+mod printing;
+mod stop;
+mod top;
 mod words;
 
 pub use exit::Exit;
 pub use line::exit_text;
+pub use top::conc;

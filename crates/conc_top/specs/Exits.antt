@@ -1,0 +1,132 @@
+-- What each exit means.
+use Rattle.std.specs.Prelude.{◌≡◌, ◌⊎◌, ℕ, List, [], Option, None, Some}
+use Rattle.conc_types.specs.declared.event.Event.{Event}
+use Rattle.conc_types.specs.declared.plan.Plan.{Plan}
+use Rattle.conc_types.specs.declared.refusal.FileKind.{FileKind}
+use Rattle.conc_types.specs.declared.refusal.Refusal.{Refusal}
+use Rattle.conc_types.specs.declared.script.Readings.{Readings}
+use Rattle.conc_law.specs.Alone.{Alone}
+use Rattle.conc_law.specs.Ends.{AreReported}
+use Rattle.conc_law.specs.Law.{Finished, Lawful}
+use Rattle.conc_law.specs.Overlap.{NoOverlap}
+use Rattle.conc_law.specs.Text.{text_of}
+use Rattle.conc_outside.specs.Counts.{Rose}
+use Rattle.conc_outside.specs.Files.{Files, Gives, Lacks}
+use Rattle.conc_outside.specs.Taken.{Took, TookPrefix}
+use Rattle.conc_thin.specs.Refusals.{not_built_of}
+use Rattle.conc_top.specs.declared.exit.Exit.{Exit}
+use Rattle.conc_top.specs.declared.exit.Exit.TheVariants as exit
+use Rattle.conc_top.specs.declared.names.Names.{Names}
+use Rattle.conc_top.specs.Given.{Accepts, IsNext}
+use Rattle.conc_top.specs.Words.{names_of}
+
+-- ---- reading the files
+
+-- what a shelf tells, and its counts before and after
+pub record Shelved : Type 0 where
+  pub told : Option Files
+  pub absences_before : ℕ
+  pub absences_after : ℕ
+  pub faults_before : ℕ
+  pub faults_after : ℕ
+
+abbrev pub shelved : Option Files → ℕ → ℕ → ℕ → ℕ → Shelved
+shelved told absences absences' faults faults' = record {
+  told = told;
+  absences_before = absences;
+  absences_after = absences';
+  faults_before = faults;
+  faults_after = faults';
+}
+
+-- the file that was next is the first one that is refused
+pub record IsRefused (shelf : Shelved) (names : Names) (refusal : Refusal) (name : List ℕ) : Type 0 where
+  pub next : IsNext shelf.told names refusal.file name
+  pub bytes : List ℕ
+  pub given : Gives shelf.told name bytes
+  pub rule : refusal ≡ not_built_of refusal.file
+
+-- the file that was next is lacking
+pub record IsAbsent (shelf : Shelved) (names : Names) (name : List ℕ) : Type 0 where
+  pub file : FileKind
+  pub next : IsNext shelf.told names file name
+  pub lacking : Lacks shelf.told name
+  pub counted : Rose shelf.absences_before shelf.absences_after
+
+-- the file that was next could not be read
+pub record IsReadFault (shelf : Shelved) (names : Names) (name : List ℕ) : Type 0 where
+  pub file : FileKind
+  pub next : IsNext shelf.told names file name
+  pub counted : Rose shelf.faults_before shelf.faults_after
+
+-- the reading of the files ended with this exit
+abbrev pub StopsAt : Shelved → Names → Exit → Type 0
+StopsAt shelf names (exit.Refused refusal name) = IsRefused shelf names refusal name
+StopsAt shelf names (exit.Absent name) = IsAbsent shelf names name
+StopsAt shelf names (exit.ReadFault name) = IsReadFault shelf names name
+StopsAt shelf names exit.NoMemory = Unit {0}
+StopsAt shelf names _ = ⊥
+
+-- ---- a whole call
+
+-- what surrounds a call: its words, the shelf, and what the sink had taken and its count of faults before and after
+pub record Call : Type 0 where
+  pub words : List (List ℕ)
+  pub shelf : Shelved
+  pub taken_before : Option (List ℕ)
+  pub taken_after : Option (List ℕ)
+  pub faults_before : ℕ
+  pub faults_after : ℕ
+
+abbrev pub WroteNothing : Call → Type 0
+WroteNothing call = call.taken_after ≡ call.taken_before
+
+-- the history is that of the run without workers: it is lawful and finished, running intervals of requests that exclude each other do not overlap, and each end tells what its report says
+pub record Ran (plan : Plan) (readings : Readings) (history : List Event) : Type 0 where
+  pub alone : Alone plan readings.list [] history
+  pub lawful : Lawful plan readings.list history
+  pub finished : Finished plan readings.list history
+  pub apart : NoOverlap plan history
+  pub reported : AreReported plan 0 history
+
+-- the run that the words ask for: its files are accepted, and this is its history
+pub record IsRun (call : Call) : Type 0 where
+  pub names : Names
+  pub words : names_of call.words ≡ Some names
+  pub plan : Plan
+  pub readings : Readings
+  pub accepted : Accepts call.shelf.told names plan readings
+  pub history : List Event
+  pub ran : Ran plan readings history
+
+-- the text of the history was written
+pub record IsDone (call : Call) : Type 0 where
+  pub run : IsRun call
+  pub printed : Took call.taken_before call.taken_after (text_of run.plan run.history)
+
+-- the words are no command line
+pub record IsUsage (call : Call) : Type 0 where
+  pub words : names_of call.words ≡ None
+  pub nothing : WroteNothing call
+
+-- the reading of the files ended so
+pub record IsStopped (call : Call) (end : Exit) : Type 0 where
+  pub names : Names
+  pub words : names_of call.words ≡ Some names
+  pub stops : StopsAt call.shelf names end
+  pub nothing : WroteNothing call
+
+-- a prefix of the text was written
+pub record IsPart (call : Call) : Type 0 where
+  pub run : IsRun call
+  pub part : TookPrefix call.taken_before call.taken_after (text_of run.plan run.history)
+
+-- what each exit means. Want of memory is the one that needs no cause; what was written then is a part of the text, or nothing
+abbrev pub Means : Call → Exit → Type 0
+Means call exit.Done = IsDone call
+Means call exit.Usage = IsUsage call
+Means call (exit.Refused refusal name) = IsStopped call (exit.Refused refusal name)
+Means call (exit.Absent name) = IsStopped call (exit.Absent name)
+Means call (exit.ReadFault name) = IsStopped call (exit.ReadFault name)
+Means call exit.WriteFault = IsPart call × Rose call.faults_before call.faults_after
+Means call exit.NoMemory = WroteNothing call ⊎ IsPart call

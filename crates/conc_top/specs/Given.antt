@@ -1,0 +1,70 @@
+-- The files that were read, each of them there and accepted, and the file to be read next.
+use Rattle.std.specs.Prelude.{◌≡◌, ℕ, List, [], ◌∷◌, Option, Some, slice_get, take}
+use Rattle.conc_types.specs.declared.plan.Plan.{Plan}
+use Rattle.conc_types.specs.declared.refusal.FileKind.{FileKind}
+use Rattle.conc_types.specs.declared.refusal.FileKind.TheVariants as kind
+use Rattle.conc_types.specs.declared.script.Readings.{Readings}
+use Rattle.conc_types.specs.declared.script.Script.{Script}
+use Rattle.conc_types.specs.declared.setup.Setup.{Setup}
+use Rattle.conc_types.specs.declared.table.Table.{Table}
+use Rattle.conc_outside.specs.Files.{Files, Gives}
+use Rattle.conc_thin.specs.Thin.{SpellsClock, SpellsScript, SpellsSetup, SpellsTable}
+use Rattle.conc_top.specs.declared.names.Names.{Names}
+
+-- the setup's bytes were read under its name, and spell this setup
+pub record HasSetup (told : Option Files) (names : Names) : Type 0 where
+  pub bytes : List ℕ
+  pub given : Gives told names.setup bytes
+  pub setup : Setup
+  pub spells : SpellsSetup bytes setup
+
+-- then the script's
+pub record HasScript (told : Option Files) (names : Names) : Type 0 where
+  pub before : HasSetup told names
+  pub bytes : List ℕ
+  pub given : Gives told names.script bytes
+  pub script : Script
+  pub spells : SpellsScript before.setup bytes script
+
+-- then the clock's
+pub record HasClock (told : Option Files) (names : Names) : Type 0 where
+  pub before : HasScript told names
+  pub bytes : List ℕ
+  pub given : Gives told names.clock bytes
+  pub readings : Readings
+  pub spells : SpellsClock bytes readings
+
+-- a table's
+pub record HasTable (told : Option Files) (setup : Setup) (name : List ℕ) (table : Table) : Type 0 where
+  pub bytes : List ℕ
+  pub given : Gives told name bytes
+  pub spells : SpellsTable setup bytes table
+
+-- then those of these tables, in their order
+abbrev pub HasTables : Option Files → Setup → List (List ℕ) → List Table → Type 0
+HasTables told setup [] [] = Unit {0}
+HasTables told setup [] (table ∷ tables) = ⊥
+HasTables told setup (name ∷ names) [] = ⊥
+HasTables told setup (name ∷ names) (table ∷ tables) = HasTable told setup name table × HasTables told setup names tables
+
+-- the table with this number, from 0, is to be read next
+pub record IsNextTable (told : Option Files) (names : Names) (number : ℕ) (name : List ℕ) : Type 0 where
+  pub before : HasClock told names
+  pub tables : List Table
+  pub given : HasTables told before.before.before.setup (take number before.before.before.setup.tables) tables
+  pub named : slice_get before.before.before.setup.tables number ≡ Some name
+
+-- all files before this one were there and accepted, and it is to be read next, under this name
+abbrev pub IsNext : Option Files → Names → FileKind → List ℕ → Type 0
+IsNext told names kind.Setup name = name ≡ names.setup
+IsNext told names kind.Script name = HasSetup told names × (name ≡ names.script)
+IsNext told names kind.Clock name = HasScript told names × (name ≡ names.clock)
+IsNext told names (kind.Table number) name = IsNextTable told names number name
+
+-- all files were there and accepted, and give this plan and these readings
+pub record Accepts (told : Option Files) (names : Names) (plan : Plan) (readings : Readings) : Type 0 where
+  pub before : HasClock told names
+  pub setup : plan.setup ≡ before.before.before.setup
+  pub script : plan.script ≡ before.before.script
+  pub tables : HasTables told before.before.before.setup before.before.before.setup.tables plan.tables
+  pub same_readings : readings ≡ before.readings

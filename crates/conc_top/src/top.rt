@@ -1,0 +1,49 @@
+ghost use Rattle.std.specs.Prelude.{map};
+ghost use Rattle.std.specs.String.{string_bytes};
+ghost use Rattle.conc_top.specs.Exits.{Means, shelved};
+
+use crate::Exit;
+use crate::accepting::accept;
+use crate::printing::run_and_print;
+use crate::words::read_words;
+use conc_outside::{Shelf, Sink};
+use conc_types::NoMemory;
+use std::alloc::Global;
+use std::sync::Wait;
+use std::thread::Threads;
+
+/// Does what the words ask for: `run SETUP SCRIPT CLOCK --threads 0` reads the three files and the
+/// setup's tables from the shelf, runs the plan that they give without workers, and writes the text
+/// of its history into the sink.
+///
+/// Words off that form are Usage. The files are read in the order setup, script, clock, tables, each
+/// of them judged before the next one is read, and the first one that is lacking, that cannot be read
+/// or that is refused ends the call, with nothing written. The text is written once it is whole;
+/// where the sink fails, it has taken a prefix of it.
+pub fn conc<Rt: Threads + Wait + Sync, F: Shelf, O: Sink>(
+    rt: &Rt,
+    alloc: Global,
+    words: &[String],
+    shelf: &mut F,
+    out: &mut O,
+) -> Exit
+    ensures { Means (record {
+        words = map string_bytes words.now;
+        shelf = shelved (F.files shelf.old) (F.absences shelf.old) (F.absences shelf.new) (F.faults shelf.old) (F.faults shelf.new);
+        taken_before = O.taken out.old;
+        taken_after = O.taken out.new;
+        faults_before = O.faults out.old;
+        faults_after = O.faults out.new
+    }) result }
+{
+    let _rt = rt;
+    let names = match read_words(alloc, words) {
+        Ok(Some(names)) => names,
+        Ok(None) => return Exit::Usage,
+        Err(NoMemory) => return Exit::NoMemory,
+    };
+    match accept(alloc, shelf, names) {
+        Ok((plan, readings)) => run_and_print(alloc, &plan, &readings, out),
+        Err(exit) => exit,
+    }
+}
