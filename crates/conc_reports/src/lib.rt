@@ -6,5 +6,7 @@ mod keys;
 mod making;
 mod numbers;
 mod rows;
+#[cfg(test)]
+mod tests;
 
 pub use making::{Made, report};
