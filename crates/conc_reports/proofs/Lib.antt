@@ -1,0 +1,4 @@
+pub mod Digits
+pub mod Insertion
+pub mod Lines
+pub mod Sums
