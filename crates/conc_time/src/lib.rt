@@ -1,4 +1,4 @@
-//! The places of managers at moments.
+//! The places of managers at moments, and the text of a moment.
 #![tactic(auto)]
 
 mod managers;

@@ -1,10 +1,13 @@
-ghost use Rattle.std.specs.Prelude.{◌≡◌, ◌+◌, ◌-◌, ◌/◌, ◌%◌, ◌^◌, ◌<◌, ◌≤◌, ◌++◌, length, nat_lt, sum, IfSome, OnErr, OnOk};
+ghost use Rattle.std.specs.Prelude.{◌≡◌, ◌+◌, ◌-◌, ◌/◌, ◌%◌, ◌<◌, ◌≤◌, ◌++◌, length, nat_lt, sum, IfSome, OnErr, OnOk};
 ghost use Rattle.std.specs.List.{find, range_with_len};
 ghost use Rattle.conc_law.specs.Moments.{day_in_month as day_in_month_of, day_in_year as day_in_year_of, days_before_month as days_before_month_of, days_before_year as days_before_year_of, is_leap as is_leap_of, moment_text, month_of as month_of_of, year_of as year_of_of};
 
 use conc_types::{Moment, NoMemory};
 
 const SECONDS_PER_DAY: u64 = 86400;
+
+// The days before 10000-01-01.
+const DAYS: u64 = 3652059;
 
 #[tactic(auto, unfolding(conc_law::specs::Moments::is_leap))]
 fn is_leap(year: u32) -> bool
@@ -30,15 +33,19 @@ fn first_year(day: u64, from: u32, end: u32) -> Option<u32>
     (from..end).find(|year| day < days_before_year(*year + 1))
 }
 
-// The year of a day, which is counted from 0 for 0001-01-01.
+// The year of a day, which is counted from 0 for 0001-01-01. As a year has at most 366 days, those
+// before the estimate are over.
 fn year_of(day: u64) -> u32
+    requires { day < DAYS }
     ensures { result ≡ year_of_of day }
 {
-    first_year(day, 1, 10000).unwrap_or(0)
+    let estimate = (day / 366) as u32 + 1;
+    first_year(day, estimate, 10000).unwrap_or(0)
 }
 
 #[tactic(auto, unfolding(conc_law::specs::Moments::day_in_year))]
 fn day_in_year(day: u64) -> u64
+    requires { day < DAYS }
     ensures { result ≡ day_in_year_of day }
 {
     day.saturating_sub(days_before_year(year_of(day)))
@@ -73,6 +80,7 @@ fn first_month(year: u32, day: u64, from: u32, end: u32) -> Option<u32>
 
 #[tactic(auto, unfolding(conc_law::specs::Moments::month_of))]
 fn month_of(day: u64) -> u32
+    requires { day < DAYS }
     ensures month { result ≡ month_of_of day }
     ensures within { result ≤ 12 }
 {
@@ -81,7 +89,7 @@ fn month_of(day: u64) -> u32
 
 #[tactic(auto, unfolding(conc_law::specs::Moments::day_in_month, conc_law::specs::Moments::day_in_year))]
 fn day_in_month(day: u64) -> u64
-    requires { day < 2 ^ 63 }
+    requires { day < DAYS }
     ensures { result ≡ day_in_month_of day }
 {
     day_in_year(day).saturating_sub(days_before_month(year_of(day), month_of(day))) + 1
