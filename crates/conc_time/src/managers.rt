@@ -31,24 +31,26 @@ fn most_places(manager: &Manager) -> u32
     }
 }
 
-// The manager that has the place with this index, and the place's number within it, from 1.
-fn place_among(managers: &[Manager], owner: u32, index: u32) -> Option<(&Manager, u32)>
+// The number of the manager that has the place with this index, where the first of the managers has
+// the number `owner`; this manager; and the place's number within it, from 1.
+fn place_among(managers: &[Manager], owner: u32, index: u32) -> Option<(u32, &Manager, u32)>
     requires { owner + length managers.now < 2 ^ 32 }
-    ensures { option_map {U = Manager × ℕ} (λ p. (p.0.now, p.1)) result ≡ option_map {U = Manager × ℕ} (λ p. (p.manager, p.number)) (place_from_of owner managers.now index) }
+    ensures { option_map {U = ℕ × Manager × ℕ} (λ p. (p.0, p.1.now, p.2)) result ≡ option_map {U = ℕ × Manager × ℕ} (λ p. (p.owner, p.manager, p.number)) (place_from_of owner managers.now index) }
 {
     let (manager, rest) = managers.split_first()?;
     let size = most_places(manager);
     if index < size {
-        Some((manager, index + 1))
+        Some((owner, manager, index + 1))
     } else {
         place_among(rest, owner + 1, index - size)
     }
 }
 
-/// The manager that has a place of the plan, and the place's number within it, from 1.
+/// The number of the manager that has a place of the plan, from 1, this manager, and the place's
+/// number within it, from 1.
 #[tactic(auto, unfolding(conc_law::specs::Places::place_of))]
-pub fn place_of(plan: &Plan, place: PlaceId) -> Option<(&Manager, u32)>
-    ensures { option_map {U = Manager × ℕ} (λ p. (p.0.now, p.1)) result ≡ option_map {U = Manager × ℕ} (λ p. (p.manager, p.number)) (place_of_of plan.now place) }
+pub fn place_of(plan: &Plan, place: PlaceId) -> Option<(u32, &Manager, u32)>
+    ensures { option_map {U = ℕ × Manager × ℕ} (λ p. (p.0, p.1.now, p.2)) result ≡ option_map {U = ℕ × Manager × ℕ} (λ p. (p.owner, p.manager, p.number)) (place_of_of plan.now place) }
 {
     place_among(plan.setup.managers.as_slice(), 1, place.index)
 }
@@ -59,18 +61,17 @@ pub fn is_usable(plan: &Plan, t: Moment, place: PlaceId) -> bool
     ensures { result ≡ is_usable_of plan.now t place }
 {
     match place_of(plan, place) {
-        Some((manager, number)) => number <= places(manager, t),
+        Some((_, manager, number)) => number <= places(manager, t),
         None => false,
     }
 }
 
 /// Whether the manager that has a place admits the request.
-
 pub fn is_admitted_at(plan: &Plan, place: PlaceId, r: &Req) -> bool
     ensures { result ≡ some_and (λ p. admits_of p.manager r.now) (place_of_of plan.now place) }
 {
     match place_of(plan, place) {
-        Some((manager, _)) => admits(manager, r),
+        Some((_, manager, _)) => admits(manager, r),
         None => false,
     }
 }
