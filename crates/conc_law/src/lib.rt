@@ -86,11 +86,11 @@ pub fn lawful_is_past()
 
 // ---- the run without a choice
 
-/// What comes next in a run without workers may follow.
+/// What comes next in a run without workers is no resume, and may follow.
 pub fn choice_is_lawful()
     ensures { (plan : Plan) (readings : List Reading) (history : List Event) (e : Event) →
         next_alone plan readings (reverse history) ≡ Some e →
-        IsTrue (may_follow plan (Some readings) (reverse history) e) }
+        IsFalse (is_resume e) × IsTrue (may_follow plan (Some readings) (reverse history) e) }
 {}
 
 /// A run without workers that goes on from a lawful history makes a lawful one.

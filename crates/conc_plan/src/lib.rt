@@ -1,0 +1,6 @@
+//! The plan of a run: a setup, a script, tables, and the requests that the script enters.
+#![tactic(auto)]
+
+mod making;
+
+pub use making::make_plan;

@@ -1,0 +1,8 @@
+//! The run: it makes the history of a plan, event by event.
+#![tactic(auto)]
+
+mod choosing;
+mod running;
+
+pub use running::run_alone;
+
