@@ -3,6 +3,7 @@ ghost use Rattle.conc_types.specs.Expansion.{expansion};
 ghost use Rattle.conc_types.specs.Scripts.{are_commands};
 ghost use Rattle.conc_types.specs.Tables.{are_tables};
 
+use crate::expanding::expand;
 use conc_types::{NoMemory, Plan, Script, Seq, Setup, Table};
 use std::alloc::Global;
 
@@ -22,9 +23,11 @@ pub fn make_plan(
     ensures script { IfOk result (λ plan. plan.script ≡ script) }
     ensures tables { IfOk result (λ plan. plan.tables ≡ tables) }
 {
-    let _alloc = alloc;
-    let _setup = setup;
-    let _script = script;
-    let _tables = tables;
-    Err(NoMemory)
+    let requests = expand(alloc, &setup, script.commands.as_slice())?;
+    Ok(Plan {
+        setup,
+        script,
+        tables,
+        requests: Seq::from_vec(requests),
+    })
 }
