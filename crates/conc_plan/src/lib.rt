@@ -5,5 +5,7 @@ mod copies;
 mod entering;
 mod expanding;
 mod making;
+#[cfg(test)]
+mod tests;
 
 pub use making::make_plan;
