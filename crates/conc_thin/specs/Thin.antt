@@ -118,7 +118,3 @@ pub record SpellsTable (setup : Setup) (bytes : List ℕ) (table : Table) : Type
   pub text : bytes ≡ row_line (group, sum) ++ flat_map row_line pairs
   pub columns : table.columns ≡ group ∷ sum ∷ []
   pub rows : table.rows ≡ map (λ p. p.0 ∷ p.1 ∷ []) pairs
-
--- the setup is in the thin form
-abbrev pub IsThin : Setup → Type 0
-IsThin setup = (bytes : List ℕ) × SpellsSetup bytes setup

@@ -24,7 +24,7 @@ impl From<NoMemory> for ReadFail {
 }
 
 // The refusal of a file that is not in its thin form.
-pub fn not_built(file: FileKind) -> ReadFail
+pub(crate) fn not_built(file: FileKind) -> ReadFail
     ensures { NotBuilt file result }
 {
     ReadFail::Refused(Refusal {

@@ -1,0 +1,18 @@
+-- The requests that a command enters for some parts of what it submits.
+use Rattle.std.specs.Prelude.{ℕ, List, [], slice_get}
+use Rattle.std.specs.List.{enumerate_from, flat_map}
+use Rattle.std.specs.Option.{option_map_or}
+use Rattle.conc_types.specs.declared.plan.Req.{Req}
+use Rattle.conc_types.specs.declared.script.Act.{Act}
+use Rattle.conc_types.specs.declared.setup.Setup.{Setup}
+use Rattle.conc_types.specs.Expansion.{Part, members_of, request_by}
+
+-- the requests for these parts, numbered from a number on, of a command with its own number and that of its first request
+abbrev pub entered_for : Setup → ℕ → ℕ → Act → ℕ → List Part → List Req
+entered_for setup command first act next parts =
+    flat_map (request_by setup command first act) (enumerate_from next parts)
+
+-- the members of a set, stage by stage
+abbrev pub set_parts : Setup → ℕ → List Part
+set_parts setup place =
+    option_map_or (λ s. flat_map members_of (enumerate_from 1 s.stages)) (slice_get setup.sets place) []

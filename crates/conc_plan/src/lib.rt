@@ -1,0 +1,11 @@
+//! The plan of a run: a setup, a script, tables, and the requests that the script enters.
+#![tactic(auto)]
+
+mod copies;
+mod entering;
+mod expanding;
+mod making;
+#[cfg(test)]
+mod tests;
+
+pub use making::make_plan;
