@@ -1,5 +1,4 @@
-ghost use Rattle.std.specs.Prelude.{◌≡◌, is_some};
-ghost use Rattle.conc_types.specs.Words.{some_and};
+ghost use Rattle.std.specs.Prelude.{◌≡◌};
 ghost use Rattle.conc_law.specs.Standing.{facts_at as facts_at_of, has_come as has_come_of, is_completed as is_completed_of, is_live as is_live_of, is_not_earlier as is_not_earlier_of, is_running as is_running_of, is_stopping as is_stopping_of, is_waiting as is_waiting_of, no_facts as no_facts_of};
 
 use conc_rules::parent;

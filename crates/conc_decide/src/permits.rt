@@ -1,4 +1,4 @@
-ghost use Rattle.std.specs.Prelude.{◌≡◌, ◌+◌, ◌<◌, ◌^◌, List, map};
+ghost use Rattle.std.specs.Prelude.{◌≡◌, ◌+◌, ◌<◌, ◌^◌, map};
 ghost use Rattle.std.specs.List.{list_any, range_with_len};
 ghost use Rattle.conc_types.specs.Plans.{request as request_of};
 ghost use Rattle.conc_types.specs.Words.{some_and};

@@ -1,4 +1,4 @@
-ghost use Rattle.std.specs.Prelude.{◌≡◌, ◌+◌, ◌<◌, ◌^◌, IfSome, List, length, map};
+ghost use Rattle.std.specs.Prelude.{◌≡◌, ◌+◌, ◌<◌, ◌^◌, IfSome, length, map};
 ghost use Rattle.std.specs.List.{enumerate_from, filter, filter_map, list_all};
 ghost use Rattle.conc_types.specs.Words.{greatest, is_empty};
 ghost use Rattle.conc_law.specs.Plans.{is_member as is_member_of};

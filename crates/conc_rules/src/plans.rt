@@ -1,7 +1,5 @@
-ghost use Rattle.std.specs.Prelude.{◌≡◌, ◌≤◌, List, length};
-ghost use Rattle.std.specs.List.{list_any};
-ghost use Rattle.std.specs.Option.{option_copied, option_map};
-ghost use Rattle.conc_law.specs.Managers.{admits as admits_of};
+ghost use Rattle.std.specs.Prelude.{◌≡◌, ◌≤◌, length};
+ghost use Rattle.std.specs.Option.{option_copied};
 ghost use Rattle.conc_law.specs.Next.{can_run as can_run_of};
 ghost use Rattle.conc_law.specs.Plans.{are_exclusive as are_exclusive_of, has_restart as has_restart_of, is_admitted as is_admitted_of, is_enabled as is_enabled_of, is_member as is_member_of, parent as parent_of, parent_item as parent_item_of, precedes as precedes_of, program_of as program_of_of, set_at as set_at_of, stages_of as stages_of_of};
 

@@ -1,10 +1,10 @@
-ghost use Rattle.std.specs.Prelude.{◌≡◌, ◌≤◌, ◌+◌, ◌<◌, ◌^◌, ℕ, length, List, map, nat_le};
+ghost use Rattle.std.specs.Prelude.{◌≡◌, ◌≤◌, ◌+◌, ◌<◌, ◌^◌, ℕ, length, map};
 ghost use Rattle.std.specs.List.{sum_by};
 ghost use Rattle.std.specs.Option.{option_map};
 ghost use Rattle.conc_types.specs.declared.manager.Manager.{Manager};
 ghost use Rattle.conc_types.specs.Shifts.{most_places as most_places_of};
 ghost use Rattle.conc_types.specs.Words.{greatest, some_and};
-ghost use Rattle.conc_law.specs.Managers.{admits as admits_of, places as places_of};
+ghost use Rattle.conc_law.specs.Managers.{admits as admits_of};
 ghost use Rattle.conc_law.specs.Places.{count_of_places, is_usable as is_usable_of, place_from as place_from_of, place_of as place_of_of};
 
 use crate::shifts::places;

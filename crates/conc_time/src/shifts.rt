@@ -1,4 +1,4 @@
-ghost use Rattle.std.specs.Prelude.{◌≡◌, ◌<◌, ◌==◌, map, List};
+ghost use Rattle.std.specs.Prelude.{◌≡◌, ◌<◌, ◌==◌, map};
 ghost use Rattle.std.specs.List.{filter};
 ghost use Rattle.conc_types.specs.Stages.{has_bit};
 ghost use Rattle.conc_types.specs.Words.{greatest};

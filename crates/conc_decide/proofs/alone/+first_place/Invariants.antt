@@ -1,4 +1,3 @@
-use Rattle.std.proofs.Common.{length}
 use Rattle.conc_decide.proofs.alone.+first_place.Given as goal
 
 abbrev pub decreases-first_place : goal.decreases-first_place

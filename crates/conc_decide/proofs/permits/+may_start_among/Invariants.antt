@@ -1,4 +1,3 @@
-use Rattle.std.proofs.Common.{length}
 use Rattle.conc_decide.proofs.permits.+may_start_among.Given as goal
 
 abbrev pub decreases-may_start_among : goal.decreases-may_start_among
