@@ -106,7 +106,7 @@ long-good job table rows = elim (cases_Bool (nat_lt 1048576 (length (full_text j
 ]
 
 -- the report of a job is good
-report-good : (job : Job) (argument : List ℕ) (table : Table) → IsGood (report job argument table)
+pub report-good : (job : Job) (argument : List ℕ) (table : Table) → IsGood (report job argument table)
 unfolding report
 report-good job argument table = by (first_bad job table (passing job argument table)) refl where
   by : (bad : Option Row) → first_bad job table (passing job argument table) ≡ bad → IsGood (report_by job table (passing job argument table) bad)

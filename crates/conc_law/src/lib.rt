@@ -2,16 +2,18 @@
 //! laws over all histories. Each function here has an empty body; its contract is the law.
 #![tactic(auto)]
 
-ghost use Rattle.std.specs.Prelude.{◌≡◌, ◌==◌, ◌∷◌, ◌++◌, ◌<◌, [], ℕ, List, Option, Some, IsFalse, IsSome, IsTrue, None, length, reverse};
+ghost use Rattle.std.specs.Prelude.{◌≡◌, ◌==◌, ◌∷◌, ◌++◌, ◌<◌, ◌≤◌, [], ℕ, List, Option, Some, IsFalse, IsSome, IsTrue, None, length, reverse};
 ghost use Rattle.conc_types.specs.declared.event.Event.{Event};
 ghost use Rattle.conc_types.specs.declared.event.PlaceId.{PlaceId};
 ghost use Rattle.conc_types.specs.declared.event.RequestId.{RequestId};
 ghost use Rattle.conc_types.specs.declared.item.Item.{Item};
 ghost use Rattle.conc_types.specs.declared.plan.Plan.{Plan};
 ghost use Rattle.conc_types.specs.declared.plan.Req.{Req};
+ghost use Rattle.conc_types.specs.declared.program.Job.{Job};
 ghost use Rattle.conc_types.specs.declared.script.Reading.{Reading};
 ghost use Rattle.conc_types.specs.declared.script.Readings.{Readings};
 ghost use Rattle.conc_types.specs.declared.setup.Setup.{Setup};
+ghost use Rattle.conc_types.specs.declared.table.Table.{Table};
 ghost use Rattle.conc_types.specs.Plans.{request};
 ghost use Rattle.conc_types.specs.Stages.{has_stage};
 ghost use Rattle.conc_types.specs.Words.{is_between, some_and};
@@ -24,6 +26,7 @@ ghost use Rattle.conc_law.specs.Law.{Finished, Lawful, may_follow, Past};
 ghost use Rattle.conc_law.specs.Overlap.{NoOverlap};
 ghost use Rattle.conc_law.specs.Past.{stands, stands_since};
 ghost use Rattle.conc_law.specs.Remaining.{remaining};
+ghost use Rattle.conc_law.specs.Report.{report};
 ghost use Rattle.conc_law.specs.Words.{Has};
 
 // ---- exclusion and plans
@@ -37,6 +40,11 @@ pub fn exclusion_is_symmetric()
 /// Each request of a plan is found by its number.
 pub fn requests_are_numbered()
     ensures { (plan : Plan) (r : Req) → Has plan.requests r → request plan r.number ≡ Some r }
+{}
+
+/// The text of a report is short.
+pub fn report_is_short()
+    ensures { (job : Job) (argument : List ℕ) (table : Table) → length (report job argument table).text ≤ 1048576 }
 {}
 
 // ---- every lawful history

@@ -1,14 +1,16 @@
-ghost use Rattle.std.specs.Prelude.{◌≡◌, ◌<◌, ◌≤◌, ◌+◌, ◌^◌, [], is_some, if◌then◌else◌, IfOk, IsFalse, IsTrue, length, reverse};
-ghost use Rattle.conc_law.specs.Alone.{Alone};
+ghost use Rattle.std.specs.Prelude.{◌≡◌, ◌<◌, ◌≤◌, ◌+◌, ◌^◌, [], ◌∷◌, ◌++◌, is_some, if◌then◌else◌, IfOk, IsFalse, IsTrue, List, OnOk, length, reverse, slice_get};
+ghost use Rattle.conc_types.specs.declared.event.Event.{Event};
+ghost use Rattle.conc_law.specs.Alone.{Alone, next_alone};
 ghost use Rattle.conc_law.specs.Kinds.{tick_of};
 ghost use Rattle.conc_law.specs.Law.{Finished};
 ghost use Rattle.conc_law.specs.Remaining.{remaining};
+ghost use Rattle.conc_law.specs.Standing.{standing};
 ghost use Rattle.conc_resolver.specs.SoFar.{SoFar};
 
 use crate::choosing::choice;
 use conc_facts::{advance, begin};
 use conc_law::{alone_finishes, choice_is_lawful, each_event_uses_up, lawful_is_past};
-use conc_types::{Event, NoMemory, Plan, Readings, Standing};
+use conc_types::{Event, NoMemory, Plan, Reading, Readings, Standing};
 use std::alloc::Global;
 
 // A run under way: what stands after its events, and how many readings they took.
@@ -31,6 +33,39 @@ fn taken_after(taken: usize, e: Event) -> usize
     }
 }
 
+fn reading_at(readings: &Readings, taken: usize) -> Option<Reading>
+    ensures { result ≡ slice_get readings.now.list taken }
+{
+    readings.list.as_slice().get(taken).copied()
+}
+
+// The event that comes next, if one does.
+fn next_event(
+    alloc: Global,
+    plan: &Plan,
+    readings: &Readings,
+    run: &Run,
+) -> Result<Option<Event>, NoMemory>
+    requires { SoFar plan.now readings.now run.now }
+    ensures { IfOk result (λ e. e ≡ next_alone plan.now readings.now.list (reverse run.now.events.items)) }
+{
+    let next = reading_at(readings, run.taken);
+    choice(alloc, plan, &run.standing, next)
+}
+
+// Adds an event.
+fn take_in(plan: &Plan, run: &mut Run, e: Event) -> Result<(), NoMemory>
+    requires { run.old.taken ≤ length run.old.events.items }
+    ensures events { OnOk result (run.new.events.items ≡ run.old.events.items ++ e ∷ []) }
+    ensures taken { OnOk result (run.new.taken ≡ run.old.taken + (if is_some (tick_of e) then 1 else 0)) }
+    ensures stands { OnOk result ((past : List Event) → run.old.standing ≡ standing plan.now past → run.new.standing ≡ standing plan.now (e ∷ past)) }
+{
+    run.events.push(e)?;
+    advance(plan, &mut run.standing, e);
+    run.taken = taken_after(run.taken, e);
+    Ok(())
+}
+
 // Adds the event that comes next, and says whether there was one.
 fn step(alloc: Global, plan: &Plan, readings: &Readings, run: &mut Run) -> Result<bool, NoMemory>
     requires { SoFar plan.now readings.now run.old }
@@ -43,13 +78,10 @@ fn step(alloc: Global, plan: &Plan, readings: &Readings, run: &mut Run) -> Resul
     lawful_is_past();
     alone_finishes();
     each_event_uses_up();
-    let next = readings.list.as_slice().get(run.taken).copied();
-    match choice(alloc, plan, &run.standing, next)? {
+    match next_event(alloc, plan, readings, run)? {
         None => Ok(false),
         Some(e) => {
-            run.events.push(e)?;
-            advance(plan, &mut run.standing, e);
-            run.taken = taken_after(run.taken, e);
+            take_in(plan, run, e)?;
             Ok(true)
         }
     }
