@@ -1,8 +1,7 @@
 -- What a sink took in turn.
-use Rattle.std.proofs.Common.{◌≡◌, ℕ, ◌-◌, ◌≤◌, List, ◌++◌, length, take, drop, Option, None, Some, sym, subst, ◌∙◌, ap, inl, inr, arith, append_assoc}
+use Rattle.std.proofs.Common.{◌≡◌, ℕ, ◌-◌, List, ◌++◌, length, take, drop, Option, None, Some, sym, subst, ◌∙◌, ap, append_assoc}
 use Rattle.std.proofs.lemmas.List.{take-append-drop, take_rest}
 use Rattle.std.proofs.Math.Seq.{take-append_seam}
-use Rattle.conc_outside.specs.Counts.{Rose}
 use Rattle.conc_outside.specs.Taken.{Took, TookPrefix}
 
 -- what it took first and what it took next
@@ -23,8 +22,3 @@ pub written_more :
     (written rest bytes : List ℕ) (n : ℕ) →
     written ++ rest ≡ bytes → (written ++ take n rest) ++ take (length rest - n) (drop n rest) ≡ bytes
 written_more written rest bytes n whole = rw take_rest (rw append_assoc (rw take-append-drop whole))
-
--- a count that did not fall and then rose
-pub rose_since : (old mid new : ℕ) → old ≤ mid → Rose mid new → Rose old new
-rose_since old mid new kept (inl more) = inl (omega arith)
-rose_since old mid new kept (inr end) = inr end

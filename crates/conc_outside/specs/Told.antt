@@ -1,4 +1,4 @@
--- What is in the files and pieces that stand in memory.
+-- Files that stand in memory.
 use Rattle.std.specs.Prelude.{ℕ, List, map, Vec}
 use Rattle.std.specs.declared.alloc.Global.{Global}
 use Rattle.conc_outside.specs.Files.{Files}

@@ -11,7 +11,9 @@ use crate::{Shelf, ShelfFail};
 use conc_types::Name;
 use std::alloc::Global;
 
-/// A shelf whose files stand in memory. Listed reads of it fail.
+/// A shelf whose files stand in memory. A lacking file is `Absent` and counted. A file that is there
+/// is `Failed` and counted at the listed reads, and else given as far as memory goes. The counts are
+/// of 64 bits and stand still at their end.
 #[derive(Drop)]
 pub struct MemShelf {
     files: Vec<(Name, Vec<u8>)>,
@@ -23,7 +25,8 @@ pub struct MemShelf {
 
 impl MemShelf {
     /// A shelf of these files, no two of one name. The reads with these numbers, counted from 0,
-    /// are to fail where the file is there. It takes no memory.
+    /// are to fail where the file is there; no clause says so, since any shelf may fail. It takes
+    /// no memory.
     pub fn new(files: Vec<(Name, Vec<u8>)>, fails: Vec<u64>) -> Self
         requires { IsTrue (are_distinct bytes_eq (map (λ f. f.0) files.items)) }
         ensures files { ⟦<MemShelf as Shelf>⟧.files result ≡ Some (told files.items) }
@@ -40,6 +43,7 @@ impl MemShelf {
     }
 }
 
+/// The first file with this name, and its name.
 fn row_named<'a>(files: &'a [(Name, Vec<u8>)], name: &Name) -> Option<&'a (Name, Vec<u8>)>
     ensures { option_copied result ≡ find (λ f. bytes_eq f.0 name.now) files.now }
 {
@@ -48,6 +52,7 @@ fn row_named<'a>(files: &'a [(Name, Vec<u8>)], name: &Name) -> Option<&'a (Name,
         .find(|file| file.0.as_bytes() == name.as_bytes())
 }
 
+/// The bytes of the file with this name.
 fn file_named<'a>(files: &'a [(Name, Vec<u8>)], name: &Name) -> Option<&'a [u8]>
     ensures { option_copied result ≡ file_named_of (told files.now) name.now }
 {

@@ -3,7 +3,9 @@ ghost use Rattle.std.specs.Prelude.{◌≡◌, ◌≤◌, [], Some};
 use crate::{Failed, Sink};
 use std::alloc::Global;
 
-/// A sink that keeps what it takes in memory. Listed writes to it fail.
+/// A sink that keeps what it takes in memory. A write takes the whole piece, or fails and is
+/// counted: at the listed writes, and where there is no memory, which is counted apart too. The
+/// counts are of 64 bits and stand still at their end.
 #[derive(Drop)]
 pub struct MemSink {
     bytes: Vec<u8>,
@@ -17,8 +19,8 @@ pub struct MemSink {
 impl MemSink {
     ghost use Rattle.conc_outside.specs.Starved.{starved_of};
 
-    /// A sink that has taken nothing. The writes with these numbers, counted from 0, are to fail.
-    /// It takes no memory.
+    /// A sink that has taken nothing. The writes with these numbers, counted from 0, are to fail;
+    /// no clause says so, since any sink may fail. It takes no memory.
     pub fn new(alloc: Global, fails: Vec<u64>) -> Self
         ensures taken { ⟦<MemSink as Sink>⟧.taken result ≡ Some [] }
         ensures faults { ⟦<MemSink as Sink>⟧.faults result ≡ 0 }
@@ -40,8 +42,7 @@ impl MemSink {
         &self.bytes
     }
 
-    /// How often a write found no memory, a count that stands still at its end. Each of them is a
-    /// fault too.
+    /// How often a write found no memory. Each of these writes is a fault too.
     pub fn starved(&self) -> u64
         ensures count { result ≡ starved_of self.now }
         ensures within { result ≤ ⟦<MemSink as Sink>⟧.faults self.now }

@@ -15,7 +15,9 @@ use std::rt::Files;
 /// How much is asked for at once.
 const PIECE: usize = 65_536;
 
-/// The files of the system, each opened by its name as a path.
+/// The files of the system, each opened by its name as a path. A name at which nothing is found is
+/// `Absent`, every other error of the system is `Failed`, a folder among them, and both are counted.
+/// The counts are of 64 bits and stand still at their end.
 #[derive(Drop)]
 pub struct FileShelf<'a, R: Files> {
     rt: &'a R,
@@ -70,6 +72,7 @@ fn read_up_to<F: Read>(
     Ok(bytes)
 }
 
+/// Opens the file at this path. It is absent where the system finds nothing there.
 fn open<R: Files>(rt: &R, path: &str) -> Result<R::File, ShelfFail> {
     match fs::open(rt, path) {
         Ok(file) => Ok(file),
@@ -97,6 +100,7 @@ impl<'a, R: Files> Shelf for FileShelf<'a, R> {
     fn read_file(&mut self, alloc: Global, name: &Name) -> Result<Vec<u8>, ShelfFail> {
         let read = match str::from_utf8(name.as_bytes()) {
             Ok(path) => read_front(self.rt, alloc, path),
+            // A name is UTF-8, so this does not come.
             Err(_) => Err(ShelfFail::Failed),
         };
         match read {
@@ -114,7 +118,9 @@ impl<'a, R: Files> Shelf for FileShelf<'a, R> {
     }
 }
 
-/// The sink that writes to this writer. It keeps nothing back.
+/// The sink that writes to a writer. A write fails and is counted where the writer answers with an
+/// error, takes nothing of a piece that has bytes, or says that it took more than the piece. The
+/// count is of 64 bits and stands still at its end.
 #[derive(Drop)]
 pub struct WriterSink<W: Write> {
     writer: W,
