@@ -3,7 +3,7 @@ ghost use Rattle.std.specs.List.{enumerate_from, flat_map};
 ghost use Rattle.conc_types.specs.Expansion.{entered, members_of, parts, parts_by, request_by};
 ghost use Rattle.conc_plan.specs.Entering.{entered_for, set_parts};
 
-use crate::copies::{copy_name, copy_text, copy_type};
+use crate::copies::{copy_text, copy_type};
 use conc_types::{Act, Item, NoMemory, Order, Req, RequestId, SetDef, Setup, Stage};
 use std::alloc::Global;
 
@@ -52,11 +52,11 @@ fn enter_part(
                 },
                 command: numbers.command,
                 item,
-                user: copy_name(alloc, user)?,
+                user: user.try_clone(alloc)?,
                 request_type: copy_type(alloc, setup, item)?,
                 priority: *priority,
                 start: *start,
-                domain: copy_name(alloc, domain)?,
+                domain: domain.try_clone(alloc)?,
                 argument: copy_text(alloc, argument)?,
                 parent: parent(stage, numbers.first),
                 stage,

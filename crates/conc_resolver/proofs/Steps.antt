@@ -25,8 +25,8 @@ unfolding next_alone next_reading
 choice-next plan readings run next so n =
     ap (λ s. choice plan s next) so.stands
     ∙ ap (choice plan (standing plan (reverse run.events.items)))
-      (n ∙ ap (λ k. slice_get readings.list k) (sym so.taken)
-      ∙ ap (λ l. slice_get l (ticks (reverse run.events.items))) (sym so.life))
+    (n ∙ ap (λ k. slice_get readings.list k) (sym so.taken)
+    ∙ ap (λ l. slice_get l (ticks (reverse run.events.items))) (sym so.life))
 
 -- an event of which one more reading may be taken
 few-more : (n m l : ℕ) (b : _) → n ≤ l → m ≡ n + (if b then 1 else 0) → m ≤ l + 1
@@ -50,9 +50,9 @@ SoFar-push plan readings old new e so next may events taken stands =
       life = ap (life_readings readings.list) turned ∙ life_readings-more readings.list (reverse old.events.items) e may.0 ∙ so.life;
       taken = ap ticks turned ∙ ticks-more (reverse old.events.items) e may.0 ∙ ap (λ n. n + (if is_some (tick_of e) then 1 else 0)) so.taken ∙ sym taken;
       few =
-        let longer : length new.events.items ≡ length old.events.items + 1 = ap length events ∙ length-append old.events.items (e ∷ []) in
-        let within : new.taken ≤ length old.events.items + 1 = few-more old.taken new.taken (length old.events.items) (is_some (tick_of e)) so.few taken in
-        omega (arith, longer, within);
+          let longer : length new.events.items ≡ length old.events.items + 1 = ap length events ∙ length-append old.events.items (e ∷ []) in
+          let within : new.taken ≤ length old.events.items + 1 = few-more old.taken new.taken (length old.events.items) (is_some (tick_of e)) so.few taken in
+          omega (arith, longer, within);
     }
 
 -- a run that made no event

@@ -38,12 +38,7 @@ fn report_of(alloc: Global, plan: &Plan, r: &Req) -> Result<Option<Made>, NoMemo
         None => Ok(None),
         Some(program) => match table_named(plan, &program.job.table) {
             None => Ok(None),
-            Some(table) => Ok(Some(report(
-                alloc,
-                &program.job,
-                r.argument.as_slice(),
-                table,
-            )?)),
+            Some(table) => Ok(Some(report(alloc, &program.job, r.argument.as_slice(), table)?)),
         },
     }
 }

@@ -5,4 +5,3 @@ mod choosing;
 mod running;
 
 pub use running::run_alone;
-

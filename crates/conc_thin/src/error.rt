@@ -4,6 +4,7 @@ ghost use Rattle.conc_thin.specs.Refusals.{NotBuilt};
 ghost use Rattle.conc_thin.specs.declared.error.ReadFail.TheVariants.{NoMemory as out_of_memory};
 
 use conc_types::{FileKind, NoMemory, Refusal};
+use std::alloc::AllocFailed;
 use thiserror::Error;
 
 /// Why a file gives no value.
@@ -19,6 +20,14 @@ impl From<NoMemory> for ReadFail {
     ghost from_gives = { λ _ e. e ≡ out_of_memory };
 
     fn from(_: NoMemory) -> Self {
+        ReadFail::NoMemory
+    }
+}
+
+impl<T: Drop> From<AllocFailed<T>> for ReadFail {
+    ghost from_gives = { λ _ e. e ≡ out_of_memory };
+
+    fn from(_: AllocFailed<T>) -> Self {
         ReadFail::NoMemory
     }
 }

@@ -3,8 +3,17 @@
 //! Whatever is not in this form is refused as not built.
 #![tactic(auto)]
 
+mod clock;
 mod error;
 mod pieces;
+mod script;
 mod setup;
+mod table;
+#[cfg(test)]
+mod tests;
 
+pub use clock::read_clock;
 pub use error::ReadFail;
+pub use script::read_script;
+pub use setup::read_setup;
+pub use table::read_table;

@@ -1,13 +1,13 @@
-ghost use Rattle.std.specs.Prelude.{◌≡◌, ◌++◌, [], codes, false, IfErr, IfOk, IfSome, IsTrue};
+ghost use Rattle.std.specs.Prelude.{◌≡◌, ◌++◌, [], ◌∷◌, codes, false, IfErr, IfOk, IfSome, IsTrue};
 ghost use Rattle.std.specs.Str.{bytes_eq};
 ghost use Rattle.conc_types.specs.declared.refusal.FileKind.TheVariants as kind;
 ghost use Rattle.conc_types.specs.Texts.{is_name as is_name_of};
 ghost use Rattle.conc_thin.specs.Refusals.{IsRefused};
-ghost use Rattle.conc_thin.specs.Thin.{entry_text, setup_text, SpellsSetup};
+ghost use Rattle.conc_thin.specs.Thin.{entries_of, entry_text, manager_of, parts_of, setup_text, IsProgramOf, IsThin, SpellsSetup};
 
 use crate::ReadFail;
 use crate::error::not_built;
-use crate::pieces::{behind, name, word};
+use crate::pieces::{behind, empty, name, one, word};
 use conc_types::{
     Entry, FileKind, Item, Job, Manager, Name, NoMemory, Program, Reach, Scope, Seq, Setup,
 };
@@ -73,4 +73,119 @@ fn manager_at_end(bytes: &[u8]) -> Option<&[u8]>
     let (manager, rest) = word(rest)?;
     let rest = behind(rest, b"\"\n")?;
     if rest.is_empty() { Some(manager) } else { None }
+}
+
+fn entries(alloc: Global, exclusive: bool) -> Result<Seq<Entry>, NoMemory>
+    ensures { IfOk result (λ entries. entries ≡ entries_of exclusive) }
+{
+    if !exclusive {
+        return Ok(empty(alloc));
+    }
+    let program = Item::Program(0);
+    one(
+        alloc,
+        Entry {
+            owner: program,
+            other: program,
+            scope: Scope::Program,
+            reach: Reach::Domain,
+        },
+    )
+}
+
+fn program_of(
+    alloc: Global,
+    table: &[u8],
+    program: &[u8],
+    group: &[u8],
+    sum: &[u8],
+) -> Result<Program, NoMemory>
+    requires table { IsTrue (is_name_of table.now) }
+    requires program { IsTrue (is_name_of program.now) }
+    requires group { IsTrue (is_name_of group.now) }
+    requires sum { IsTrue (is_name_of sum.now) }
+    ensures { IfOk result (IsProgramOf table.now program.now group.now sum.now) }
+{
+    Ok(Program {
+        name: name(alloc, program)?,
+        request_type: empty(alloc),
+        enabled: true,
+        run_alone: false,
+        restart: false,
+        job: Job {
+            table: name(alloc, table)?,
+            filters: empty(alloc),
+            group: Some(name(alloc, group)?),
+            sum: Some(name(alloc, sum)?),
+            warn_over: None,
+            error_over: None,
+        },
+    })
+}
+
+// A manager without a rule and without a shift.
+fn plain_manager(alloc: Global, name: Name) -> Manager
+    ensures { result ≡ manager_of name }
+{
+    Manager {
+        name,
+        include: empty(alloc),
+        exclude: empty(alloc),
+        shifts: empty(alloc),
+    }
+}
+
+fn setup_of(
+    alloc: Global,
+    table: &[u8],
+    program: &[u8],
+    group: &[u8],
+    sum: &[u8],
+    exclusive: bool,
+    manager: &[u8],
+) -> Result<Setup, NoMemory>
+    requires table { IsTrue (is_name_of table.now) }
+    requires program { IsTrue (is_name_of program.now) }
+    requires group { IsTrue (is_name_of group.now) }
+    requires sum { IsTrue (is_name_of sum.now) }
+    requires manager { IsTrue (is_name_of manager.now) }
+    requires distinct { bytes_eq group.now sum.now ≡ false }
+    ensures { IfOk result (SpellsSetup (setup_text (parts_of table.now program.now group.now sum.now exclusive manager.now))) }
+{
+    Ok(Setup {
+        tables: one(alloc, name(alloc, table)?)?,
+        programs: one(alloc, program_of(alloc, table, program, group, sum)?)?,
+        entries: entries(alloc, exclusive)?,
+        managers: one(alloc, plain_manager(alloc, name(alloc, manager)?))?,
+        sets: empty(alloc),
+    })
+}
+
+// The one program of a thin setup.
+pub(crate) fn program(setup: &Setup) -> &Program
+    requires { IsThin setup.now }
+    ensures { setup.now.programs ≡ result.now ∷ [] }
+{
+    &setup.programs.as_slice()[0]
+}
+
+/// The setup that the bytes spell in its thin form.
+pub fn read_setup(alloc: Global, bytes: &[u8]) -> Result<Setup, ReadFail>
+    ensures ok { IfOk result (SpellsSetup bytes.now) }
+    ensures err { IfErr result (IsRefused kind.Setup) }
+{
+    let Some((table, program, rest)) = table_and_program(bytes) else {
+        return Err(not_built(FileKind::Setup));
+    };
+    let Some((group, sum, rest)) = group_and_sum(rest) else {
+        return Err(not_built(FileKind::Setup));
+    };
+    let Some((exclusive, rest)) = entry(rest, program) else {
+        return Err(not_built(FileKind::Setup));
+    };
+    let Some(manager) = manager_at_end(rest) else {
+        return Err(not_built(FileKind::Setup));
+    };
+    let setup = setup_of(alloc, table, program, group, sum, exclusive, manager)?;
+    Ok(setup)
 }

@@ -1,4 +1,4 @@
-ghost use Rattle.std.specs.Prelude.{◌≡◌, ◌≤◌, [], ◌∷◌, IfErr, IfOk, IsTrue, length};
+ghost use Rattle.std.specs.Prelude.{◌≡◌, ◌<◌, ◌≤◌, [], ◌∷◌, IfErr, IfOk, IsTrue, Some, length, slice_get};
 ghost use Rattle.conc_types.specs.Expansion.{expansion};
 ghost use Rattle.conc_types.specs.Scripts.{are_commands};
 ghost use Rattle.conc_types.specs.Tables.{are_tables};
@@ -8,11 +8,18 @@ ghost use Rattle.conc_top.specs.Given.{Accepts};
 use crate::Exit;
 use crate::given::{judge_clock, judge_script, judge_setup, judge_table};
 use crate::names::Names;
-use crate::words::own_name;
 use conc_outside::Shelf;
 use conc_plan::make_plan;
-use conc_types::{NoMemory, Plan, Readings, Script, Seq, Setup, Table};
+use conc_types::{Name, NoMemory, Plan, Readings, Script, Seq, Setup, Table};
 use std::alloc::Global;
+
+// The name of the first table.
+fn first_table(alloc: Global, setup: &Setup) -> Result<Name, NoMemory>
+    requires { 0 < length setup.now.tables }
+    ensures { IfOk result (λ name. slice_get setup.now.tables 0 ≡ Some name) }
+{
+    setup.tables.as_slice()[0].try_clone(alloc)
+}
 
 // The plan of a setup with one table.
 fn plan_of(alloc: Global, setup: Setup, script: Script, table: Table) -> Result<Plan, NoMemory>
@@ -48,7 +55,7 @@ pub(crate) fn accept<F: Shelf>(
         Ok(readings) => readings,
         Err(stop) => return Err(stop.at(names.clock)),
     };
-    let name = match own_name(alloc, setup.tables.as_slice()[0].as_bytes()) {
+    let name = match first_table(alloc, &setup) {
         Ok(name) => name,
         Err(NoMemory) => return Err(Exit::NoMemory),
     };

@@ -1,8 +1,10 @@
-ghost use Rattle.std.specs.Prelude.{◌≡◌, IsTrue};
+ghost use Rattle.std.specs.Prelude.{◌≡◌, IfOk, IsTrue};
 ghost use Rattle.std.specs.List.{list_all};
 ghost use Rattle.std.specs.Str.{is_utf8 as is_utf8_of};
 ghost use Rattle.conc_types.specs.Texts.{is_name as is_name_of, is_printable as is_printable_of};
 
+use crate::NoMemory;
+use std::alloc::Global;
 use std::marker::Model;
 
 /// A name: 1 to 80 bytes of UTF-8 without control bytes, which are those below 32 and 127.
@@ -30,6 +32,15 @@ impl Name {
         ensures { result ≡ bytes.items }
     {
         Name { bytes }
+    }
+
+    /// A name with the same bytes.
+    pub fn try_clone(&self, alloc: Global) -> Result<Name, NoMemory>
+        ensures { IfOk result (λ copy. copy ≡ self.now) }
+    {
+        Ok(Name {
+            bytes: self.bytes.to_vec(alloc)?,
+        })
     }
 
     /// The bytes of the name.

@@ -1,0 +1,43 @@
+-- A file that ends the reading, against what the exit means.
+use Rattle.std.proofs.Common.{◌≡◌, ◌<◌, ◌≤◌, ℕ, List, Option, sym, ◌∙◌, ap, subst, inl, inr, arith}
+use Rattle.conc_types.specs.declared.refusal.FileKind.{FileKind}
+use Rattle.conc_types.specs.declared.refusal.Refusal.{Refusal}
+use Rattle.conc_outside.specs.Counts.{Rose}
+use Rattle.conc_outside.specs.Files.{Files, Gives, Lacks}
+use Rattle.conc_thin.specs.Refusals.{not_built_of}
+use Rattle.conc_top.specs.declared.names.Names.{Names}
+use Rattle.conc_top.specs.declared.stop.Stop.{Stop}
+use Rattle.conc_top.specs.declared.stop.Stop.TheVariants as stop
+use Rattle.conc_top.specs.Exits.{Shelved, shelved, StopsAt}
+use Rattle.conc_top.specs.Given.{IsNext}
+use Rattle.conc_top.specs.Stops.{Ends}
+use Rattle.conc_top.specs.Ways.{exit_at}
+
+-- a count that rose late rose in all
+Rose-wider : (a b c : ℕ) → a ≤ b → Rose b c → Rose a c
+Rose-wider a b c h (inl rose) = inl (omega (arith, h, rose))
+Rose-wider a b c h (inr end) = inr end
+
+-- the same file ends a longer reading
+pub Ends-wider : (told before : Option Files) (a0 a1 a2 f0 f1 f2 : ℕ) (file : FileKind) (name : List ℕ) (s : Stop) → before ≡ told → a0 ≤ a1 → f0 ≤ f1
+    → Ends (shelved before a1 a2 f1 f2) file name s → Ends (shelved told a0 a2 f0 f2) file name s
+Ends-wider told before a0 a1 a2 f0 f1 f2 file name (stop.Refused refusal) same a f h =
+    (record { bytes = h.0.bytes; given = subst (λ t. Gives t name h.0.bytes) same h.0.given }, h.1)
+Ends-wider told before a0 a1 a2 f0 f1 f2 file name stop.Absent same a f h = (subst (λ t. Lacks t name) same h.0, Rose-wider a0 a1 a2 a h.1)
+Ends-wider told before a0 a1 a2 f0 f1 f2 file name stop.ReadFault same a f h = Rose-wider f0 f1 f2 f h
+Ends-wider told before a0 a1 a2 f0 f1 f2 file name stop.NoMemory same a f h = tt
+
+-- where the file was next, the exit means that it ended the reading
+pub Ends-stops : (shelf : Shelved) (names : Names) (file : FileKind) (name : List ℕ) (s : Stop) → IsNext shelf.told names file name → Ends shelf file name s
+    → StopsAt shelf names (exit_at s name)
+Ends-stops shelf names file name (stop.Refused refusal) next h =
+    let same : refusal.file ≡ file = ap (λ (r : Refusal). r.file) h.1 in
+    record {
+      next = subst (λ k. IsNext shelf.told names k name) (sym same) next;
+      bytes = h.0.bytes;
+      given = h.0.given;
+      rule = h.1 ∙ ap not_built_of (sym same);
+    }
+Ends-stops shelf names file name stop.Absent next h = record { file = file; next = next; lacking = h.0; counted = h.1 }
+Ends-stops shelf names file name stop.ReadFault next h = record { file = file; next = next; counted = h }
+Ends-stops shelf names file name stop.NoMemory next h = tt
