@@ -1,15 +1,19 @@
 -- A file that ends the reading, against what the exit means.
-use Rattle.std.proofs.Common.{◌≡◌, ◌<◌, ◌≤◌, ℕ, List, Option, sym, ◌∙◌, ap, subst, inl, inr, arith}
+use Rattle.std.proofs.Common.{◌≡◌, ◌<◌, ◌≤◌, ℕ, List, [], ◌∷◌, Option, Some, sym, ◌∙◌, ap, subst, inl, inr, arith}
+use Rattle.std.specs.Prelude.{slice_get}
 use Rattle.conc_types.specs.declared.refusal.FileKind.{FileKind}
 use Rattle.conc_types.specs.declared.refusal.Refusal.{Refusal}
+use Rattle.conc_types.specs.declared.setup.Setup.{Setup}
+use Rattle.conc_types.specs.declared.table.Table.{Table}
 use Rattle.conc_outside.specs.Counts.{Rose}
 use Rattle.conc_outside.specs.Files.{Files, Gives, Lacks}
 use Rattle.conc_thin.specs.Refusals.{not_built_of}
+use Rattle.conc_top.specs.declared.exit.Exit.{Exit}
 use Rattle.conc_top.specs.declared.names.Names.{Names}
 use Rattle.conc_top.specs.declared.stop.Stop.{Stop}
 use Rattle.conc_top.specs.declared.stop.Stop.TheVariants as stop
 use Rattle.conc_top.specs.Exits.{Shelved, shelved, StopsAt}
-use Rattle.conc_top.specs.Given.{IsNext}
+use Rattle.conc_top.specs.Given.{HasTable, HasTables, IsNext}
 use Rattle.conc_top.specs.Stops.{Ends}
 use Rattle.conc_top.specs.Ways.{exit_at}
 
@@ -41,3 +45,21 @@ Ends-stops shelf names file name (stop.Refused refusal) next h =
 Ends-stops shelf names file name stop.Absent next h = record { file = file; next = next; lacking = h.0; counted = h.1 }
 Ends-stops shelf names file name stop.ReadFault next h = record { file = file; next = next; counted = h }
 Ends-stops shelf names file name stop.NoMemory next h = tt
+
+-- a file that was next, and ends the reading, is what the exit says, also of the shelf as it was before earlier files
+pub stops-later : (told before : Option Files) (a0 a1 a2 f0 f1 f2 : ℕ) (names : Names) (file : FileKind) (name : List ℕ) (s : Stop) (end : Exit)
+    → before ≡ told → a0 ≤ a1 → f0 ≤ f1 → IsNext told names file name → Ends (shelved before a1 a2 f1 f2) file name s → end ≡ exit_at s name
+    → StopsAt (shelved told a0 a2 f0 f2) names end
+stops-later told before a0 a1 a2 f0 f1 f2 names file name s end same a f next ends is =
+    subst (StopsAt (shelved told a0 a2 f0 f2) names) (sym is)
+    (Ends-stops (shelved told a0 a2 f0 f2) names file name s next (Ends-wider told before a0 a1 a2 f0 f1 f2 file name s same a f ends))
+
+-- the one table of a setup
+pub one-table : (told : Option Files) (setup : Setup) (named : List (List ℕ)) (tables : List Table) (t name : List ℕ) (table : Table) → named ≡ t ∷ []
+    → tables ≡ table ∷ [] → slice_get named 0 ≡ Some name → HasTable told setup name table → HasTables told setup named tables
+one-table told setup named tables t name table n ts at has =
+    let first : Some t ≡ Some name = ap (λ l. slice_get l 0) (sym n) ∙ at in
+    let same : t ≡ name = cc in
+    subst (λ l. HasTables told setup l tables) (sym n)
+    (subst (λ l. HasTables told setup (t ∷ []) l) (sym ts)
+    (subst (λ m. HasTable told setup m table) (sym same) has, tt))

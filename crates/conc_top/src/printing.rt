@@ -19,7 +19,8 @@ fn history(alloc: Global, plan: &Plan, readings: &Readings) -> Result<Vec<Event>
     alone_reports();
     lawful_is_past();
     no_overlap();
-    run_alone(alloc, plan, readings)
+    let events = run_alone(alloc, plan, readings)?;
+    Ok(events)
 }
 
 // Runs the plan, and prints its history once it is finished.
