@@ -1,5 +1,5 @@
 -- What a whole call means, from what its parts mean.
-use Rattle.std.proofs.Common.{◌≡◌, ℕ, List, Option, Some, inl, inr}
+use Rattle.std.proofs.Common.{◌≡◌, Some, inl}
 use Rattle.conc_types.specs.declared.plan.Plan.{Plan}
 use Rattle.conc_types.specs.declared.script.Readings.{Readings}
 use Rattle.conc_top.specs.declared.exit.Exit.{Exit}
@@ -7,7 +7,7 @@ use Rattle.conc_top.specs.declared.exit.Exit.TheVariants as exit
 use Rattle.conc_top.specs.declared.names.Names.{Names}
 use Rattle.conc_top.specs.Exits.{Call, Means, StopsAt, WroteNothing}
 use Rattle.conc_top.specs.Given.{Accepts}
-use Rattle.conc_top.specs.Printing.{Prints, Sunk, sunk}
+use Rattle.conc_top.specs.Printing.{Prints, sunk}
 use Rattle.conc_top.specs.Words.{names_of}
 
 -- a reading that ended means its exit
@@ -29,11 +29,13 @@ printed-means call names plan readings exit.Done words accepted h =
       run = record { names = names; words = words; plan = plan; readings = readings; accepted = accepted; history = h.0; ran = h.1 };
       printed = h.2;
     }
-printed-means call names plan readings exit.WriteFault words accepted h =
-    (record {
-      run = record { names = names; words = words; plan = plan; readings = readings; accepted = accepted; history = h.0; ran = h.1 };
-      part = h.2;
-    }, h.3)
+printed-means call names plan readings exit.WriteFault words accepted h = (
+  record {
+    run = record { names = names; words = words; plan = plan; readings = readings; accepted = accepted; history = h.0; ran = h.1 };
+    part = h.2;
+  },
+  h.3,
+)
 printed-means call names plan readings exit.NoMemory words accepted h = inl h
 printed-means call names plan readings exit.Usage words accepted h = absurd h
 printed-means call names plan readings (exit.Refused refusal name) words accepted h = absurd h

@@ -1,5 +1,5 @@
 -- A file that ends the reading, against what the exit means.
-use Rattle.std.proofs.Common.{◌≡◌, ◌<◌, ◌≤◌, ℕ, List, [], ◌∷◌, Option, Some, sym, ◌∙◌, ap, subst, inl, inr, arith}
+use Rattle.std.proofs.Common.{◌≡◌, ◌≤◌, ℕ, List, [], ◌∷◌, Option, Some, sym, ◌∙◌, ap, subst, inl, inr, arith}
 use Rattle.std.specs.Prelude.{slice_get}
 use Rattle.conc_types.specs.declared.refusal.FileKind.{FileKind}
 use Rattle.conc_types.specs.declared.refusal.Refusal.{Refusal}

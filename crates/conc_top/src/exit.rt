@@ -8,18 +8,11 @@ pub enum Exit {
     /// The words are no command line.
     Usage,
     /// A file, with its name, is refused.
-    Refused {
-        refusal: Refusal,
-        name: Name,
-    },
+    Refused { refusal: Refusal, name: Name },
     /// There is no file with this name.
-    Absent {
-        name: Name,
-    },
+    Absent { name: Name },
     /// The file with this name could not be read.
-    ReadFault {
-        name: Name,
-    },
+    ReadFault { name: Name },
     /// The output could not be written.
     WriteFault,
     /// There was no memory.

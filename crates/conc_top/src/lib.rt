@@ -8,6 +8,8 @@ mod line;
 mod names;
 mod printing;
 mod stop;
+#[cfg(test)]
+mod tests;
 mod top;
 mod words;
 

@@ -28,12 +28,12 @@ pub fn conc<Rt: Threads + Wait + Sync, F: Shelf, O: Sink>(
     out: &mut O,
 ) -> Exit
     ensures { Means (record {
-        words = map string_bytes words.now;
-        shelf = shelved (F.files shelf.old) (F.absences shelf.old) (F.absences shelf.new) (F.faults shelf.old) (F.faults shelf.new);
-        taken_before = O.taken out.old;
-        taken_after = O.taken out.new;
-        faults_before = O.faults out.old;
-        faults_after = O.faults out.new
+      words = map string_bytes words.now;
+      shelf = shelved (F.files shelf.old) (F.absences shelf.old) (F.absences shelf.new) (F.faults shelf.old) (F.faults shelf.new);
+      taken_before = O.taken out.old;
+      taken_after = O.taken out.new;
+      faults_before = O.faults out.old;
+      faults_after = O.faults out.new;
     }) result }
 {
     let _rt = rt;

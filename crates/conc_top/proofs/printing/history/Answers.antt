@@ -12,6 +12,6 @@ returns c =
       lawful = lawful;
       finished = c.in_ok-events.ensures.finished;
       apart = c.no_overlap.ensures c.args.plan.now c.in_ok-events.events.items
-        (c.lawful_is_past.ensures c.args.plan.now c.args.readings.now c.in_ok-events.events.items lawful);
+          (c.lawful_is_past.ensures c.args.plan.now c.args.readings.now c.in_ok-events.events.items lawful);
       reported = c.alone_reports.ensures c.args.plan.now c.args.readings.now.list [] c.in_ok-events.events.items c.in_ok-events.ensures;
     }

@@ -10,8 +10,8 @@ returns-in-Ok g c =
     (record {
       words = map string_bytes c.args.words.now;
       shelf =
-        shelved (g.F.Shelf.files c.args.shelf.now) (g.F.Shelf.absences c.args.shelf.now) (g.F.Shelf.absences c.accept.new.shelf)
-        (g.F.Shelf.faults c.args.shelf.now) (g.F.Shelf.faults c.accept.new.shelf);
+          shelved (g.F.Shelf.files c.args.shelf.now) (g.F.Shelf.absences c.args.shelf.now) (g.F.Shelf.absences c.accept.new.shelf)
+          (g.F.Shelf.faults c.args.shelf.now) (g.F.Shelf.faults c.accept.new.shelf);
       taken_before = g.O.Sink.taken c.args.out.now;
       taken_after = g.O.Sink.taken c.run_and_print.new.out;
       faults_before = g.O.Sink.faults c.args.out.now;
