@@ -1,18 +1,19 @@
 -- A file that ends the reading, against what the exit means.
-use Rattle.std.proofs.Common.{◌≡◌, ◌≤◌, ℕ, List, [], ◌∷◌, Option, Some, sym, ◌∙◌, ap, subst, inl, inr, arith}
-use Rattle.std.specs.Prelude.{slice_get}
+use Rattle.std.proofs.Common.{◌≡◌, ◌≤◌, ℕ, List, [], ◌∷◌, Option, None, Some, sym, ◌∙◌, ap, subst, inl, inr, arith}
+use Rattle.std.specs.Prelude.{IfSome, slice_get}
 use Rattle.conc_types.specs.declared.refusal.FileKind.{FileKind}
 use Rattle.conc_types.specs.declared.refusal.Refusal.{Refusal}
 use Rattle.conc_types.specs.declared.setup.Setup.{Setup}
 use Rattle.conc_types.specs.declared.table.Table.{Table}
 use Rattle.conc_outside.specs.Counts.{Rose}
-use Rattle.conc_outside.specs.Files.{Files, Gives, Lacks}
+use Rattle.conc_outside.specs.declared.error.ShelfFail.TheVariants as fail
+use Rattle.conc_outside.specs.Files.{file_named, Files, Gives, Lacks}
 use Rattle.conc_thin.specs.Refusals.{not_built_of}
 use Rattle.conc_top.specs.declared.exit.Exit.{Exit}
 use Rattle.conc_top.specs.declared.names.Names.{Names}
 use Rattle.conc_top.specs.declared.stop.Stop.{Stop}
 use Rattle.conc_top.specs.declared.stop.Stop.TheVariants as stop
-use Rattle.conc_top.specs.Exits.{Shelved, shelved, StopsAt}
+use Rattle.conc_top.specs.Exits.{IsThere, Shelved, shelved, StopsAt}
 use Rattle.conc_top.specs.Given.{HasTable, HasTables, IsNext}
 use Rattle.conc_top.specs.Stops.{Ends}
 use Rattle.conc_top.specs.Ways.{exit_at}
@@ -28,7 +29,7 @@ pub Ends-wider : (told before : Option Files) (a0 a1 a2 f0 f1 f2 : ℕ) (file : 
 Ends-wider told before a0 a1 a2 f0 f1 f2 file name (stop.Refused refusal) same a f h =
     (record { bytes = h.0.bytes; given = subst (λ t. Gives t name h.0.bytes) same h.0.given }, h.1)
 Ends-wider told before a0 a1 a2 f0 f1 f2 file name stop.Absent same a f h = (subst (λ t. Lacks t name) same h.0, Rose-wider a0 a1 a2 a h.1)
-Ends-wider told before a0 a1 a2 f0 f1 f2 file name stop.ReadFault same a f h = Rose-wider f0 f1 f2 f h
+Ends-wider told before a0 a1 a2 f0 f1 f2 file name stop.ReadFault same a f h = (subst (λ t. IsThere t name) same h.0, Rose-wider f0 f1 f2 f h.1)
 Ends-wider told before a0 a1 a2 f0 f1 f2 file name stop.NoMemory same a f h = tt
 
 -- where the file was next, the exit means that it ended the reading
@@ -43,7 +44,7 @@ Ends-stops shelf names file name (stop.Refused refusal) next h =
       rule = h.1 ∙ ap not_built_of (sym same);
     }
 Ends-stops shelf names file name stop.Absent next h = record { file = file; next = next; lacking = h.0; counted = h.1 }
-Ends-stops shelf names file name stop.ReadFault next h = record { file = file; next = next; counted = h }
+Ends-stops shelf names file name stop.ReadFault next h = record { file = file; next = next; there = h.0; counted = h.1 }
 Ends-stops shelf names file name stop.NoMemory next h = tt
 
 -- a file that was next, and ends the reading, is what the exit says, also of the shelf as it was before earlier files
@@ -63,3 +64,8 @@ one-table told setup named tables t name table n ts at has =
     subst (λ l. HasTables told setup l tables) (sym n)
     (subst (λ l. HasTables told setup (t ∷ []) l) (sym ts)
     (subst (λ m. HasTable told setup m table) (sym same) has, tt))
+
+-- a read that failed, where a lacking file is told as absent, was of a file that is there
+pub failed-there : (told : Option Files) (name : List ℕ) → IfSome told (λ files. file_named files name ≡ None → fail.Failed ≡ fail.Absent) → IsThere told name
+failed-there None name h = tt
+failed-there (Some files) name h = λ lacking. let same : fail.Failed ≡ fail.Absent = h lacking in cc

@@ -1,5 +1,5 @@
 -- What each exit means.
-use Rattle.std.specs.Prelude.{◌≡◌, ◌⊎◌, ℕ, List, [], Option, None, Some}
+use Rattle.std.specs.Prelude.{◌≡◌, ◌⊎◌, ℕ, List, [], Option, None, Some, IfSome}
 use Rattle.conc_types.specs.declared.event.Event.{Event}
 use Rattle.conc_types.specs.declared.plan.Plan.{Plan}
 use Rattle.conc_types.specs.declared.refusal.FileKind.{FileKind}
@@ -11,7 +11,7 @@ use Rattle.conc_law.specs.Law.{Finished, Lawful}
 use Rattle.conc_law.specs.Overlap.{NoOverlap}
 use Rattle.conc_law.specs.Text.{text_of}
 use Rattle.conc_outside.specs.Counts.{Rose}
-use Rattle.conc_outside.specs.Files.{Files, Gives, Lacks}
+use Rattle.conc_outside.specs.Files.{file_named, Files, Gives, Lacks}
 use Rattle.conc_outside.specs.Taken.{Took, TookPrefix}
 use Rattle.conc_thin.specs.Refusals.{not_built_of}
 use Rattle.conc_top.specs.declared.exit.Exit.{Exit}
@@ -53,10 +53,15 @@ pub record IsAbsent (shelf : Shelved) (names : Names) (name : List ℕ) : Type 0
   pub lacking : Lacks shelf.told name
   pub counted : Rose shelf.absences_before shelf.absences_after
 
--- the file that was next could not be read
+-- where the shelf tells its files, there is one with this name
+abbrev pub IsThere : Option Files → List ℕ → Type 0
+IsThere told name = IfSome told (λ files. file_named files name ≡ None → ⊥)
+
+-- the file that was next could not be read, and is not lacking
 pub record IsReadFault (shelf : Shelved) (names : Names) (name : List ℕ) : Type 0 where
   pub file : FileKind
   pub next : IsNext shelf.told names file name
+  pub there : IsThere shelf.told name
   pub counted : Rose shelf.faults_before shelf.faults_after
 
 -- the reading of the files ended with this exit

@@ -6,7 +6,7 @@ use Rattle.conc_outside.specs.Files.{Gives, Lacks}
 use Rattle.conc_thin.specs.Refusals.{not_built_of}
 use Rattle.conc_top.specs.declared.stop.Stop.{Stop}
 use Rattle.conc_top.specs.declared.stop.Stop.TheVariants as stop
-use Rattle.conc_top.specs.Exits.{Shelved}
+use Rattle.conc_top.specs.Exits.{IsThere, Shelved}
 
 -- the bytes of the file were read
 pub record WasGiven (shelf : Shelved) (name : List ℕ) : Type 0 where
@@ -17,5 +17,5 @@ pub record WasGiven (shelf : Shelved) (name : List ℕ) : Type 0 where
 abbrev pub Ends : Shelved → FileKind → List ℕ → Stop → Type 0
 Ends shelf file name (stop.Refused refusal) = WasGiven shelf name × (refusal ≡ not_built_of file)
 Ends shelf file name stop.Absent = Lacks shelf.told name × Rose shelf.absences_before shelf.absences_after
-Ends shelf file name stop.ReadFault = Rose shelf.faults_before shelf.faults_after
+Ends shelf file name stop.ReadFault = IsThere shelf.told name × Rose shelf.faults_before shelf.faults_after
 Ends shelf file name stop.NoMemory = Unit {0}
