@@ -18,6 +18,7 @@ pub mod Numbers
 pub mod Report
 pub mod Alone
 pub mod Moments
+pub mod Calendar
 pub mod Text
 pub mod Ends
 pub mod Remaining

@@ -10,3 +10,4 @@ pub mod Scripts
 pub mod Tables
 pub mod Expansion
 pub mod Plans
+pub mod Faults

@@ -30,7 +30,7 @@ pub use manager::{Manager, Rule, Shift};
 pub use name::{Name, is_name};
 pub use plan::{Plan, Req};
 pub use program::{Filter, Job, Program, Test};
-pub use refusal::{FileKind, Refusal};
+pub use refusal::{FileKind, ReadFail, Refusal};
 pub use script::{Act, Order, Reading, Readings, Script};
 pub use seq::Seq;
 pub use set::SetDef;

@@ -1,3 +1,10 @@
+ghost use Rattle.std.specs.Prelude.{◌≡◌};
+ghost use Rattle.conc_types.specs.declared.refusal.ReadFail.TheVariants.{NoMemory as out_of_memory};
+
+use crate::NoMemory;
+use std::alloc::{AllocError, AllocFailed};
+use thiserror::Error;
+
 /// Which file is refused. A table is named by its place in the setup's list of tables, from 0.
 #[derive(Clone, Copy, Debug, PartialEq, Eq)]
 pub enum FileKind {
@@ -14,4 +21,37 @@ pub struct Refusal {
     pub file: FileKind,
     pub line: u64,
     pub kind: u8,
+}
+
+/// Why a file gives no value.
+#[derive(Clone, Copy, Debug, PartialEq, Eq, Error)]
+pub enum ReadFail {
+    #[error("the file is refused")]
+    Refused(Refusal),
+    #[error("no memory")]
+    NoMemory,
+}
+
+impl From<NoMemory> for ReadFail {
+    ghost from_gives = { λ _ e. e ≡ out_of_memory };
+
+    fn from(_: NoMemory) -> Self {
+        ReadFail::NoMemory
+    }
+}
+
+impl From<AllocError> for ReadFail {
+    ghost from_gives = { λ _ e. e ≡ out_of_memory };
+
+    fn from(_: AllocError) -> Self {
+        ReadFail::NoMemory
+    }
+}
+
+impl<T: Drop> From<AllocFailed<T>> for ReadFail {
+    ghost from_gives = { λ _ e. e ≡ out_of_memory };
+
+    fn from(_: AllocFailed<T>) -> Self {
+        ReadFail::NoMemory
+    }
 }

@@ -101,7 +101,7 @@ apart reach =
     refl
 
 abbrev apart_commands : List Order
-apart_commands = submit_in (codes "D1") (item.Program 0) ∷ submit_in (codes "D2") (item.Program 1) ∷ []
+apart_commands = submit_in (codes "NORTH") (item.Program 0) ∷ submit_in (codes "SOUTH") (item.Program 1) ∷ []
 
 abbrev near : Plan
 unfolding texts

@@ -1,0 +1,2 @@
+//! The readers of the script and of the clock file.
+#![tactic(auto)]
