@@ -46,10 +46,9 @@ fn enter_part(
             argument,
             ..
         } => {
+            let number = numbers.next;
             let request = Req {
-                number: RequestId {
-                    number: numbers.next,
-                },
+                number: RequestId { number },
                 command: numbers.command,
                 item,
                 user: user.try_clone(alloc)?,

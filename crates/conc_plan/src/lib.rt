@@ -4,6 +4,7 @@
 mod copies;
 mod entering;
 mod expanding;
+mod judging;
 mod making;
 #[cfg(test)]
 mod tests;
