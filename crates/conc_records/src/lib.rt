@@ -1,2 +1,9 @@
 //! The records of a text of comma-separated fields, read one by one.
 #![tactic(auto)]
+
+mod records;
+#[cfg(test)]
+mod tests;
+
+pub use csv::ByteRecord;
+pub use records::Records;

@@ -1,2 +1,4 @@
 pub mod Clock
+pub mod Lines
+pub mod Readings
 pub mod Script

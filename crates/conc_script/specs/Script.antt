@@ -96,7 +96,7 @@ domain_of bytes = if is_empty bytes then Some (codes "Standard") else then_some 
 unfoldable pub submission_of : Setup → Moment → Record → Option Act
 submission_of setup at r =
     option_and_then (λ what. option_and_then (λ priority. option_and_then (λ start. option_map (λ domain.
-        act.Submit what (user_field r) priority start domain (argument_field r))
+    act.Submit what (user_field r) priority start domain (argument_field r))
     (domain_of (domain_field r))) (start_of at (start_field r))) (priority_of (priority_field r))) (item_named setup (what_field r))
 
 -- what a word other than `submit` does to a request
@@ -145,22 +145,22 @@ unfoldable pub has_form : Record → Bool
 has_form r =
     if is_submit r
     then is_name (user_field r)
-        && (not (is_none (priority_of (priority_field r)))
-        && ((is_empty (start_field r) || not (is_none (moment_of (start_field r))))
-        && (not (is_none (domain_of (domain_field r))) && is_text 200 (argument_field r))))
+    && (not (is_none (priority_of (priority_field r)))
+    && ((is_empty (start_field r) || not (is_none (moment_of (start_field r))))
+    && (not (is_none (domain_of (domain_field r))) && is_text 200 (argument_field r))))
     else (is_empty (user_field r) || is_name (user_field r))
-        && (is_empty (priority_field r) && (is_empty (start_field r) && (is_empty (domain_field r) && is_empty (argument_field r))))
+    && (is_empty (priority_field r) && (is_empty (start_field r) && (is_empty (domain_field r) && is_empty (argument_field r))))
 
 -- the first rule that the record with this number breaks
 unfoldable pub record_kind : Setup → List Record → ℕ → Option ℕ
 record_kind setup records n =
     first_broken (
-        (not (is_record (record_at records n)), 20) ∷ (nat_lt 4097 n, 26)
-        ∷ (is_none (moment_of (at_field (record_at records n))), 22)
-        ∷ (is_earlier (moment_of (at_field (record_at records n))) (moment_of (at_field (record_at records (n - 1)))), 25)
-        ∷ (not (is_word (word_field (record_at records n))), 21)
-        ∷ what_rules setup (entered_before setup records n) (record_at records n)
-        ++ (not (has_form (record_at records n)), 22) ∷ [])
+    (not (is_record (record_at records n)), 20) ∷ (nat_lt 4097 n, 26)
+    ∷ (is_none (moment_of (at_field (record_at records n))), 22)
+    ∷ (is_earlier (moment_of (at_field (record_at records n))) (moment_of (at_field (record_at records (n - 1)))), 25)
+    ∷ (not (is_word (word_field (record_at records n))), 21)
+    ∷ what_rules setup (entered_before setup records n) (record_at records n)
+    ++ (not (has_form (record_at records n)), 22) ∷ [])
 
 abbrev pub same_fields : Record → Record → Bool
 same_fields [] [] = true

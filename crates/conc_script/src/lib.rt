@@ -1,2 +1,9 @@
 //! The readers of the script and of the clock file.
 #![tactic(auto)]
+
+mod clock;
+mod lines;
+mod refusing;
+mod stand_in;
+
+pub use clock::read_clock;

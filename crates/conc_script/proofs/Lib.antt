@@ -1,0 +1,4 @@
+pub mod Faults
+pub mod LineEnds
+pub mod ReadLines
+pub mod ClockFaults
