@@ -1,5 +1,5 @@
 -- The files of a shelf: pairs of a name and the bytes of the file with this name.
-use Rattle.std.specs.Prelude.{◌≡◌, ℕ, List, Option, Some, None, IfSome, take}
+use Rattle.std.specs.Prelude.{◌≡◌, ℕ, ◌≤◌, List, Option, Some, None, IfSome, take}
 use Rattle.std.specs.List.{find}
 use Rattle.std.specs.Option.{option_map}
 use Rattle.std.specs.Str.{bytes_eq}
@@ -22,3 +22,17 @@ Gives told name bytes = IfSome told (λ files. option_map front_of (file_named f
 -- where the shelf tells its files, there is none with this name
 abbrev pub Lacks : Option Files → List ℕ → Type 0
 Lacks told name = IfSome told (λ files. file_named files name ≡ None)
+
+-- ---- a shelf
+
+-- what a shelf tells of its files, if it tells them, and how often a file was lacking and a read failed
+pub record ShelfState : Type 0 where
+  pub files : Option Files
+  pub absences : ℕ
+  pub faults : ℕ
+
+-- the files stay, and the counts do not fall
+pub record IsLater (old new : ShelfState) : Type 0 where
+  pub files : new.files ≡ old.files
+  pub absences : old.absences ≤ new.absences
+  pub faults : old.faults ≤ new.faults

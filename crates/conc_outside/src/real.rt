@@ -28,8 +28,7 @@ pub struct FileShelf<'a, R: Files> {
 impl<'a, R: Files> FileShelf<'a, R> {
     /// A shelf of the files that this handle opens. It takes no memory.
     pub fn new(rt: &'a R) -> Self
-        ensures absences { ⟦<FileShelf<'a, R> as Shelf>⟧.absences result ≡ 0 }
-        ensures faults { ⟦<FileShelf<'a, R> as Shelf>⟧.faults result ≡ 0 }
+        ensures { ⟦<FileShelf<'a, R> as Shelf>⟧.state result ≡ record { files = None; absences = 0; faults = 0 } }
     {
         FileShelf {
             rt,
@@ -91,11 +90,7 @@ fn read_front<R: Files>(rt: &R, alloc: Global, path: &str) -> Result<Vec<u8>, Sh
 }
 
 impl<'a, R: Files> Shelf for FileShelf<'a, R> {
-    ghost files = { λ _. None };
-
-    ghost absences = { λ s. s.absences };
-
-    ghost faults = { λ s. s.faults };
+    ghost state = { λ s. record { files = None; absences = s.absences; faults = s.faults } };
 
     fn read_file(&mut self, alloc: Global, name: &Name) -> Result<Vec<u8>, ShelfFail> {
         let read = match str::from_utf8(name.as_bytes()) {

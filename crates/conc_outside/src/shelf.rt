@@ -1,7 +1,7 @@
-ghost use Rattle.std.specs.Prelude.{◌≡◌, ℕ, ◌≤◌, List, Option, IfOk, IfSome, IsErrOf, None};
+ghost use Rattle.std.specs.Prelude.{◌≡◌, IfOk, IfSome, IsErrOf, None};
 ghost use Rattle.conc_outside.specs.Counts.{Rose};
 ghost use Rattle.conc_outside.specs.declared.error.ShelfFail.TheVariants.{Absent, Failed};
-ghost use Rattle.conc_outside.specs.Files.{file_named, Files, Gives, Lacks};
+ghost use Rattle.conc_outside.specs.Files.{file_named, Gives, IsLater, Lacks, ShelfState};
 
 use crate::ShelfFail;
 use conc_types::Name;
@@ -12,25 +12,18 @@ pub(crate) const MOST_BYTES: usize = 67_108_865;
 
 /// A shelf of files, each with a name of its own.
 pub trait Shelf {
-    /// The files, if the shelf tells them.
-    ghost files: { Self → Option Files };
+    /// Its files, if the shelf tells them, and its counts.
+    ghost state: { Self → ShelfState };
 
-    /// How often a file was lacking, a count that never falls.
-    ghost absences: { Self → ℕ };
-
-    /// How often a read failed, a count that never falls.
-    ghost faults: { Self → ℕ };
-
-    /// The bytes of a file, or its first 67,108,865 bytes where it is longer.
+    /// The bytes of a file, or its first 67,108,865 bytes where it is longer. The counts of absences
+    /// and of faults never fall.
     fn read_file(&mut self, alloc: Global, name: &Name) -> Result<Vec<u8>, ShelfFail>
-        ensures files { files self.new ≡ files self.old }
-        ensures absences { absences self.old ≤ absences self.new }
-        ensures faults { faults self.old ≤ faults self.new }
-        ensures found { IfOk result (λ bytes. Gives (files self.old) name.now bytes.items) }
+        ensures later { IsLater (state self.old) (state self.new) }
+        ensures found { IfOk result (λ bytes. Gives (state self.old).files name.now bytes.items) }
 
         // A file that is lacking is told as such, and nothing else is.
-        ensures absent { IsErrOf result Absent → Rose (absences self.old) (absences self.new) × Lacks (files self.old) name.now }
-        ensures lacking { IfSome (files self.old) (λ told. file_named told name.now ≡ None → IsErrOf result Absent) }
+        ensures absent { IsErrOf result Absent → Rose (state self.old).absences (state self.new).absences × Lacks (state self.old).files name.now }
+        ensures lacking { IfSome (state self.old).files (λ told. file_named told name.now ≡ None → IsErrOf result Absent) }
 
-        ensures failed { IsErrOf result Failed → Rose (faults self.old) (faults self.new) };
+        ensures failed { IsErrOf result Failed → Rose (state self.old).faults (state self.new).faults };
 }

@@ -11,8 +11,7 @@ fn has_column(table: &Table, name: &[u8]) -> bool
     ensures { result ≡ has_column_of table.now name.now }
 {
     table
-        .columns
-        .as_slice()
+        .columns()
         .iter()
         .any(|column| name == column.as_slice())
 }

@@ -4,6 +4,8 @@
 mod clock;
 mod lines;
 mod refusing;
+mod script;
 mod stand_in;
 
 pub use clock::read_clock;
+pub use script::read_script;

@@ -1,7 +1,7 @@
 ghost use Rattle.std.specs.Prelude.{◌≡◌, ◌++◌, [], ◌∷◌, IfOk, IfSome, IsTrue};
 ghost use Rattle.conc_types.specs.Texts.{is_name as is_name_of};
 
-use conc_types::{Bytes, Name, NoMemory, Seq, is_name};
+use conc_types::{Name, NoMemory, Seq, is_name};
 use std::alloc::Global;
 
 // What stands behind a piece of text.
@@ -39,13 +39,6 @@ pub(crate) fn name(alloc: Global, bytes: &[u8]) -> Result<Name, NoMemory>
     ensures { IfOk result (λ name. name ≡ bytes.now) }
 {
     Ok(Name::from_vec(Vec::from_slice(alloc, bytes)?))
-}
-
-// Bytes of its own that are the same.
-pub(crate) fn own(alloc: Global, bytes: &[u8]) -> Result<Bytes, NoMemory>
-    ensures { IfOk result (λ own. own ≡ bytes.now) }
-{
-    Ok(Seq::from_vec(Vec::from_slice(alloc, bytes)?))
 }
 
 // The sequence of one item.

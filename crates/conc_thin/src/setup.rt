@@ -1,15 +1,14 @@
-ghost use Rattle.std.specs.Prelude.{◌≡◌, ◌++◌, [], ◌∷◌, codes, false, IfErr, IfOk, IfSome, IsTrue};
+ghost use Rattle.std.specs.Prelude.{◌≡◌, ◌++◌, [], ◌∷◌, codes, false, IfErr, IfOk, IfSome, IsTrue, Some as some};
 ghost use Rattle.std.specs.Str.{bytes_eq};
 ghost use Rattle.conc_types.specs.declared.refusal.FileKind.TheVariants as kind;
 ghost use Rattle.conc_types.specs.Texts.{is_name as is_name_of};
-ghost use Rattle.conc_thin.specs.Refusals.{IsRefused};
-ghost use Rattle.conc_thin.specs.Thin.{entries_of, entry_text, manager_of, parts_of, setup_text, IsProgramOf, IsThin, SpellsSetup};
+ghost use Rattle.conc_types.specs.Faults.{IsFailure};
+ghost use Rattle.conc_thin.specs.Thin.{entries_of, entry_text, manager_of, parts_of, setup_text, IsProgramOf, SpellsSetup};
 
-use crate::ReadFail;
-use crate::error::not_built;
 use crate::pieces::{behind, empty, name, one, word};
 use conc_types::{
-    Entry, FileKind, Item, Job, Manager, Name, NoMemory, Program, Reach, Scope, Seq, Setup,
+    Entry, FileKind, Item, Job, Manager, Name, NoMemory, Program, Reach, ReadFail, Refusal, Scope, Seq,
+    Setup,
 };
 use std::alloc::Global;
 
@@ -161,30 +160,33 @@ fn setup_of(
     })
 }
 
-// The one program of a thin setup.
-pub(crate) fn program(setup: &Setup) -> &Program
-    requires { IsThin setup.now }
-    ensures { setup.now.programs ≡ result.now ∷ [] }
+// The refusal of a setup that is not in its thin form.
+fn not_built() -> ReadFail
+    ensures { IsFailure kind.Setup (some (0, 90)) result }
 {
-    &setup.programs.as_slice()[0]
+    ReadFail::Refused(Refusal {
+        file: FileKind::Setup,
+        line: 0,
+        kind: 90,
+    })
 }
 
 /// The setup that the bytes spell in its thin form.
 pub fn read_setup(alloc: Global, bytes: &[u8]) -> Result<Setup, ReadFail>
     ensures ok { IfOk result (SpellsSetup bytes.now) }
-    ensures err { IfErr result (IsRefused kind.Setup) }
+    ensures err { IfErr result (IsFailure kind.Setup (some (0, 90))) }
 {
     let Some((table, program, rest)) = table_and_program(bytes) else {
-        return Err(not_built(FileKind::Setup));
+        return Err(not_built());
     };
     let Some((group, sum, rest)) = group_and_sum(rest) else {
-        return Err(not_built(FileKind::Setup));
+        return Err(not_built());
     };
     let Some((exclusive, rest)) = entry(rest, program) else {
-        return Err(not_built(FileKind::Setup));
+        return Err(not_built());
     };
     let Some(manager) = manager_at_end(rest) else {
-        return Err(not_built(FileKind::Setup));
+        return Err(not_built());
     };
     let setup = setup_of(alloc, table, program, group, sum, exclusive, manager)?;
     Ok(setup)

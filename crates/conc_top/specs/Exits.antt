@@ -3,7 +3,6 @@ use Rattle.std.specs.Prelude.{◌≡◌, ◌⊎◌, ℕ, List, [], Option, None,
 use Rattle.conc_types.specs.declared.event.Event.{Event}
 use Rattle.conc_types.specs.declared.plan.Plan.{Plan}
 use Rattle.conc_types.specs.declared.refusal.FileKind.{FileKind}
-use Rattle.conc_types.specs.declared.refusal.Refusal.{Refusal}
 use Rattle.conc_types.specs.declared.script.Readings.{Readings}
 use Rattle.conc_law.specs.Alone.{Alone}
 use Rattle.conc_law.specs.Ends.{AreReported}
@@ -11,73 +10,50 @@ use Rattle.conc_law.specs.Law.{Finished, Lawful}
 use Rattle.conc_law.specs.Overlap.{NoOverlap}
 use Rattle.conc_law.specs.Text.{text_of}
 use Rattle.conc_outside.specs.Counts.{Rose}
-use Rattle.conc_outside.specs.Files.{file_named, Files, Gives, Lacks}
+use Rattle.conc_outside.specs.Files.{file_named, Files, Lacks, ShelfState}
 use Rattle.conc_outside.specs.Taken.{Took, TookPrefix}
-use Rattle.conc_thin.specs.Refusals.{not_built_of}
 use Rattle.conc_top.specs.declared.exit.Exit.{Exit}
 use Rattle.conc_top.specs.declared.exit.Exit.TheVariants as exit
 use Rattle.conc_top.specs.declared.names.Names.{Names}
 use Rattle.conc_top.specs.Given.{Accepts, IsNext}
+use Rattle.conc_top.specs.Refusals.{IsRefused}
 use Rattle.conc_top.specs.Words.{names_of}
 
 -- ---- reading the files
 
--- what a shelf tells, and its counts before and after
-pub record Shelved : Type 0 where
-  pub told : Option Files
-  pub absences_before : ℕ
-  pub absences_after : ℕ
-  pub faults_before : ℕ
-  pub faults_after : ℕ
-
-abbrev pub shelved : Option Files → ℕ → ℕ → ℕ → ℕ → Shelved
-shelved told absences absences' faults faults' = record {
-  told = told;
-  absences_before = absences;
-  absences_after = absences';
-  faults_before = faults;
-  faults_after = faults';
-}
-
--- the file that was next is the first one that is refused
-pub record IsRefused (shelf : Shelved) (names : Names) (refusal : Refusal) (name : List ℕ) : Type 0 where
-  pub next : IsNext shelf.told names refusal.file name
-  pub bytes : List ℕ
-  pub given : Gives shelf.told name bytes
-  pub rule : refusal ≡ not_built_of refusal.file
-
 -- the file that was next is lacking
-pub record IsAbsent (shelf : Shelved) (names : Names) (name : List ℕ) : Type 0 where
+pub record IsAbsent (old new : ShelfState) (names : Names) (name : List ℕ) : Type 0 where
   pub file : FileKind
-  pub next : IsNext shelf.told names file name
-  pub lacking : Lacks shelf.told name
-  pub counted : Rose shelf.absences_before shelf.absences_after
+  pub next : IsNext old.files names file name
+  pub lacking : Lacks old.files name
+  pub counted : Rose old.absences new.absences
 
 -- where the shelf tells its files, there is one with this name
 abbrev pub IsThere : Option Files → List ℕ → Type 0
 IsThere told name = IfSome told (λ files. file_named files name ≡ None → ⊥)
 
 -- the file that was next could not be read, and is not lacking
-pub record IsReadFault (shelf : Shelved) (names : Names) (name : List ℕ) : Type 0 where
+pub record IsReadFault (old new : ShelfState) (names : Names) (name : List ℕ) : Type 0 where
   pub file : FileKind
-  pub next : IsNext shelf.told names file name
-  pub there : IsThere shelf.told name
-  pub counted : Rose shelf.faults_before shelf.faults_after
+  pub next : IsNext old.files names file name
+  pub there : IsThere old.files name
+  pub counted : Rose old.faults new.faults
 
--- the reading of the files ended with this exit
-abbrev pub StopsAt : Shelved → Names → Exit → Type 0
-StopsAt shelf names (exit.Refused refusal name) = IsRefused shelf names refusal name
-StopsAt shelf names (exit.Absent name) = IsAbsent shelf names name
-StopsAt shelf names (exit.ReadFault name) = IsReadFault shelf names name
-StopsAt shelf names exit.NoMemory = Unit {0}
-StopsAt shelf names _ = ⊥
+-- the reading of the files from a shelf, old before and new after it, ended with this exit
+abbrev pub StopsAt : ShelfState → ShelfState → Names → Exit → Type 0
+StopsAt old new names (exit.Refused refusal name) = IsRefused old.files names refusal name
+StopsAt old new names (exit.Absent name) = IsAbsent old new names name
+StopsAt old new names (exit.ReadFault name) = IsReadFault old new names name
+StopsAt old new names exit.NoMemory = Unit {0}
+StopsAt old new names _ = ⊥
 
 -- ---- a whole call
 
--- what surrounds a call: its words, the shelf, and what the sink had taken and its count of faults before and after
+-- what surrounds a call: its words, and before and after it the shelf, what the sink had taken and its count of faults
 pub record Call : Type 0 where
   pub words : List (List ℕ)
-  pub shelf : Shelved
+  pub shelf_before : ShelfState
+  pub shelf_after : ShelfState
   pub taken_before : Option (List ℕ)
   pub taken_after : Option (List ℕ)
   pub faults_before : ℕ
@@ -100,7 +76,7 @@ pub record IsRun (call : Call) : Type 0 where
   pub words : names_of call.words ≡ Some names
   pub plan : Plan
   pub readings : Readings
-  pub accepted : Accepts call.shelf.told names plan readings
+  pub accepted : Accepts call.shelf_before.files names plan readings
   pub history : List Event
   pub ran : Ran plan readings history
 
@@ -118,7 +94,7 @@ pub record IsUsage (call : Call) : Type 0 where
 pub record IsStopped (call : Call) (end : Exit) : Type 0 where
   pub names : Names
   pub words : names_of call.words ≡ Some names
-  pub stops : StopsAt call.shelf names end
+  pub stops : StopsAt call.shelf_before call.shelf_after names end
   pub nothing : WroteNothing call
 
 -- a prefix of the text was written

@@ -1,5 +1,6 @@
 -- The files that were read, each of them there and accepted, and the file to be read next.
-use Rattle.std.specs.Prelude.{◌≡◌, ℕ, List, [], ◌∷◌, Option, Some, slice_get, take}
+use Rattle.std.specs.Prelude.{◌≡◌, ℕ, ◌≤◌, List, length, Option, Some, slice_get, take}
+use Rattle.std.specs.List.{AllZip, sum_by}
 use Rattle.conc_types.specs.declared.plan.Plan.{Plan}
 use Rattle.conc_types.specs.declared.refusal.FileKind.{FileKind}
 use Rattle.conc_types.specs.declared.refusal.FileKind.TheVariants as kind
@@ -8,7 +9,10 @@ use Rattle.conc_types.specs.declared.script.Script.{Script}
 use Rattle.conc_types.specs.declared.setup.Setup.{Setup}
 use Rattle.conc_types.specs.declared.table.Table.{Table}
 use Rattle.conc_outside.specs.Files.{Files, Gives}
-use Rattle.conc_thin.specs.Thin.{SpellsClock, SpellsScript, SpellsSetup, SpellsTable}
+use Rattle.conc_script.specs.Clock.{SpellsClock}
+use Rattle.conc_script.specs.Script.{SpellsScript}
+use Rattle.conc_tables.specs.Tables.{SpellsTable}
+use Rattle.conc_thin.specs.Thin.{SpellsSetup}
 use Rattle.conc_top.specs.declared.names.Names.{Names}
 
 -- the setup's bytes were read under its name, and spell this setup
@@ -34,24 +38,18 @@ pub record HasClock (told : Option Files) (names : Names) : Type 0 where
   pub readings : Readings
   pub spells : SpellsClock bytes readings
 
--- a table's
-pub record HasTable (told : Option Files) (setup : Setup) (name : List ℕ) (table : Table) : Type 0 where
-  pub bytes : List ℕ
-  pub given : Gives told name bytes
-  pub spells : SpellsTable setup bytes table
-
--- then those of these tables, in their order
-abbrev pub HasTables : Option Files → Setup → List (List ℕ) → List Table → Type 0
-HasTables told setup [] [] = Unit {0}
-HasTables told setup [] (table ∷ tables) = ⊥
-HasTables told setup (name ∷ names) [] = ⊥
-HasTables told setup (name ∷ names) (table ∷ tables) = HasTable told setup name table × HasTables told setup names tables
+-- then those of the tables with these names, in their order. Together they have at most 134,217,728 bytes
+pub record HasTables (told : Option Files) (names : List (List ℕ)) (tables : List Table) : Type 0 where
+  pub contents : List (List ℕ)
+  pub given : AllZip (Gives told) names contents
+  pub spell : AllZip SpellsTable contents tables
+  pub fit : sum_by length contents ≤ 134217728
 
 -- the table with this number, from 0, is to be read next
 pub record IsNextTable (told : Option Files) (names : Names) (number : ℕ) (name : List ℕ) : Type 0 where
   pub before : HasClock told names
   pub tables : List Table
-  pub given : HasTables told before.before.before.setup (take number before.before.before.setup.tables) tables
+  pub given : HasTables told (take number before.before.before.setup.tables) tables
   pub named : slice_get before.before.before.setup.tables number ≡ Some name
 
 -- all files before this one were there and accepted, and it is to be read next, under this name
@@ -61,10 +59,14 @@ IsNext told names kind.Script name = HasSetup told names × (name ≡ names.scri
 IsNext told names kind.Clock name = HasScript told names × (name ≡ names.clock)
 IsNext told names (kind.Table number) name = IsNextTable told names number name
 
--- all files were there and accepted, and give this plan and these readings
-pub record Accepts (told : Option Files) (names : Names) (plan : Plan) (readings : Readings) : Type 0 where
+-- all files were there and accepted, with these tables
+pub record HasAll (told : Option Files) (names : Names) (tables : List Table) : Type 0 where
   pub before : HasClock told names
-  pub setup : plan.setup ≡ before.before.before.setup
-  pub script : plan.script ≡ before.before.script
-  pub tables : HasTables told before.before.before.setup before.before.before.setup.tables plan.tables
-  pub same_readings : readings ≡ before.readings
+  pub given : HasTables told before.before.before.setup.tables tables
+
+-- they give this plan and these readings
+pub record Accepts (told : Option Files) (names : Names) (plan : Plan) (readings : Readings) : Type 0 where
+  pub files : HasAll told names plan.tables
+  pub setup : plan.setup ≡ files.before.before.before.setup
+  pub script : plan.script ≡ files.before.before.script
+  pub same_readings : readings ≡ files.before.readings

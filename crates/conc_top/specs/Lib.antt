@@ -1,7 +1,9 @@
 pub mod Lines
 pub mod Words
 pub mod Given
+pub mod Refusals
 pub mod Exits
-pub mod Stops
 pub mod Ways
+pub mod Stops
+pub mod Reading
 pub mod Printing

@@ -1,21 +1,57 @@
 -- Why one file ends the reading.
-use Rattle.std.specs.Prelude.{◌≡◌, ℕ, List}
+use Rattle.std.specs.Prelude.{◌≡◌, ◌⊎◌, ℕ, List, length, Option, Some, slice_get, take}
+use Rattle.std.specs.List.{sum_by}
 use Rattle.conc_types.specs.declared.refusal.FileKind.{FileKind}
+use Rattle.conc_types.specs.declared.refusal.Refusal.{Refusal}
+use Rattle.conc_types.specs.declared.refusal.FileKind.TheVariants as kind
+use Rattle.conc_types.specs.declared.table.Table.{Table}
+use Rattle.conc_types.specs.Faults.{Fault}
 use Rattle.conc_outside.specs.Counts.{Rose}
-use Rattle.conc_outside.specs.Files.{Gives, Lacks}
-use Rattle.conc_thin.specs.Refusals.{not_built_of}
+use Rattle.conc_outside.specs.Files.{Files, Gives, Lacks, ShelfState}
 use Rattle.conc_top.specs.declared.stop.Stop.{Stop}
 use Rattle.conc_top.specs.declared.stop.Stop.TheVariants as stop
-use Rattle.conc_top.specs.Exits.{IsThere, Shelved}
+use Rattle.conc_top.specs.declared.exit.Exit.{Exit}
+use Rattle.conc_top.specs.declared.exit.Exit.TheVariants as exit
+use Rattle.conc_top.specs.Exits.{IsThere}
+use Rattle.conc_top.specs.Given.{HasTables}
+use Rattle.conc_top.specs.Refusals.{fault_of_table}
+use Rattle.conc_top.specs.Ways.{exit_at}
 
--- the bytes of the file were read
-pub record WasGiven (shelf : Shelved) (name : List ℕ) : Type 0 where
+-- the bytes of the file were read, and have this fault
+pub record WasRefused (told : Option Files) (has_fault : List ℕ → Fault → Type 0) (file : FileKind) (name : List ℕ) (refusal : Refusal) : Type 0 where
   pub bytes : List ℕ
-  pub given : Gives shelf.told name bytes
+  pub given : Gives told name bytes
+  pub file_is : refusal.file ≡ file
+  pub fault : has_fault bytes (refusal.line, refusal.kind)
+
+-- the file with this name could not be read, for this cause
+abbrev pub EndsUnread : ShelfState → ShelfState → List ℕ → Stop → Type 0
+EndsUnread old new name (stop.Refused refusal) = ⊥
+EndsUnread old new name stop.Absent = Lacks old.files name × Rose old.absences new.absences
+EndsUnread old new name stop.ReadFault = IsThere old.files name × Rose old.faults new.faults
+EndsUnread old new name stop.NoMemory = Unit {0}
 
 -- the file of this kind, under this name, ends the reading for this cause
-abbrev pub Ends : Shelved → FileKind → List ℕ → Stop → Type 0
-Ends shelf file name (stop.Refused refusal) = WasGiven shelf name × (refusal ≡ not_built_of file)
-Ends shelf file name stop.Absent = Lacks shelf.told name × Rose shelf.absences_before shelf.absences_after
-Ends shelf file name stop.ReadFault = IsThere shelf.told name × Rose shelf.faults_before shelf.faults_after
-Ends shelf file name stop.NoMemory = Unit {0}
+abbrev pub Ends : ShelfState → ShelfState → (List ℕ → Fault → Type 0) → FileKind → List ℕ → Stop → Type 0
+Ends old new has_fault file name (stop.Refused refusal) = WasRefused old.files has_fault file name refusal
+Ends old new has_fault file name s = EndsUnread old new name s
+
+-- the exit for the file with this name, unless there was no memory for it
+abbrev pub IsExitAt : Stop → List ℕ → Exit → Type 0
+IsExitAt s name end = (end ≡ exit_at s name) ⊎ (end ≡ exit.NoMemory)
+
+-- ---- tables
+
+-- the reading of the tables with these names ended at one of them
+pub record IsTableStop (old new : ShelfState) (names : List (List ℕ)) (end : Exit) : Type 0 where
+  pub number : ℕ
+  pub name : List ℕ
+  pub named : slice_get names number ≡ Some name
+  pub tables : List Table
+  pub given : HasTables old.files (take number names) tables
+  pub cause : Stop
+  pub ends : Ends old new (λ bytes fault. fault_of_table (sum_by length given.contents) bytes ≡ Some fault) (kind.Table number) name cause
+  pub is : end ≡ exit_at cause name
+
+abbrev pub StopsInTables : ShelfState → ShelfState → List (List ℕ) → Exit → Type 0
+StopsInTables old new names end = (end ≡ exit.NoMemory) ⊎ IsTableStop old new names end

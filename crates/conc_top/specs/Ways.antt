@@ -1,7 +1,7 @@
 -- The exit that a file makes.
 use Rattle.std.specs.Prelude.{ℕ, List}
-use Rattle.conc_thin.specs.declared.error.ReadFail.{ReadFail}
-use Rattle.conc_thin.specs.declared.error.ReadFail.TheVariants as fail
+use Rattle.conc_types.specs.declared.refusal.ReadFail.{ReadFail}
+use Rattle.conc_types.specs.declared.refusal.ReadFail.TheVariants as fail
 use Rattle.conc_top.specs.declared.exit.Exit.{Exit}
 use Rattle.conc_top.specs.declared.exit.Exit.TheVariants as exit
 use Rattle.conc_top.specs.declared.stop.Stop.{Stop}

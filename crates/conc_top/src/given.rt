@@ -1,35 +1,32 @@
-ghost use Rattle.std.specs.Prelude.{◌≡◌, ◌≤◌, [], ◌∷◌, ℕ, IfErr, IfOk, IsTrue, List, length};
+ghost use Rattle.std.specs.Prelude.{◌≡◌, ◌+◌, ◌≤◌, IfErr, IfOk, IsTrue, List, length, Some, ℕ};
 ghost use Rattle.conc_types.specs.declared.refusal.FileKind.TheVariants as kind;
-ghost use Rattle.conc_types.specs.Expansion.{expansion};
 ghost use Rattle.conc_types.specs.Scripts.{are_commands};
-ghost use Rattle.conc_types.specs.Tables.{are_tables};
-ghost use Rattle.conc_outside.specs.Files.{Gives};
-ghost use Rattle.conc_thin.specs.Refusals.{IsRefused};
-ghost use Rattle.conc_thin.specs.Thin.{IsThin, SpellsClock, SpellsScript, SpellsSetup, SpellsTable};
-ghost use Rattle.conc_top.specs.Exits.{shelved};
-ghost use Rattle.conc_top.specs.Stops.{Ends};
+ghost use Rattle.conc_outside.specs.Files.{Gives, IsLater};
+ghost use Rattle.conc_script.specs.Clock.{clock_fault, SpellsClock};
+ghost use Rattle.conc_script.specs.Script.{script_fault, SpellsScript};
+ghost use Rattle.conc_tables.specs.Tables.{SpellsTable};
+ghost use Rattle.conc_thin.specs.Thin.{SpellsSetup};
+ghost use Rattle.conc_top.specs.Refusals.{fault_of_table};
+ghost use Rattle.conc_top.specs.Stops.{Ends, EndsUnread};
 ghost use Rattle.conc_top.specs.Ways.{stop_for};
 
 use crate::stop::Stop;
 use conc_outside::{Shelf, ShelfFail};
-use conc_thin::{ReadFail, read_clock, read_script, read_setup, read_table};
-use conc_types::{FileKind, Name, Readings, Script, Setup, Table};
+use conc_script::{read_clock, read_script};
+use conc_tables::read_table;
+use conc_thin::read_setup;
+use conc_types::{FileKind, Name, ReadFail, Readings, Refusal, Script, Setup, Table};
 use std::alloc::Global;
 
-// The bytes of the file of this kind.
-fn read<F: Shelf>(
-    alloc: Global,
-    shelf: &mut F,
-    name: &Name,
-    file: FileKind,
-) -> Result<Vec<u8>, Stop>
-    ensures files { F.files shelf.new ≡ F.files shelf.old }
-    ensures absences { F.absences shelf.old ≤ F.absences shelf.new }
-    ensures faults { F.faults shelf.old ≤ F.faults shelf.new }
-    ensures ok { IfOk result (λ bytes. Gives (F.files shelf.old) name.now bytes.items) }
-    ensures err { IfErr result (Ends (shelved (F.files shelf.old) (F.absences shelf.old) (F.absences shelf.new) (F.faults shelf.old) (F.faults shelf.new)) file name.now) }
+// The most bytes that all tables together may have.
+const MOST_BYTES: usize = 134_217_728;
+
+// The bytes of the file with this name.
+fn read<F: Shelf>(alloc: Global, shelf: &mut F, name: &Name) -> Result<Vec<u8>, Stop>
+    ensures later { IsLater (F.state shelf.old) (F.state shelf.new) }
+    ensures ok { IfOk result (λ bytes. Gives (F.state shelf.old).files name.now bytes.items) }
+    ensures err { IfErr result (EndsUnread (F.state shelf.old) (F.state shelf.new) name.now) }
 {
-    let _file = file;
     match shelf.read_file(alloc, name) {
         Ok(bytes) => Ok(bytes),
         Err(ShelfFail::Absent) => Err(Stop::Absent),
@@ -54,15 +51,13 @@ pub(crate) fn judge_setup<F: Shelf>(
     shelf: &mut F,
     name: &Name,
 ) -> Result<Setup, Stop>
-    ensures files { F.files shelf.new ≡ F.files shelf.old }
-    ensures absences { F.absences shelf.old ≤ F.absences shelf.new }
-    ensures faults { F.faults shelf.old ≤ F.faults shelf.new }
-    ensures ok { IfOk result (λ value. (bytes : List ℕ) × Gives (F.files shelf.old) name.now bytes × SpellsSetup bytes value) }
-    ensures err { IfErr result (Ends (shelved (F.files shelf.old) (F.absences shelf.old) (F.absences shelf.new) (F.faults shelf.old) (F.faults shelf.new)) kind.Setup name.now) }
+    ensures later { IsLater (F.state shelf.old) (F.state shelf.new) }
+    ensures ok { IfOk result (λ setup. (bytes : List ℕ) × Gives (F.state shelf.old).files name.now bytes × SpellsSetup bytes setup) }
+    ensures err { IfErr result (Ends (F.state shelf.old) (F.state shelf.new) (λ bytes fault. Some (0, 90) ≡ Some fault) kind.Setup name.now) }
 {
-    let bytes = read(alloc, shelf, name, FileKind::Setup)?;
+    let bytes = read(alloc, shelf, name)?;
     match read_setup(alloc, &bytes) {
-        Ok(value) => Ok(value),
+        Ok(setup) => Ok(setup),
         Err(fail) => Err(stop_of(fail)),
     }
 }
@@ -74,18 +69,14 @@ pub(crate) fn judge_script<F: Shelf>(
     name: &Name,
     setup: &Setup,
 ) -> Result<Script, Stop>
-    requires { IsThin setup.now }
-    ensures files { F.files shelf.new ≡ F.files shelf.old }
-    ensures absences { F.absences shelf.old ≤ F.absences shelf.new }
-    ensures faults { F.faults shelf.old ≤ F.faults shelf.new }
-    ensures ok { IfOk result (λ value. (bytes : List ℕ) × Gives (F.files shelf.old) name.now bytes × SpellsScript setup.now bytes value) }
+    ensures later { IsLater (F.state shelf.old) (F.state shelf.new) }
+    ensures ok { IfOk result (λ script. (bytes : List ℕ) × Gives (F.state shelf.old).files name.now bytes × SpellsScript setup.now bytes script) }
     ensures fits { IfOk result (λ script. IsTrue (are_commands setup.now script.commands)) }
-    ensures few { IfOk result (λ script. length (expansion setup.now script.commands) ≤ 4096) }
-    ensures err { IfErr result (Ends (shelved (F.files shelf.old) (F.absences shelf.old) (F.absences shelf.new) (F.faults shelf.old) (F.faults shelf.new)) kind.Script name.now) }
+    ensures err { IfErr result (Ends (F.state shelf.old) (F.state shelf.new) (λ bytes fault. script_fault setup.now bytes ≡ Some fault) kind.Script name.now) }
 {
-    let bytes = read(alloc, shelf, name, FileKind::Script)?;
+    let bytes = read(alloc, shelf, name)?;
     match read_script(alloc, &bytes, setup) {
-        Ok(value) => Ok(value),
+        Ok(script) => Ok(script),
         Err(fail) => Err(stop_of(fail)),
     }
 }
@@ -96,37 +87,43 @@ pub(crate) fn judge_clock<F: Shelf>(
     shelf: &mut F,
     name: &Name,
 ) -> Result<Readings, Stop>
-    ensures files { F.files shelf.new ≡ F.files shelf.old }
-    ensures absences { F.absences shelf.old ≤ F.absences shelf.new }
-    ensures faults { F.faults shelf.old ≤ F.faults shelf.new }
-    ensures ok { IfOk result (λ value. (bytes : List ℕ) × Gives (F.files shelf.old) name.now bytes × SpellsClock bytes value) }
-    ensures err { IfErr result (Ends (shelved (F.files shelf.old) (F.absences shelf.old) (F.absences shelf.new) (F.faults shelf.old) (F.faults shelf.new)) kind.Clock name.now) }
+    ensures later { IsLater (F.state shelf.old) (F.state shelf.new) }
+    ensures ok { IfOk result (λ readings. (bytes : List ℕ) × Gives (F.state shelf.old).files name.now bytes × SpellsClock bytes readings) }
+    ensures err { IfErr result (Ends (F.state shelf.old) (F.state shelf.new) (λ bytes fault. clock_fault bytes ≡ Some fault) kind.Clock name.now) }
 {
-    let bytes = read(alloc, shelf, name, FileKind::Clock)?;
+    let bytes = read(alloc, shelf, name)?;
     match read_clock(alloc, &bytes) {
-        Ok(value) => Ok(value),
+        Ok(readings) => Ok(readings),
         Err(fail) => Err(stop_of(fail)),
     }
 }
 
-// The one table, under its name.
+// The table with this number under this name, and the bytes of all tables up to it, where those
+// before it have `before` bytes.
 pub(crate) fn judge_table<F: Shelf>(
     alloc: Global,
     shelf: &mut F,
     name: &Name,
-    setup: &Setup,
-) -> Result<Table, Stop>
-    requires { IsThin setup.now }
-    ensures files { F.files shelf.new ≡ F.files shelf.old }
-    ensures absences { F.absences shelf.old ≤ F.absences shelf.new }
-    ensures faults { F.faults shelf.old ≤ F.faults shelf.new }
-    ensures ok { IfOk result (λ value. (bytes : List ℕ) × Gives (F.files shelf.old) name.now bytes × SpellsTable setup.now bytes value) }
-    ensures fits { IfOk result (λ table. IsTrue (are_tables setup.now (table ∷ []))) }
-    ensures err { IfErr result (Ends (shelved (F.files shelf.old) (F.absences shelf.old) (F.absences shelf.new) (F.faults shelf.old) (F.faults shelf.new)) (kind.Table 0) name.now) }
+    number: u32,
+    before: usize,
+) -> Result<(Table, usize), Stop>
+    requires { before ≤ 134217728 }
+    ensures later { IsLater (F.state shelf.old) (F.state shelf.new) }
+    ensures ok { IfOk result (λ p. (bytes : List ℕ) × Gives (F.state shelf.old).files name.now bytes × SpellsTable bytes p.0 × (p.1 ≡ before + length bytes)) }
+    ensures fit { IfOk result (λ p. p.1 ≤ 134217728) }
+    ensures err { IfErr result (Ends (F.state shelf.old) (F.state shelf.new) (λ bytes fault. fault_of_table before bytes ≡ Some fault) (kind.Table number) name.now) }
 {
-    let bytes = read(alloc, shelf, name, FileKind::Table(0))?;
-    match read_table(alloc, &bytes, 0, setup) {
-        Ok(value) => Ok(value),
+    let bytes = read(alloc, shelf, name)?;
+    let total = before + bytes.len();
+    if total > MOST_BYTES {
+        return Err(Stop::Refused(Refusal {
+            file: FileKind::Table(number),
+            line: 0,
+            kind: 33,
+        }));
+    }
+    match read_table(alloc, &bytes, number) {
+        Ok(table) => Ok((table, total)),
         Err(fail) => Err(stop_of(fail)),
     }
 }

@@ -7,6 +7,7 @@ mod given;
 mod line;
 mod names;
 mod printing;
+mod reading;
 mod stop;
 #[cfg(test)]
 mod tests;

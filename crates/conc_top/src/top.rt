@@ -1,6 +1,6 @@
 ghost use Rattle.std.specs.Prelude.{map};
 ghost use Rattle.std.specs.String.{string_bytes};
-ghost use Rattle.conc_top.specs.Exits.{Means, shelved};
+ghost use Rattle.conc_top.specs.Exits.{Means};
 
 use crate::Exit;
 use crate::accepting::accept;
@@ -29,7 +29,8 @@ pub fn conc<Rt: Threads + Wait + Sync, F: Shelf, O: Sink>(
 ) -> Exit
     ensures { Means (record {
       words = map string_bytes words.now;
-      shelf = shelved (F.files shelf.old) (F.absences shelf.old) (F.absences shelf.new) (F.faults shelf.old) (F.faults shelf.new);
+      shelf_before = F.state shelf.old;
+      shelf_after = F.state shelf.new;
       taken_before = O.taken out.old;
       taken_after = O.taken out.new;
       faults_before = O.faults out.old;

@@ -1,0 +1,90 @@
+ghost use Rattle.std.specs.Prelude.{◌≡◌, IfErr, IfOk, IsTrue};
+ghost use Rattle.conc_types.specs.Scripts.{are_commands};
+ghost use Rattle.conc_outside.specs.Files.{IsLater};
+ghost use Rattle.conc_top.specs.Exits.{StopsAt};
+ghost use Rattle.conc_top.specs.Given.{HasTables};
+ghost use Rattle.conc_top.specs.Stops.{IsExitAt, StopsInTables};
+ghost use Rattle.conc_top.specs.Reading.{HasInputs};
+
+use crate::Exit;
+use crate::given::{judge_clock, judge_script, judge_setup, judge_table};
+use crate::names::Names;
+use crate::stop::Stop;
+use conc_outside::Shelf;
+use conc_types::{Name, NoMemory, Readings, Script, Setup, Table};
+use std::alloc::Global;
+
+// What the three files say that the words name.
+#[derive(Drop)]
+pub(crate) struct Inputs {
+    pub(crate) setup: Setup,
+    pub(crate) script: Script,
+    pub(crate) readings: Readings,
+}
+
+// Reads the setup, the script and the clock, each of them judged before the next one is read.
+pub(crate) fn read_inputs<F: Shelf>(
+    alloc: Global,
+    shelf: &mut F,
+    names: &Names,
+) -> Result<Inputs, Exit>
+    ensures later { IsLater (F.state shelf.old) (F.state shelf.new) }
+    ensures ok { IfOk result (HasInputs (F.state shelf.old).files names.now) }
+    ensures fits { IfOk result (λ inputs. IsTrue (are_commands inputs.setup inputs.script.commands)) }
+    ensures err { IfErr result (StopsAt (F.state shelf.old) (F.state shelf.new) names.now) }
+{
+    let setup = match judge_setup(alloc, shelf, &names.setup) {
+        Ok(setup) => setup,
+        Err(stop) => return Err(exit_at(alloc, stop, &names.setup)),
+    };
+    let script = match judge_script(alloc, shelf, &names.script, &setup) {
+        Ok(script) => script,
+        Err(stop) => return Err(exit_at(alloc, stop, &names.script)),
+    };
+    match judge_clock(alloc, shelf, &names.clock) {
+        Ok(readings) => Ok(Inputs {
+            setup,
+            script,
+            readings,
+        }),
+        Err(stop) => Err(exit_at(alloc, stop, &names.clock)),
+    }
+}
+
+// The exit for the file with this name, where there is memory for a name.
+fn exit_at(alloc: Global, stop: Stop, name: &Name) -> Exit
+    ensures { IsExitAt stop name.now result }
+{
+    match name.try_clone(alloc) {
+        Ok(name) => stop.at(name),
+        Err(NoMemory) => Exit::NoMemory,
+    }
+}
+
+// Reads the tables with these names.
+pub(crate) fn read_tables<F: Shelf>(
+    alloc: Global,
+    shelf: &mut F,
+    names: &[Name],
+) -> Result<Vec<Table>, Exit>
+    ensures later { IsLater (F.state shelf.old) (F.state shelf.new) }
+    ensures ok { IfOk result (λ tables. HasTables (F.state shelf.old).files names.now tables.items) }
+    ensures err { IfErr result (StopsInTables (F.state shelf.old) (F.state shelf.new) names.now) }
+{
+    let mut tables = Vec::new(alloc);
+    let mut total = 0;
+    let mut number = 0;
+    for name in names {
+        match judge_table(alloc, shelf, name, number, total) {
+            Ok((table, sum)) => {
+                if tables.push(table).is_err() {
+                    return Err(Exit::NoMemory);
+                }
+                total = sum;
+            }
+            Err(stop) => return Err(exit_at(alloc, stop, name)),
+        }
+        number += 1;
+    }
+    Ok(tables)
+}
