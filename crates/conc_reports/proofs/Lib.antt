@@ -1,4 +1,3 @@
+pub mod Cells
 pub mod Digits
-pub mod Insertion
-pub mod Lines
-pub mod Sums
+pub mod Growth
