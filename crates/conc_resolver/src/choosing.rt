@@ -1,32 +1,13 @@
 ghost use Rattle.std.specs.Prelude.{◌≡◌, ◌<◌, ◌≤◌, ◌^◌, IfOk, length};
-ghost use Rattle.std.specs.List.{position};
-ghost use Rattle.std.specs.Option.{ForSome, option_and_then, option_copied, option_map, option_or};
-ghost use Rattle.std.specs.Str.{bytes_eq};
-ghost use Rattle.conc_types.specs.Tables.{table_named as table_named_of};
+ghost use Rattle.std.specs.Option.{ForSome, option_and_then, option_map, option_or};
 ghost use Rattle.conc_law.specs.Alone.{choice as choice_of, end_of as end_of_of, end_with, first_end as first_end_of, first_start as first_start_of, next_tick as next_tick_of, report_of as report_of_of};
 ghost use Rattle.conc_resolver.specs.Made.{as_report};
 
 use conc_decide::{facts_at, first_running, first_start, forced, next_tick};
 use conc_reports::{Made, report};
 use conc_rules::program_of;
-use conc_types::{Event, Extent, Name, NoMemory, Outcome, Plan, Reading, Req, Standing, Table};
+use conc_types::{Event, Extent, NoMemory, Outcome, Plan, Reading, Req, Standing};
 use std::alloc::Global;
-
-fn place_of(names: &[Name], name: &Name) -> Option<usize>
-    ensures { result ≡ position (bytes_eq name.now) names.now }
-{
-    names.iter().position(|n| name.as_bytes() == n.as_bytes())
-}
-
-// The table with this name.
-fn table_named<'a>(plan: &'a Plan, name: &Name) -> Option<&'a Table>
-    ensures { option_copied result ≡ table_named_of plan.now.setup plan.now.tables name.now }
-{
-    match place_of(plan.setup.tables.as_slice(), name) {
-        Some(place) => plan.tables.as_slice().get(place),
-        None => None,
-    }
-}
 
 // The report of a request of a program.
 #[tactic(auto, unfolding(conc_law::specs::Alone::report_of))]
@@ -36,7 +17,9 @@ fn report_of(alloc: Global, plan: &Plan, r: &Req) -> Result<Option<Made>, NoMemo
 {
     match program_of(plan, r) {
         None => Ok(None),
-        Some(program) => match table_named(plan, &program.job.table) {
+        Some(program) => match plan
+            .setup
+            .table_named(plan.tables.as_slice(), &program.job.table) {
             None => Ok(None),
             Some(table) => Ok(Some(report(alloc, &program.job, r.argument.as_slice(), table)?)),
         },

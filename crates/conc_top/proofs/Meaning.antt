@@ -11,7 +11,7 @@ use Rattle.conc_top.specs.Printing.{Prints, sunk}
 use Rattle.conc_top.specs.Words.{names_of}
 
 -- a reading that ended means its exit
-pub stopped-means : (call : Call) (names : Names) (end : Exit) → names_of call.words ≡ Some names → StopsAt call.shelf names end → WroteNothing call → Means call end
+pub stopped-means : (call : Call) (names : Names) (end : Exit) → names_of call.words ≡ Some names → StopsAt call.shelf_before call.shelf_after names end → WroteNothing call → Means call end
 stopped-means call names (exit.Refused refusal name) words stops nothing = record { names = names; words = words; stops = stops; nothing = nothing }
 stopped-means call names (exit.Absent name) words stops nothing = record { names = names; words = words; stops = stops; nothing = nothing }
 stopped-means call names (exit.ReadFault name) words stops nothing = record { names = names; words = words; stops = stops; nothing = nothing }
@@ -22,7 +22,7 @@ stopped-means call names exit.WriteFault words stops nothing = absurd stops
 
 -- a run that was printed, or not, means its exit
 pub printed-means : (call : Call) (names : Names) (plan : Plan) (readings : Readings) (end : Exit) → names_of call.words ≡ Some names
-    → Accepts call.shelf.told names plan readings
+    → Accepts call.shelf_before.files names plan readings
     → Prints plan readings (sunk call.taken_before call.taken_after call.faults_before call.faults_after) end → Means call end
 printed-means call names plan readings exit.Done words accepted h =
     record {

@@ -1,4 +1,4 @@
-ghost use Rattle.std.specs.Prelude.{◌≡◌, IfErr, IfOk, IsTrue};
+ghost use Rattle.std.specs.Prelude.{◌≡◌, ◌≤◌, length, IfErr, IfOk, IsTrue};
 ghost use Rattle.conc_types.specs.Scripts.{are_commands};
 ghost use Rattle.conc_outside.specs.Files.{IsLater};
 ghost use Rattle.conc_top.specs.Exits.{StopsAt};
@@ -61,12 +61,13 @@ fn exit_at(alloc: Global, stop: Stop, name: &Name) -> Exit
     }
 }
 
-// Reads the tables with these names.
+// Reads the tables with these names, each of them judged before the next one is read.
 pub(crate) fn read_tables<F: Shelf>(
     alloc: Global,
     shelf: &mut F,
     names: &[Name],
 ) -> Result<Vec<Table>, Exit>
+    requires { length names.now ≤ 64 }
     ensures later { IsLater (F.state shelf.old) (F.state shelf.new) }
     ensures ok { IfOk result (λ tables. HasTables (F.state shelf.old).files names.now tables.items) }
     ensures err { IfErr result (StopsInTables (F.state shelf.old) (F.state shelf.new) names.now) }

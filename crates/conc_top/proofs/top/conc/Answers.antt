@@ -1,6 +1,5 @@
 use Rattle.std.proofs.Common.{map, sym, ◌∙◌}
 use Rattle.std.specs.String.{string_bytes}
-use Rattle.conc_top.specs.Exits.{shelved}
 use Rattle.conc_top.proofs.Meaning.{printed-means}
 use Rattle.conc_top.proofs.top.conc.Goals as goal
 
@@ -9,9 +8,8 @@ returns-in-Ok g c =
     printed-means
     (record {
       words = map string_bytes c.args.words.now;
-      shelf =
-          shelved (g.F.Shelf.files c.args.shelf.now) (g.F.Shelf.absences c.args.shelf.now) (g.F.Shelf.absences c.accept.new.shelf)
-          (g.F.Shelf.faults c.args.shelf.now) (g.F.Shelf.faults c.accept.new.shelf);
+      shelf_before = g.F.Shelf.state c.args.shelf.now;
+      shelf_after = g.F.Shelf.state c.accept.new.shelf;
       taken_before = g.O.Sink.taken c.args.out.now;
       taken_after = g.O.Sink.taken c.run_and_print.new.out;
       faults_before = g.O.Sink.faults c.args.out.now;

@@ -1,0 +1,83 @@
+-- What was read, against what a call accepts or stops at.
+use Rattle.std.proofs.Common.{◌≡◌, ◌≤◌, ℕ, List, Option, Some, length, take, sym, ◌∙◌, ap, subst, refl, inl, inr}
+use Rattle.std.specs.Prelude.{slice_get}
+use Rattle.std.specs.List.{sum_by}
+use Rattle.conc_types.specs.declared.plan.Plan.{Plan}
+use Rattle.conc_types.specs.declared.refusal.FileKind.TheVariants as kind
+use Rattle.conc_types.specs.declared.refusal.ReadFail.{ReadFail}
+use Rattle.conc_types.specs.declared.refusal.ReadFail.TheVariants as fail
+use Rattle.conc_types.specs.declared.refusal.Refusal.{Refusal}
+use Rattle.conc_types.specs.declared.script.Readings.{Readings}
+use Rattle.conc_types.specs.declared.script.Script.{Script}
+use Rattle.conc_types.specs.declared.setup.Setup.{Setup}
+use Rattle.conc_types.specs.declared.table.Table.{Table}
+use Rattle.conc_outside.specs.Files.{Files, IsLater, ShelfState}
+use Rattle.conc_plan.specs.Faults.{IsFailure, plan_fault}
+use Rattle.conc_top.specs.declared.exit.Exit.{Exit}
+use Rattle.conc_top.specs.declared.names.Names.{Names}
+use Rattle.conc_top.specs.declared.reading.Inputs.{Inputs}
+use Rattle.conc_top.specs.Exits.{StopsAt}
+use Rattle.conc_top.specs.Given.{Accepts, HasAll, HasTables}
+use Rattle.conc_top.specs.Reading.{HasInputs}
+use Rattle.conc_top.specs.Refusals.{fault_of_table, IsRefused, name_of}
+use Rattle.conc_top.specs.Stops.{Ends, IsTableStop, StopsInTables}
+use Rattle.conc_top.proofs.Stopping.{ends-wider, IsLater-refl, stops-at}
+
+-- the tables that were read are those of the setup that was read
+tables-of : (told before : Option Files) (names : Names) (inputs : Inputs) (has : HasInputs told names inputs) (named : List (List ℕ)) (tables : List Table)
+    → named ≡ inputs.setup.tables → before ≡ told → HasTables before named tables → HasAll told names tables
+tables-of told before names inputs has named tables same files read =
+    let at : named ≡ has.files.before.before.setup.tables = same ∙ ap (λ (s : Setup). s.tables) has.setup in
+    record { before = has.files; given = subst (λ t. HasTables t has.files.before.before.setup.tables tables) files (subst (λ l. HasTables before l tables) at read) }
+
+-- all was read, and this is the plan
+pub accepts : (told before : Option Files) (names : Names) (inputs : Inputs) (has : HasInputs told names inputs) (named : List (List ℕ)) (tables : List Table) (plan : Plan)
+    → named ≡ inputs.setup.tables → before ≡ told → HasTables before named tables
+    → plan.setup ≡ inputs.setup → plan.script ≡ inputs.script → plan.tables ≡ tables → Accepts told names plan inputs.readings
+unfolding tables-of
+accepts told before names inputs has named tables plan same files read setup script these = record {
+  files = tables-of told before names inputs has named plan.tables same files (subst (HasTables before named) (sym these) read);
+  setup = setup ∙ has.setup;
+  script = script ∙ has.script;
+  same_readings = has.readings;
+}
+
+-- all was read, and the plan is refused
+pub plan-refused : (told before : Option Files) (names : Names) (inputs : Inputs) (has : HasInputs told names inputs) (named : List (List ℕ)) (tables : List Table) (refusal : Refusal) (name : List ℕ)
+    → named ≡ inputs.setup.tables → before ≡ told → HasTables before named tables
+    → (made : List Table) → made ≡ tables → (e : ReadFail) → e ≡ fail.Refused refusal → IsFailure (plan_fault inputs.setup inputs.script.commands made) e
+    → name ≡ name_of names refusal.file → IsRefused told names refusal name
+unfolding tables-of
+plan-refused told before names inputs has named tables refusal name same files read made these e is failed at =
+    let fault : plan_fault inputs.setup inputs.script.commands tables ≡ Some (refusal.file, (refusal.line, refusal.kind))
+        = ap (plan_fault inputs.setup inputs.script.commands) (sym these) ∙ subst (IsFailure (plan_fault inputs.setup inputs.script.commands made)) is failed in
+    inr (record {
+      tables = tables;
+      files = tables-of told before names inputs has named tables same files read;
+      fault = ap (λ (s : Setup). plan_fault s has.files.before.script.commands tables) (sym has.setup)
+          ∙ ap (λ (s : Script). plan_fault inputs.setup s.commands tables) (sym has.script) ∙ fault;
+      named = at;
+    })
+
+at-table : (old mid new : ShelfState) (names : Names) (inputs : Inputs) (has : HasInputs old.files names inputs) (named : List (List ℕ)) (end : Exit)
+    → named ≡ has.files.before.before.setup.tables → IsLater old mid → IsTableStop mid new named end → StopsAt old new names end
+at-table old mid new names inputs has named end same later stop =
+    let P : Option Files → List (List ℕ) → Type 0 = λ files all.
+        (given : HasTables files (take stop.number all) stop.tables) × (slice_get all stop.number ≡ Some stop.name)
+        × Ends old new (λ bytes fault. fault_of_table (sum_by length given.contents) bytes ≡ Some fault) (kind.Table stop.number) stop.name stop.cause in
+    let here : P mid.files named = (
+      stop.given,
+      stop.named,
+      ends-wider old mid new (λ bytes fault. fault_of_table (sum_by length stop.given.contents) bytes ≡ Some fault) (kind.Table stop.number) stop.name stop.cause later stop.ends,
+    ) in
+    let there : P old.files has.files.before.before.setup.tables = subst (P old.files) same (subst (λ t. P t named) later.files here) in
+    stops-at old old new names (kind.Table stop.number) stop.name
+    (record { before = has.files; tables = stop.tables; given = there.0; named = there.1 })
+    stop.cause end (IsLater-refl old) there.2 (inl stop.is)
+
+-- the reading of the tables ended
+pub tables-end : (old mid new : ShelfState) (names : Names) (inputs : Inputs) (has : HasInputs old.files names inputs) (named : List (List ℕ)) (end : Exit)
+    → named ≡ inputs.setup.tables → IsLater old mid → StopsInTables mid new named end → StopsAt old new names end
+tables-end old mid new names inputs has named end same later (inl none) = subst (StopsAt old new names) (sym none) tt
+tables-end old mid new names inputs has named end same later (inr stop) =
+    at-table old mid new names inputs has named end (same ∙ ap (λ (s : Setup). s.tables) has.setup) later stop

@@ -1,0 +1,121 @@
+-- A file that ends the reading, against what the exit means.
+use Rattle.std.proofs.Common.{◌≡◌, ◌≤◌, ℕ, ◌+◌, ◌<◌, List, [], ◌∷◌, ◌++◌, Option, None, Some, length, get_or, take, sym, ◌∙◌, ap, subst, refl, inl, inr, lit≤, arith}
+use Rattle.std.specs.Prelude.{IfSome, slice_get}
+use Rattle.std.specs.List.{AllZip, sum_by}
+use Rattle.std.proofs.lemmas.List.Elements.{all_zip_more}
+use Rattle.std.proofs.lemmas.Option.{slice_get_read}
+use Rattle.std.proofs.lemmas.List.Sums.{sum_by-append}
+use Rattle.std.proofs.lemmas.Slice.Zip.{all_zipped_more}
+use Rattle.conc_types.specs.declared.refusal.FileKind.{FileKind}
+use Rattle.conc_types.specs.declared.refusal.FileKind.TheVariants as kind
+use Rattle.conc_types.specs.declared.refusal.Refusal.{Refusal}
+use Rattle.conc_types.specs.declared.table.Table.{Table}
+use Rattle.conc_types.specs.Faults.{Fault}
+use Rattle.conc_outside.specs.Counts.{Rose}
+use Rattle.conc_outside.specs.declared.error.ShelfFail.TheVariants as fail
+use Rattle.conc_outside.specs.Files.{file_named, Files, Gives, IsLater, Lacks, ShelfState}
+use Rattle.conc_tables.specs.Tables.{SpellsTable}
+use Rattle.conc_top.specs.declared.exit.Exit.{Exit}
+use Rattle.conc_top.specs.declared.names.Names.{Names}
+use Rattle.conc_top.specs.declared.stop.Stop.{Stop}
+use Rattle.conc_top.specs.declared.stop.Stop.TheVariants as stop
+use Rattle.conc_top.specs.Exits.{IsThere, StopsAt}
+use Rattle.conc_top.specs.Given.{HasTables, IsNext}
+use Rattle.conc_top.specs.Refusals.{fault_of_table, HasFault, IsFileRefused}
+use Rattle.conc_top.specs.Stops.{Ends, IsExitAt, IsTableStop, StopsInTables}
+use Rattle.conc_top.specs.Ways.{exit_at}
+
+-- a count that rose late rose in all
+Rose-wider : (a b c : ℕ) → a ≤ b → Rose b c → Rose a c
+Rose-wider a b c h (inl rose) = inl (omega (arith, h, rose))
+Rose-wider a b c h (inr end) = inr end
+
+pub IsLater-trans : (a b c : ShelfState) → IsLater a b → IsLater b c → IsLater a c
+IsLater-trans a b c h k = record {
+  files = k.files ∙ h.files;
+  absences = omega (arith, h.absences, k.absences);
+  faults = omega (arith, h.faults, k.faults);
+}
+
+pub IsLater-refl : (a : ShelfState) → IsLater a a
+IsLater-refl a = record { files = refl; absences = omega arith; faults = omega arith }
+
+-- the same file ends a longer reading
+pub ends-wider : (old mid new : ShelfState) (has_fault : List ℕ → Fault → Type 0) (file : FileKind) (name : List ℕ) (s : Stop) → IsLater old mid
+    → Ends mid new has_fault file name s → Ends old new has_fault file name s
+ends-wider old mid new has_fault file name (stop.Refused refusal) later h =
+    record { bytes = h.bytes; given = subst (λ t. Gives t name h.bytes) later.files h.given; file_is = h.file_is; fault = h.fault }
+ends-wider old mid new has_fault file name stop.Absent later h =
+    (subst (λ t. Lacks t name) later.files h.0, Rose-wider old.absences mid.absences new.absences later.absences h.1)
+ends-wider old mid new has_fault file name stop.ReadFault later h =
+    (subst (λ t. IsThere t name) later.files h.0, Rose-wider old.faults mid.faults new.faults later.faults h.1)
+ends-wider old mid new has_fault file name stop.NoMemory later h = tt
+
+refused : (told : Option Files) (names : Names) (file : FileKind) (name : List ℕ) (next : IsNext told names file name) (refusal : Refusal) (bytes : List ℕ)
+    → refusal.file ≡ file → Gives told name bytes → HasFault told names file name next bytes (refusal.line, refusal.kind) → IsFileRefused told names refusal name
+refused told names file name next refusal bytes same given fault =
+    let at : (n : IsNext told names refusal.file name) × HasFault told names refusal.file name n bytes (refusal.line, refusal.kind)
+        = subst (λ k. (n : IsNext told names k name) × HasFault told names k name n bytes (refusal.line, refusal.kind)) (sym same) (next, fault) in
+    record { next = at.0; bytes = bytes; given = given; fault = at.1 }
+
+stops-by : (old new : ShelfState) (names : Names) (file : FileKind) (name : List ℕ) (next : IsNext old.files names file name) (s : Stop)
+    → Ends old new (HasFault old.files names file name next) file name s → StopsAt old new names (exit_at s name)
+stops-by old new names file name next (stop.Refused refusal) h = inl (refused old.files names file name next refusal h.bytes h.file_is h.given h.fault)
+stops-by old new names file name next stop.Absent h = record { file = file; next = next; lacking = h.0; counted = h.1 }
+stops-by old new names file name next stop.ReadFault h = record { file = file; next = next; there = h.0; counted = h.1 }
+stops-by old new names file name next stop.NoMemory h = tt
+
+-- the file that was next ends the reading, and this is its exit
+pub stops-at : (old mid new : ShelfState) (names : Names) (file : FileKind) (name : List ℕ) (next : IsNext old.files names file name) (s : Stop) (end : Exit)
+    → IsLater old mid → Ends mid new (HasFault old.files names file name next) file name s → IsExitAt s name end → StopsAt old new names end
+stops-at old mid new names file name next s end later h (inl is) = subst (StopsAt old new names) (sym is) 
+    (stops-by old new names file name next s (ends-wider old mid new (HasFault old.files names file name next) file name s later h))
+stops-at old mid new names file name next s end later h (inr is) = subst (StopsAt old new names) (sym is) tt
+
+-- a read that failed, where a lacking file is told as absent, was of a file that is there
+pub failed-there : (told : Option Files) (name : List ℕ) → IfSome told (λ files. file_named files name ≡ None → fail.Failed ≡ fail.Absent) → IsThere told name
+failed-there None name h = tt
+failed-there (Some files) name h = λ lacking. let same : fail.Failed ≡ fail.Absent = h lacking in cc
+
+-- ---- tables
+
+sum_by-one : (bytes : List ℕ) → sum_by length (bytes ∷ []) ≡ length bytes
+sum_by-one bytes = grind arith
+
+-- no table was read
+pub tables-none : (told : Option Files) (tables : List Table) → tables ≡ [] → (h : HasTables told [] tables) × (sum_by length h.contents ≡ 0)
+tables-none told tables none = rw none (record { contents = []; given = tt; spell = tt; fit = lit≤ tt }, refl)
+
+-- one more table was read
+pub tables-more : (told : Option Files) (names : List (List ℕ)) (i : ℕ) (name bytes : List ℕ) (tables : List Table) (table : Table) (has : HasTables told (take i names) tables) (total : ℕ)
+    → i < length names → name ≡ get_or names i name → Gives told name bytes → SpellsTable bytes table → sum_by length has.contents ≡ total → total + length bytes ≤ 134217728
+    → (h : HasTables told (take (i + 1) names) (tables ++ table ∷ [])) × (sum_by length h.contents ≡ total + length bytes)
+tables-more told names i name bytes tables table has total below here given spells so_far fits =
+    let sum : sum_by length (has.contents ++ bytes ∷ []) ≡ total + length bytes = omega (arith, sum_by-append length has.contents (bytes ∷ []), sum_by-one bytes, so_far) in (
+      record {
+        contents = has.contents ++ bytes ∷ [];
+        given = all_zip_more (Gives told) names has.contents i name bytes below here has.given given;
+        spell = all_zipped_more SpellsTable has.contents tables bytes table has.spell spells;
+        fit = omega (arith, sum, fits);
+      },
+      sum,
+    )
+
+-- the table that was next ends the reading
+pub tables-stop : (old mid new : ShelfState) (names : List (List ℕ)) (i number : ℕ) (name : List ℕ) (tables : List Table) (has : HasTables old.files (take i names) tables) (total : ℕ) (s : Stop) (end : Exit)
+    → i < length names → name ≡ get_or names i name → number ≡ i → IsLater old mid → sum_by length has.contents ≡ total
+    → Ends mid new (λ bytes fault. fault_of_table total bytes ≡ Some fault) (kind.Table number) name s → IsExitAt s name end → StopsInTables old new names end
+tables-stop old mid new names i number name tables has total s end below here at later so_far h (inr is) = inl is
+tables-stop old mid new names i number name tables has total s end below here at later so_far h (inl is) =
+    inr (record {
+      number = i;
+      name = name;
+      named = slice_get_read names (length names) i name refl below here;
+      tables = tables;
+      given = has;
+      cause = s;
+      ends = ends-wider old mid new (λ bytes fault. fault_of_table (sum_by length has.contents) bytes ≡ Some fault) (kind.Table i) name s later
+          (subst (λ n. Ends mid new (λ bytes fault. fault_of_table n bytes ≡ Some fault) (kind.Table i) name s) (sym so_far)
+          (subst (λ n. Ends mid new (λ bytes fault. fault_of_table total bytes ≡ Some fault) (kind.Table n) name s) at h));
+      is = is;
+    })

@@ -1,0 +1,42 @@
+use Rattle.std.proofs.Common.{◌≡◌, ◌≤◌, ◌+◌, ◌++◌, ◌∷◌, [], true, refl, sym, ◌∙◌, ap, length, lit≤, subst, arith, inl, inr}
+use Rattle.std.specs.List.{sum_by}
+use Rattle.std.specs.Prelude.{not, take}
+use Rattle.std.specs.Result.{is_ok}
+use Rattle.conc_outside.specs.Files.{Gives, IsLater}
+use Rattle.conc_top.specs.Given.{HasTables}
+use Rattle.conc_top.proofs.Stopping.{IsLater-refl, IsLater-trans, tables-more, tables-none, tables-stop}
+use Rattle.conc_top.proofs.reading.read_tables.Goals as goal
+
+pub loop-name-init : goal.loop-name-init
+loop-name-init g c = record {
+  number = refl;
+  later = IsLater-refl (g.F.Shelf.state c.args.shelf.now);
+  fit = lit≤ tt;
+  read = tables-none (g.F.Shelf.state c.args.shelf.now).files c.new-tables.result.items c.new-tables.ensures.items;
+}
+
+pub returns-in-Err-clause-err : goal.returns-in-Err-clause-err
+returns-in-Err-clause-err g c =
+    tables-stop (g.F.Shelf.state c.args.shelf.now) (g.F.Shelf.state c.loop-name.shelf) (g.F.Shelf.state c.judge_table.new.shelf) c.args.names.now
+    c.loop-name.name-index c.loop-name.number c.name-item.result c.loop-name.tables.items c.loop-name.invariant.read.0 c.loop-name.total
+    c.in-Err.stop c.exit_at.result
+    c.loop-name-test.true c.name-item.is c.loop-name.invariant.number c.loop-name.invariant.later c.loop-name.invariant.read.1
+    c.in-Err.ensures.err c.exit_at.ensures
+
+pub loop-name-preserved : goal.loop-name-preserved
+loop-name-preserved g c =
+    let state = g.F.Shelf.state in
+    let ok : is_ok c.push.result ≡ true = c.is_err.ensures.negation ∙ ap not c.if-is_err.false in
+    let items : c.push.new.self.items ≡ c.loop-name.tables.items ++ c.in-Ok.table ∷ [] = simp ok at c.push.ensures.items in
+    let told = (state c.args.shelf.now).files in
+    let given = subst (λ t. Gives t c.name-item.result c.in-Ok.ensures.ok.0) c.loop-name.invariant.later.files c.in-Ok.ensures.ok.1 in
+    let more = tables-more told c.args.names.now c.loop-name.name-index c.name-item.result c.in-Ok.ensures.ok.0 c.loop-name.tables.items c.in-Ok.table
+        c.loop-name.invariant.read.0 c.loop-name.total c.loop-name-test.true c.name-item.is given c.in-Ok.ensures.ok.2
+        c.loop-name.invariant.read.1 (omega (arith, c.in-Ok.ensures.ok.3, c.in-Ok.ensures.fit)) in
+    record {
+      number = omega arith;
+      later = IsLater-trans (state c.args.shelf.now) (state c.loop-name.shelf) (state c.judge_table.new.shelf) c.loop-name.invariant.later c.in-Ok.ensures.later;
+      fit = c.in-Ok.ensures.fit;
+      read = subst (λ l. (h : HasTables told (take (c.loop-name.name-index + 1) c.args.names.now) l) × (sum_by length h.contents ≡ c.in-Ok.sum)) (sym items)
+          (more.0, more.1 ∙ sym c.in-Ok.ensures.ok.3);
+    }
