@@ -1,17 +1,21 @@
 -- What `jiff` says of the numbers of a date is what the law says.
-use Rattle.std.proofs.Common.{◌≡◌, ◌∙◌, sym, ap, refl, ℕ, ◌+◌, ◌-◌, ◌<◌, ◌≤◌, ◌↔◌, ◌⊎◌, inl, inr, Bool, true, false, cond, Option, Some, None, ℤ, pos, ◌+ℤ◌, ◌<ℤ◌, ◌≤ℤ◌, of_z, to_z, w8, w16, w64, MatchOption, IfSome, arith}
+use Rattle.std.proofs.Common.{◌≡◌, ◌∙◌, sym, ap, refl, ℕ, ◌+◌, ◌-◌, ◌*◌, ◌/◌, ◌%◌, ◌<◌, ◌≤◌, ◌↔◌, ◌⊎◌, inl, inr, Bool, true, false, cond, Option, Some, None, ℤ, pos, ◌+ℤ◌, ◌-ℤ◌, ◌<ℤ◌, ◌≤ℤ◌, unsigned_abs, of_z, to_z, w8, w16, w64, MatchOption, IfSome, arith}
 use Rattle.std.proofs.lemmas.Bool.{cases_order}
 use Rattle.std.proofs.lemmas.Bool.Decides.{nat_tests}
+use Rattle.std.proofs.lemmas.Int.{by_lt_z}
 use Rattle.jiff.proofs.SpanFacts.{signed_arith}
 use Rattle.jiff_core.specs.declared.civil.date.Date.{Date}
 use Rattle.jiff_core.specs.Calendar.{IsDate}
 use Rattle.jiff_core.specs.Date.{epoch_day}
-use Rattle.jiff_core.proofs.SignedLemmas.{back_small}
-use Rattle.conc_law.specs.Calendar.{Civil, days_before}
+use Rattle.jiff_core.proofs.CalendarLemmas.{days_in_month_bounds}
+use Rattle.jiff_core.proofs.SignedLemmas.{back_small, one_part}
+use Rattle.conc_types.specs.declared.event.Moment.{Moment}
+use Rattle.conc_law.specs.Calendar.{Civil, days_before, seconds_of}
 use Rattle.conc_time.specs.Fields.{has_date}
 use Rattle.conc_time.proofs.Calendars.{before_start, day_number, months_same}
 use Rattle.conc_time.proofs.Dates.{days_in}
 use Rattle.conc_time.proofs.Days.{month_length}
+use Rattle.conc_time.proofs.Parts.{from_parts, IsCivil}
 
 pub record HasDate (c : Civil) : Type 0 where
   pub year_in : (1 ≤ c.year) × (c.year ≤ 9999)
@@ -106,3 +110,47 @@ within c false e = tt
 -- there are fewer than to the end of the calendar
 pub few : (c : Civil) (days : Option ℕ) → days ≡ cond (has_date c) (Some (days_before c)) None → IfSome days (λ n. n < 3652059)
 few c days e = rw e (within c (has_date c) refl)
+
+-- the numbers of a date are small
+pub year_number : (d : Date) (n : ℕ) (z : ℤ) → n ≡ unsigned_abs (to_z w16 (of_z w16 z)) → z ≡ d.year → n ≡ unsigned_abs d.year
+year_number d n z e year =
+    let year_in = d.year_in in
+    e ∙ rw (year, back_small w16 d.year (omega (arith, signed_arith, one_part d.year))) refl
+
+pub month_number : (d : Date) (n : ℕ) (z : ℤ) → n ≡ unsigned_abs (to_z w8 (of_z w8 z)) → z ≡ pos d.month → n ≡ d.month
+month_number d n z e month = let month_in = d.month_in in e ∙ rw (month, part_back d.month (omega arith)) refl
+
+pub day_of_month : (d : Date) (n : ℕ) (z : ℤ) → n ≡ unsigned_abs (to_z w8 (of_z w8 z)) → z ≡ pos d.day → n ≡ d.day
+day_of_month d n z e day =
+    let day_in = d.day_in in
+    let short = days_in_month_bounds d.year d.month in
+    e ∙ rw (day, part_back d.day (omega arith)) refl
+
+pub record IsPlaced (seconds : ℕ) (c : Civil) : Type 0 where
+  pub valid : IsCivil c
+  pub at : seconds ≡ seconds_of c
+
+-- a date with a time of the day is their moment
+pub placed : (t : Moment) (d : Date) (c : Civil) → epoch_day d ≡ pos (t.seconds / 86400) -ℤ pos 719162
+    → c.year ≡ unsigned_abs d.year → c.month ≡ d.month → c.day ≡ d.day
+    → c.hour ≡ t.seconds % 86400 / 3600 → c.minute ≡ t.seconds % 86400 / 60 % 60 → c.second ≡ t.seconds % 86400 % 60
+    → IsPlaced t.seconds c
+unfolding seconds_of
+placed t d c e year month day hour minute second =
+    let low : pos 1 ≤ℤ d.year =
+        by_lt_z d.year (pos 1) (λ lt. let before = before_start d lt in absurd (omega (arith, signed_arith))) (λ ge. ge) in
+    let y : d.year ≡ pos c.year = omega (arith, signed_arith, one_part d.year) in
+    let parts = has_parts c d y (sym month) (sym day) (omega (arith, signed_arith)) in
+    let same : epoch_day d +ℤ pos 719162 ≡ pos (days_before c) = rw (y, sym month, sym day) (day_number c parts.year_in parts.month_in parts.day_in.0) in
+    let days : days_before c ≡ t.seconds / 86400 = omega (arith, signed_arith) in
+    record {
+      valid = record {
+        year_in = parts.year_in;
+        month_in = parts.month_in;
+        day_in = parts.day_in;
+        hour_in = omega arith;
+        minute_in = omega arith;
+        second_in = omega arith;
+      };
+      at = omega arith;
+    }

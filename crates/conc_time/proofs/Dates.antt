@@ -8,7 +8,7 @@ use Rattle.conc_law.specs.Calendar.{Civil, civil_text, days_before, days_in_year
 use Rattle.conc_law.specs.Managers.{day_of, time_of}
 use Rattle.conc_law.specs.Moments.{date_text, days_before_month, days_before_year, moment_text, time_text}
 use Rattle.conc_time.proofs.Days.{all_months, days_apart, first_month, month_length, next_month, next_year}
-use Rattle.conc_time.proofs.Parts.{IsCivil}
+use Rattle.conc_time.proofs.Parts.{IsCivil, parts_of}
 use Rattle.conc_time.proofs.Years.{date_found, First, first_from, IsFound, months_grow, years_grow}
 
 ends : days_before_year 10000 ≡ 3652059
@@ -52,6 +52,10 @@ text_of t c h e =
     let second : t.seconds % 86400 % 60 ≡ c.second = omega arith in
     let found = date_found c h in
     rw (day, found.year, found.month, found.day_in_month, hour, minute, second) refl
+
+-- the same from the test
+pub text_at : (t : Moment) (c : Civil) → is_civil c ≡ true → t.seconds ≡ seconds_of c → moment_text t ≡ civil_text c
+text_at t c h e = text_of t c (parts_of c h) e
 
 pub record HasCivil (t : Moment) : Type 0 where
   pub civil : Civil
