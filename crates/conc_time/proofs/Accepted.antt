@@ -98,9 +98,9 @@ read c d days year month day h e =
       | inl none ↦ rw (no_year c none) (none_below days _ e (before_start d (rw (y, none) (omega (arith, signed_arith)))))
       | inr (inl lt) ↦ absurd (omega arith)
       | inr (inr gt) ↦
-        let parts = has_parts c d y m dd gt in
-        let number = day_number c parts.year_in parts.month_in parts.day_in.0 in
-        rw (date_from c parts) (some_from days _ (days_before c) e (rw (y, m, dd) number))
+          let parts = has_parts c d y m dd gt in
+          let number = day_number c parts.year_in parts.month_in parts.day_in.0 in
+          rw (date_from c parts) (some_from days _ (days_before c) e (rw (y, m, dd) number))
     ]
 
 within : (c : Civil) (b : Bool) → b ≡ has_date c → IfSome (cond b (Some (days_before c)) None) (λ n. n < 3652059)
@@ -138,7 +138,7 @@ pub placed : (t : Moment) (d : Date) (c : Civil) → epoch_day d ≡ pos (t.seco
 unfolding seconds_of
 placed t d c e year month day hour minute second =
     let low : pos 1 ≤ℤ d.year =
-        by_lt_z d.year (pos 1) (λ lt. let before = before_start d lt in absurd (omega (arith, signed_arith))) (λ ge. ge) in
+    by_lt_z d.year (pos 1) (λ lt. let before = before_start d lt in absurd (omega (arith, signed_arith))) (λ ge. ge) in
     let y : d.year ≡ pos c.year = omega (arith, signed_arith, one_part d.year) in
     let parts = has_parts c d y (sym month) (sym day) (omega (arith, signed_arith)) in
     let same : epoch_day d +ℤ pos 719162 ≡ pos (days_before c) = rw (y, sym month, sym day) (day_number c parts.year_in parts.month_in parts.day_in.0) in

@@ -68,9 +68,9 @@ starts day before from found low h miss =
     elim (cases_order from found) [
       | inl e ↦ rw e at low
       | inr (inl lt) ↦
-        let e : found - 1 + 1 ≡ found = omega arith in
-        let last = rw e at (miss (found - 1) (omega arith) (omega arith)) in
-        grind (arith, nat_tests)
+          let e : found - 1 + 1 ≡ found = omega arith in
+          let last = rw e at (miss (found - 1) (omega arith) (omega arith)) in
+          grind (arith, nat_tests)
       | inr (inr gt) ↦ absurd (omega arith)
     ]
 

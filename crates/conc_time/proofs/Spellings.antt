@@ -77,6 +77,7 @@ not_spelled bytes e t h = none-some t (sym e ∙ spells_is_read bytes t h)
 -- bytes spell a moment exactly where they are its text
 pub spelled_once : (bytes : List ℕ) (t : Moment) → SpellsMoment bytes t ↔ (bytes ≡ moment_text t)
 spelled_once bytes t =
-    let c = has_civil t in
-    (λ h. h.text ∙ sym (text_of t h.civil (parts_of h.civil h.valid) h.at),
-     λ e. record { civil = c.civil; valid = from_parts c.civil c.valid; text = e ∙ text_of t c.civil c.valid c.at; at = c.at })
+    let c = has_civil t in (
+      λ h. h.text ∙ sym (text_of t h.civil (parts_of h.civil h.valid) h.at),
+      λ e. record { civil = c.civil; valid = from_parts c.civil c.valid; text = e ∙ text_of t c.civil c.valid c.at; at = c.at },
+    )

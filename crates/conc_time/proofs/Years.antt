@@ -23,7 +23,7 @@ finds test from (suc count) found h high =
     elim (cases_order from found) [
       | inl e ↦ rw (e, h.hit) refl
       | inr (inl lt) ↦ rw (h.miss from (omega arith) lt)
-        (finds test (from + 1) count found (record { low = omega arith; hit = h.hit; miss = λ n above below. h.miss n (omega arith) below }) (omega arith))
+          (finds test (from + 1) count found (record { low = omega arith; hit = h.hit; miss = λ n above below. h.miss n (omega arith) below }) (omega arith))
       | inr (inr gt) ↦ absurd (omega arith)
     ]
 
@@ -46,22 +46,22 @@ first_from test from (suc more) h =
     elim (bool_cases (test from)) [
       | inl hit ↦ record { found = from; first = record { low = omega arith; hit = hit; miss = λ n above below. absurd (omega arith) }; high = omega arith }
       | inr miss ↦
-        let later = first_from test (from + 1) more (rw e at h) in
-        let low = later.first.low in
-        let high = later.high in
-        record {
-          found = later.found;
-          first = record {
-            low = omega arith;
-            hit = later.first.hit;
-            miss = λ n above below. elim (cases_order from n) [
-              | inl same ↦ rw (← same) miss
-              | inr (inl lt) ↦ later.first.miss n (omega arith) below
-              | inr (inr gt) ↦ absurd (omega arith)
-            ];
-          };
-          high = omega arith;
-        }
+          let later = first_from test (from + 1) more (rw e at h) in
+          let low = later.first.low in
+          let high = later.high in
+          record {
+            found = later.found;
+            first = record {
+              low = omega arith;
+              hit = later.first.hit;
+              miss = λ n above below. elim (cases_order from n) [
+                | inl same ↦ rw (← same) miss
+                | inr (inl lt) ↦ later.first.miss n (omega arith) below
+                | inr (inr gt) ↦ absurd (omega arith)
+              ];
+            };
+            high = omega arith;
+          }
     ]
 
 -- years and months begin one after the other

@@ -11,6 +11,7 @@ use conc_types::{Manager, Moment, Shift};
 const SECONDS_PER_DAY: u64 = 86400;
 
 // The weekday of a day that is counted from 0 for 0001-01-01, from 0 for Monday.
+#[tactic(auto, using(crate::proofs::Calendars::weekday_same))]
 fn weekday_of(day: u64) -> u64
     ensures cycle { result ≡ day % 7 }
     ensures calendar { (d : Date) → epoch_day d ≡ pos day -ℤ pos 719162 → weekday_of_date d ≡ result }
