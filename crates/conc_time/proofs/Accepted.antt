@@ -1,5 +1,5 @@
 -- What `jiff` says of the numbers of a date is what the law says.
-use Rattle.std.proofs.Common.{◌≡◌, ◌∙◌, sym, ap, refl, ℕ, ◌+◌, ◌-◌, ◌*◌, ◌/◌, ◌%◌, ◌<◌, ◌≤◌, ◌↔◌, ◌⊎◌, inl, inr, Bool, true, false, cond, Option, Some, None, ℤ, pos, ◌+ℤ◌, ◌-ℤ◌, ◌<ℤ◌, ◌≤ℤ◌, unsigned_abs, of_z, to_z, w8, w16, w64, MatchOption, IfSome, arith}
+use Rattle.std.proofs.Common.{◌≡◌, ◌∙◌, sym, refl, ℕ, ◌/◌, ◌%◌, ◌<◌, ◌≤◌, ◌⊎◌, inl, inr, Bool, true, false, cond, Option, Some, None, ℤ, pos, ◌+ℤ◌, ◌-ℤ◌, ◌<ℤ◌, ◌≤ℤ◌, unsigned_abs, of_z, to_z, w8, w16, MatchOption, IfSome, arith}
 use Rattle.std.proofs.lemmas.Bool.{cases_order}
 use Rattle.std.proofs.lemmas.Bool.Decides.{nat_tests}
 use Rattle.std.proofs.lemmas.Int.{by_lt_z}
@@ -15,7 +15,7 @@ use Rattle.conc_time.specs.Fields.{has_date}
 use Rattle.conc_time.proofs.Calendars.{before_start, day_number, months_same}
 use Rattle.conc_time.proofs.Dates.{days_in}
 use Rattle.conc_time.proofs.Days.{month_length}
-use Rattle.conc_time.proofs.Parts.{from_parts, IsCivil}
+use Rattle.conc_time.proofs.Parts.{IsCivil}
 
 pub record HasDate (c : Civil) : Type 0 where
   pub year_in : (1 ≤ c.year) × (c.year ≤ 9999)

@@ -1,9 +1,8 @@
 -- The calendar of the law and that of `jiff` are one.
-use Rattle.std.proofs.Common.{◌≡◌, ◌∙◌, sym, ap, refl, ℕ, zero, suc, ◌+◌, ◌-◌, ◌*◌, ◌/◌, ◌%◌, ◌<◌, ◌≤◌, ℤ, pos, negsuc, neg_ℤ, ◌+ℤ◌, ◌*ℤ◌, ◌-ℤ◌, ◌<ℤ◌, ◌≤ℤ◌, unsigned_abs, int_div, of_z, to_z, w64, arith}
-use Rattle.std.proofs.lemmas.Int.{by_lt_z}
+use Rattle.std.proofs.Common.{◌≡◌, ap, refl, ℕ, zero, suc, ◌+◌, ◌-◌, ◌%◌, ◌≤◌, ℤ, pos, ◌+ℤ◌, ◌*ℤ◌, ◌-ℤ◌, ◌<ℤ◌, int_div, of_z, to_z, w64, arith}
 use Rattle.jiff.proofs.SpanFacts.{signed_arith}
 use Rattle.jiff_core.specs.declared.civil.date.Date.{Date}
-use Rattle.jiff_core.specs.Calendar.{day_count, days_from_civil, days_in_month, days_in_year as days_in_year_z, days_of_months, IsEpochDay, is_leap_year, weekday_number}
+use Rattle.jiff_core.specs.Calendar.{day_count, days_from_civil, days_in_month, days_in_year as days_in_year_z, days_of_months, IsEpochDay, weekday_number}
 use Rattle.jiff_core.specs.Date.{epoch_day}
 use Rattle.jiff_core.proofs.CalendarLemmas.{day_count-day_of_year, day_count-lt_year, day_count-next_year, days_from_civil-day_count, days_in_month_bounds, days_of_months-zero, days_of_months_more, weekday_number-parts}
 use Rattle.jiff_core.proofs.DateLemmas.{civil}
@@ -12,7 +11,6 @@ use Rattle.jiff_core.proofs.MarchLemmas.{day_count-early}
 use Rattle.conc_law.specs.Calendar.{Civil, days_before, days_in_year, month_lengths}
 use Rattle.conc_law.specs.Moments.{days_before_month, days_before_year, is_leap}
 use Rattle.conc_time.proofs.Days.{days_apart, first_month, month_length, next_month, next_year}
-use Rattle.conc_time.proofs.Parts.{IsCivil}
 
 years_same : (year : ℕ) → days_in_year_z (pos year) ≡ days_in_year year
 unfolding is_leap

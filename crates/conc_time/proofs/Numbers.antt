@@ -1,12 +1,11 @@
 -- The numbers of a text are read back from their places.
-use Rattle.std.proofs.Common.{◌≡◌, ◌∙◌, sym, ap, refl, ℕ, zero, suc, ◌+◌, ◌-◌, ◌*◌, ◌/◌, ◌%◌, ◌<◌, ◌≤◌, [], ◌∷◌, arith}
+use Rattle.std.proofs.Common.{◌≡◌, refl, ℕ, ◌+◌, ◌/◌, ◌%◌, ◌<◌, arith}
 use Rattle.std.specs.Char.{digit_value}
 use Rattle.std.specs.Str.Parse.{digits_value}
 use Rattle.std.proofs.lemmas.Bool.Decides.{nat_tests}
 use Rattle.conc_law.specs.Calendar.{Civil, civil_of, civil_text}
 use Rattle.conc_law.specs.Moments.{four_digits, two_digits}
 use Rattle.conc_time.specs.Fields.{numbers_at}
-use Rattle.conc_time.proofs.Parts.{IsCivil}
 
 digit_back : (d : ℕ) → d < 10 → digit_value (48 + d) ≡ d
 digit_back d h = grind (arith, nat_tests)

@@ -1,6 +1,6 @@
 -- Which bytes spell a moment, and which the law reads.
-use Rattle.std.proofs.Common.{◌≡◌, ◌∙◌, sym, ap, refl, ℕ, ◌+◌, ◌%◌, ◌<◌, ◌≤◌, ◌↔◌, ◌⊎◌, inl, inr, Bool, true, false, ◌&&◌, List, Option, Some, None, cond, arith}
-use Rattle.std.proofs.lemmas.Bool.{and_from, and_parts}
+use Rattle.std.proofs.Common.{◌≡◌, ◌∙◌, sym, ap, refl, ℕ, ◌↔◌, Bool, true, false, List, Some, None, cond, arith}
+use Rattle.std.proofs.lemmas.Bool.{and_parts}
 use Rattle.std.proofs.lemmas.Option.{cond_some, none-some}
 use Rattle.std.proofs.lemmas.Slice.Eq.{bytes_eq-Decides}
 use Rattle.std.specs.Str.{bytes_eq}
@@ -10,7 +10,7 @@ use Rattle.conc_law.specs.Moments.{moment_text}
 use Rattle.conc_law.proofs.EqualEvents.{moment_same}
 use Rattle.conc_time.specs.Fields.{numbers_at}
 use Rattle.conc_time.proofs.Calendars.{month_short}
-use Rattle.conc_time.proofs.Dates.{has_civil, seconds_in, text_of}
+use Rattle.conc_time.proofs.Dates.{has_civil, text_of}
 use Rattle.conc_time.proofs.Numbers.{HasPlaces, numbers_back, read_back}
 use Rattle.conc_time.proofs.Parts.{from_parts, IsCivil, parts_of}
 

@@ -1,12 +1,12 @@
 -- The year, the month and the day that the searches of the law find are those of the date.
-use Rattle.std.proofs.Common.{◌≡◌, ◌∙◌, sym, ap, refl, ℕ, zero, suc, ◌+◌, ◌-◌, ◌*◌, ◌/◌, ◌%◌, ◌<◌, ◌≤◌, ◌⊎◌, inl, inr, Bool, true, false, Option, Some, arith}
+use Rattle.std.proofs.Common.{◌≡◌, ap, refl, ℕ, zero, suc, ◌+◌, ◌-◌, ◌<◌, ◌≤◌, ◌⊎◌, inl, inr, Bool, true, false, Some, arith}
 use Rattle.std.specs.Prelude.{nat_lt, unwrap_or}
 use Rattle.std.specs.List.{find, range_with_len}
 use Rattle.std.proofs.lemmas.Bool.{cases_order}
 use Rattle.std.proofs.lemmas.Bool.Decides.{nat_tests}
-use Rattle.conc_law.specs.Calendar.{Civil, days_before, days_in_year}
+use Rattle.conc_law.specs.Calendar.{Civil, days_before}
 use Rattle.conc_law.specs.Moments.{day_in_month, day_in_year, days_before_month, days_before_year, month_of, year_of}
-use Rattle.conc_time.proofs.Days.{all_months, days_apart, first_month, month_length, next_month, next_year}
+use Rattle.conc_time.proofs.Days.{all_months, days_apart, next_month, next_year}
 use Rattle.conc_time.proofs.Parts.{IsCivil}
 
 -- the first number that passes

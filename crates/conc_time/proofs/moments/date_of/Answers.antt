@@ -1,5 +1,4 @@
 use Rattle.std.proofs.Common.{◌≡◌, ◌∙◌, ◌+ℤ◌, ◌-ℤ◌, pos, to_z, w64, arith}
-use Rattle.std.proofs.lemmas.Result.{IfOk-weaker}
 use Rattle.jiff.proofs.SpanFacts.{can_add-days, date_add-days, signed_arith}
 use Rattle.jiff_core.specs.Date.{epoch_day}
 use Rattle.jiff_core.proofs.SignedLemmas.{back_small}

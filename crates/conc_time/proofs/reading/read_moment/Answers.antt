@@ -1,6 +1,4 @@
-use Rattle.std.proofs.Common.{sym, ap, refl, ◌∙◌, ◌≡◌, false, true}
-use Rattle.std.specs.Str.{bytes_eq}
-use Rattle.conc_law.specs.Calendar.{civil_text}
+use Rattle.std.proofs.Common.{sym, ◌∙◌}
 use Rattle.conc_time.specs.Fields.{civil}
 use Rattle.conc_time.proofs.Spellings.{is_read, not_civil, not_spelled, not_text}
 use Rattle.conc_time.proofs.reading.read_moment.Goals as goal
