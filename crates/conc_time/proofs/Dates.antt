@@ -18,7 +18,7 @@ begins : days_before_year 1 ≡ 0
 unfolding days_before_year
 begins = refl
 
--- dates, and times on them, lie before the end of the calendar
+-- a date lies before the end of the calendar
 pub days_in : (c : Civil) → HasDate c → days_before c < 3652059
 days_in c h =
     let year_in = h.year_in in
@@ -31,15 +31,6 @@ days_in c h =
     let years = next_year c.year year_in.0 in
     let last = years_grow (c.year + 1) 10000 (omega arith) (omega arith) in
     omega (arith, ends)
-
-pub seconds_in : (c : Civil) → IsCivil c → seconds_of c < 315537897600
-unfolding seconds_of
-seconds_in c h =
-    let hour_in = h.hour_in in
-    let minute_in = h.minute_in in
-    let second_in = h.second_in in
-    let days = days_in c h.date in
-    omega arith
 
 -- the text of a moment is that of its date and time
 pub text_of : (t : Moment) (c : Civil) → IsCivil c → t.seconds ≡ seconds_of c → moment_text t ≡ civil_text c
