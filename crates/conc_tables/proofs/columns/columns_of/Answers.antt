@@ -9,8 +9,7 @@ loop-name-preserved c =
     let (here, some) = c.loop-name.invariant in
     let (row, field, at) = c.in-Some.ensures.steps in
     let copied : c.from_vec.result ≡ c.in-Some.name.now = search rules in
-    let longer = c.in_ok-push.ensures.items ∙ ap (λ (name : List ℕ). c.loop-name.columns.items ++ (name ∷ [])) copied in
-    (
+    let longer = c.in_ok-push.ensures.items ∙ ap (λ (name : List ℕ). c.loop-name.columns.items ++ (name ∷ [])) copied in (
       ap (λ (b : Bor Row). b.now) row ∙ here,
       pushed _ _ [] _ _ _ _ _ here field at some longer,
     )

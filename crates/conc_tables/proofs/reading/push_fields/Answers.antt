@@ -7,8 +7,7 @@ use Rattle.conc_tables.proofs.reading.push_fields.Goals as goal
 pub loop-field-preserved : goal.loop-field-preserved
 loop-field-preserved c =
     let (here, some) = c.loop-field.invariant in
-    let (row, field, at) = c.in-Some.ensures.steps in
-    (
+    let (row, field, at) = c.in-Some.ensures.steps in (
       ap (λ (b : Bor Row). b.now) row ∙ here,
       pushed _ _ _ _ _ _ _ _ here field at some c.in_ok-push.ensures.ok,
     )

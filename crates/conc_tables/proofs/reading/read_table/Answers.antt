@@ -1,8 +1,7 @@
-use Rattle.std.proofs.Common.{rules, true, ◌≡◌, ◌∙◌, ◌++◌, sym, refl, [], arith, length}
+use Rattle.std.proofs.Common.{rules, true, ◌≡◌, ◌∙◌, sym, refl, arith, length}
 use Rattle.std.specs.List.{list_all}
-use Rattle.std.specs.Str.{bytes_eq}
 use Rattle.csv.specs.Records.{fields_of}
-use Rattle.conc_types.specs.Words.{are_distinct, has_length}
+use Rattle.conc_types.specs.Words.{has_length}
 use Rattle.conc_tables.proofs.Rows.{cells-whole, fault-doubled, fault-long, fault-none, fault-rows, rows-even, rows-few}
 use Rattle.conc_tables.proofs.reading.read_table.Goals as goal
 
