@@ -3,7 +3,6 @@ use Rattle.csv.specs.Records.{Row}
 use Rattle.conc_tables.proofs.Fields.{pushed, pushed-all}
 use Rattle.conc_tables.proofs.columns.columns_of.Goals as goal
 
--- src/columns.rt:16:5
 pub loop-name-preserved : goal.loop-name-preserved
 loop-name-preserved c =
     let (here, some) = c.loop-name.invariant in
@@ -14,7 +13,6 @@ loop-name-preserved c =
       pushed _ _ [] _ _ _ _ _ here field at some longer,
     )
 
--- src/columns.rt:12:1
 pub returns : goal.returns
 returns c =
     let (here, some) = c.loop-name.invariant in
