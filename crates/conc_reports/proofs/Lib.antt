@@ -1,4 +1,6 @@
+pub mod Cells
 pub mod Digits
-pub mod Insertion
-pub mod Lines
-pub mod Sums
+pub mod Growth
+pub mod Ordered
+pub mod Passing
+pub mod Texts

@@ -1,57 +1,40 @@
-ghost use Rattle.std.specs.Prelude.{◌≡◌, List, IfSome, OnSome, ◌<◌, length};
-ghost use Rattle.std.specs.List.{list_all, position};
-ghost use Rattle.std.specs.Str.{bytes_eq};
-ghost use Rattle.conc_law.specs.Report.{cell as cell_of, filter_value as filter_value_of, less, passes as passes_of, passes_filter as passes_filter_of, passes_test as passes_test_of};
+ghost use Rattle.std.specs.Prelude.{◌≡◌, ◌<◌, ℕ, List, IfOk, length};
+ghost use Rattle.std.specs.List.{list_all};
+ghost use Rattle.conc_law.specs.Report.{Row, filter_value as filter_value_of, passes as passes_of, passes_filter, passes_test};
+ghost use Rattle.conc_reports.specs.Checks.{holds, is_less as is_less_of, meets as meets_of};
+ghost use Rattle.conc_reports.specs.Columns.{cells_at};
 
+use crate::columns::{Place, cell_at, place_of};
 use crate::numbers::whole_number;
-use conc_types::{Bytes, Filter, Job, Row, Table, Test};
+use conc_types::{Filter, Job, NoMemory, Table, Test};
+use std::alloc::Global;
 
-/// A row of a table with its number, from 1.
+/// What a cell is tested for. A number is None where the filter's value is no whole number.
 #[derive(Clone, Copy)]
-pub struct Numbered<'a> {
-    pub number: u64,
-    pub row: &'a Row,
+pub enum Check<'a> {
+    Is(&'a [u8]),
+    IsNot(&'a [u8]),
+    StartsWith(&'a [u8]),
+    Above(Option<i64>),
+    Below(Option<i64>),
 }
 
-fn place_of(columns: &[Bytes], name: &[u8]) -> Option<usize>
-    ensures { result ≡ position (bytes_eq name.now) columns.now }
-{
-    columns.iter().position(|column| name == column.as_slice())
+/// A filter for the rows of one table: the place of its column, and what the cell there is tested for.
+#[derive(Clone, Copy)]
+pub struct Condition<'a> {
+    pub place: Place,
+    pub check: Check<'a>,
 }
 
-/// The cell of a row in the column with this name; empty where there is none.
-#[tactic(auto, unfolding(conc_law::specs::Report::cell))]
-pub fn cell<'a>(table: &Table, name: &[u8], numbered: Numbered<'a>) -> &'a [u8]
-    ensures { result.now ≡ cell_of table.now name.now (numbered.entry.number, numbered.entry.row.now) }
-{
-    match place_of(table.columns.as_slice(), name) {
-        Some(place) => match numbered.row.as_slice().get(place) {
-            Some(bytes) => bytes.as_slice(),
-            None => &[],
-        },
-        None => &[],
-    }
-}
-
-// Whether both are whole numbers, and the first is less.
-fn is_less(a: &[u8], b: &[u8]) -> bool
-    ensures { result ≡ less a.now b.now }
-{
-    match (whole_number(a), whole_number(b)) {
-        (Some(m), Some(n)) => m < n,
-        _ => false,
-    }
-}
-
-fn passes_test(test: Test, cell: &[u8], value: &[u8]) -> bool
-    ensures { result ≡ passes_test_of test cell.now value.now }
+fn check_of<'a>(test: Test, value: &'a [u8]) -> Check<'a>
+    ensures { (cell : List ℕ) → meets_of result cell ≡ passes_test test cell value.now }
 {
     match test {
-        Test::Is => cell == value,
-        Test::IsNot => cell != value,
-        Test::StartsWith => cell.starts_with(value),
-        Test::Above => is_less(value, cell),
-        Test::Below => is_less(cell, value),
+        Test::Is => Check::Is(value),
+        Test::IsNot => Check::IsNot(value),
+        Test::StartsWith => Check::StartsWith(value),
+        Test::Above => Check::Above(whole_number(value)),
+        Test::Below => Check::Below(whole_number(value)),
     }
 }
 
@@ -67,24 +50,59 @@ fn filter_value<'a>(argument: &'a [u8], filter: &'a Filter) -> &'a [u8]
     }
 }
 
-#[tactic(auto, unfolding(conc_law::specs::Report::passes_filter))]
-fn passes_filter(table: &Table, argument: &[u8], numbered: Numbered<'_>, filter: &Filter) -> bool
-    ensures { result ≡ passes_filter_of table.now argument.now (numbered.entry.number, numbered.entry.row.now) filter.now }
+#[tactic(auto, unfolding(conc_law::specs::Report::passes_filter, conc_law::specs::Report::cell))]
+fn condition_of<'a>(argument: &'a [u8], table: &Table, filter: &'a Filter) -> Condition<'a>
+    ensures { (row : Row) → holds row.1 result ≡ passes_filter table.now argument.now row filter.now }
 {
-    passes_test(
-        filter.test,
-        cell(table, filter.column.as_bytes(), numbered),
-        filter_value(argument, filter),
-    )
+    Condition {
+        place: place_of(table, filter.column.as_bytes()),
+        check: check_of(filter.test, filter_value(argument, filter)),
+    }
 }
 
-/// Whether a row passes every filter of the job.
+/// The conditions that the job's filters ask of a row of this table.
 #[tactic(auto, unfolding(conc_law::specs::Report::passes))]
-pub fn passes(job: &Job, argument: &[u8], table: &Table, numbered: Numbered<'_>) -> bool
-    ensures { result ≡ passes_of job.now argument.now table.now (numbered.entry.number, numbered.entry.row.now) }
+pub fn conditions<'a>(
+    alloc: Global,
+    job: &'a Job,
+    argument: &'a [u8],
+    table: &Table,
+) -> Result<Vec<Condition<'a>>, NoMemory>
+    ensures { IfOk result (λ conditions. (row : Row) → list_all (holds row.1) conditions.items ≡ passes_of job.now argument.now table.now row) }
 {
-    job.filters
-        .as_slice()
-        .iter()
-        .all(|filter| passes_filter(table, argument, numbered, filter))
+    let mut conditions = Vec::with_capacity(alloc, job.filters.len())?;
+    for filter in job.filters.as_slice() {
+        conditions.push(condition_of(argument, table, filter))?;
+    }
+    Ok(conditions)
+}
+
+// Whether both numbers are there, and the first is less.
+fn is_less(a: Option<i64>, b: Option<i64>) -> bool
+    ensures { result ≡ is_less_of a b }
+{
+    match (a, b) {
+        (Some(m), Some(n)) => m < n,
+        _ => false,
+    }
+}
+
+fn meets(check: Check<'_>, cell: &[u8]) -> bool
+    ensures { result ≡ meets_of check.entry cell.now }
+{
+    match check {
+        Check::Is(value) => cell == value,
+        Check::IsNot(value) => cell != value,
+        Check::StartsWith(value) => cell.starts_with(value),
+        Check::Above(value) => is_less(value, whole_number(cell)),
+        Check::Below(value) => is_less(whole_number(cell), value),
+    }
+}
+
+/// Whether a row, from 0, meets each condition.
+pub fn passes(conditions: &[Condition<'_>], table: &Table, row: usize) -> bool
+    requires { row < length table.now.rows }
+    ensures { result ≡ list_all (holds (cells_at table.now row)) conditions.now }
+{
+    conditions.iter().all(|condition| meets(condition.check, cell_at(table, row, condition.place)))
 }

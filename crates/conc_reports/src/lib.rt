@@ -1,11 +1,14 @@
 //! The report that a run of a program makes of its table.
 #![tactic(auto)]
 
+mod columns;
+mod figures;
 mod filters;
-mod keys;
+mod groups;
 mod making;
 mod numbers;
-mod rows;
+mod quotes;
+mod tally;
 #[cfg(test)]
 mod tests;
 

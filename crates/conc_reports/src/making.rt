@@ -1,12 +1,17 @@
-ghost use Rattle.std.specs.Prelude.{◌≡◌, ◌≤◌, ◌++◌, IfOk, OnOk, None, [], codes, length};
+ghost use Rattle.std.specs.Prelude.{◌≡◌, ◌≤◌, ◌++◌, IfOk, OnOk, [], codes, length, map};
+ghost use Rattle.std.specs.BTreeMap.{IsOrdered};
+ghost use Rattle.std.specs.Cmp.Lexicographic.{slice_cmp};
 ghost use Rattle.std.specs.Fmt.{decimal, signed_decimal};
-ghost use Rattle.std.specs.Option.{option_map, option_map_or};
-ghost use Rattle.conc_law.specs.Report.{exceeds as exceeds_of, first_bad as first_bad_of, full_text as full_text_of, group_lines, header as header_of, line, outcome_by as outcome_by_of, quoted, report as report_of, report_by, rows_of as rows_of_key, sum_of as sum_of_of};
-ghost use Rattle.conc_reports.specs.Rows.{bytes_of, rows_of};
+ghost use Rattle.std.specs.Option.{option_map_or};
+ghost use Rattle.std.specs.Ordering.{nat_cmp};
+ghost use Rattle.conc_law.specs.Report.{exceeds as exceeds_of, header as header_of, quoted, report as report_of};
+ghost use Rattle.conc_reports.specs.Figures.{shown};
+ghost use Rattle.conc_reports.specs.Texts.{figures_line, group_of, groups_text, outcome_by_count as outcome_by_count_of, tally_report, tally_text as tally_text_of};
 
-use crate::filters::Numbered;
-use crate::keys::{keys, put_quoted};
-use crate::rows::{first_without_number, passing, sum_of, with_key};
+use crate::figures::Figures;
+use crate::groups::Groups;
+use crate::quotes::put_quoted;
+use crate::tally::{Pass, Tally, tally_rows};
 use conc_law::report_is_short;
 use conc_types::{Bytes, Job, NoMemory, Outcome, Table, put_decimal};
 use itoa::Buffer;
@@ -30,94 +35,45 @@ fn put_sum(out: &mut Vec<u8>, sum: i128) -> Result<(), NoMemory>
     Ok(())
 }
 
-// Appends the sum of the rows, where the job asks for one.
-fn put_sum_of(
-    out: &mut Vec<u8>,
-    job: &Job,
-    table: &Table,
-    rows: &[Numbered<'_>],
-) -> Result<(), NoMemory>
-    requires { length rows.now ≤ 1114112 }
-    ensures { OnOk result (out.new.items ≡ out.old.items ++ option_map_or (λ column. codes "," ++ signed_decimal (sum_of_of table.now column (rows_of rows.now))) job.now.sum []) }
+// Appends a sum, where the job asks for one.
+fn put_sum_of(out: &mut Vec<u8>, job: &Job, sum: i128) -> Result<(), NoMemory>
+    ensures { OnOk result (out.new.items ≡ out.old.items ++ option_map_or (λ _. codes "," ++ signed_decimal sum) job.now.sum []) }
 {
     match &job.sum {
-        Some(column) => put_sum(out, sum_of(table, column.as_bytes(), rows)),
+        Some(_) => put_sum(out, sum),
         None => Ok(()),
     }
 }
 
 // Makes a line of its head: what stands there already.
-#[tactic(auto, unfolding(conc_law::specs::Report::line))]
-fn put_figures(
-    out: &mut Vec<u8>,
-    job: &Job,
-    table: &Table,
-    rows: &[Numbered<'_>],
-) -> Result<(), NoMemory>
-    requires { length rows.now ≤ 1114112 }
-    ensures { OnOk result (out.new.items ≡ line job.now table.now out.old.items (rows_of rows.now)) }
+fn put_figures(out: &mut Vec<u8>, job: &Job, figures: Figures) -> Result<(), NoMemory>
+    ensures { OnOk result (out.new.items ≡ figures_line job.now.sum out.old.items (shown figures)) }
 {
     out.push(b',')?;
-    put_decimal(out, rows.len() as u64)?;
-    put_sum_of(out, job, table, rows)?;
+    put_decimal(out, figures.count)?;
+    put_sum_of(out, job, figures.sum)?;
     out.push(b'\n')?;
     Ok(())
 }
 
 // Appends the line of a key.
-fn put_group(
-    alloc: Global,
-    out: &mut Vec<u8>,
-    job: &Job,
-    table: &Table,
-    group: &[u8],
-    rows: &[Numbered<'_>],
-    key: &[u8],
-) -> Result<(), NoMemory>
-    requires { length rows.now ≤ 1114112 }
-    ensures { OnOk result (out.new.items ≡ out.old.items ++ line job.now table.now (quoted key.now) (rows_of_key table.now group.now (rows_of rows.now) key.now)) }
+fn put_group(out: &mut Vec<u8>, job: &Job, key: &[u8], figures: Figures) -> Result<(), NoMemory>
+    ensures { OnOk result (out.new.items ≡ out.old.items ++ figures_line job.now.sum (quoted key.now) (shown figures)) }
 {
-    let found = with_key(alloc, table, group, rows, key)?;
     put_quoted(out, key)?;
-    put_figures(out, job, table, found.as_slice())?;
+    put_figures(out, job, figures)?;
     Ok(())
 }
 
 // Appends the lines of all keys.
-#[tactic(auto, unfolding(conc_law::specs::Report::group_lines))]
-fn put_groups(
-    alloc: Global,
-    out: &mut Vec<u8>,
-    job: &Job,
-    table: &Table,
-    group: &[u8],
-    rows: &[Numbered<'_>],
-) -> Result<(), NoMemory>
-    requires { length rows.now ≤ 1114112 }
-    ensures { OnOk result (out.new.items ≡ out.old.items ++ group_lines job.now table.now (rows_of rows.now) group.now) }
+fn put_groups(out: &mut Vec<u8>, job: &Job, groups: &Groups<'_>) -> Result<(), NoMemory>
+    ensures text { OnOk result (out.new.items ≡ out.old.items ++ groups_text job.now.sum (map group_of groups.now.entries)) }
+    ensures ordered { OnOk result (IsOrdered (λ x y. slice_cmp nat_cmp x.now y.now) groups.now) }
 {
-    let keys = keys(alloc, table, group, rows)?;
-    for key in &keys {
-        put_group(alloc, out, job, table, group, rows, key)?;
+    for (key, figures) in groups {
+        put_group(out, job, key, *figures)?;
     }
     Ok(())
-}
-
-// Appends the lines of all keys, where the job groups its rows.
-fn put_groups_of(
-    alloc: Global,
-    out: &mut Vec<u8>,
-    job: &Job,
-    table: &Table,
-    rows: &[Numbered<'_>],
-) -> Result<(), NoMemory>
-    requires { length rows.now ≤ 1114112 }
-    ensures { OnOk result (out.new.items ≡ out.old.items ++ option_map_or (group_lines job.now table.now (rows_of rows.now)) job.now.group []) }
-{
-    match &job.group {
-        Some(group) => put_groups(alloc, out, job, table, group.as_bytes(), rows),
-        None => Ok(()),
-    }
 }
 
 #[tactic(auto, unfolding(conc_law::specs::Report::header))]
@@ -130,55 +86,39 @@ fn header(job: &Job) -> &'static [u8]
     }
 }
 
-#[tactic(auto, unfolding(conc_law::specs::Report::full_text))]
-fn full_text(
-    alloc: Global,
-    job: &Job,
-    table: &Table,
-    rows: &[Numbered<'_>],
-) -> Result<Vec<u8>, NoMemory>
-    requires { length rows.now ≤ 1114112 }
-    ensures { IfOk result (λ text. text.items ≡ full_text_of job.now table.now (rows_of rows.now)) }
+#[tactic(auto, unfolding(crate::specs::Texts::tally_text))]
+fn tally_text(alloc: Global, job: &Job, tally: &Tally<'_>) -> Result<Vec<u8>, NoMemory>
+    ensures text { IfOk result (λ text. text.items ≡ tally_text_of job.now (shown tally.now.total) (map group_of tally.now.groups.entries)) }
+    ensures ordered { OnOk result (IsOrdered (λ x y. slice_cmp nat_cmp x.now y.now) tally.now.groups) }
 {
     let mut text = Vec::from_slice(alloc, header(job))?;
-    put_groups_of(alloc, &mut text, job, table, rows)?;
+    put_groups(&mut text, job, &tally.groups)?;
     text.extend_from_slice(b"total")?;
-    put_figures(&mut text, job, table, rows)?;
+    put_figures(&mut text, job, tally.total)?;
     Ok(text)
 }
 
 // ---- outcomes
 
-fn exceeds(count: usize, limit: Option<u64>) -> bool
+fn exceeds(count: u64, limit: Option<u64>) -> bool
     ensures { result ≡ exceeds_of count limit }
 {
     match limit {
-        Some(most) => count as u64 > most,
+        Some(most) => count > most,
         None => false,
     }
 }
 
-#[tactic(auto, unfolding(conc_law::specs::Report::outcome_by))]
-fn outcome_by(job: &Job, rows: &[Numbered<'_>]) -> Outcome
-    ensures { result ≡ outcome_by_of job.now (rows_of rows.now) }
+#[tactic(auto, unfolding(crate::specs::Texts::outcome_by_count))]
+fn outcome_by_count(job: &Job, count: u64) -> Outcome
+    ensures { result ≡ outcome_by_count_of job.now count }
 {
-    if exceeds(rows.len(), job.error_over) {
+    if exceeds(count, job.error_over) {
         Outcome::Error
-    } else if exceeds(rows.len(), job.warn_over) {
+    } else if exceeds(count, job.warn_over) {
         Outcome::Warning
     } else {
         Outcome::Normal
-    }
-}
-
-// The number of the first row whose cell to be added is no whole number.
-#[tactic(auto, unfolding(conc_law::specs::Report::first_bad))]
-fn first_bad(job: &Job, table: &Table, rows: &[Numbered<'_>]) -> Option<u64>
-    ensures { result ≡ option_map (λ row. row.0) (first_bad_of job.now table.now (rows_of rows.now)) }
-{
-    match &job.sum {
-        Some(column) => first_without_number(table, column.as_bytes(), rows),
-        None => None,
     }
 }
 
@@ -209,27 +149,22 @@ fn bad_row(alloc: Global, number: u64) -> Result<Made, NoMemory>
 }
 
 // The report where each cell to be added is a whole number.
-fn report_of_all(
-    alloc: Global,
-    job: &Job,
-    table: &Table,
-    rows: &[Numbered<'_>],
-) -> Result<Made, NoMemory>
-    requires { length rows.now ≤ 1114112 }
-    ensures outcome { IfOk result (λ made. made.outcome ≡ (report_by job.now table.now (rows_of rows.now) None).outcome) }
-    ensures text { IfOk result (λ made. made.text ≡ (report_by job.now table.now (rows_of rows.now) None).text) }
+#[tactic(auto, unfolding(crate::specs::Texts::tally_report))]
+fn report_of_tally(alloc: Global, job: &Job, tally: &Tally<'_>) -> Result<Made, NoMemory>
+    ensures outcome { IfOk result (λ made. made.outcome ≡ (tally_report job.now (shown tally.now.total) (map group_of tally.now.groups.entries)).outcome) }
+    ensures text { IfOk result (λ made. made.text ≡ (tally_report job.now (shown tally.now.total) (map group_of tally.now.groups.entries)).text) }
+    ensures ordered { OnOk result (IsOrdered (λ x y. slice_cmp nat_cmp x.now y.now) tally.now.groups) }
 {
-    let text = full_text(alloc, job, table, rows)?;
+    let text = tally_text(alloc, job, tally)?;
     if text.len() > 1_048_576 {
         return too_long(alloc);
     }
     Ok(Made {
-        outcome: outcome_by(job, rows),
+        outcome: outcome_by_count(job, tally.total.count),
         text: Bytes::from_vec(text),
     })
 }
 
-#[tactic(auto, unfolding(conc_law::specs::Report::report))]
 fn report_by_rows(
     alloc: Global,
     job: &Job,
@@ -239,10 +174,9 @@ fn report_by_rows(
     ensures outcome { IfOk result (λ made. made.outcome ≡ (report_of job.now argument.now table.now).outcome) }
     ensures text { IfOk result (λ made. made.text ≡ (report_of job.now argument.now table.now).text) }
 {
-    let rows = passing(alloc, job, argument, table)?;
-    match first_bad(job, table, rows.as_slice()) {
-        Some(number) => bad_row(alloc, number),
-        None => report_of_all(alloc, job, table, rows.as_slice()),
+    match tally_rows(alloc, job, argument, table)? {
+        Pass::Bad(number) => bad_row(alloc, number),
+        Pass::Whole(tally) => report_of_tally(alloc, job, &tally),
     }
 }
 
