@@ -104,7 +104,5 @@ pub fn passes(conditions: &[Condition<'_>], table: &Table, row: usize) -> bool
     requires { row < length table.now.rows }
     ensures { result ≡ list_all (holds (cells_at table.now row)) conditions.now }
 {
-    conditions
-        .iter()
-        .all(|condition| meets(condition.check, cell_at(table, row, condition.place)))
+    conditions.iter().all(|condition| meets(condition.check, cell_at(table, row, condition.place)))
 }

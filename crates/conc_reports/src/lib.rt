@@ -1,9 +1,15 @@
 //! The report that a run of a program makes of its table.
 #![tactic(auto)]
 
-pub mod columns;
-pub mod figures;
-pub mod filters;
-pub mod groups;
-pub mod numbers;
-pub mod quotes;
+mod columns;
+mod figures;
+mod filters;
+mod groups;
+mod making;
+mod numbers;
+mod quotes;
+mod tally;
+#[cfg(test)]
+mod tests;
+
+pub use making::{Made, report};

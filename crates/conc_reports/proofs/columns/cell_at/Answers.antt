@@ -1,8 +1,7 @@
-use Rattle.std.proofs.Common.{◌≡◌, ◌≤◌, ◌∙◌, sym, ap, refl, length, [], arith}
-use Rattle.std.specs.Prelude.{List, ℕ, Option, unwrap_or}
+use Rattle.std.proofs.Common.{◌≤◌, ◌∙◌, sym, ap, refl, length, [], arith}
 use Rattle.std.proofs.lemmas.Option.{slice_get_past, unwrap_or-slice_get}
 use Rattle.conc_reports.proofs.Cells.{length-row}
-use Rattle.conc_reports.specs.Columns.{cell_in, cells_at}
+use Rattle.conc_reports.specs.Columns.{cells_at}
 use Rattle.conc_reports.proofs.columns.cell_at.Goals as goal
 
 pub returns-then-column-columns : goal.returns-then-column-columns

@@ -1,0 +1,46 @@
+-- What one pass over the rows of a table gathers.
+use Rattle.std.specs.Prelude.{◌≡◌, ℕ, ℤ, List, [], ◌∷◌, Option, None, Some, is_none, length, take}
+use Rattle.std.specs.List.{enumerate_from, filter, filter_map, find}
+use Rattle.std.specs.Option.{option_map}
+use Rattle.conc_types.specs.declared.program.Job.{Job}
+use Rattle.conc_types.specs.declared.table.Table.{Table}
+use Rattle.conc_law.specs.Numbers.{total}
+use Rattle.conc_law.specs.Report.{Row, first_bad, passes, passing, rows_of}
+use Rattle.conc_reports.specs.declared.tally.Pass.{Pass}
+use Rattle.conc_reports.specs.declared.tally.Pass.TheVariants as pass
+use Rattle.conc_reports.specs.Columns.{place_if_named, value_in}
+use Rattle.conc_reports.specs.Figures.{figures_at, shown}
+
+-- the first rows that pass
+abbrev pub passing_below : Job → List ℕ → Table → ℕ → List Row
+passing_below job argument table n = filter (passes job argument table) (take n (enumerate_from 1 table.rows))
+
+-- what a row adds to the sum
+abbrev pub value_of : Option (List ℕ) → Table → Row → Option ℤ
+value_of sum table row = value_in (place_if_named table sum) row.1
+
+-- how many rows, and the sum of what they add
+abbrev pub figures : Option (List ℕ) → Table → List Row → ℕ × ℤ
+figures sum table rows = (length rows, total (filter_map (value_of sum table) rows))
+
+-- the same, if there are any
+abbrev pub figures_if_any : Option (List ℕ) → Table → List Row → Option (ℕ × ℤ)
+figures_if_any sum table [] = None
+figures_if_any sum table (row ∷ rows) = Some (figures sum table (row ∷ rows))
+
+-- the figures of a key, if a row has it
+abbrev pub figures_of_key : Option (List ℕ) → Option (List ℕ) → Table → List Row → List ℕ → Option (ℕ × ℤ)
+figures_of_key sum None table rows key = None
+figures_of_key sum (Some group) table rows key = figures_if_any sum table (rows_of table group rows key)
+
+-- the figures of all these rows and of each key among them, where each row has what it is to add
+pub record IsTally (sum group : Option (List ℕ)) (table : Table) (rows : List Row) (all : ℕ × ℤ) (of_key : List ℕ → Option (ℕ × ℤ)) : Type 0 where
+  pub all_are : all ≡ figures sum table rows
+  pub keys_are : (key : List ℕ) → of_key key ≡ figures_of_key sum group table rows key
+  pub none_bad : find (λ row. is_none (value_of sum table row)) rows ≡ None
+
+abbrev pub IsPass : Job → List ℕ → Table → Pass → Type 0
+IsPass job argument table (pass.Bad number) =
+    option_map (λ row. row.0) (first_bad job table (passing job argument table)) ≡ Some number
+IsPass job argument table (pass.Whole tally) =
+    IsTally job.sum job.group table (passing job argument table) (shown tally.total) (figures_at tally.groups)
