@@ -1,4 +1,7 @@
 pub mod Clock
+pub mod Deeds
+pub mod Fields
 pub mod Lines
 pub mod Readings
+pub mod Rules
 pub mod Script

@@ -2,8 +2,13 @@
 #![tactic(auto)]
 
 mod clock;
+mod deeds;
+mod fields;
+mod judging;
 mod lines;
+mod owning;
 mod refusing;
 mod stand_in;
+mod words;
 
 pub use clock::read_clock;
