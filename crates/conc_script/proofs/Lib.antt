@@ -6,3 +6,6 @@ pub mod EightFields
 pub mod Forms
 pub mod DeedRules
 pub mod Members
+pub mod ReadRecords
+pub mod HeaderRecord
+pub mod ScriptFaults

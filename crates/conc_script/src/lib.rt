@@ -8,7 +8,9 @@ mod judging;
 mod lines;
 mod owning;
 mod refusing;
+mod script;
 mod stand_in;
 mod words;
 
 pub use clock::read_clock;
+pub use script::read_script;

@@ -1,10 +1,10 @@
-ghost use Rattle.std.specs.Prelude.{◌≡◌, ◌≤◌, length, IfOk};
+ghost use Rattle.std.specs.Prelude.{◌≡◌, ◌≤◌, ◌<◌, ◌^◌, length, IfOk};
 ghost use Rattle.std.specs.List.{sum_by};
 ghost use Rattle.conc_types.specs.Scripts.{count_of, entered_by};
 ghost use Rattle.conc_script.specs.Deeds.{act_by, submit_by};
 
 use crate::deeds::{Deed, Submission, Verb};
-use conc_types::{Act, Item, Name, NoMemory, Seq, SetDef, Setup};
+use conc_types::{Act, Item, Name, NoMemory, Seq, SetDef, Setup, Stage};
 use std::alloc::Global;
 
 fn own_submission(alloc: Global, submission: &Submission) -> Result<Act, NoMemory>
@@ -33,15 +33,18 @@ pub(crate) fn own(alloc: Global, deed: &Deed) -> Result<Act, NoMemory>
     }
 }
 
+fn member_total(stages: &[Stage]) -> u64
+    requires { sum_by (λ stage. length stage.members) stages.now < 2 ^ 64 }
+    ensures { result ≡ sum_by (λ stage. length stage.members) stages.now }
+{
+    stages.iter().map(|stage| stage.members.len() as u64).sum()
+}
+
 fn member_count(set: &SetDef) -> u64
     ensures value { result ≡ sum_by (λ stage. length stage.members) set.now.stages }
     ensures few { result ≤ 4096 }
 {
-    set.stages
-        .as_slice()
-        .iter()
-        .map(|stage| stage.members.len() as u64)
-        .sum()
+    member_total(set.stages.as_slice())
 }
 
 fn count(setup: &Setup, item: Item) -> u64
