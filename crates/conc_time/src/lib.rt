@@ -1,12 +1,17 @@
 //! The places of managers at moments, and the text of a moment.
 #![tactic(auto)]
 
+mod civil;
+mod laws;
 mod managers;
 mod moments;
+mod reading;
 mod shifts;
 #[cfg(test)]
 mod tests;
 
+pub use laws::{moments_are_read_back, moments_have_one_spelling};
 pub use managers::{is_admitted_at, is_usable, place_count, place_of};
 pub use moments::put_moment;
+pub use reading::read_moment;
 pub use shifts::places;

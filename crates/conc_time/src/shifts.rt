@@ -1,12 +1,23 @@
-ghost use Rattle.std.specs.Prelude.{◌≡◌, ◌<◌, ◌==◌, map};
+ghost use Rattle.std.specs.Prelude.{◌≡◌, ◌%◌, ◌<◌, ◌==◌, map, pos, ◌-ℤ◌};
 ghost use Rattle.std.specs.List.{filter};
 ghost use Rattle.conc_types.specs.Stages.{has_bit};
 ghost use Rattle.conc_types.specs.Words.{greatest};
+ghost use Rattle.jiff.specs.Words.{epoch_day, weekday_of as weekday_of_date};
+ghost use Rattle.jiff_core.specs.declared.civil.date.Date.{Date};
 ghost use Rattle.conc_law.specs.Managers.{level as level_of, places as places_of, shift_covers};
 
 use conc_types::{Manager, Moment, Shift};
 
 const SECONDS_PER_DAY: u64 = 86400;
+
+// The weekday of a day that is counted from 0 for 0001-01-01, from 0 for Monday.
+#[tactic(auto, using(crate::proofs::Calendars::weekday_same))]
+fn weekday_of(day: u64) -> u64
+    ensures cycle { result ≡ day % 7 }
+    ensures calendar { (d : Date) → epoch_day d ≡ pos day -ℤ pos 719162 → weekday_of_date d ≡ result }
+{
+    day % 7
+}
 
 fn has_weekday(days: u8, weekday: u64) -> bool
     requires { weekday < 7 }
@@ -26,7 +37,7 @@ fn covers(t: Moment, shift: &Shift) -> bool
             return false;
         }
     }
-    if shift.days != 0 && !has_weekday(shift.days, day % 7) {
+    if shift.days != 0 && !has_weekday(shift.days, weekday_of(day)) {
         return false;
     }
     let time = t.seconds % SECONDS_PER_DAY;
