@@ -1,10 +1,11 @@
--- Each record takes a byte at least: a text has at most as many records as bytes, and more turns than that give no more.
+-- Each record has a field and takes a byte at least: a text has at most as many records as bytes, and more turns than that give no more.
 use Rattle.std.proofs.Common.{◌≡◌, ◌≤◌, ◌<◌, ◌+◌, ◌++◌, ℕ, zero, suc, Bool, true, false, List, [], ◌∷◌, length, Option, Some, None, refl, ap, subst, arith, if◌then◌else◌, ◌==◌, ◌||◌}
 use Rattle.csv.specs.Machine.{Read, ends_at_end, field_after, fields_after, in_field, is_end, next_record, start_field, start_record, step}
 use Rattle.csv.specs.Reading.{default_config, records_from, records_next, strip_bom}
 use Rattle.csv.specs.declared.parser.State.{State}
 use Rattle.csv.specs.declared.parser.State.TheVariants as st
 use Rattle.csv.specs.declared.parser.Action.{Action}
+use Rattle.csv.specs.declared.parser.Action.TheVariants as act
 use Rattle.conc_records.specs.Records.{Record}
 
 -- after the end of a record none is open
@@ -86,6 +87,37 @@ next-fewer s fields field (c ∷ rest) r e = by (is_end (step default_config s c
         let h = more q in
         let g = most_left-le (step default_config s c).0 rest in
         omega arith
+
+some_field : (fields : List (List ℕ)) (field : List ℕ) → 0 < length (fields ++ (field ∷ []))
+some_field [] field = omega arith
+some_field (f ∷ fields) field = omega arith
+
+ended_fields : (a : Action) (fields : List (List ℕ)) (field : List ℕ) → is_end a ≡ true → 0 < length (fields_after a fields field)
+ended_fields act.EndRecord fields field e = some_field fields field
+ended_fields act.Skip fields field e = cc e
+ended_fields act.Copy fields field e = cc e
+ended_fields act.EndField fields field e = cc e
+
+-- a record has a field
+pub next-some_field : (s : State) (fields : List (List ℕ)) (field xs : List ℕ) (r : Read) → next_record default_config s fields field xs ≡ Some r → 0 < length r.0
+unfolding next_record
+next-some_field s fields field [] r e = by (ends_at_end s) e
+  where
+    by : (b : Bool) → (if b then Some (fields ++ (field ∷ []), st.StartRecord, []) else None) ≡ Some r → 0 < length r.0
+    by true q = subst (λ (p : Read). 0 < length p.0) (some-same q) (some_field fields field)
+    by false q = cc q
+next-some_field s fields field (c ∷ rest) r e = by (is_end (step default_config s c).1) refl e (next-some_field (step default_config s c).0 _ _ rest r)
+  where
+    by : (b : Bool) → is_end (step default_config s c).1 ≡ b
+        → (if b then Some (fields_after (step default_config s c).1 fields field, (step default_config s c).0, rest)
+        else next_record default_config (step default_config s c).0 (fields_after (step default_config s c).1 fields field) (field_after (step default_config s c).1 c field) rest)
+        ≡ Some r
+        → (next_record default_config (step default_config s c).0 (fields_after (step default_config s c).1 fields field) (field_after (step default_config s c).1 c field) rest
+        ≡ Some r
+        → 0 < length r.0)
+        → 0 < length r.0
+    by true i q more = subst (λ (p : Read). 0 < length p.0) (some-same q) (ended_fields (step default_config s c).1 fields field i)
+    by false i q more = more q
 
 -- turns enough give the same records
 pub records_from-same : (n m : ℕ) (s : State) (xs : List ℕ) → most_left s xs ≤ n → most_left s xs ≤ m

@@ -1,5 +1,5 @@
 -- What one read takes from the records that are still to be read.
-use Rattle.std.proofs.Common.{◌≡◌, ◌≤◌, ◌+◌, ◌∙◌, ◌&&◌, ◌==◌, ℕ, suc, Bool, true, false, not, if◌then◌else◌, List, [], ◌∷◌, drop, take, length, Option, Some, option_map, refl, ap, arith}
+use Rattle.std.proofs.Common.{◌≡◌, ◌≤◌, ◌<◌, ◌+◌, ◌∙◌, ◌&&◌, ◌==◌, ℕ, suc, Bool, true, false, not, if◌then◌else◌, List, [], ◌∷◌, drop, take, length, Option, Some, option_map, refl, ap, arith}
 use Rattle.std.specs.Io.KnownBytes.{prepend_known}
 use Rattle.csv.specs.Machine.{Read, next_record}
 use Rattle.csv.specs.Reading.{Reached, ReadRecord, default_config, has_failed, reader_config, reader_state, records_from, records_next, source_of, strip_bom}
@@ -9,7 +9,7 @@ use Rattle.csv.specs.declared.reader.Reader.{Reader}
 use Rattle.csv.proofs.ReadFacts.{rows-end, rows-more}
 use Rattle.conc_records.specs.Records.{Record, records_of}
 use Rattle.conc_records.specs.Unread.{records_left}
-use Rattle.conc_records.proofs.Fuel.{most_left-le, next-fewer, records_from-few, records_from-same, strip_bom-le}
+use Rattle.conc_records.proofs.Fuel.{most_left-le, next-fewer, next-some_field, records_from-few, records_from-same, strip_bom-le}
 
 -- a reader at the start of a text
 pub left-at_start : (state : State) (source : Option (List ℕ)) (text : List ℕ) → state ≡ st.StartRecord → source ≡ Some (strip_bom text)
@@ -60,6 +60,16 @@ left-found text a b fields config going r =
     let (p, next, same, there) = reached in
     let (state, rest) = there in
     rw (source, after) (left-next a.state b.state xs ys fields p next same state rest)
+
+-- a read that finds a record gives a field
+pub found-some_field : {R : Type 0} (text : R → List ℕ) (a b : Reader R) (fields : Record) → reader_config a ≡ default_config → has_failed a ≡ false
+    → ReadRecord (λ s. Some (text s)) a b true fields → 0 < length fields
+unfolding Reached
+found-some_field text a b fields config going r =
+    let (xs, source) = source-known text a going in
+    let (ys, after, reached) = rows-more (λ s. Some (text s)) a b fields default_config a.state xs xs [] config source (refl, refl) r in
+    let (p, next, same, there) = reached in
+    rw same (next-some_field a.state [] [] xs p next)
 
 -- a read that finds none is at the end
 pub left-none : {R : Type 0} (text : R → List ℕ) (a b : Reader R) (fields : Record) → reader_config a ≡ default_config → has_failed a ≡ false

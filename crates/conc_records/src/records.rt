@@ -1,4 +1,4 @@
-ghost use Rattle.std.specs.Prelude.{◌≡◌, ◌≤◌, ◌∷◌, [], length, true, false, IfOk, OnErr};
+ghost use Rattle.std.specs.Prelude.{◌≡◌, ◌<◌, ◌≤◌, ◌∷◌, [], length, true, false, IfOk, OnErr};
 ghost use Rattle.csv.specs.Records.{fields_of};
 ghost use Rattle.conc_records.specs.Records.{records_of};
 
@@ -46,10 +46,11 @@ impl<'a> Records<'a> {
         }
     }
 
-    /// Reads the next record into `into`, whose old fields go, and says whether there was one.
-    /// After `NoMemory` there is none.
+    /// Reads the next record into `into`, whose old fields go, and says whether there was one. A
+    /// record has a field at least. After `NoMemory` there is no record.
     pub fn read(&mut self, into: &mut ByteRecord) -> Result<bool, NoMemory>
         ensures some { IfOk result (λ found. found ≡ true → self.old ≡ fields_of into.new ∷ self.new) }
+        ensures fields { IfOk result (λ found. found ≡ true → 0 < length (fields_of into.new)) }
         ensures none { IfOk result (λ found. found ≡ false → (self.old ≡ []) × (self.new ≡ [])) }
         ensures ends { OnErr result (self.new ≡ []) }
     {

@@ -1,7 +1,6 @@
 -- The first fault of a file.
 use Rattle.std.specs.Prelude.{◌≡◌, ℕ, zero, suc, ◌+◌, Bool, if◌then◌else◌, List, [], ◌∷◌, Option, None, Some}
 use Rattle.conc_types.specs.declared.refusal.FileKind.{FileKind}
-use Rattle.conc_types.specs.declared.refusal.Refusal.{Refusal}
 use Rattle.conc_types.specs.declared.refusal.ReadFail.{ReadFail}
 use Rattle.conc_types.specs.declared.refusal.ReadFail.TheVariants as fail
 

@@ -7,6 +7,8 @@ pub mod Shifts
 pub mod Sets
 pub mod Setups
 pub mod Scripts
+pub mod Cells
+pub mod Pieces
 pub mod Tables
 pub mod Expansion
 pub mod Plans

@@ -2,6 +2,7 @@
 //! history, and what stands after them.
 #![tactic(auto)]
 
+mod cells;
 mod decimal;
 mod error;
 mod event;
@@ -21,6 +22,7 @@ mod table;
 #[cfg(test)]
 mod tests;
 
+pub use cells::Cells;
 pub use decimal::{put_decimal, read_decimal};
 pub use error::NoMemory;
 pub use event::{Event, Extent, Moment, Outcome, Phase, PlaceId, RequestId, Status};
@@ -36,4 +38,4 @@ pub use seq::Seq;
 pub use set::SetDef;
 pub use setup::Setup;
 pub use stage::{Stage, StageSet};
-pub use table::{Bytes, Row, Table, Text};
+pub use table::{Bytes, Table, Text};

@@ -49,3 +49,20 @@ fn tells_names(rt: HostRuntime) {
     assert!(rt; !is_name(b"a\x1f"));
     assert!(rt; !is_name(b"\xff"));
 }
+
+#[test]
+fn keeps_cells(rt: HostRuntime) -> Result<(), Fail> {
+    let mut cells = Cells::new(rt.alloc());
+    for cell in ["ab", "", "c"] {
+        cells.push(cell.as_bytes())?;
+    }
+    assert_eq!(rt; cells.len(), 3);
+    for (index, want) in [(0, Some("ab")), (1, Some("")), (2, Some("c")), (3, None)] {
+        assert_eq!(rt;
+            cells.get(index),
+            want.map(|text| text.as_bytes()),
+            "at {index}"
+        );
+    }
+    Ok(())
+}

@@ -1,6 +1,6 @@
 use Rattle.std.proofs.Common.{◌∙◌, sym, Bor, List, ℕ, refl}
 use Rattle.csv.specs.Records.{fields_of}
-use Rattle.conc_records.proofs.Steps.{left-found, left-none}
+use Rattle.conc_records.proofs.Steps.{found-some_field, left-found, left-none}
 use Rattle.conc_records.proofs.records.Records.read.Goals as goal
 
 -- src/records.rt:51:5
@@ -18,3 +18,10 @@ returns-clause-none c e =
     let reads = rw e at (c.in-Ok.ensures.reads trim ready) in
     let none = left-none (λ (s : Bor (List ℕ)). s.now) c.self.inside.reader c.read_byte_record.new.self (fields_of c.read_byte_record.new.row) config going reads in
     (sym c.self.view_is ∙ rw c.if-self.false none, rw e refl)
+
+-- src/records.rt:51:5
+pub returns-clause-fields : goal.returns-clause-fields
+returns-clause-fields c e =
+    let (config, trim, ready, going) = c.self.invariant c.if-self.false in
+    let reads = rw e at (c.in-Ok.ensures.reads trim ready) in
+    found-some_field (λ (s : Bor (List ℕ)). s.now) c.self.inside.reader c.read_byte_record.new.self (fields_of c.read_byte_record.new.row) config going reads

@@ -1,0 +1,104 @@
+ghost use Rattle.std.specs.Prelude.{◌≡◌, ◌≤◌, ◌++◌, length, IfErr, IfOk, OnOk, None as no_fault};
+ghost use Rattle.csv.specs.Records.{fields_of};
+ghost use Rattle.conc_types.specs.declared.refusal.FileKind.TheVariants as file;
+ghost use Rattle.conc_types.specs.declared.refusal.ReadFail.TheVariants as fail;
+ghost use Rattle.conc_types.specs.Faults.{IsFailure};
+ghost use Rattle.conc_types.specs.Pieces.{concat};
+ghost use Rattle.conc_tables.specs.Rows.{row_fault as row_fault_of, rows_fault};
+ghost use Rattle.conc_tables.specs.Tables.{table_fault, SpellsTable};
+
+use crate::columns::{are_distinct, columns_of};
+use conc_records::{ByteRecord, Records};
+use conc_types::{Cells, FileKind, NoMemory, ReadFail, Refusal, Table};
+use std::alloc::Global;
+
+/// How many bytes a table's file has at most.
+const MOST_BYTES: usize = 67_108_864;
+
+/// The line of the last row that a table may have. The columns are line 1.
+const LAST_LINE: u64 = 1_048_577;
+
+fn refused(number: u32, line: u64, kind: u8) -> ReadFail
+    ensures { result ≡ fail.Refused (record { file = file.Table number; line = line; kind = kind }) }
+{
+    ReadFail::Refused(Refusal {
+        file: FileKind::Table(number),
+        line,
+        kind,
+    })
+}
+
+// The kind of the first rule that a row on this line breaks, with so many fields under so many columns.
+fn row_fault(width: usize, line: u64, fields: usize) -> Option<u8>
+    ensures { result ≡ row_fault_of width line fields }
+{
+    if LAST_LINE < line {
+        Some(33)
+    } else if fields != width {
+        Some(31)
+    } else {
+        None
+    }
+}
+
+fn push_fields(cells: &mut Cells, row: &ByteRecord) -> Result<(), NoMemory>
+    ensures { OnOk result (cells.new ≡ cells.old ++ fields_of row.now) }
+{
+    for field in row.iter() {
+        cells.push(field)?;
+    }
+    Ok(())
+}
+
+// Reads the rows that are left into the cells, up to the first with a fault.
+fn read_rows(
+    records: &mut Records<'_>,
+    row: &mut ByteRecord,
+    width: usize,
+    number: u32,
+    cells: &mut Cells,
+) -> Result<(), ReadFail>
+    ensures faultless { OnOk result (rows_fault width 2 records.old ≡ no_fault) }
+    ensures cells { OnOk result (cells.new ≡ cells.old ++ concat records.old) }
+    ensures err { IfErr result (IsFailure (file.Table number) (rows_fault width 2 records.old)) }
+{
+    let mut line = 2;
+    while records.read(row)? {
+        if let Some(kind) = row_fault(width, line, row.len()) {
+            return Err(refused(number, line, kind));
+        }
+        push_fields(cells, row)?;
+        line += 1;
+    }
+    Ok(())
+}
+
+/// The table with this number, from 0, that the bytes are. They are records of comma-separated
+/// fields, with quotes as in RFC 4180: the names of the columns, which are distinct, and then the
+/// rows, each with a field for each column. A line with nothing on it is no record.
+///
+/// A file of more than 67,108,864 bytes is refused as a whole (line 0, kind 33). Else the first
+/// record that breaks a rule is told by its number, from 1, and by the first rule that it breaks:
+/// there are columns (30), no two with one name (32); a row is one of at most 1,048,576 (33), and
+/// as long as the first record (31). Without memory, `NoMemory` may come in place of either.
+pub fn read_table(alloc: Global, bytes: &[u8], number: u32) -> Result<Table, ReadFail>
+    ensures ok { IfOk result (λ table. SpellsTable bytes.now table) }
+    ensures few { IfOk result (λ table. length table.rows ≤ 1048576) }
+    ensures err { IfErr result (IsFailure (file.Table number) (table_fault bytes.now)) }
+{
+    if MOST_BYTES < bytes.len() {
+        return Err(refused(number, 0, 33));
+    }
+    let mut records = Records::of_text(alloc, bytes);
+    let mut record = ByteRecord::new(alloc);
+    if !records.read(&mut record)? {
+        return Err(refused(number, 1, 30));
+    }
+    let columns = columns_of(alloc, &record)?;
+    if !are_distinct(alloc, columns.as_slice())? {
+        return Err(refused(number, 1, 32));
+    }
+    let mut cells = Cells::with_capacity(alloc, bytes.len(), 0)?;
+    read_rows(&mut records, &mut record, columns.len(), number, &mut cells)?;
+    Ok(Table::new(columns, cells))
+}
