@@ -64,7 +64,7 @@ kind_next setup records after r commands entered before reads =
     let place_before : suc (length reads.done) - 1 ≡ length reads.done = omega arith in
     let here : get_or (header ∷ records) (suc (length reads.done)) [] ≡ r = rw reads.all (get_or_at reads.done r after [] (length reads.done) refl) in
     let last : get_or (header ∷ records) (length reads.done) [] ≡ get_or (header ∷ reads.done) (length reads.done) [] =
-        rw reads.all (get_or_append_left (header ∷ reads.done) (r ∷ after) [] (length reads.done) (omega arith)) in
+    rw reads.all (get_or_append_left (header ∷ reads.done) (r ∷ after) [] (length reads.done) (omega arith)) in
     let front : take (suc (length reads.done)) (header ∷ records) ≡ header ∷ reads.done = rw reads.all (take_at (header ∷ reads.done) (r ∷ after) (suc (length reads.done)) refl) in
     rw (place, place_before, here, last, front, ← reads.entered_is, ← reads.before_is) refl
 

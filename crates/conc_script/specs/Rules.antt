@@ -31,7 +31,7 @@ bare_form r =
 abbrev pub submission_by : Moment → Item → Record → Option Act
 submission_by at what r =
     option_and_then (λ priority. option_and_then (λ start. option_map (λ domain.
-        act.Submit what (user_field r) priority start domain (argument_field r))
+    act.Submit what (user_field r) priority start domain (argument_field r))
     (domain_of (domain_field r))) (start_of at (start_field r))) (priority_of (priority_field r))
 
 -- the rules of a submission

@@ -8,7 +8,7 @@ ghost use Rattle.conc_script.specs.Readings.{line_rules, ReadsLines};
 
 use crate::lines::split_line;
 use crate::refusing::refused;
-use crate::stand_in::read_moment;
+use conc_time::read_moment;
 use conc_types::{FileKind, ReadFail, Reading, Readings, Seq};
 use std::alloc::Global;
 

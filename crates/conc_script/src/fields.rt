@@ -68,7 +68,11 @@ pub(crate) fn fields_in(row: &ByteRecord) -> Option<Fields<'_>>
     ensures { MatchOption result (is_record (fields_of row.now) ≡ false) (λ fields. (is_record (fields_of row.now) ≡ true) × (fields_of row.now ≡ list_of fields)) }
 {
     let fields = eight(row)?;
-    if are_text(&fields) { Some(fields) } else { None }
+    if are_text(&fields) {
+        Some(fields)
+    } else {
+        None
+    }
 }
 
 // Whether these are the fields of the header.

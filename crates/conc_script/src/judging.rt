@@ -14,9 +14,9 @@ ghost use Rattle.conc_script.specs.Script.{act_of, at_field, entered_by_record, 
 
 use crate::deeds::{Deed, Submission, Verb};
 use crate::fields::{Fields, fields_in};
-use crate::stand_in::read_moment;
 use crate::words::{domain_of, is_argument, item_named, priority_of, start_of};
 use conc_records::ByteRecord;
+use conc_time::read_moment;
 use conc_types::{Item, Moment, RequestId, Setup, is_name, read_decimal};
 
 // How many records a script can have, with its header.
@@ -111,12 +111,7 @@ fn is_submit(fields: &Fields) -> bool
 
 // What the fields say to do at a moment, after so many requests that were entered, or the rule that
 // they break.
-fn deed<'a>(
-    setup: &Setup,
-    at: Moment,
-    entered: u64,
-    fields: &Fields<'a>,
-) -> Result<Deed<'a>, u8>
+fn deed<'a>(setup: &Setup, at: Moment, entered: u64, fields: &Fields<'a>) -> Result<Deed<'a>, u8>
     requires { entered < 2 ^ 32 }
     ensures rules { first_broken (deed_rules setup.now entered (list_of fields.now)) ≡ result_err result }
     ensures said { IfOk result (λ deed. act_of setup.now at (list_of fields.now) ≡ Some (act_by deed)) }

@@ -9,7 +9,6 @@ mod lines;
 mod owning;
 mod refusing;
 mod script;
-mod stand_in;
 mod words;
 
 pub use clock::read_clock;

@@ -64,7 +64,23 @@ fn read_commands(
     Ok(commands)
 }
 
-/// The commands of a script for a setup: ..
+/// The commands of a script for a setup, one in each record of comma-separated fields after the
+/// header `at,do,what,user,priority,start,domain,argument`.
+///
+/// `at` is the moment of the command, and `do` its word. `submit` enters the program or set that
+/// `what` names: for a user, with a priority of 1 to 99 (50 where it is empty), a start (`at` where it
+/// is empty), a conflict domain (`Standard` where it is empty) and an argument of at most 200 bytes.
+/// `hold`, `unhold`, `cancel` and `terminate` act on a request, which `what` names by its number; they
+/// may name a user, and leave the fields behind empty. Requests are numbered from 1 in the order in
+/// which the submissions stand in the script, a set before its members.
+///
+/// Where the script breaks a rule it is refused for the first record that does, numbered from 1 with
+/// the header, and of that record for the first rule in this order: it has eight fields of UTF-8, and
+/// the first record is the header (kind 20); it is one of at most 4,097 records (26); `at` is a moment
+/// (22), and not earlier than in the record before (25); the word is one of the five (21); a submission
+/// names a program or set of the setup (23), any other command a number (22), which is that of a request
+/// of an earlier record (24); the fields behind have their form (22). A script of more than 67,108,864
+/// bytes is refused at line 0 (26).
 pub fn read_script(alloc: Global, bytes: &[u8], setup: &Setup) -> Result<Script, ReadFail>
     ensures ok { IfOk result (λ script. SpellsScript setup.now bytes.now script) }
     ensures fits { IfOk result (λ script. IsTrue (are_commands setup.now script.commands)) }

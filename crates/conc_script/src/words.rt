@@ -7,7 +7,7 @@ ghost use Rattle.conc_types.specs.Setups.{is_item};
 ghost use Rattle.conc_types.specs.Words.{is_between};
 ghost use Rattle.conc_script.specs.Script.{domain_of as domain_of_bytes, item_named as item_named_of, priority_of as priority_of_bytes, start_of as start_of_bytes};
 
-use crate::stand_in::read_moment;
+use conc_time::read_moment;
 use conc_types::{Item, Moment, Program, SetDef, Setup, is_name, read_decimal};
 
 fn is_printable(byte: u8) -> bool

@@ -6,6 +6,6 @@ use Rattle.conc_script.proofs.script.read_header.Goals.{then-some, else-some}
 pub returns-clause-rest : goal.returns-clause-rest
 returns-clause-rest c =
     elim c.if-some.branch [
-      then-some w ↦ (λ e. header_read _ _ _ (c.in_ok-some.ensures.some w.if-some.true) (sym e ∙ w.result-is ∙ w.is_header.ensures))
-    | else-some w ↦ (λ e. absurd cc)
+      | then-some w ↦ (λ e. header_read _ _ _ (c.in_ok-some.ensures.some w.if-some.true) (sym e ∙ w.result-is ∙ w.is_header.ensures))
+      | else-some w ↦ (λ e. absurd cc)
     ]
