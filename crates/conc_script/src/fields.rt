@@ -62,7 +62,7 @@ fn are_text(fields: &Fields) -> bool
         && is_utf8(fields.argument)
 }
 
-// The fields of a record, if it has eight and each is UTF-8.
+/// The fields of a record, if it has eight and each is UTF-8.
 #[tactic(auto, unfolding(crate::specs::Script::is_record))]
 pub(crate) fn fields_in(row: &ByteRecord) -> Option<Fields<'_>>
     ensures { MatchOption result (is_record (fields_of row.now) ≡ false) (λ fields. (is_record (fields_of row.now) ≡ true) × (fields_of row.now ≡ list_of fields)) }
@@ -75,7 +75,7 @@ pub(crate) fn fields_in(row: &ByteRecord) -> Option<Fields<'_>>
     }
 }
 
-// Whether these are the fields of the header.
+/// Whether these are the fields of the header.
 pub(crate) fn are_header(fields: &Fields) -> bool
     ensures { result ≡ same_fields (list_of fields.now) header }
 {

@@ -9,6 +9,8 @@ mod lines;
 mod owning;
 mod refusing;
 mod script;
+#[cfg(test)]
+mod tests;
 mod words;
 
 pub use clock::read_clock;

@@ -65,7 +65,8 @@ fn read_commands(
 }
 
 /// The commands of a script for a setup, one in each record of comma-separated fields after the
-/// header `at,do,what,user,priority,start,domain,argument`.
+/// header `at,do,what,user,priority,start,domain,argument`. A byte order mark at the start of the
+/// script, and lines with nothing on them, are no part of any record.
 ///
 /// `at` is the moment of the command, and `do` its word. `submit` enters the program or set that
 /// `what` names: for a user, with a priority of 1 to 99 (50 where it is empty), a start (`at` where it
@@ -80,7 +81,7 @@ fn read_commands(
 /// (22), and not earlier than in the record before (25); the word is one of the five (21); a submission
 /// names a program or set of the setup (23), any other command a number (22), which is that of a request
 /// of an earlier record (24); the fields behind have their form (22). A script of more than 67,108,864
-/// bytes is refused at line 0 (26).
+/// bytes is refused at line 0 (26). Where memory lacks there is neither a script nor a refusal.
 pub fn read_script(alloc: Global, bytes: &[u8], setup: &Setup) -> Result<Script, ReadFail>
     ensures ok { IfOk result (λ script. SpellsScript setup.now bytes.now script) }
     ensures fits { IfOk result (λ script. IsTrue (are_commands setup.now script.commands)) }

@@ -28,7 +28,7 @@ pub(crate) fn is_utf8(bytes: &[u8]) -> bool
     str::from_utf8(bytes).is_ok()
 }
 
-// Whether these bytes can be an argument: at most 200 bytes of UTF-8 without control bytes.
+/// Whether these bytes can be an argument: at most 200 bytes of UTF-8 without control bytes.
 pub(crate) fn is_argument(bytes: &[u8]) -> bool
     ensures { result ≡ is_text_of 200 bytes.now }
 {
@@ -49,7 +49,7 @@ fn set_named(sets: &[SetDef], name: &[u8]) -> Option<usize>
     sets.iter().position(|set| name == set.name.as_bytes())
 }
 
-// The program or set of a setup with this name, if there is one.
+/// The program or set of a setup with this name, if there is one.
 #[tactic(auto, unfolding(crate::specs::Script::item_named))]
 pub(crate) fn item_named(setup: &Setup, name: &[u8]) -> Option<Item>
     ensures value { result ≡ item_named_of setup.now name.now }
@@ -64,7 +64,7 @@ pub(crate) fn item_named(setup: &Setup, name: &[u8]) -> Option<Item>
     }
 }
 
-// The priority that a field says, 1 to 99, or 50 where it is empty.
+/// The priority that a field says, 1 to 99, or 50 where it is empty.
 #[tactic(auto, unfolding(crate::specs::Script::priority_of))]
 pub(crate) fn priority_of(bytes: &[u8]) -> Option<u8>
     ensures value { result ≡ priority_of_bytes bytes.now }
@@ -81,7 +81,7 @@ pub(crate) fn priority_of(bytes: &[u8]) -> Option<u8>
     }
 }
 
-// The start that a field says, or the moment of the command where it is empty.
+/// The start that a field says, or the moment of the command where it is empty.
 #[tactic(auto, unfolding(crate::specs::Script::start_of))]
 pub(crate) fn start_of(at: Moment, bytes: &[u8]) -> Option<Moment>
     ensures { result ≡ start_of_bytes at bytes.now }
@@ -92,7 +92,7 @@ pub(crate) fn start_of(at: Moment, bytes: &[u8]) -> Option<Moment>
     read_moment(bytes)
 }
 
-// The domain that a field says, or `Standard` where it is empty.
+/// The domain that a field says, or `Standard` where it is empty.
 #[tactic(auto, using(crate::proofs::Forms::is_name_standard), unfolding(crate::specs::Script::domain_of))]
 pub(crate) fn domain_of(bytes: &[u8]) -> Option<&[u8]>
     ensures value { option_copied result ≡ domain_of_bytes bytes.now }
