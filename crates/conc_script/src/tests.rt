@@ -1,12 +1,13 @@
-ghost use Rattle.std.specs.Prelude.{◌≡◌, [], ◌∷◌, codes, map, IfOk, IsTrue};
-ghost use Rattle.conc_types.specs.Texts.{is_name};
+ghost use Rattle.std.specs.Prelude.{◌≡◌, [], ◌∷◌, None, codes, nat_lt, IfOk, IsTrue};
+ghost use Rattle.std.specs.List.{list_all};
 
 use super::*;
 use conc_types::{
     Act, FileKind, Item, Job, Moment, Name, NoMemory, Program, ReadFail, Reading, Refusal,
-    RequestId, Script, Seq, SetDef, Setup, Stage,
+    RequestId, Seq, SetDef, Setup, Stage, is_name,
 };
 use std::alloc::Global;
+use std::process::Abort;
 use std::test::Fail;
 
 // 2025-03-03T09:00:00
@@ -28,24 +29,24 @@ fn one<T: Drop>(alloc: Global, item: T) -> Result<Seq<T>, NoMemory>
     Ok(Seq::from_vec(items))
 }
 
-fn name(alloc: Global, bytes: &[u8]) -> Result<Name, NoMemory>
-    requires { IsTrue (is_name bytes.now) }
+fn name(rt: &impl Abort, alloc: Global, bytes: &[u8]) -> Result<Name, NoMemory>
     ensures { IfOk result (λ name. name ≡ bytes.now) }
 {
+    assert!(rt; is_name(bytes));
     Ok(Name::from_vec(bytes.to_vec(alloc)?))
 }
 
-fn daily(alloc: Global) -> Result<Program, NoMemory>
+fn daily(rt: &impl Abort, alloc: Global) -> Result<Program, NoMemory>
     ensures { IfOk result (λ program. program.name ≡ codes "daily") }
 {
     Ok(Program {
-        name: name(alloc, b"daily")?,
+        name: name(rt, alloc, b"daily")?,
         request_type: none(alloc),
         enabled: true,
         run_alone: false,
         restart: false,
         job: Job {
-            table: name(alloc, b"sales")?,
+            table: name(rt, alloc, b"sales")?,
             filters: none(alloc),
             group: None,
             sum: None,
@@ -56,38 +57,39 @@ fn daily(alloc: Global) -> Result<Program, NoMemory>
 }
 
 // A stage of two members, both of which are the first program.
-fn stage(alloc: Global) -> Result<Stage, NoMemory>
-    ensures { IfOk result (λ stage. stage.members ≡ 0 ∷ 0 ∷ []) }
+fn stage(rt: &impl Abort, alloc: Global) -> Result<Stage, NoMemory>
+    ensures members { IfOk result (λ stage. stage.members ≡ 0 ∷ 0 ∷ []) }
+    ensures links { IfOk result (λ stage. stage.links ≡ None ∷ None ∷ None ∷ []) }
 {
     let mut members = Vec::new(alloc);
     members.push(0)?;
     members.push(0)?;
     Ok(Stage {
-        name: name(alloc, b"first")?,
+        name: name(rt, alloc, b"first")?,
         critical: false,
         links: [None, None, None],
         members: Seq::from_vec(members),
     })
 }
 
-fn close(alloc: Global) -> Result<SetDef, NoMemory>
+fn close(rt: &impl Abort, alloc: Global) -> Result<SetDef, NoMemory>
     ensures name { IfOk result (λ set. set.name ≡ codes "close") }
-    ensures stages { IfOk result (λ set. map (λ stage. stage.members) set.stages ≡ (0 ∷ 0 ∷ []) ∷ []) }
+    ensures members { IfOk result (λ set. IsTrue (list_all (λ stage. list_all (λ n. nat_lt n 1) stage.members) set.stages)) }
 {
     Ok(SetDef {
-        name: name(alloc, b"close")?,
-        stages: one(alloc, stage(alloc)?)?,
+        name: name(rt, alloc, b"close")?,
+        stages: one(alloc, stage(rt, alloc)?)?,
     })
 }
 
 // The program `daily` and the set `close`, which enters three requests.
-fn setup(alloc: Global) -> Result<Setup, NoMemory> {
+fn setup(rt: &impl Abort, alloc: Global) -> Result<Setup, NoMemory> {
     Ok(Setup {
         tables: none(alloc),
-        programs: one(alloc, daily(alloc)?)?,
+        programs: one(alloc, daily(rt, alloc)?)?,
         entries: none(alloc),
         managers: none(alloc),
-        sets: one(alloc, close(alloc)?)?,
+        sets: one(alloc, close(rt, alloc)?)?,
     })
 }
 
@@ -165,107 +167,99 @@ fn reads_clocks(rt: HostRuntime) -> Result<(), Fail> {
     Ok(())
 }
 
+// Records behind the header, and the record and the rule for which they are refused.
+static REFUSED: [(&str, u64, u8); 17] = [
+    ("2025-03-03T09:00:00,submit,daily,ann,,,\n", 2, 20),
+    ("2025-03-03,submit,daily,ann,,,,\n", 2, 22),
+    (
+        "2025-03-03T09:00:01,submit,daily,ann,,,,\n2025-03-03T09:00:00,submit,daily,ann,,,,\n",
+        3,
+        25,
+    ),
+    (
+        "2025-03-03T09:00:01,submit,daily,ann,,,,\n2025-03-03T09:00:00,start,daily,ann,,,,\n",
+        3,
+        25,
+    ),
+    (
+        "2025-03-03T09:00:01,submit,daily,ann,,,,\n2025-03-03,submit,daily,ann,,,,\n",
+        3,
+        22,
+    ),
+    ("2025-03-03T09:00:00,start,daily,ann,,,,\n", 2, 21),
+    ("2025-03-03T09:00:00,submit,weekly,ann,,,,\n", 2, 23),
+    (
+        "2025-03-03T09:00:00,submit,daily,ann,,,,\n2025-03-03T09:00:00,hold,x,,,,,\n",
+        3,
+        22,
+    ),
+    (
+        "2025-03-03T09:00:00,submit,daily,ann,,,,\n2025-03-03T09:00:00,hold,0,,,,,\n",
+        3,
+        24,
+    ),
+    (
+        "2025-03-03T09:00:00,hold,1,,,,,\n2025-03-03T09:00:00,submit,daily,ann,,,,\n",
+        2,
+        24,
+    ),
+    (
+        "2025-03-03T09:00:00,submit,close,ann,,,,\n2025-03-03T09:00:00,hold,4,,,,,\n",
+        3,
+        24,
+    ),
+    ("2025-03-03T09:00:00,submit,daily,ann,0,,,\n", 2, 22),
+    ("2025-03-03T09:00:00,submit,daily,ann,100,,,\n", 2, 22),
+    ("2025-03-03T09:00:00,submit,daily,ann,,9:00,,\n", 2, 22),
+    ("2025-03-03T09:00:00,submit,daily,,,,,\n", 2, 22),
+    (
+        "2025-03-03T09:00:00,submit,daily,ann,,,,\n2025-03-03T09:00:00,hold,1,,50,,,\n",
+        3,
+        22,
+    ),
+    (
+        "2025-03-03T09:00:00,submit,daily,ann,,,,\n2025-03-03T09:00:00,hold,1,,,,,x\n",
+        3,
+        22,
+    ),
+];
+
+fn refused(line: u64, kind: u8) -> Option<Refusal> {
+    let file = FileKind::Script;
+    Some(Refusal { file, line, kind })
+}
+
 #[test]
 fn refuses_scripts(rt: HostRuntime) -> Result<(), Fail> {
     let alloc = rt.alloc();
-    let setup = setup(alloc)?;
-    let file = FileKind::Script;
-    for text in [
-        b"".as_slice(),
-        b"2025-03-03T09:00:00,submit,daily,ann,,,,\n",
-        b"At,do,what,user,priority,start,domain,argument\n",
-    ] {
-        let want = Refusal {
-            file,
-            line: 1,
-            kind: 20,
-        };
-        assert_eq!(rt;
-            refusal(read_script(alloc, text, &setup)),
-            Some(want),
-            "at {text:?}"
-        );
+    let setup = setup(&rt, alloc)?;
+    for text in ["", "At,do,what,user,priority,start,domain,argument\n"] {
+        let read = read_script(alloc, text.as_bytes(), &setup);
+        assert_eq!(rt; refusal(read), refused(1, 20), "at {text:?}");
     }
-    for (records, line, kind) in [
-        (
-            b"2025-03-03T09:00:00,submit,daily,ann,,,\n".as_slice(),
-            2,
-            20,
-        ),
-        (b"2025-03-03T09:00:00,submit,daily,ann,,,,\xff\n", 2, 20),
-        (b"2025-03-03,submit,daily,ann,,,,\n", 2, 22),
-        (
-            b"2025-03-03T09:00:01,submit,daily,ann,,,,\n2025-03-03T09:00:00,submit,daily,ann,,,,\n",
-            3,
-            25,
-        ),
-        (
-            b"2025-03-03T09:00:01,submit,daily,ann,,,,\n2025-03-03T09:00:00,start,daily,ann,,,,\n",
-            3,
-            25,
-        ),
-        (
-            b"2025-03-03T09:00:01,submit,daily,ann,,,,\n2025-03-03,submit,daily,ann,,,,\n",
-            3,
-            22,
-        ),
-        (b"2025-03-03T09:00:00,start,daily,ann,,,,\n", 2, 21),
-        (b"2025-03-03T09:00:00,submit,weekly,ann,,,,\n", 2, 23),
-        (
-            b"2025-03-03T09:00:00,submit,daily,ann,,,,\n2025-03-03T09:00:00,hold,x,,,,,\n",
-            3,
-            22,
-        ),
-        (
-            b"2025-03-03T09:00:00,submit,daily,ann,,,,\n2025-03-03T09:00:00,hold,0,,,,,\n",
-            3,
-            24,
-        ),
-        (
-            b"2025-03-03T09:00:00,hold,1,,,,,\n2025-03-03T09:00:00,submit,daily,ann,,,,\n",
-            2,
-            24,
-        ),
-        (
-            b"2025-03-03T09:00:00,submit,close,ann,,,,\n2025-03-03T09:00:00,hold,4,,,,,\n",
-            3,
-            24,
-        ),
-        (b"2025-03-03T09:00:00,submit,daily,ann,0,,,\n", 2, 22),
-        (b"2025-03-03T09:00:00,submit,daily,ann,100,,,\n", 2, 22),
-        (b"2025-03-03T09:00:00,submit,daily,ann,,9:00,,\n", 2, 22),
-        (b"2025-03-03T09:00:00,submit,daily,,,,,\n", 2, 22),
-        (
-            b"2025-03-03T09:00:00,submit,daily,ann,,,,\n2025-03-03T09:00:00,hold,1,,50,,,\n",
-            3,
-            22,
-        ),
-        (
-            b"2025-03-03T09:00:00,submit,daily,ann,,,,\n2025-03-03T09:00:00,hold,1,,,,,x\n",
-            3,
-            22,
-        ),
-    ] {
-        let text = with_header(alloc, records)?;
-        let want = Refusal { file, line, kind };
-        assert_eq!(rt;
-            refusal(read_script(alloc, &text, &setup)),
-            Some(want),
-            "at {records:?}"
-        );
+    for (records, line, kind) in REFUSED {
+        let text = with_header(alloc, records.as_bytes())?;
+        let read = read_script(alloc, &text, &setup);
+        assert_eq!(rt; refusal(read), refused(line, kind), "at {records:?}");
     }
+    let text = with_header(alloc, b"2025-03-03T09:00:00,submit,daily,ann,,,,\xff\n")?;
+    assert_eq!(rt; refusal(read_script(alloc, &text, &setup)), refused(2, 20));
     Ok(())
 }
 
 #[test]
 fn bounds_arguments(rt: HostRuntime) -> Result<(), Fail> {
     let alloc = rt.alloc();
-    let setup = setup(alloc)?;
-    for (length, kind) in [(200, None), (201, Some(22))] {
+    let setup = setup(&rt, alloc)?;
+    for (length, want) in [(200, None), (201, refused(2, 22))] {
         let mut text = with_header(alloc, b"2025-03-03T09:00:00,submit,daily,ann,,,,")?;
-        text.extend_from_slice(&[b'x'; 201][..length])?;
-        let kept = refusal(read_script(alloc, &text, &setup)).map(|refusal| refusal.kind);
-        assert_eq!(rt; kept, kind, "at {length}");
+        let argument = vec![in alloc; b'x'; length]?;
+        text.extend_from_slice(&argument)?;
+        assert_eq!(rt;
+            refusal(read_script(alloc, &text, &setup)),
+            want,
+            "at {length}"
+        );
     }
     Ok(())
 }
@@ -273,18 +267,14 @@ fn bounds_arguments(rt: HostRuntime) -> Result<(), Fail> {
 #[test]
 fn reads_scripts(rt: HostRuntime) -> Result<(), Fail> {
     let alloc = rt.alloc();
-    let setup = setup(alloc)?;
-    let text = with_header(
-        alloc,
-        b"2025-03-03T09:00:00,submit,close,ann,,,,\n2025-03-03T09:00:00,hold,3,,,,,\n2025-03-03T09:00:01,submit,daily,bob,1,2025-03-03T09:00:00,Night,\"x,y\"\n2025-03-03T09:00:01,terminate,4,ann,,,,\n",
-    )?;
+    let setup = setup(&rt, alloc)?;
+    let records = b"2025-03-03T09:00:00,submit,close,ann,,,,\n2025-03-03T09:00:00,hold,3,,,,,\n";
+    let text = with_header(alloc, records)?;
     let script = read_script(alloc, &text, &setup)?;
-    let [first, second, third, fourth] = script.commands.as_slice() else {
+    let [submission, hold] = script.commands.as_slice() else {
         panic!(rt; "{} commands", script.commands.len());
     };
     let nine = Moment { seconds: NINE };
-    let later = Moment { seconds: NINE + 1 };
-    assert_eq!(rt; first.at, nine);
     let Act::Submit {
         item,
         user,
@@ -292,45 +282,18 @@ fn reads_scripts(rt: HostRuntime) -> Result<(), Fail> {
         start,
         domain,
         argument,
-    } = &first.act
+    } = &submission.act
     else {
         panic!(rt; "no submission");
     };
-    assert_eq!(rt; (*item, *priority, *start), (Item::Set(0), 50, nine));
+    assert_eq!(rt; submission.at, nine);
+    assert_eq!(rt; *item, Item::Set(0));
+    assert_eq!(rt; *priority, 50);
+    assert_eq!(rt; *start, nine);
     assert_eq!(rt; user.as_bytes(), b"ann".as_slice());
     assert_eq!(rt; domain.as_bytes(), b"Standard".as_slice());
     assert!(rt; argument.is_empty());
-    assert_eq!(rt; third.at, later);
-    let Act::Submit {
-        item,
-        user,
-        priority,
-        start,
-        domain,
-        argument,
-    } = &third.act
-    else {
-        panic!(rt; "no submission");
-    };
-    assert_eq!(rt; (*item, *priority, *start), (Item::Program(0), 1, nine));
-    assert_eq!(rt; user.as_bytes(), b"bob".as_slice());
-    assert_eq!(rt; domain.as_bytes(), b"Night".as_slice());
-    assert_eq!(rt; argument.as_slice(), b"x,y".as_slice());
-    assert!(rt;
-        matches!(
-            second.act,
-            Act::Hold {
-                request: RequestId { number: 3 }
-            }
-        )
-    );
-    assert!(rt;
-        matches!(
-            fourth.act,
-            Act::Terminate {
-                request: RequestId { number: 4 }
-            }
-        )
-    );
+    let request = RequestId { number: 3 };
+    assert!(rt; matches!(&hold.act, Act::Hold { request: held } if *held == request));
     Ok(())
 }
