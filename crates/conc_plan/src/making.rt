@@ -4,7 +4,7 @@ ghost use Rattle.conc_plan.specs.Faults.{plan_fault, IsFailure};
 
 use crate::expanding::expand;
 use crate::judging::first_bad_program;
-use conc_types::{FileKind, Plan, ReadFail, Refusal, Script, Seq, Setup, Table};
+use conc_types::{FileKind, Plan, ReadFail, Script, Seq, Setup, Table};
 use std::alloc::Global;
 
 /// The plan of a setup, a script that fits it, and its tables in the order of the setup's names: with
@@ -30,11 +30,7 @@ pub fn make_plan(
     ensures err { IfErr result (IsFailure (plan_fault setup script.commands tables)) }
 {
     if let Some((line, kind)) = first_bad_program(&setup, tables.as_slice()) {
-        return Err(ReadFail::Refused(Refusal {
-            file: FileKind::Setup,
-            line,
-            kind,
-        }));
+        return Err(ReadFail::refused(FileKind::Setup, line, kind));
     }
     let requests = expand(alloc, &setup, script.commands.as_slice())?;
     Ok(Plan {

@@ -119,7 +119,7 @@ reads_more lines after line readings more q number before r n b is passes m =
     record {
       done = r.done ++ line ∷ [];
       all = r.all ∙ sym (append_assoc r.done (line ∷ []) after);
-      list = rw (m, map-append, map-append, r.list, is) refl;
+      list = rw (m, map-append reading_of r.done (line ∷ []), map-append (λ (p : Reading). Some p) readings (q ∷ []), r.list, is) refl;
       faults =
           r.faults ∙ (fault_later (line_kind lines) (length readings + 1) (length after) (kind_next lines after line readings r ∙ passes')
           ∙ ap (λ (n : ℕ). first_fault (line_kind lines) (n + 1) (length after)) (sym many));

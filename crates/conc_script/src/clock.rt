@@ -1,14 +1,12 @@
-ghost use Rattle.std.specs.Prelude.{◌≡◌, ◌∷◌, [], Some, None, length, map, is_none, nat_lt, IfErr, IfOk, IsTrue, MatchResult};
+ghost use Rattle.std.specs.Prelude.{◌≡◌, Some, length, IfErr, IfOk};
+ghost use Rattle.std.specs.Result.{result_err};
 ghost use Rattle.conc_types.specs.declared.refusal.FileKind.TheVariants as kind;
 ghost use Rattle.conc_types.specs.Faults.{first_broken, first_fault, IsFailure};
-ghost use Rattle.conc_types.specs.Scripts.{are_in_order};
-ghost use Rattle.conc_types.specs.Words.{is_between};
 ghost use Rattle.conc_script.specs.Clock.{clock_fault, is_earlier as is_earlier_of, line_kind, lines_of, reading_of, SpellsClock};
 ghost use Rattle.conc_script.specs.Readings.{line_rules, ReadsLines};
 
 use crate::lines::split_line;
-use crate::refusing::refused;
-use crate::stand_in::read_moment;
+use conc_time::read_moment;
 use conc_types::{FileKind, ReadFail, Reading, Readings, Seq};
 use std::alloc::Global;
 
@@ -41,7 +39,7 @@ fn is_earlier(reading: Reading, before: Option<Reading>) -> bool
 // breaks.
 fn accept(number: usize, line: &[u8], before: Option<Reading>) -> Result<Reading, u8>
     ensures ok { IfOk result (λ reading. reading_of line.now ≡ Some reading) }
-    ensures rules { MatchResult result (λ _. first_broken (line_rules number (reading_of line.now) before) ≡ None) (λ kind. first_broken (line_rules number (reading_of line.now) before) ≡ Some kind) }
+    ensures rules { first_broken (line_rules number (reading_of line.now) before) ≡ result_err result }
 {
     if number > MOST_READINGS {
         return Err(26);
@@ -64,7 +62,7 @@ fn read_lines(alloc: Global, bytes: &[u8]) -> Result<Vec<Reading>, ReadFail>
         let number = readings.len() + 1;
         match accept(number, line, readings.last().copied()) {
             Ok(reading) => readings.push(reading)?,
-            Err(kind) => return Err(refused(FileKind::Clock, number as u64, kind)),
+            Err(kind) => return Err(ReadFail::refused(FileKind::Clock, number as u64, kind)),
         }
         rest = after;
     }
@@ -76,17 +74,18 @@ fn read_lines(alloc: Global, bytes: &[u8]) -> Result<Vec<Reading>, ReadFail>
 /// may lack its end. Where the file breaks a rule it is refused for the first line that does, numbered
 /// from 1, and of that line for the first rule in this order: it is one of at most 65,536 lines
 /// (kind 26), it is a reading (22), and it is not earlier than the line before (27). A file without a
-/// line is refused at line 1 (22), and one of more than 67,108,864 bytes at line 0 (26).
+/// line is refused at line 1 (22), and one of more than 67,108,864 bytes at line 0 (26). Where memory
+/// lacks there is neither readings nor a refusal.
 pub fn read_clock(alloc: Global, bytes: &[u8]) -> Result<Readings, ReadFail>
     ensures ok { IfOk result (λ readings. SpellsClock bytes.now readings) }
     ensures err { IfErr result (IsFailure kind.Clock (clock_fault bytes.now)) }
 {
     if bytes.len() > MOST_BYTES {
-        return Err(refused(FileKind::Clock, 0, 26));
+        return Err(ReadFail::refused(FileKind::Clock, 0, 26));
     }
     let readings = read_lines(alloc, bytes)?;
     if readings.is_empty() {
-        return Err(refused(FileKind::Clock, 1, 22));
+        return Err(ReadFail::refused(FileKind::Clock, 1, 22));
     }
     Ok(Readings {
         list: Seq::from_vec(readings),

@@ -2,10 +2,15 @@
 #![tactic(auto)]
 
 mod clock;
+mod deeds;
+mod fields;
+mod judging;
 mod lines;
-mod refusing;
+mod owning;
 mod script;
-mod stand_in;
+#[cfg(test)]
+mod tests;
+mod words;
 
 pub use clock::read_clock;
 pub use script::read_script;

@@ -1,7 +1,6 @@
 ghost use Rattle.std.specs.Prelude.{◌≡◌, ◌≤◌, ◌++◌, length, IfErr, IfOk, OnOk, None as no_fault};
 ghost use Rattle.csv.specs.Records.{fields_of};
 ghost use Rattle.conc_types.specs.declared.refusal.FileKind.TheVariants as file;
-ghost use Rattle.conc_types.specs.declared.refusal.ReadFail.TheVariants as fail;
 ghost use Rattle.conc_types.specs.Faults.{IsFailure};
 ghost use Rattle.conc_types.specs.Pieces.{concat};
 ghost use Rattle.conc_tables.specs.Rows.{row_fault as row_fault_of, rows_fault};
@@ -9,7 +8,7 @@ ghost use Rattle.conc_tables.specs.Tables.{table_fault, SpellsTable};
 
 use crate::columns::{are_distinct, columns_of};
 use conc_records::{ByteRecord, Records};
-use conc_types::{Cells, FileKind, NoMemory, ReadFail, Refusal, Table};
+use conc_types::{Cells, FileKind, NoMemory, ReadFail, Table};
 use std::alloc::Global;
 
 /// How many bytes a table's file has at most.
@@ -17,16 +16,6 @@ const MOST_BYTES: usize = 67_108_864;
 
 /// The line of the last row that a table may have. The columns are line 1.
 const LAST_LINE: u64 = 1_048_577;
-
-fn refused(number: u32, line: u64, kind: u8) -> ReadFail
-    ensures { result ≡ fail.Refused (record { file = file.Table number; line = line; kind = kind }) }
-{
-    ReadFail::Refused(Refusal {
-        file: FileKind::Table(number),
-        line,
-        kind,
-    })
-}
 
 // The kind of the first rule that a row on this line breaks, with so many fields under so many columns.
 fn row_fault(width: usize, line: u64, fields: usize) -> Option<u8>
@@ -65,7 +54,7 @@ fn read_rows(
     let mut line = 2;
     while records.read(row)? {
         if let Some(kind) = row_fault(width, line, row.len()) {
-            return Err(refused(number, line, kind));
+            return Err(ReadFail::refused(FileKind::Table(number), line, kind));
         }
         push_fields(cells, row)?;
         line += 1;
@@ -90,16 +79,16 @@ pub fn read_table(alloc: Global, bytes: &[u8], number: u32) -> Result<Table, Rea
     ensures err { IfErr result (IsFailure (file.Table number) (table_fault bytes.now)) }
 {
     if MOST_BYTES < bytes.len() {
-        return Err(refused(number, 0, 33));
+        return Err(ReadFail::refused(FileKind::Table(number), 0, 33));
     }
     let mut records = Records::of_text(alloc, bytes);
     let mut record = ByteRecord::new(alloc);
     if !records.read(&mut record)? {
-        return Err(refused(number, 1, 30));
+        return Err(ReadFail::refused(FileKind::Table(number), 1, 30));
     }
     let columns = columns_of(alloc, &record)?;
     if !are_distinct(alloc, columns.as_slice())? {
-        return Err(refused(number, 1, 32));
+        return Err(ReadFail::refused(FileKind::Table(number), 1, 32));
     }
     let mut cells = Cells::with_capacity(alloc, bytes.len(), 0)?;
     read_rows(&mut records, &mut record, columns.len(), number, &mut cells)?;

@@ -7,7 +7,7 @@ ghost use Rattle.conc_thin.specs.Thin.{entries_of, entry_text, manager_of, parts
 
 use crate::pieces::{behind, empty, name, one, word};
 use conc_types::{
-    Entry, FileKind, Item, Job, Manager, Name, NoMemory, Program, Reach, ReadFail, Refusal, Scope, Seq,
+    Entry, FileKind, Item, Job, Manager, Name, NoMemory, Program, Reach, ReadFail, Scope, Seq,
     Setup,
 };
 use std::alloc::Global;
@@ -164,11 +164,7 @@ fn setup_of(
 fn not_built() -> ReadFail
     ensures { IsFailure kind.Setup (some (0, 90)) result }
 {
-    ReadFail::Refused(Refusal {
-        file: FileKind::Setup,
-        line: 0,
-        kind: 90,
-    })
+    ReadFail::refused(FileKind::Setup, 0, 90)
 }
 
 /// The setup that the bytes spell in its thin form.

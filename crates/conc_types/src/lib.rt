@@ -21,6 +21,7 @@ mod stage;
 mod table;
 #[cfg(test)]
 mod tests;
+mod text;
 
 pub use cells::Cells;
 pub use decimal::{put_decimal, read_decimal};
@@ -38,4 +39,5 @@ pub use seq::Seq;
 pub use set::SetDef;
 pub use setup::Setup;
 pub use stage::{Stage, StageSet};
-pub use table::{Bytes, Table, Text};
+pub use table::Table;
+pub use text::{Bytes, Text, is_text, is_utf8};

@@ -1,9 +1,8 @@
 ghost use Rattle.std.specs.Prelude.{◌≡◌, IfOk, IsTrue};
-ghost use Rattle.std.specs.List.{list_all};
-ghost use Rattle.std.specs.Str.{is_utf8 as is_utf8_of};
-ghost use Rattle.conc_types.specs.Texts.{is_name as is_name_of, is_printable as is_printable_of};
+ghost use Rattle.conc_types.specs.Texts.{is_name as is_name_of};
 
 use crate::NoMemory;
+use crate::text::{are_printable, is_utf8};
 use std::alloc::Global;
 use std::marker::Model;
 
@@ -49,24 +48,6 @@ impl Name {
     {
         self.bytes.as_slice()
     }
-}
-
-fn is_printable(byte: u8) -> bool
-    ensures { result ≡ is_printable_of byte }
-{
-    32 <= byte && byte != 127
-}
-
-fn are_printable(bytes: &[u8]) -> bool
-    ensures { result ≡ list_all is_printable_of bytes.now }
-{
-    bytes.iter().all(|byte| is_printable(*byte))
-}
-
-fn is_utf8(bytes: &[u8]) -> bool
-    ensures { result ≡ is_utf8_of bytes.now }
-{
-    str::from_utf8(bytes).is_ok()
 }
 
 /// Whether these bytes are a name.

@@ -1,5 +1,5 @@
 ghost use Rattle.std.specs.Prelude.{◌≡◌};
-ghost use Rattle.conc_types.specs.declared.refusal.ReadFail.TheVariants.{NoMemory as out_of_memory};
+ghost use Rattle.conc_types.specs.declared.refusal.ReadFail.TheVariants.{NoMemory as out_of_memory, Refused as refused};
 
 use crate::NoMemory;
 use std::alloc::{AllocError, AllocFailed};
@@ -30,6 +30,15 @@ pub enum ReadFail {
     Refused(Refusal),
     #[error("no memory")]
     NoMemory,
+}
+
+impl ReadFail {
+    /// The refusal of a file at a line that breaks the rule with this number.
+    pub fn refused(file: FileKind, line: u64, kind: u8) -> Self
+        ensures { result ≡ refused (record { file = file; line = line; kind = kind }) }
+    {
+        ReadFail::Refused(Refusal { file, line, kind })
+    }
 }
 
 impl From<NoMemory> for ReadFail {

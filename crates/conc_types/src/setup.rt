@@ -27,7 +27,9 @@ pub struct Setup {
 fn place_of(names: &[Name], name: &Name) -> Option<usize>
     ensures { result ≡ position (bytes_eq name.now) names.now }
 {
-    names.iter().position(|other| name.as_bytes() == other.as_bytes())
+    names
+        .iter()
+        .position(|other| name.as_bytes() == other.as_bytes())
 }
 
 impl Setup {

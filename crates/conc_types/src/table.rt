@@ -4,14 +4,8 @@ ghost use Rattle.std.specs.Str.{bytes_eq};
 ghost use Rattle.conc_types.specs.Pieces.{concat, rows_of};
 ghost use Rattle.conc_types.specs.Words.{are_distinct, has_length};
 
-use crate::{Cells, Seq};
+use crate::{Bytes, Cells, Seq};
 use std::marker::Model;
-
-/// Bytes that are a text without control bytes.
-pub type Text = Seq<u8>;
-
-/// Bytes of any kind.
-pub type Bytes = Seq<u8>;
 
 /// A table: the names of its columns, which are distinct and not none, and rows with a cell for
 /// each of them. The cells lie row by row in one buffer. Contracts see the columns and the rows.

@@ -1,0 +1,31 @@
+-- What a command does, before it has memory of its own.
+use Rattle.std.specs.Prelude.{ℕ, Bool, if◌then◌else◌, List, codes, Option, None, Some}
+use Rattle.conc_types.specs.declared.event.RequestId.{RequestId}
+use Rattle.conc_types.specs.declared.script.Act.{Act}
+use Rattle.conc_types.specs.declared.script.Act.TheVariants as act
+use Rattle.conc_script.specs.declared.deeds.Deed.{Deed}
+use Rattle.conc_script.specs.declared.deeds.Deed.TheVariants as deed
+use Rattle.conc_script.specs.declared.deeds.Submission.{Submission}
+use Rattle.conc_script.specs.declared.deeds.Verb.{Verb}
+use Rattle.conc_script.specs.declared.deeds.Verb.TheVariants as verb
+use Rattle.conc_script.specs.Script.{is}
+
+abbrev pub submit_by : Submission → Act
+submit_by s = act.Submit s.item s.user.now s.priority s.start s.domain.now s.argument.now
+
+abbrev pub act_with : Verb → RequestId → Act
+act_with verb.Hold r = act.Hold r
+act_with verb.Unhold r = act.Unhold r
+act_with verb.Cancel r = act.Cancel r
+act_with verb.Terminate r = act.Terminate r
+
+-- the act that it is
+abbrev pub act_by : Deed → Act
+act_by (deed.Submit s) = submit_by s
+act_by (deed.On v r) = act_with v r
+
+abbrev pub verb_of : List ℕ → Option Verb
+verb_of word =
+    if is (codes "hold") word then Some verb.Hold
+    else (if is (codes "unhold") word then Some verb.Unhold
+    else (if is (codes "cancel") word then Some verb.Cancel else (if is (codes "terminate") word then Some verb.Terminate else None)))

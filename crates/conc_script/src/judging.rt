@@ -1,0 +1,165 @@
+ghost use Rattle.std.specs.Prelude.{◌≡◌, ◌+◌, ◌<◌, ◌^◌, ◌&&◌, true, false, Some, None, IfOk, IfSome, IsTrue, is_some, ℕ};
+ghost use Rattle.std.specs.Result.{result_err};
+ghost use Rattle.csv.specs.Records.{fields_of};
+ghost use Rattle.conc_types.specs.Decimals.{decimal_value};
+ghost use Rattle.conc_types.specs.Faults.{first_broken};
+ghost use Rattle.conc_types.specs.Scripts.{entered_by, is_act};
+ghost use Rattle.conc_types.specs.Texts.{is_text};
+ghost use Rattle.conc_types.specs.Words.{is_between};
+ghost use Rattle.conc_law.specs.Calendar.{moment_of};
+ghost use Rattle.conc_script.specs.Deeds.{act_by, submit_by, verb_of as verb_of_word};
+ghost use Rattle.conc_script.specs.Fields.{list_of};
+ghost use Rattle.conc_script.specs.Rules.{bare_form, deed_rules, record_rules, request_rules, submission_by, submit_form, submit_rules};
+ghost use Rattle.conc_script.specs.Script.{act_of, at_field, entered_by_record, is_earlier as is_earlier_of, is_submit as is_submit_of, item_named as item_named_of, order_of, submission_of};
+
+use crate::deeds::{Deed, Submission, Verb};
+use crate::fields::{Fields, fields_in};
+use crate::words::{domain_of, item_named, priority_of, start_of};
+use conc_records::ByteRecord;
+use conc_time::read_moment;
+use conc_types::{Item, Moment, RequestId, Setup, is_name, is_text, read_decimal};
+
+// How many records a script can have, with its header.
+const MOST_RECORDS: usize = 4097;
+
+const MOST_ARGUMENT_BYTES: usize = 200;
+
+// The submission of an item at a moment, where the fields behind the item have their form.
+fn form<'a>(at: Moment, item: Item, fields: &Fields<'a>) -> Option<Submission<'a>>
+    ensures form { is_some result ≡ submit_form (list_of fields.now) }
+    ensures said { IfSome result (λ s. submission_by at item (list_of fields.now) ≡ Some (submit_by s)) }
+    ensures item { IfSome result (λ s. s.item ≡ item) }
+    ensures fits { IfSome result (λ s. IsTrue (is_between 1 99 s.priority && is_text 200 s.argument.now)) }
+{
+    let priority = priority_of(fields.priority)?;
+    let start = start_of(at, fields.start)?;
+    let domain = domain_of(fields.domain)?;
+    if !is_name(fields.user) || !is_text(MOST_ARGUMENT_BYTES, fields.argument) {
+        return None;
+    }
+    Some(Submission {
+        item,
+        user: fields.user,
+        priority,
+        start,
+        domain,
+        argument: fields.argument,
+    })
+}
+
+// The submission that the fields say at a moment, or the rule that they break.
+#[tactic(auto, unfolding(crate::specs::Script::submission_of))]
+fn submission<'a>(setup: &Setup, at: Moment, fields: &Fields<'a>) -> Result<Submission<'a>, u8>
+    ensures rules { first_broken (submit_rules setup.now (list_of fields.now)) ≡ result_err result }
+    ensures said { IfOk result (λ s. submission_of setup.now at (list_of fields.now) ≡ Some (submit_by s)) }
+    ensures item { IfOk result (λ s. item_named_of setup.now fields.now.what.now ≡ Some s.item) }
+    ensures fits { IfOk result (λ s. (next : ℕ) → IsTrue (is_act setup.now next (submit_by s))) }
+{
+    let item = item_named(setup, fields.what).ok_or(23)?;
+    form(at, item, fields).ok_or(22)
+}
+
+fn verb_of(word: &[u8]) -> Option<Verb>
+    ensures { result ≡ verb_of_word word.now }
+{
+    if word == b"hold".as_slice() {
+        Some(Verb::Hold)
+    } else if word == b"unhold".as_slice() {
+        Some(Verb::Unhold)
+    } else if word == b"cancel".as_slice() {
+        Some(Verb::Cancel)
+    } else if word == b"terminate".as_slice() {
+        Some(Verb::Terminate)
+    } else {
+        None
+    }
+}
+
+// Whether the fields behind a request have their form: a user, which may lack, and nothing else.
+fn is_bare(fields: &Fields) -> bool
+    ensures { result ≡ bare_form (list_of fields.now) }
+{
+    (fields.user.is_empty() || is_name(fields.user))
+        && fields.priority.is_empty()
+        && fields.start.is_empty()
+        && fields.domain.is_empty()
+        && fields.argument.is_empty()
+}
+
+// The request that the fields name, one of so many that were entered, or the rule that they break.
+fn request(entered: u64, fields: &Fields) -> Result<RequestId, u8>
+    requires { entered < 2 ^ 32 }
+    ensures rules { first_broken (request_rules entered (list_of fields.now)) ≡ result_err result }
+    ensures said { IfOk result (λ request. decimal_value fields.now.what.now ≡ Some request.number) }
+    ensures fits { IfOk result (λ request. IsTrue (is_between 1 entered request.number)) }
+{
+    let number = read_decimal(fields.what).ok_or(22)?;
+    if number < 1 || number > entered {
+        return Err(24);
+    }
+    if !is_bare(fields) {
+        return Err(22);
+    }
+    Ok(RequestId {
+        number: number as u32,
+    })
+}
+
+fn is_submit(fields: &Fields) -> bool
+    ensures { result ≡ is_submit_of (list_of fields.now) }
+{
+    fields.word == b"submit".as_slice()
+}
+
+// What the fields say to do at a moment, after so many requests that were entered, or the rule that
+// they break.
+fn deed<'a>(setup: &Setup, at: Moment, entered: u64, fields: &Fields<'a>) -> Result<Deed<'a>, u8>
+    requires { entered < 2 ^ 32 }
+    ensures rules { first_broken (deed_rules setup.now entered (list_of fields.now)) ≡ result_err result }
+    ensures said { IfOk result (λ deed. act_of setup.now at (list_of fields.now) ≡ Some (act_by deed)) }
+    ensures fits { IfOk result (λ deed. IsTrue (is_act setup.now (entered + 1) (act_by deed))) }
+    ensures enters { IfOk result (λ deed. entered_by_record setup.now (list_of fields.now) ≡ entered_by setup.now (act_by deed)) }
+{
+    if is_submit(fields) {
+        let submission = submission(setup, at, fields)?;
+        return Ok(Deed::Submit(submission));
+    }
+    let verb = verb_of(fields.word).ok_or(21)?;
+    let request = request(entered, fields)?;
+    Ok(Deed::On(verb, request))
+}
+
+fn is_earlier(at: Moment, before: Option<Moment>) -> bool
+    ensures { result ≡ is_earlier_of (Some at) before }
+{
+    before.is_some_and(|before| at.seconds < before.seconds)
+}
+
+/// What the record with a number says, and its moment, after so many requests that were entered and
+/// after a record of the moment before; or the kind of the first rule that it breaks.
+pub(crate) fn judge<'a>(
+    setup: &Setup,
+    number: usize,
+    entered: u64,
+    before: Option<Moment>,
+    row: &'a ByteRecord,
+) -> Result<(Moment, Deed<'a>), u8>
+    requires { entered < 2 ^ 32 }
+    ensures rules { first_broken (record_rules setup.now number entered before (fields_of row.now)) ≡ result_err result }
+    ensures said { IfOk result (λ p. order_of setup.now (fields_of row.now) ≡ Some (record { at = p.0; act = act_by p.1 })) }
+    ensures at { IfOk result (λ p. moment_of (at_field (fields_of row.now)) ≡ Some p.0) }
+    ensures later { IfOk result (λ p. is_earlier_of (Some p.0) before ≡ false) }
+    ensures fits { IfOk result (λ p. IsTrue (is_act setup.now (entered + 1) (act_by p.1))) }
+    ensures enters { IfOk result (λ p. entered_by_record setup.now (fields_of row.now) ≡ entered_by setup.now (act_by p.1)) }
+{
+    let fields = fields_in(row).ok_or(20)?;
+    if number > MOST_RECORDS {
+        return Err(26);
+    }
+    let at = read_moment(fields.at).ok_or(22)?;
+    if is_earlier(at, before) {
+        return Err(25);
+    }
+    let deed = deed(setup, at, entered, &fields)?;
+    Ok((at, deed))
+}
