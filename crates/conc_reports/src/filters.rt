@@ -19,7 +19,8 @@ pub enum Check<'a> {
     Below(Option<i64>),
 }
 
-/// A filter for the rows of one table: the place of its column, and what the cell there is tested for.
+/// A filter for the rows of one table: the place of its column, and what the cell there is tested
+/// for.
 #[derive(Clone, Copy)]
 pub struct Condition<'a> {
     pub place: Place,
