@@ -19,7 +19,8 @@ fn report_of(alloc: Global, plan: &Plan, r: &Req) -> Result<Option<Made>, NoMemo
         None => Ok(None),
         Some(program) => match plan
             .setup
-            .table_named(plan.tables.as_slice(), &program.job.table) {
+            .table_named(plan.tables.as_slice(), &program.job.table)
+        {
             None => Ok(None),
             Some(table) => Ok(Some(report(alloc, &program.job, r.argument.as_slice(), table)?)),
         },

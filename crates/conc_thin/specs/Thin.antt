@@ -1,5 +1,5 @@
 -- The thin form of a setup, and what it means.
-use Rattle.std.specs.Prelude.{◌≡◌, ℕ, Bool, true, false, ◌&&◌, nat_le, List, [], ◌∷◌, ◌++◌, codes, length, map, None, Some}
+use Rattle.std.specs.Prelude.{◌≡◌, ℕ, Bool, true, false, List, [], ◌∷◌, ◌++◌, codes, None, Some}
 use Rattle.std.proofs.Common.{lit≤}
 use Rattle.std.specs.Str.{bytes_eq}
 use Rattle.conc_types.specs.declared.item.Entry.{Entry}

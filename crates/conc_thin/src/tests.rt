@@ -24,9 +24,6 @@ fn reads_setups(rt: HostRuntime) -> Result<(), Fail> {
     let alloc = rt.alloc();
     assert_eq!(rt; read_setup(alloc, SETUP)?.entries.len(), 0);
     assert_eq!(rt; read_setup(alloc, EXCLUSIVE)?.entries.len(), 1);
-    assert_eq!(rt;
-        read_setup(alloc, OTHER_TABLE).err(),
-        refused()
-    );
+    assert_eq!(rt; read_setup(alloc, OTHER_TABLE).err(), refused());
     Ok(())
 }

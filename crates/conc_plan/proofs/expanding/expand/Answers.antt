@@ -5,7 +5,7 @@ use Rattle.conc_plan.proofs.Faults.{no_more_faults}
 use Rattle.conc_plan.proofs.expanding.expand.Goals as goal
 
 pub returns-then-len-entered_count-gt-MOST_REQUESTS-clause-err : goal.returns-then-len-entered_count-gt-MOST_REQUESTS-clause-err
-returns-then-len-entered_count-gt-MOST_REQUESTS-clause-err c = (
+returns-then-len-entered_count-gt-MOST_REQUESTS-clause-err c = rw c.refused.ensures (
   refl,
   record-fails c.args.setup.now c.args.orders.now _ _ _ _ _ c.loop-order-test.true c.order-item.is c.loop-order.invariant.entered
       (omega (arith, c.from.ensures, c.loop-order.invariant.command))
