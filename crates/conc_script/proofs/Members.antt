@@ -1,10 +1,9 @@
 -- How many members a set can have.
-use Rattle.std.proofs.Common.{◌≡◌, refl, ◌∙◌, ap, ℕ, ◌≤◌, ◌*◌, true, List, length, get_or, arith}
+use Rattle.std.proofs.Common.{◌≡◌, ℕ, ◌≤◌, true, length, get_or, arith}
 use Rattle.std.specs.Prelude.{nat_le}
 use Rattle.std.specs.List.{sum_by}
 use Rattle.std.proofs.lemmas.Bool.{and_parts, leb-true}
 use Rattle.std.proofs.lemmas.List.Sums.{sum_by-le}
-use Rattle.std.proofs.Math.Nat.{mul-le-mul_right}
 use Rattle.conc_types.specs.declared.set.SetDef.{SetDef}
 use Rattle.conc_types.specs.declared.stage.Stage.{Stage}
 use Rattle.conc_types.specs.Words.{is_between}

@@ -1,6 +1,4 @@
-use Rattle.std.proofs.Common.{◌∙◌, arith, ap, List}
-use Rattle.std.specs.List.{sum_by}
-use Rattle.conc_types.specs.declared.stage.Stage.{Stage}
+use Rattle.std.proofs.Common.{arith}
 use Rattle.conc_script.proofs.Members.{few_members}
 use Rattle.conc_script.proofs.owning.member_count.Goals as goal
 
