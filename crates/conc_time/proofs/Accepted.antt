@@ -1,7 +1,6 @@
 -- What `jiff` says of the numbers of a date is what the law says.
 use Rattle.std.proofs.Common.{◌≡◌, ◌∙◌, sym, refl, ℕ, ◌/◌, ◌%◌, ◌<◌, ◌≤◌, ◌⊎◌, inl, inr, Bool, true, false, cond, Option, Some, None, ℤ, pos, ◌+ℤ◌, ◌-ℤ◌, ◌<ℤ◌, ◌≤ℤ◌, unsigned_abs, of_z, to_z, w8, w16, MatchOption, IfSome, arith}
 use Rattle.std.proofs.lemmas.Bool.{cases_order}
-use Rattle.std.proofs.lemmas.Bool.Decides.{nat_tests}
 use Rattle.std.proofs.lemmas.Int.{by_lt_z}
 use Rattle.jiff.proofs.SpanFacts.{signed_arith}
 use Rattle.jiff_core.specs.declared.civil.date.Date.{Date}
@@ -14,21 +13,7 @@ use Rattle.conc_law.specs.Calendar.{Civil, days_before, seconds_of}
 use Rattle.conc_time.specs.Fields.{has_date}
 use Rattle.conc_time.proofs.Calendars.{before_start, day_number, months_same}
 use Rattle.conc_time.proofs.Dates.{days_in}
-use Rattle.conc_time.proofs.Days.{month_length}
-use Rattle.conc_time.proofs.Parts.{IsCivil}
-
-pub record HasDate (c : Civil) : Type 0 where
-  pub year_in : (1 ≤ c.year) × (c.year ≤ 9999)
-  pub month_in : (1 ≤ c.month) × (c.month ≤ 12)
-  pub day_in : (1 ≤ c.day) × (c.day ≤ month_length c.year c.month)
-
-date_parts : (c : Civil) → has_date c ≡ true → HasDate c
-unfolding has_date
-date_parts c h = record { year_in = grind (arith, nat_tests); month_in = grind (arith, nat_tests); day_in = grind (arith, nat_tests) }
-
-date_from : (c : Civil) → HasDate c → has_date c ≡ true
-unfolding has_date
-date_from c h = grind (arith, nat_tests, h.year_in, h.month_in, h.day_in)
+use Rattle.conc_time.proofs.Parts.{date_from, date_parts, HasDate, IsCivil}
 
 -- the bits of a small number are the number
 year_back : (n : ℕ) → n < 10000 → to_z w16 n ≡ pos n
@@ -99,12 +84,12 @@ read c d days year month day h e =
       | inr (inl lt) ↦ absurd (omega arith)
       | inr (inr gt) ↦
           let parts = has_parts c d y m dd gt in
-          let number = day_number c parts.year_in parts.month_in parts.day_in.0 in
+          let number = day_number c parts in
           rw (date_from c parts) (some_from days _ (days_before c) e (rw (y, m, dd) number))
     ]
 
 within : (c : Civil) (b : Bool) → b ≡ has_date c → IfSome (cond b (Some (days_before c)) None) (λ n. n < 3652059)
-within c true e = let parts = date_parts c (sym e) in days_in c parts.year_in parts.month_in parts.day_in
+within c true e = days_in c (date_parts c (sym e))
 within c false e = tt
 
 -- there are fewer than to the end of the calendar
@@ -141,13 +126,11 @@ placed t d c e year month day hour minute second =
     by_lt_z d.year (pos 1) (λ lt. let before = before_start d lt in absurd (omega (arith, signed_arith))) (λ ge. ge) in
     let y : d.year ≡ pos c.year = omega (arith, signed_arith, one_part d.year) in
     let parts = has_parts c d y (sym month) (sym day) (omega (arith, signed_arith)) in
-    let same : epoch_day d +ℤ pos 719162 ≡ pos (days_before c) = rw (y, sym month, sym day) (day_number c parts.year_in parts.month_in parts.day_in.0) in
+    let same : epoch_day d +ℤ pos 719162 ≡ pos (days_before c) = rw (y, sym month, sym day) (day_number c parts) in
     let days : days_before c ≡ t.seconds / 86400 = omega (arith, signed_arith) in
     record {
       valid = record {
-        year_in = parts.year_in;
-        month_in = parts.month_in;
-        day_in = parts.day_in;
+        date = parts;
         hour_in = omega arith;
         minute_in = omega arith;
         second_in = omega arith;

@@ -10,6 +10,7 @@ use Rattle.jiff_core.proofs.SignedLemmas.{back_small, one_part}
 use Rattle.jiff_core.proofs.MarchLemmas.{day_count-early}
 use Rattle.conc_law.specs.Calendar.{Civil, days_before, days_in_year, month_lengths}
 use Rattle.conc_law.specs.Moments.{days_before_month, days_before_year, is_leap}
+use Rattle.conc_time.proofs.Parts.{HasDate}
 use Rattle.conc_time.proofs.Days.{days_apart, first_month, month_length, next_month, next_year}
 
 years_same : (year : ℕ) → days_in_year_z (pos year) ≡ days_in_year year
@@ -61,14 +62,17 @@ unfolding days_before_year
 first_year = refl
 
 -- the day number of a date
-pub day_number : (c : Civil) → (1 ≤ c.year) × (c.year ≤ 9999) → (1 ≤ c.month) × (c.month ≤ 12) → 1 ≤ c.day → days_from_civil (pos c.year) c.month c.day +ℤ pos 719162 ≡ pos (days_before c)
-day_number c year_in month_in day_in =
+pub day_number : (c : Civil) → HasDate c → days_from_civil (pos c.year) c.month c.day +ℤ pos 719162 ≡ pos (days_before c)
+day_number c h =
+    let year_in = h.year_in in
+    let month_in = h.month_in in
+    let day_in = h.day_in in
     let apart = days_apart c year_in.0 in
     let year : c.year - 1 + 1 ≡ c.year = omega arith in
     let month : c.month - 1 + 1 ≡ c.month = omega arith in
     let years = rw year at (before_year (c.year - 1)) in
     let months = rw month at (before_month c.year (c.month - 1) (omega arith)) in
-    omega (arith, signed_arith, days_from_civil-day_count (pos c.year) c.month c.day, day_count-day_of_year (pos c.year) c.month c.day day_in)
+    omega (arith, signed_arith, days_from_civil-day_count (pos c.year) c.month c.day, day_count-day_of_year (pos c.year) c.month c.day day_in.0)
 
 -- weekdays
 pub weekday_same : (day : ℕ) (z : ℤ) → z ≡ pos day -ℤ pos 719162 → weekday_number z ≡ day % 7

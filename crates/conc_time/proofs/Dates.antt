@@ -7,7 +7,7 @@ use Rattle.conc_types.specs.declared.event.Moment.{Moment}
 use Rattle.conc_law.specs.Calendar.{Civil, civil_text, days_before, is_civil, seconds_of}
 use Rattle.conc_law.specs.Moments.{date_text, days_before_month, days_before_year, moment_text, time_text}
 use Rattle.conc_time.proofs.Days.{all_months, days_apart, first_month, month_length, next_month, next_year}
-use Rattle.conc_time.proofs.Parts.{IsCivil, parts_of}
+use Rattle.conc_time.proofs.Parts.{HasDate, IsCivil, parts_of}
 use Rattle.conc_time.proofs.Years.{date_found, first_from, months_grow, years_grow}
 
 ends : days_before_year 10000 ≡ 3652059
@@ -18,9 +18,12 @@ begins : days_before_year 1 ≡ 0
 unfolding days_before_year
 begins = refl
 
--- dates, and times on them, lie before the end of the calendar
-pub days_in : (c : Civil) → (1 ≤ c.year) × (c.year ≤ 9999) → (1 ≤ c.month) × (c.month ≤ 12) → (1 ≤ c.day) × (c.day ≤ month_length c.year c.month) → days_before c < 3652059
-days_in c year_in month_in day_in =
+-- a date lies before the end of the calendar
+pub days_in : (c : Civil) → HasDate c → days_before c < 3652059
+days_in c h =
+    let year_in = h.year_in in
+    let month_in = h.month_in in
+    let day_in = h.day_in in
     let apart = days_apart c year_in.0 in
     let months = next_month c.year c.month month_in.0 month_in.1 in
     let grow = months_grow c.year (c.month + 1) 13 (omega arith) (omega arith) (omega arith) in
@@ -28,15 +31,6 @@ days_in c year_in month_in day_in =
     let years = next_year c.year year_in.0 in
     let last = years_grow (c.year + 1) 10000 (omega arith) (omega arith) in
     omega (arith, ends)
-
-pub seconds_in : (c : Civil) → IsCivil c → seconds_of c < 315537897600
-unfolding seconds_of
-seconds_in c h =
-    let hour_in = h.hour_in in
-    let minute_in = h.minute_in in
-    let second_in = h.second_in in
-    let days = days_in c h.year_in h.month_in h.day_in in
-    omega arith
 
 -- the text of a moment is that of its date and time
 pub text_of : (t : Moment) (c : Civil) → IsCivil c → t.seconds ≡ seconds_of c → moment_text t ≡ civil_text c
@@ -49,7 +43,7 @@ text_of t c h e =
     let hour : t.seconds % 86400 / 3600 ≡ c.hour = omega arith in
     let minute : t.seconds % 86400 / 60 % 60 ≡ c.minute = omega arith in
     let second : t.seconds % 86400 % 60 ≡ c.second = omega arith in
-    let found = date_found c h in
+    let found = date_found c h.date in
     rw (day, found.year, found.month, found.day_in_month, hour, minute, second) refl
 
 -- the same from the test
@@ -124,7 +118,12 @@ unfolding civil_at
 civil_at-is time day d h =
     let low = d.low in
     let high = d.high in
-    record { year_in = d.year_in; month_in = d.month_in; day_in = (omega arith, omega arith); hour_in = omega arith; minute_in = omega arith; second_in = omega arith }
+    record {
+      date = record { year_in = d.year_in; month_in = d.month_in; day_in = (omega arith, omega arith) };
+      hour_in = omega arith;
+      minute_in = omega arith;
+      second_in = omega arith;
+    }
 
 civil_at-seconds : (time day : ℕ) (d : IsDateOf day) → time < 86400 → seconds_of (civil_at time day d) ≡ 86400 * day + time
 unfolding civil_at seconds_of

@@ -16,9 +16,9 @@ use Rattle.conc_time.proofs.Parts.{from_parts, IsCivil, parts_of}
 
 pub has_places : (c : Civil) → IsCivil c → HasPlaces c
 has_places c h =
-    let year_in = h.year_in in
-    let month_in = h.month_in in
-    let day_in = h.day_in in
+    let year_in = h.date.year_in in
+    let month_in = h.date.month_in in
+    let day_in = h.date.day_in in
     let hour_in = h.hour_in in
     let minute_in = h.minute_in in
     let second_in = h.second_in in

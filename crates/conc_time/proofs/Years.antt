@@ -7,7 +7,7 @@ use Rattle.std.proofs.lemmas.Bool.Decides.{nat_tests}
 use Rattle.conc_law.specs.Calendar.{Civil, days_before}
 use Rattle.conc_law.specs.Moments.{day_in_month, day_in_year, days_before_month, days_before_year, month_of, year_of}
 use Rattle.conc_time.proofs.Days.{all_months, days_apart, next_month, next_year}
-use Rattle.conc_time.proofs.Parts.{IsCivil}
+use Rattle.conc_time.proofs.Parts.{HasDate}
 
 -- the first number that passes
 pub record IsFirst (test : ℕ → Bool) (from found : ℕ) : Type 0 where
@@ -110,7 +110,7 @@ pub record IsFound (c : Civil) (day : ℕ) : Type 0 where
   pub day_in_month : day_in_month day ≡ c.day
 
 -- the day of a date lies among those of its year and its month
-pub date_found : (c : Civil) → IsCivil c → IsFound c (days_before c)
+pub date_found : (c : Civil) → HasDate c → IsFound c (days_before c)
 unfolding day_in_month day_in_year
 date_found c h =
     let year_in = h.year_in in

@@ -19,7 +19,7 @@ impl Civil {
     ghost use Rattle.conc_law.specs.Calendar.{civil_text};
     ghost use Rattle.conc_time.specs.Fields.{civil};
 
-    /// It as `YYYY-MM-DDTHH:MM:SS`.
+    /// Their text, `YYYY-MM-DDTHH:MM:SS`.
     #[tactic(auto, unfolding(conc_law::specs::Calendar::civil_text))]
     pub fn text(&self) -> [u8; 19]
         ensures { result ≡ civil_text (civil self.now) }

@@ -1,4 +1,4 @@
-//! The places of managers at moments, and the text of a moment.
+//! The places of managers at moments, and moments as text, written and read.
 #![tactic(auto)]
 
 mod civil;
@@ -15,3 +15,5 @@ pub use managers::{is_admitted_at, is_usable, place_count, place_of};
 pub use moments::put_moment;
 pub use reading::read_moment;
 pub use shifts::places;
+
+const SECONDS_PER_DAY: u64 = 86400;

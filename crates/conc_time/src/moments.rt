@@ -4,12 +4,11 @@ ghost use Rattle.conc_law.specs.Calendar.{is_civil, seconds_of};
 ghost use Rattle.conc_law.specs.Moments.{moment_text};
 ghost use Rattle.conc_time.specs.Fields.{civil};
 
+use crate::SECONDS_PER_DAY;
 use crate::civil::Civil;
 use conc_types::{Moment, NoMemory};
 use jiff::ToSpan;
 use jiff::civil::{Date, date};
-
-const SECONDS_PER_DAY: u64 = 86400;
 
 // The date of a day that is counted from 0 for 0001-01-01, up to 9999-12-31.
 fn date_of(day: u64) -> Date

@@ -1,9 +1,10 @@
-ghost use Rattle.std.specs.Prelude.{◌≡◌, ◌+◌, ◌<◌, ℕ, IfSome, MatchOption, None, Option, Some, if◌then◌else◌, pos, ◌+ℤ◌, ◌<ℤ◌};
+ghost use Rattle.std.specs.Prelude.{◌≡◌, ◌+◌, ◌<◌, ℕ, IfSome, IsNone, MatchOption, None, Option, Some, if◌then◌else◌, pos, ◌+ℤ◌, ◌<ℤ◌};
 ghost use Rattle.jiff.specs.Words.{epoch_day};
 ghost use Rattle.conc_types.specs.declared.event.Moment.{Moment};
 ghost use Rattle.conc_law.specs.Calendar.{days_before as days_before_of, is_civil, moment_of, seconds_of as seconds_of_of, SpellsMoment};
 ghost use Rattle.conc_time.specs.Fields.{civil, has_date, has_time, time as time_of_of, digit_at as digit_at_of, numbers_at as numbers_at_of, two_at};
 
+use crate::SECONDS_PER_DAY;
 use crate::civil::Civil;
 use conc_types::Moment;
 use jiff::civil::{Date, date};
@@ -47,6 +48,7 @@ fn days_until(day: Date) -> i64
     date(1, 1, 1).duration_until(day).as_hours() / 24
 }
 
+// The same, or None where it is negative.
 fn days_from_start(day: Date) -> Option<u64>
     ensures { MatchOption result ((epoch_day day +ℤ pos 719162) <ℤ pos 0) (λ days. pos days ≡ epoch_day day +ℤ pos 719162) }
 {
@@ -55,11 +57,11 @@ fn days_from_start(day: Date) -> Option<u64>
 
 // The days from 0001-01-01 to a date. None exactly where the calendar has no such date in a year
 // from 1 on.
-fn days_before(c: &Civil) -> Option<u64>
-    ensures days { result ≡ (if has_date (civil c.now) then Some (days_before_of (civil c.now)) else None) }
+fn days_before(numbers: &Civil) -> Option<u64>
+    ensures days { result ≡ (if has_date (civil numbers.now) then Some (days_before_of (civil numbers.now)) else None) }
     ensures few { IfSome result (λ days. days < 3652059) }
 {
-    let Ok(day) = Date::new(c.year as i16, c.month as i8, c.day as i8) else {
+    let Ok(day) = Date::new(numbers.year as i16, numbers.month as i8, numbers.day as i8) else {
         return None;
     };
     days_from_start(day)
@@ -67,12 +69,16 @@ fn days_before(c: &Civil) -> Option<u64>
 
 // The seconds from midnight. None exactly where a day has no such time.
 #[tactic(auto, unfolding(crate::specs::Fields::has_time))]
-fn time_of(c: &Civil) -> Option<u64>
-    ensures seconds { result ≡ (if has_time (civil c.now) then Some (time_of_of (civil c.now)) else None) }
+fn time_of(numbers: &Civil) -> Option<u64>
+    ensures seconds { result ≡ (if has_time (civil numbers.now) then Some (time_of_of (civil numbers.now)) else None) }
     ensures few { IfSome result (λ seconds. seconds < 86400) }
 {
-    if c.hour < 24 && c.minute < 60 && c.second < 60 {
-        Some(3600 * u64::from(c.hour) + 60 * u64::from(c.minute) + u64::from(c.second))
+    if numbers.hour < 24 && numbers.minute < 60 && numbers.second < 60 {
+        Some(
+            3600 * u64::from(numbers.hour)
+                + 60 * u64::from(numbers.minute)
+                + u64::from(numbers.second),
+        )
     } else {
         None
     }
@@ -81,11 +87,11 @@ fn time_of(c: &Civil) -> Option<u64>
 // The seconds from 0001-01-01T00:00:00. None exactly where the calendar has no such date in a year
 // from 1 on, or a day has no such time.
 #[tactic(auto, unfolding(conc_law::specs::Calendar::is_civil, conc_law::specs::Calendar::seconds_of, crate::specs::Fields::has_date, crate::specs::Fields::has_time))]
-fn seconds_of(c: &Civil) -> Option<u64>
-    ensures seconds { result ≡ (if is_civil (civil c.now) then Some (seconds_of_of (civil c.now)) else None) }
+fn seconds_of(numbers: &Civil) -> Option<u64>
+    ensures seconds { result ≡ (if is_civil (civil numbers.now) then Some (seconds_of_of (civil numbers.now)) else None) }
     ensures few { IfSome result (λ seconds. seconds < 315537897600) }
 {
-    Some(86400 * days_before(c)? + time_of(c)?)
+    Some(SECONDS_PER_DAY * days_before(numbers)? + time_of(numbers)?)
 }
 
 /// The moment that the bytes spell as `YYYY-MM-DDTHH:MM:SS`, in a year from 0001 to 9999 of the
@@ -94,7 +100,7 @@ fn seconds_of(c: &Civil) -> Option<u64>
 pub fn read_moment(bytes: &[u8]) -> Option<Moment>
     ensures value { result ≡ moment_of bytes.now }
     ensures spelled { IfSome result (λ t. SpellsMoment bytes.now t) }
-    ensures none { (result ≡ None) → (t : Moment) → SpellsMoment bytes.now t → ⊥ }
+    ensures none { IsNone result → (t : Moment) → ¬ (SpellsMoment bytes.now t) }
 {
     let numbers = numbers_at(bytes);
     let seconds = seconds_of(&numbers)?;

@@ -6,9 +6,8 @@ ghost use Rattle.jiff.specs.Words.{epoch_day, weekday_of as weekday_of_date};
 ghost use Rattle.jiff_core.specs.declared.civil.date.Date.{Date};
 ghost use Rattle.conc_law.specs.Managers.{level as level_of, places as places_of, shift_covers};
 
+use crate::SECONDS_PER_DAY;
 use conc_types::{Manager, Moment, Shift};
-
-const SECONDS_PER_DAY: u64 = 86400;
 
 // The weekday of a day that is counted from 0 for 0001-01-01, from 0 for Monday.
 #[tactic(auto, using(crate::proofs::Calendars::weekday_same))]
