@@ -29,9 +29,9 @@ impl<'a> Model for Records<'a> {
 }
 
 impl<'a> Records<'a> {
-    /// The records of a text. The first is a record like any other, and each may be of another
-    /// length. A byte order mark at the start of the text, and lines with nothing on them, are no
-    /// part of any record. The allocator is for a record that is kept while the text is read.
+    /// The records of a text. The first is a record like any other, and each may have another
+    /// number of fields. A byte order mark at the start of the text, and lines with nothing on them,
+    /// are no part of any record. It takes no memory; reading does.
     pub fn of_text(alloc: Global, text: &'a [u8]) -> Records<'a>
         ensures all { result ≡ records_of text.now }
         ensures few { length result ≤ length text.now }

@@ -73,14 +73,17 @@ fn read_rows(
     Ok(())
 }
 
-/// The table with this number, from 0, that the bytes are. They are records of comma-separated
-/// fields, with quotes as in RFC 4180: the names of the columns, which are distinct, and then the
-/// rows, each with a field for each column. A line with nothing on it is no record.
+/// The table that the bytes are, where `number` is its place in the setup's list of tables, from 0.
+/// They are records of fields with commas between them, one on each line. A field in quotes may hold
+/// commas, line ends and, doubled, quotes. The first record is the names of the columns, and each
+/// later one a row. A line with nothing on it is no record, and a byte order mark before the first
+/// is no part of it.
 ///
-/// A file of more than 67,108,864 bytes is refused as a whole (line 0, kind 33). Else the first
-/// record that breaks a rule is told by its number, from 1, and by the first rule that it breaks:
-/// there are columns (30), no two with one name (32); a row is one of at most 1,048,576 (33), and
-/// as long as the first record (31). Without memory, `NoMemory` may come in place of either.
+/// A file of more than 67,108,864 bytes is refused as a whole, as line 0 with kind 33. Else the
+/// first record that breaks a rule is refused, by its place among the records, from 1, and by the
+/// first of these that it breaks: there are columns (kind 30), no two of them have one name (32);
+/// there are at most 1,048,576 rows (33), each with a field for each column (31). `NoMemory` tells
+/// that there was no memory, whatever the file.
 pub fn read_table(alloc: Global, bytes: &[u8], number: u32) -> Result<Table, ReadFail>
     ensures ok { IfOk result (λ table. SpellsTable bytes.now table) }
     ensures few { IfOk result (λ table. length table.rows ≤ 1048576) }

@@ -2,14 +2,12 @@ use Rattle.std.proofs.Common.{◌∙◌, sym}
 use Rattle.conc_tables.proofs.Names.{found-again, found-new}
 use Rattle.conc_tables.proofs.columns.are_distinct.Goals as goal
 
--- src/columns.rt:29:13
 pub returns-then-not-branch : goal.returns-then-not-branch
 returns-then-not-branch c =
     let (before, knows) = c.loop-name.invariant in
     found-again c.args.names.now c.loop-name.seen.keys c.as_slice.result c.loop-name.name-index c.name-item.result c.loop-name-test.true
     (c.as_slice.ensures ∙ c.name-item.is) knows (sym c.if-not-branch.true ∙ c.in_ok-insert.ensures.added)
 
--- src/columns.rt:27:5
 pub loop-name-preserved : goal.loop-name-preserved
 loop-name-preserved c =
     let (before, knows) = c.loop-name.invariant in

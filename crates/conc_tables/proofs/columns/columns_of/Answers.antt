@@ -3,19 +3,16 @@ use Rattle.csv.specs.Records.{Row}
 use Rattle.conc_tables.proofs.Fields.{pushed, pushed-all}
 use Rattle.conc_tables.proofs.columns.columns_of.Goals as goal
 
--- src/columns.rt:16:5
 pub loop-name-preserved : goal.loop-name-preserved
 loop-name-preserved c =
     let (here, some) = c.loop-name.invariant in
     let (row, field, at) = c.in-Some.ensures.steps in
     let copied : c.from_vec.result ≡ c.in-Some.name.now = search rules in
-    let longer = c.in_ok-push.ensures.items ∙ ap (λ (name : List ℕ). c.loop-name.columns.items ++ (name ∷ [])) copied in
-    (
+    let longer = c.in_ok-push.ensures.items ∙ ap (λ (name : List ℕ). c.loop-name.columns.items ++ (name ∷ [])) copied in (
       ap (λ (b : Bor Row). b.now) row ∙ here,
       pushed _ _ [] _ _ _ _ _ here field at some longer,
     )
 
--- src/columns.rt:12:1
 pub returns : goal.returns
 returns c =
     let (here, some) = c.loop-name.invariant in

@@ -1,22 +1,18 @@
-use Rattle.std.proofs.Common.{rules, true, ◌≡◌, ◌∙◌, ◌++◌, sym, refl, [], arith, length}
+use Rattle.std.proofs.Common.{rules, true, ◌≡◌, ◌∙◌, sym, refl, arith, length}
 use Rattle.std.specs.List.{list_all}
-use Rattle.std.specs.Str.{bytes_eq}
 use Rattle.csv.specs.Records.{fields_of}
-use Rattle.conc_types.specs.Words.{are_distinct, has_length}
+use Rattle.conc_types.specs.Words.{has_length}
 use Rattle.conc_tables.proofs.Rows.{cells-whole, fault-doubled, fault-long, fault-none, fault-rows, rows-even, rows-few}
 use Rattle.conc_tables.proofs.reading.read_table.Goals as goal
 
--- src/reading.rt:90:9
 pub returns-then-bytes-gt-MOST_BYTES-clause-err : goal.returns-then-bytes-gt-MOST_BYTES-clause-err
 returns-then-bytes-gt-MOST_BYTES-clause-err c = rw c.refused.ensures (refl, fault-long c.args.bytes.now c.if-bytes-gt-MOST_BYTES.true)
 
--- src/reading.rt:95:9
 pub returns-then-not-branch-clause-err : goal.returns-then-not-branch-clause-err
 returns-then-not-branch-clause-err c =
     let gone = c.in_ok-read.ensures.none c.if-not-branch.true in
     rw c.refused-then-not-branch.ensures (refl, fault-none c.args.bytes.now c.if-bytes-gt-MOST_BYTES.false (sym c.of_text-records.ensures.all ∙ gone.0))
 
--- src/reading.rt:99:9
 pub returns-then-not-branch-2-clause-err : goal.returns-then-not-branch-2-clause-err
 returns-then-not-branch-2-clause-err c =
     let records = sym c.of_text-records.ensures.all ∙ c.in_ok-read.ensures.some c.if-not-branch.false in
@@ -24,7 +20,6 @@ returns-then-not-branch-2-clause-err c =
     let doubled = sym (rw names at c.in_ok-are_distinct.ensures) ∙ c.if-not-branch-2.true in
     rw c.refused-then-not-branch-2.ensures (refl, fault-doubled c.args.bytes.now _ _ c.if-bytes-gt-MOST_BYTES.false records doubled)
 
--- src/reading.rt:102:5
 pub returns-in_err-read_rows-clause-err : goal.returns-in_err-read_rows-clause-err
 returns-in_err-read_rows-clause-err c =
     let records = sym c.of_text-records.ensures.all ∙ c.in_ok-read.ensures.some c.if-not-branch.false in
@@ -34,7 +29,6 @@ returns-in_err-read_rows-clause-err c =
     let failed = rw (c.len.ensures, c.in_ok-columns.ensures, ← faults) at c.in_err-read_rows.ensures.err in
     search rules
 
--- src/reading.rt:103:8
 pub new-requires-clause-whole : goal.new-requires-clause-whole
 new-requires-clause-whole c =
     let faultless = rw (c.len.ensures, c.in_ok-columns.ensures) at c.in_ok-read_rows.ensures.faultless in
@@ -42,7 +36,6 @@ new-requires-clause-whole c =
     let some = c.in_ok-read.ensures.fields c.if-not-branch.false in
     rw c.in_ok-columns.ensures (cells-whole _ _ _ some faultless cells).0
 
--- src/reading.rt:103:8
 pub new-requires-clause-few : goal.new-requires-clause-few
 new-requires-clause-few c =
     let faultless = rw (c.len.ensures, c.in_ok-columns.ensures) at c.in_ok-read_rows.ensures.faultless in
@@ -50,7 +43,6 @@ new-requires-clause-few c =
     let some = c.in_ok-read.ensures.fields c.if-not-branch.false in
     rw c.in_ok-columns.ensures (cells-whole _ _ _ some faultless cells).1
 
--- src/reading.rt:84:1
 pub returns-clause-ok : goal.returns-clause-ok
 returns-clause-ok c =
     let records = sym c.of_text-records.ensures.all ∙ c.in_ok-read.ensures.some c.if-not-branch.false in
@@ -65,7 +57,6 @@ returns-clause-ok c =
       records_are = rw (c.new.ensures.columns, c.in_ok-columns.ensures, rows) records;
     }
 
--- src/reading.rt:84:1
 pub returns-clause-few : goal.returns-clause-few
 returns-clause-few c =
     let faultless = rw (c.len.ensures, c.in_ok-columns.ensures) at c.in_ok-read_rows.ensures.faultless in

@@ -3,7 +3,6 @@ use Rattle.csv.specs.Records.{fields_of}
 use Rattle.conc_records.proofs.Steps.{found-some_field, left-found, left-none}
 use Rattle.conc_records.proofs.records.Records.read.Goals as goal
 
--- src/records.rt:51:5
 pub returns-clause-some : goal.returns-clause-some
 returns-clause-some c e =
     let (config, trim, ready, going) = c.self.invariant c.if-self.false in
@@ -11,7 +10,6 @@ returns-clause-some c e =
     let found = left-found (λ (s : Bor (List ℕ)). s.now) c.self.inside.reader c.read_byte_record.new.self (fields_of c.read_byte_record.new.row) config going reads in
     rw e (sym c.self.view_is ∙ rw c.if-self.false found)
 
--- src/records.rt:51:5
 pub returns-clause-none : goal.returns-clause-none
 returns-clause-none c e =
     let (config, trim, ready, going) = c.self.invariant c.if-self.false in
@@ -19,7 +17,6 @@ returns-clause-none c e =
     let none = left-none (λ (s : Bor (List ℕ)). s.now) c.self.inside.reader c.read_byte_record.new.self (fields_of c.read_byte_record.new.row) config going reads in
     (sym c.self.view_is ∙ rw c.if-self.false none, rw e refl)
 
--- src/records.rt:51:5
 pub returns-clause-fields : goal.returns-clause-fields
 returns-clause-fields c e =
     let (config, trim, ready, going) = c.self.invariant c.if-self.false in
