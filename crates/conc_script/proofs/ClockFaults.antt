@@ -1,6 +1,6 @@
 -- The first fault of a clock file, by what was read of its lines.
-use Rattle.std.proofs.Common.{◌≡◌, refl, ◌∙◌, ap, sym, ◌≤◌, ◌+◌, ℕ, zero, suc, Bool, true, false, List, [], ◌∷◌, length, map, arith}
-use Rattle.std.specs.Prelude.{◌==◌, if◌then◌else◌, nat_lt, Option, None, Some}
+use Rattle.std.proofs.Common.{◌≡◌, refl, ℕ, suc, true, false, List, [], ◌∷◌, length, map, arith}
+use Rattle.std.specs.Prelude.{◌==◌, if◌then◌else◌, nat_lt, None, Some}
 use Rattle.std.proofs.lemmas.Bool.{ne_eqb}
 use Rattle.conc_types.specs.declared.refusal.FileKind.{FileKind}
 use Rattle.conc_types.specs.declared.refusal.ReadFail.{ReadFail}

@@ -1,7 +1,6 @@
 -- The rules and the meaning of a record, by its word.
-use Rattle.std.proofs.Common.{◌≡◌, refl, ◌∙◌, ap, sym, ℕ, Bool, true, false, List, [], ◌∷◌, codes}
-use Rattle.std.specs.Prelude.{◌&&◌, ◌||◌, if◌then◌else◌, not, is_none, is_some, Option, None, Some}
-use Rattle.std.specs.Option.{option_and_then, option_map}
+use Rattle.std.proofs.Common.{◌≡◌, refl, ◌∙◌, ap, sym, ℕ, Bool, true, false, List, codes}
+use Rattle.std.specs.Prelude.{◌||◌, if◌then◌else◌, is_some, Option, None, Some}
 use Rattle.conc_types.specs.declared.event.Moment.{Moment}
 use Rattle.conc_types.specs.declared.event.RequestId.{RequestId}
 use Rattle.conc_types.specs.declared.script.Act.{Act}
@@ -16,7 +15,7 @@ use Rattle.conc_script.specs.declared.deeds.Verb.{Verb}
 use Rattle.conc_script.specs.declared.deeds.Verb.TheVariants as verb
 use Rattle.conc_script.specs.Deeds.{act_with, submit_by, verb_of}
 use Rattle.conc_script.specs.Rules.{deed_rules, request_rules, submit_rules}
-use Rattle.conc_script.specs.Script.{act_of, act_on, at_field, entered_by_record, has_form, is, is_submit, is_word, item_named, order_of, submission_of, what_field, what_rules, word_field}
+use Rattle.conc_script.specs.Script.{act_of, at_field, entered_by_record, has_form, is, is_submit, is_word, item_named, order_of, submission_of, what_field, what_rules, word_field}
 
 -- ---- submissions
 

@@ -1,8 +1,7 @@
 -- The fields of a record by their places.
-use Rattle.std.proofs.Common.{◌≡◌, refl, ◌∙◌, ap, ℕ, zero, suc, true, false, List, [], ◌∷◌, length, get_or, arith}
-use Rattle.std.specs.Prelude.{◌==◌, unwrap_or, Option, None, Some}
+use Rattle.std.proofs.Common.{◌≡◌, refl, ◌∙◌, ap, ℕ, zero, suc, List, [], ◌∷◌, length, arith}
+use Rattle.std.specs.Prelude.{unwrap_or, Option, None, Some}
 use Rattle.std.specs.Option.{option_map}
-use Rattle.std.proofs.lemmas.Bool.{eqb-true}
 use denote.Ref.{Bor}
 use Rattle.csv.specs.Records.{field_at}
 use Rattle.conc_records.specs.Records.{Record}

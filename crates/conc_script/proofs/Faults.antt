@@ -1,7 +1,7 @@
 -- The first fault of lines, after those that break no rule.
 use Rattle.std.proofs.Common.{◌≡◌, refl, ap, ℕ, suc, ◌+◌}
 use Rattle.std.specs.Prelude.{Option, None, Some}
-use Rattle.conc_types.specs.Faults.{Fault, fault_or, first_fault}
+use Rattle.conc_types.specs.Faults.{fault_or, first_fault}
 
 pub fault_none : (kind_at : ℕ → Option ℕ) (line : ℕ) → first_fault kind_at line 0 ≡ None
 unfolding first_fault

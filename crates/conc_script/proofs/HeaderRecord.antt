@@ -1,6 +1,5 @@
 -- The header is a record of eight fields of UTF-8.
-use Rattle.std.proofs.Common.{◌≡◌, refl, ◌∙◌, ap, sym, ℕ, Bool, true, false, List, [], ◌∷◌, codes}
-use Rattle.std.specs.Prelude.{◌&&◌}
+use Rattle.std.proofs.Common.{◌≡◌, refl, ap, sym, true, false, [], ◌∷◌}
 use Rattle.std.specs.Str.{bytes_eq, chars, is_utf8}
 use Rattle.std.proofs.lemmas.Bool.{and_parts, false_from_ne_true}
 use Rattle.std.proofs.lemmas.Slice.Eq.{bytes_eq-Decides}

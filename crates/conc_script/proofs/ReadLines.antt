@@ -1,10 +1,10 @@
 -- What is known of a clock file when some of its lines are read.
 use Rattle.std.proofs.Common.{◌≡◌, refl, ◌∙◌, ap, sym, ◌<◌, ◌≤◌, ◌+◌, ◌-◌, ℕ, zero, suc, Bool, true, false, List, [], ◌∷◌, ◌++◌, length, map, append_assoc, arith}
-use Rattle.std.specs.Prelude.{◌==◌, ◌&&◌, if◌then◌else◌, nat_le, nat_lt, is_none, slice_get, Option, None, Some}
+use Rattle.std.specs.Prelude.{◌==◌, nat_le, nat_lt, slice_get, Option, None, Some}
 use Rattle.std.specs.List.{list_all}
 use Rattle.std.specs.Option.{option_and_then}
 use Rattle.std.proofs.lemmas.Bool.{and_from, and_parts, le-leb, leb-true, ltb-false, ne_eqb}
-use Rattle.std.proofs.lemmas.List.{append-nil, length-append, length-map, length_push, map-append}
+use Rattle.std.proofs.lemmas.List.{append-nil, length-map, length_push, map-append}
 use Rattle.conc_types.specs.declared.script.Reading.{Reading}
 use Rattle.conc_types.specs.Faults.{first_broken, first_fault}
 use Rattle.conc_types.specs.Scripts.{are_in_order}

@@ -1,10 +1,10 @@
 -- What is known of a script when some of its records are read.
-use Rattle.std.proofs.Common.{◌≡◌, refl, ◌∙◌, ap, sym, ◌<◌, ◌≤◌, ◌+◌, ◌-◌, ◌*◌, ℕ, zero, suc, Bool, true, false, List, [], ◌∷◌, ◌++◌, length, map, get_or, take, append_assoc, arith}
-use Rattle.std.specs.Prelude.{◌==◌, ◌&&◌, if◌then◌else◌, nat_le, nat_lt, is_none, not, Option, None, Some}
+use Rattle.std.proofs.Common.{◌≡◌, refl, ◌∙◌, ap, sym, ◌≤◌, ◌+◌, ◌-◌, ◌*◌, ℕ, suc, Bool, true, false, List, [], ◌∷◌, ◌++◌, length, map, get_or, take, append_assoc, arith}
+use Rattle.std.specs.Prelude.{nat_le, nat_lt, is_none, not, Option, None, Some}
 use Rattle.std.specs.List.{sum_by}
 use Rattle.std.specs.Option.{option_map_or}
 use Rattle.std.proofs.lemmas.Bool.{and_from, le-leb, ltb-false}
-use Rattle.std.proofs.lemmas.List.{append-nil, get_or_append_left, get_or_at, length-append, length-map, length_push, map-append, take_at}
+use Rattle.std.proofs.lemmas.List.{append-nil, get_or_append_left, get_or_at, length-map, length_push, map-append, take_at}
 use Rattle.std.proofs.lemmas.List.Sums.{sum_by-append}
 use Rattle.conc_types.specs.declared.event.Moment.{Moment}
 use Rattle.conc_types.specs.declared.script.Act.{Act}
@@ -16,7 +16,7 @@ use Rattle.conc_law.specs.Calendar.{civil_of, is_civil, is_spelling, moment_of}
 use Rattle.conc_records.specs.Records.{Record}
 use Rattle.conc_script.specs.Orders.{fault_behind, ReadsRecords}
 use Rattle.conc_script.specs.Rules.{deed_rules, record_rules}
-use Rattle.conc_script.specs.Script.{at_field, entered_before, entered_by_record, header, is_earlier, is_record, order_of, record_at, record_kind}
+use Rattle.conc_script.specs.Script.{at_field, entered_before, entered_by_record, header, is_earlier, is_record, order_of, record_kind}
 use Rattle.conc_script.proofs.Faults.{fault_here, fault_later, fault_none}
 
 abbrev seconds_or : Option Moment → ℕ

@@ -1,14 +1,11 @@
 -- The first fault of a script, by what was read of its records.
-use Rattle.std.proofs.Common.{◌≡◌, refl, ◌∙◌, ap, sym, ℕ, Bool, true, false, List, [], ◌∷◌, length, map, drop}
-use Rattle.std.specs.Prelude.{if◌then◌else◌, nat_lt, Option, None, Some}
-use Rattle.conc_types.specs.declared.refusal.FileKind.{FileKind}
-use Rattle.conc_types.specs.declared.refusal.ReadFail.{ReadFail}
+use Rattle.std.proofs.Common.{◌≡◌, refl, ◌∙◌, ap, sym, ℕ, true, false, List, [], ◌∷◌, length, map, drop}
+use Rattle.std.specs.Prelude.{nat_lt, Some}
 use Rattle.conc_types.specs.declared.script.Order.{Order}
 use Rattle.conc_types.specs.declared.setup.Setup.{Setup}
-use Rattle.conc_types.specs.Faults.{first_fault, Fault, IsFailure}
 use Rattle.conc_records.specs.Records.{Record, records_of}
 use Rattle.conc_script.specs.Orders.{begins_with_header, fault_behind}
-use Rattle.conc_script.specs.Script.{header, order_of, record_kind, records_fault, same_fields, script_fault}
+use Rattle.conc_script.specs.Script.{header, order_of, records_fault, same_fields, script_fault}
 use Rattle.conc_script.proofs.HeaderRecord.{same_record}
 
 -- the file is too long

@@ -1,7 +1,7 @@
 -- The script: a command in each record after the header.
 use Rattle.std.specs.Prelude.{◌≡◌, ℕ, ◌-◌, Bool, true, false, not, ◌&&◌, ◌||◌, nat_lt, if◌then◌else◌, List, [], ◌∷◌, ◌++◌, codes, drop, get_or, length, map, take, Option, None, Some, is_none}
 use Rattle.std.specs.Bool.{then_some}
-use Rattle.std.specs.List.{list_all, list_any, position, sum_by}
+use Rattle.std.specs.List.{list_all, position, sum_by}
 use Rattle.std.specs.Option.{option_and_then, option_map, option_map_or, option_or}
 use Rattle.std.specs.Str.{bytes_eq, is_utf8}
 use Rattle.conc_types.specs.declared.event.Moment.{Moment}
@@ -17,7 +17,7 @@ use Rattle.conc_types.specs.Decimals.{decimal_value}
 use Rattle.conc_types.specs.Faults.{Fault, first_broken, first_fault}
 use Rattle.conc_types.specs.Scripts.{count_of}
 use Rattle.conc_types.specs.Texts.{is_name, is_text}
-use Rattle.conc_types.specs.Words.{has_length, is_between, is_empty, numbered, some_and}
+use Rattle.conc_types.specs.Words.{has_length, is_between, is_empty, some_and}
 use Rattle.conc_law.specs.Calendar.{moment_of}
 use Rattle.conc_records.specs.Records.{Record, records_of}
 

@@ -6,6 +6,7 @@ ghost use Rattle.conc_script.specs.Clock.{clock_fault, is_earlier as is_earlier_
 ghost use Rattle.conc_script.specs.Readings.{line_rules, ReadsLines};
 
 use crate::lines::split_line;
+use crate::rule;
 use conc_time::read_moment;
 use conc_types::{FileKind, ReadFail, Reading, Readings, Seq};
 use std::alloc::Global;
@@ -42,11 +43,11 @@ fn accept(number: usize, line: &[u8], before: Option<Reading>) -> Result<Reading
     ensures rules { first_broken (line_rules number (reading_of line.now) before) ≡ result_err result }
 {
     if number > MOST_READINGS {
-        return Err(26);
+        return Err(rule::SIZE);
     }
-    let reading = read_reading(line).ok_or(22)?;
+    let reading = read_reading(line).ok_or(rule::FORM)?;
     if is_earlier(reading, before) {
-        return Err(27);
+        return Err(rule::READING);
     }
     Ok(reading)
 }
@@ -81,11 +82,11 @@ pub fn read_clock(alloc: Global, bytes: &[u8]) -> Result<Readings, ReadFail>
     ensures err { IfErr result (IsFailure kind.Clock (clock_fault bytes.now)) }
 {
     if bytes.len() > MOST_BYTES {
-        return Err(ReadFail::refused(FileKind::Clock, 0, 26));
+        return Err(ReadFail::refused(FileKind::Clock, 0, rule::SIZE));
     }
     let readings = read_lines(alloc, bytes)?;
     if readings.is_empty() {
-        return Err(ReadFail::refused(FileKind::Clock, 1, 22));
+        return Err(ReadFail::refused(FileKind::Clock, 1, rule::FORM));
     }
     Ok(Readings {
         list: Seq::from_vec(readings),

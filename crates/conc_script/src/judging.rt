@@ -14,6 +14,7 @@ ghost use Rattle.conc_script.specs.Script.{act_of, at_field, entered_by_record, 
 
 use crate::deeds::{Deed, Submission, Verb};
 use crate::fields::{Fields, fields_in};
+use crate::rule;
 use crate::words::{domain_of, item_named, priority_of, start_of};
 use conc_records::ByteRecord;
 use conc_time::read_moment;
@@ -55,8 +56,8 @@ fn submission<'a>(setup: &Setup, at: Moment, fields: &Fields<'a>) -> Result<Subm
     ensures item { IfOk result (λ s. item_named_of setup.now fields.now.what.now ≡ Some s.item) }
     ensures fits { IfOk result (λ s. (next : ℕ) → IsTrue (is_act setup.now next (submit_by s))) }
 {
-    let item = item_named(setup, fields.what).ok_or(23)?;
-    form(at, item, fields).ok_or(22)
+    let item = item_named(setup, fields.what).ok_or(rule::NAME)?;
+    form(at, item, fields).ok_or(rule::FORM)
 }
 
 fn verb_of(word: &[u8]) -> Option<Verb>
@@ -93,12 +94,12 @@ fn request(entered: u64, fields: &Fields) -> Result<RequestId, u8>
     ensures said { IfOk result (λ request. decimal_value fields.now.what.now ≡ Some request.number) }
     ensures fits { IfOk result (λ request. IsTrue (is_between 1 entered request.number)) }
 {
-    let number = read_decimal(fields.what).ok_or(22)?;
+    let number = read_decimal(fields.what).ok_or(rule::FORM)?;
     if number < 1 || number > entered {
-        return Err(24);
+        return Err(rule::REQUEST);
     }
     if !is_bare(fields) {
-        return Err(22);
+        return Err(rule::FORM);
     }
     Ok(RequestId {
         number: number as u32,
@@ -124,7 +125,7 @@ fn deed<'a>(setup: &Setup, at: Moment, entered: u64, fields: &Fields<'a>) -> Res
         let submission = submission(setup, at, fields)?;
         return Ok(Deed::Submit(submission));
     }
-    let verb = verb_of(fields.word).ok_or(21)?;
+    let verb = verb_of(fields.word).ok_or(rule::WORD)?;
     let request = request(entered, fields)?;
     Ok(Deed::On(verb, request))
 }
@@ -152,13 +153,13 @@ pub(crate) fn judge<'a>(
     ensures fits { IfOk result (λ p. IsTrue (is_act setup.now (entered + 1) (act_by p.1))) }
     ensures enters { IfOk result (λ p. entered_by_record setup.now (fields_of row.now) ≡ entered_by setup.now (act_by p.1)) }
 {
-    let fields = fields_in(row).ok_or(20)?;
+    let fields = fields_in(row).ok_or(rule::RECORD)?;
     if number > MOST_RECORDS {
-        return Err(26);
+        return Err(rule::SIZE);
     }
-    let at = read_moment(fields.at).ok_or(22)?;
+    let at = read_moment(fields.at).ok_or(rule::FORM)?;
     if is_earlier(at, before) {
-        return Err(25);
+        return Err(rule::MOMENT);
     }
     let deed = deed(setup, at, entered, &fields)?;
     Ok((at, deed))

@@ -7,6 +7,7 @@ mod fields;
 mod judging;
 mod lines;
 mod owning;
+mod rule;
 mod script;
 #[cfg(test)]
 mod tests;

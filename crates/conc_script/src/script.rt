@@ -9,6 +9,7 @@ ghost use Rattle.conc_script.specs.Script.{header, same_fields, script_fault, Sp
 use crate::fields::{are_header, fields_in};
 use crate::judging::judge;
 use crate::owning::{entered_with, own};
+use crate::rule;
 use conc_records::{ByteRecord, Records};
 use conc_types::{FileKind, NoMemory, Order, ReadFail, Script, Seq, Setup};
 use std::alloc::Global;
@@ -87,11 +88,11 @@ pub fn read_script(alloc: Global, bytes: &[u8], setup: &Setup) -> Result<Script,
     ensures err { IfErr result (IsFailure kind.Script (script_fault setup.now bytes.now)) }
 {
     if bytes.len() > MOST_BYTES {
-        return Err(ReadFail::refused(FileKind::Script, 0, 26));
+        return Err(ReadFail::refused(FileKind::Script, 0, rule::SIZE));
     }
     let mut records = Records::of_text(alloc, bytes);
     if !read_header(alloc, &mut records)? {
-        return Err(ReadFail::refused(FileKind::Script, 1, 20));
+        return Err(ReadFail::refused(FileKind::Script, 1, rule::RECORD));
     }
     let commands = read_commands(alloc, setup, &mut records)?;
     Ok(Script {

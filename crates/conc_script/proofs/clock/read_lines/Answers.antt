@@ -1,6 +1,4 @@
-use Rattle.std.proofs.Common.{refl, arith, ◌∙◌, ap, ℕ}
-use Rattle.conc_types.specs.Faults.{IsFailure}
-use Rattle.conc_types.specs.declared.refusal.FileKind.TheVariants as kind
+use Rattle.std.proofs.Common.{refl, arith, ◌∙◌}
 use Rattle.conc_script.proofs.ReadLines.{reads_all, reads_fault, reads_more}
 use Rattle.conc_script.proofs.clock.read_lines.Goals as goal
 

@@ -1,4 +1,4 @@
-use Rattle.std.proofs.Common.{refl, ◌∙◌, sym}
+use Rattle.std.proofs.Common.{◌∙◌, sym}
 use Rattle.conc_script.proofs.EightFields.{eight_are}
 use Rattle.conc_script.proofs.fields.eight.Goals as goal
 

@@ -1,5 +1,4 @@
-use Rattle.std.proofs.Common.{refl, ◌∙◌, sym, ap, true, Option}
-use Rattle.std.specs.Prelude.{is_some}
+use Rattle.std.proofs.Common.{refl, sym}
 use Rattle.std.proofs.lemmas.Bool.{and_from}
 use Rattle.conc_script.specs.Fields.{list_of}
 use Rattle.conc_script.proofs.Forms.{form_kept, form_without_start}

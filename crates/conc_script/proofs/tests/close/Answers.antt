@@ -1,5 +1,5 @@
-use Rattle.std.proofs.Common.{◌≡◌, refl, ℕ, Bool, true, List, [], ◌∷◌, length}
-use Rattle.std.specs.Prelude.{nat_lt, None, Option}
+use Rattle.std.proofs.Common.{◌≡◌, refl, true, List, [], ◌∷◌, length}
+use Rattle.std.specs.Prelude.{nat_lt, None}
 use Rattle.std.specs.List.{list_all}
 use Rattle.conc_types.specs.declared.stage.Stage.{Stage}
 use Rattle.conc_types.specs.Sets.{are_stages}
