@@ -50,7 +50,7 @@ pub plan-refused : (told before : Option Files) (names : Names) (inputs : Inputs
 unfolding tables-of
 plan-refused told before names inputs has named tables refusal name same files read made these e is failed at =
     let fault : plan_fault inputs.setup inputs.script.commands tables ≡ Some (refusal.file, (refusal.line, refusal.kind))
-        = ap (plan_fault inputs.setup inputs.script.commands) (sym these) ∙ subst (IsFailure (plan_fault inputs.setup inputs.script.commands made)) is failed in
+    = ap (plan_fault inputs.setup inputs.script.commands) (sym these) ∙ subst (IsFailure (plan_fault inputs.setup inputs.script.commands made)) is failed in
     inr (record {
       tables = tables;
       files = tables-of told before names inputs has named tables same files read;
@@ -63,8 +63,8 @@ at-table : (old mid new : ShelfState) (names : Names) (inputs : Inputs) (has : H
     → named ≡ has.files.before.before.setup.tables → IsLater old mid → IsTableStop mid new named end → StopsAt old new names end
 at-table old mid new names inputs has named end same later stop =
     let P : Option Files → List (List ℕ) → Type 0 = λ files all.
-        (given : HasTables files (take stop.number all) stop.tables) × (slice_get all stop.number ≡ Some stop.name)
-        × Ends old new (λ bytes fault. fault_of_table (sum_by length given.contents) bytes ≡ Some fault) (kind.Table stop.number) stop.name stop.cause in
+    (given : HasTables files (take stop.number all) stop.tables) × (slice_get all stop.number ≡ Some stop.name)
+    × Ends old new (λ bytes fault. fault_of_table (sum_by length given.contents) bytes ≡ Some fault) (kind.Table stop.number) stop.name stop.cause in
     let here : P mid.files named = (
       stop.given,
       stop.named,

@@ -55,7 +55,7 @@ refused : (told : Option Files) (names : Names) (file : FileKind) (name : List �
     → refusal.file ≡ file → Gives told name bytes → HasFault told names file name next bytes (refusal.line, refusal.kind) → IsFileRefused told names refusal name
 refused told names file name next refusal bytes same given fault =
     let at : (n : IsNext told names refusal.file name) × HasFault told names refusal.file name n bytes (refusal.line, refusal.kind)
-        = subst (λ k. (n : IsNext told names k name) × HasFault told names k name n bytes (refusal.line, refusal.kind)) (sym same) (next, fault) in
+    = subst (λ k. (n : IsNext told names k name) × HasFault told names k name n bytes (refusal.line, refusal.kind)) (sym same) (next, fault) in
     record { next = at.0; bytes = bytes; given = given; fault = at.1 }
 
 stops-by : (old new : ShelfState) (names : Names) (file : FileKind) (name : List ℕ) (next : IsNext old.files names file name) (s : Stop)
@@ -68,7 +68,7 @@ stops-by old new names file name next stop.NoMemory h = tt
 -- the file that was next ends the reading, and this is its exit
 pub stops-at : (old mid new : ShelfState) (names : Names) (file : FileKind) (name : List ℕ) (next : IsNext old.files names file name) (s : Stop) (end : Exit)
     → IsLater old mid → Ends mid new (HasFault old.files names file name next) file name s → IsExitAt s name end → StopsAt old new names end
-stops-at old mid new names file name next s end later h (inl is) = subst (StopsAt old new names) (sym is) 
+stops-at old mid new names file name next s end later h (inl is) = subst (StopsAt old new names) (sym is)
     (stops-by old new names file name next s (ends-wider old mid new (HasFault old.files names file name next) file name s later h))
 stops-at old mid new names file name next s end later h (inr is) = subst (StopsAt old new names) (sym is) tt
 

@@ -17,9 +17,6 @@ const SETUP: &str =
 
 const HEADER: &str = "at,do,what,user,priority,start,domain,argument\n";
 
-const TWICE: &str =
-    "at,do,what,user,priority,start,domain,argument\n2025-03-03T09:00:00,submit,P,ann,,,,\n2025-03-03T09:00:00,submit,P,ann,,,,\n";
-
 const CLOCK: &str = "2025-03-03T09:00:00\n";
 
 const TABLE: &str = "k,v\na,10\nb,20\na,5\n";
@@ -50,25 +47,63 @@ fn are_distinct(files: &[(Name, Vec<u8>)]) -> bool
     }
 }
 
-// The exit and the output of a call with these words, over the four files, of which the listed reads
-// and writes fail.
+// The four files of a call.
+#[derive(Clone, Copy)]
+struct Given<'a> {
+    setup: &'a str,
+    script: &'a str,
+    clock: &'a str,
+    table: &'a str,
+}
+
+fn with_script(script: &str) -> Given<'_> {
+    Given {
+        setup: SETUP,
+        script,
+        clock: CLOCK,
+        table: TABLE,
+    }
+}
+
+fn listed(alloc: Global, number: Option<u64>) -> Result<Vec<u64>, Fail> {
+    let mut numbers = Vec::new(alloc);
+    if let Some(number) = number {
+        numbers.push(number)?;
+    }
+    Ok(numbers)
+}
+
+// The exit and the output of a call with these words, over the four files, where the read and the
+// write with these numbers fail.
 fn call<Rt: Abort + Threads + Wait + Sync>(
     rt: &Rt,
     alloc: Global,
     words: &str,
-    script: &str,
-    fails: &[u64],
-    stuck: &[u64],
+    given: Given<'_>,
+    fails: Option<u64>,
+    stuck: Option<u64>,
 ) -> Result<(Exit, MemSink), Fail> {
     let files = vec![in alloc;
-        (name(rt, alloc, "a.toml")?, SETUP.as_bytes().to_vec(alloc)?),
-        (name(rt, alloc, "a.csv")?, script.as_bytes().to_vec(alloc)?),
-        (name(rt, alloc, "a.clock")?, CLOCK.as_bytes().to_vec(alloc)?),
-        (name(rt, alloc, "t.csv")?, TABLE.as_bytes().to_vec(alloc)?),
+        (
+            name(rt, alloc, "a.toml")?,
+            given.setup.as_bytes().to_vec(alloc)?
+        ),
+        (
+            name(rt, alloc, "a.csv")?,
+            given.script.as_bytes().to_vec(alloc)?
+        ),
+        (
+            name(rt, alloc, "a.clock")?,
+            given.clock.as_bytes().to_vec(alloc)?
+        ),
+        (
+            name(rt, alloc, "t.csv")?,
+            given.table.as_bytes().to_vec(alloc)?
+        ),
     ]?;
     assert!(rt; are_distinct(&files));
-    let mut shelf = MemShelf::new(files, fails.to_vec(alloc)?);
-    let mut out = MemSink::new(alloc, stuck.to_vec(alloc)?);
+    let mut shelf = MemShelf::new(files, listed(alloc, fails)?);
+    let mut out = MemSink::new(alloc, listed(alloc, stuck)?);
     let mut list = Vec::new(alloc);
     for word in words.split(' ') {
         list.push(format!(in alloc; "{word}")?)?;
@@ -77,56 +112,229 @@ fn call<Rt: Abort + Threads + Wait + Sync>(
     Ok((exit, out))
 }
 
+// Worked histories: a script with its header alone; a program that is incompatible with itself; the
+// order of priorities; a later start; commands; two readings.
+static HISTORIES: [(&str, &str, &str); 6] = [
+    ("", CLOCK, "tick 2025-03-03T09:00:00\n--\n"),
+    (
+        "2025-03-03T09:00:00,submit,P,ann,,,,\n2025-03-03T09:00:00,submit,P,ann,,,,\n",
+        CLOCK,
+        "tick 2025-03-03T09:00:00\ndo 1\ndo 2\nlet 1\nstart 1 1.1\nend 1 Normal 0 39\nlet 2\nstart 2 1.1\nend 2 Normal 39 39\n--\n1 Completed Normal P\n2 Completed Normal P\n",
+    ),
+    (
+        "2025-03-03T09:00:00,submit,P,ann,99,,,\n2025-03-03T09:00:00,submit,P,ann,1,,,\n",
+        CLOCK,
+        "tick 2025-03-03T09:00:00\ndo 1\ndo 2\nlet 2\nstart 2 1.1\nend 2 Normal 0 39\nlet 1\nstart 1 1.1\nend 1 Normal 39 39\n--\n1 Completed Normal P\n2 Completed Normal P\n",
+    ),
+    (
+        "2025-03-03T09:00:00,submit,P,ann,,2025-03-03T09:00:01,,\n",
+        CLOCK,
+        "tick 2025-03-03T09:00:00\ndo 1\n--\n1 Pending Scheduled P\n",
+    ),
+    (
+        "2025-03-03T09:00:00,submit,P,ann,,,,\n2025-03-03T09:00:00,hold,1,ann,,,,\n2025-03-03T09:00:00,submit,P,ann,,,,\n2025-03-03T09:00:00,cancel,2,,,,,\n",
+        CLOCK,
+        "tick 2025-03-03T09:00:00\ndo 1\ndo 2\ndo 3\ndo 4\n--\n1 Inactive On Hold P\n2 Completed Cancelled P\n",
+    ),
+    (
+        "2025-03-03T09:00:00,submit,P,ann,,2025-03-03T09:05:00,,\n",
+        "2025-03-03T09:00:00\r\n2025-03-03T09:05:00 !",
+        "tick 2025-03-03T09:00:00\ndo 1\ntick 2025-03-03T09:05:00\nlet 1\nstart 1 1.1\nend 1 Normal 0 39\n--\n1 Completed Normal P\n",
+    ),
+];
+
+fn script_of(alloc: Global, records: &str) -> Result<String, Fail> {
+    Ok(format!(in alloc; "{HEADER}{records}")?)
+}
+
 #[test]
-fn an_empty_script_ticks_once(rt: HostRuntime) -> Result<(), Fail> {
-    let (exit, out) = call(&rt, rt.alloc(), RUN, HEADER, &[], &[])?;
-    assert_eq!(rt; exit.number(), 0);
-    assert_eq!(rt; out.bytes(), b"tick 2025-03-03T09:00:00\n--\n".as_slice());
+fn runs_print_their_histories(rt: HostRuntime) -> Result<(), Fail> {
+    for (records, clock, want) in HISTORIES {
+        let script = script_of(rt.alloc(), records)?;
+        let files = Given {
+            clock,
+            ..with_script(&script)
+        };
+        let (exit, out) = call(&rt, rt.alloc(), RUN, files, None, None)?;
+        assert_eq!(rt; exit.number(), 0, "at {records:?}");
+        assert_eq!(rt; out.bytes(), want.as_bytes(), "at {records:?}");
+    }
+    Ok(())
+}
+
+// Tables, and what the one request's end and status say.
+static REPORTS: [(&str, &str, &str); 3] = [
+    (
+        "k,v\na,1\na,12x\n",
+        "end 1 Error 0 26\n",
+        "1 Completed Error P\n",
+    ),
+    (
+        "k,v\r\n\"a,b\",1\r\n\r\na,-2",
+        "end 1 Normal 0 42\n",
+        "1 Completed Normal P\n",
+    ),
+    ("k,v\n", "end 1 Normal 0 24\n", "1 Completed Normal P\n"),
+];
+
+#[test]
+fn ends_tell_their_reports(rt: HostRuntime) -> Result<(), Fail> {
+    let script = script_of(rt.alloc(), "2025-03-03T09:00:00,submit,P,ann,,,,\n")?;
+    for (table, end, status) in REPORTS {
+        let files = Given {
+            table,
+            ..with_script(&script)
+        };
+        let (exit, out) = call(&rt, rt.alloc(), RUN, files, None, None)?;
+        assert_eq!(rt; exit.number(), 0, "at {table:?}");
+        let want = format!(in rt.alloc();
+            "tick 2025-03-03T09:00:00\ndo 1\nlet 1\nstart 1 1.1\n{end}--\n{status}"
+        )?;
+        assert_eq!(rt; out.bytes(), want.as_bytes(), "at {table:?}");
+    }
+    Ok(())
+}
+
+// What is refused: the records of the script, the clock, the table, and the line that tells it.
+static REFUSED: [(&str, &str, &str, &str); 14] = [
+    (
+        "2025-03-03T09:00:00,submit,P,ann,,,\n",
+        CLOCK,
+        TABLE,
+        "a.csv: 2: 20",
+    ),
+    (
+        "2025-03-03T09:00:00,start,P,ann,,,,\n",
+        CLOCK,
+        TABLE,
+        "a.csv: 2: 21",
+    ),
+    (
+        "2025-03-03,submit,P,ann,,,,\n",
+        CLOCK,
+        TABLE,
+        "a.csv: 2: 22",
+    ),
+    (
+        "2025-03-03T09:00:00,submit,Q,ann,,,,\n",
+        CLOCK,
+        TABLE,
+        "a.csv: 2: 23",
+    ),
+    (
+        "2025-03-03T09:00:00,hold,1,ann,,,,\n",
+        CLOCK,
+        TABLE,
+        "a.csv: 2: 24",
+    ),
+    (
+        "2025-03-03T09:00:01,submit,P,ann,,,,\n2025-03-03T09:00:00,submit,P,ann,,,,\n",
+        CLOCK,
+        TABLE,
+        "a.csv: 3: 25",
+    ),
+    ("", "", TABLE, "a.clock: 1: 22"),
+    (
+        "",
+        "2025-03-03T09:00:00\n2025-03-03T09:00:01\n2025-03-03T09:00:00\n",
+        TABLE,
+        "a.clock: 3: 27",
+    ),
+    ("", CLOCK, "", "t.csv: 1: 30"),
+    ("", CLOCK, "k,v\na,1\nb\n", "t.csv: 3: 31"),
+    ("", CLOCK, "k,v,k\na,1\n", "t.csv: 1: 32"),
+    ("", CLOCK, "k,w\na,1\n", "a.toml: 1: 41"),
+    // An earlier file is told before a later one.
+    (
+        "2025-03-03T09:00:00,start,P,ann,,,,\n",
+        "",
+        "",
+        "a.csv: 2: 21",
+    ),
+    ("", "", "", "a.clock: 1: 22"),
+];
+
+#[test]
+fn the_first_broken_rule_is_told(rt: HostRuntime) -> Result<(), Fail> {
+    for (records, clock, table, want) in REFUSED {
+        let script = script_of(rt.alloc(), records)?;
+        let files = Given {
+            clock,
+            table,
+            ..with_script(&script)
+        };
+        let (exit, out) = call(&rt, rt.alloc(), RUN, files, None, None)?;
+        assert_eq!(rt; exit.number(), 3, "at {want}");
+        assert_eq!(rt; out.bytes(), b"".as_slice(), "at {want}");
+        let line = format!(in rt.alloc(); "refused: {want}\n")?;
+        assert_eq!(rt; exit_text(rt.alloc(), &exit)?.as_slice(), line.as_bytes());
+    }
     Ok(())
 }
 
 #[test]
-fn a_program_incompatible_with_itself_runs_in_turn(rt: HostRuntime) -> Result<(), Fail> {
-    let (exit, out) = call(&rt, rt.alloc(), RUN, TWICE, &[], &[])?;
-    assert_eq!(rt; exit.number(), 0);
-    let text =
-        "tick 2025-03-03T09:00:00\ndo 1\ndo 2\nlet 1\nstart 1 1.1\nend 1 Normal 0 39\nlet 2\nstart 2 1.1\nend 2 Normal 39 39\n--\n1 Completed Normal P\n2 Completed Normal P\n";
-    assert_eq!(rt; out.bytes(), text.as_bytes());
+fn files_have_a_greatest_length(rt: HostRuntime) -> Result<(), Fail> {
+    let alloc = rt.alloc();
+    let records = "2025-03-03T09:00:00,submit,P,ann,,,,\n".repeat(alloc, 4097)?;
+    let script = script_of(alloc, &records)?;
+    let (exit, _) = call(&rt, alloc, RUN, with_script(&script), None, None)?;
+    assert_eq!(rt;
+        exit_text(alloc, &exit)?.as_slice(),
+        b"refused: a.csv: 4098: 26\n".as_slice()
+    );
+    let clock = CLOCK.repeat(alloc, 65_537)?;
+    let files = Given {
+        clock: &clock,
+        ..with_script(HEADER)
+    };
+    let (exit, _) = call(&rt, alloc, RUN, files, None, None)?;
+    assert_eq!(rt;
+        exit_text(alloc, &exit)?.as_slice(),
+        b"refused: a.clock: 65537: 26\n".as_slice()
+    );
     Ok(())
 }
 
 #[test]
 fn each_stop_has_its_exit(rt: HostRuntime) -> Result<(), Fail> {
-    let (exit, out) = call(&rt, rt.alloc(), "run a.toml", TWICE, &[], &[])?;
-    assert_eq!(rt; exit.number(), 2);
-    assert_eq!(rt; out.bytes(), b"".as_slice());
-    let (exit, _) = call(&rt, rt.alloc(), RUN, "at,do\n", &[], &[])?;
-    assert_eq!(rt; exit.number(), 3);
-    assert_eq!(rt;
-        exit_text(rt.alloc(), &exit)?.as_slice(),
-        b"refused: a.csv: 0: 90\n".as_slice()
-    );
-    let (exit, _) = call(
-        &rt,
-        rt.alloc(),
-        "run a.toml a.csv b.clock --threads 0",
-        TWICE,
-        &[],
-        &[],
-    )?;
-    assert_eq!(rt; exit.number(), 4);
-    assert_eq!(rt;
-        exit_text(rt.alloc(), &exit)?.as_slice(),
-        b"absent: b.clock\n".as_slice()
-    );
-    let (exit, _) = call(&rt, rt.alloc(), RUN, TWICE, &[3], &[])?;
-    assert_eq!(rt; exit.number(), 5);
-    assert_eq!(rt;
-        exit_text(rt.alloc(), &exit)?.as_slice(),
-        b"read fault: t.csv\n".as_slice()
-    );
-    let (exit, out) = call(&rt, rt.alloc(), RUN, TWICE, &[], &[0])?;
-    assert_eq!(rt; exit.number(), 6);
-    assert_eq!(rt; out.bytes(), b"".as_slice());
+    let alloc = rt.alloc();
+    let script = script_of(alloc, "2025-03-03T09:00:00,submit,P,ann,,,,\n")?;
+    for (words, setup, fails, stuck, number, line) in [
+        (
+            "run a.toml",
+            SETUP,
+            None,
+            None,
+            2,
+            "usage: conc run|plan|check|status|output|make\n",
+        ),
+        (
+            RUN,
+            "tables = []\n",
+            None,
+            None,
+            3,
+            "refused: a.toml: 0: 90\n",
+        ),
+        (
+            "run a.toml a.csv b.clock --threads 0",
+            SETUP,
+            None,
+            None,
+            4,
+            "absent: b.clock\n",
+        ),
+        (RUN, SETUP, Some(3), None, 5, "read fault: t.csv\n"),
+        (RUN, SETUP, None, Some(0), 6, "write fault\n"),
+    ] {
+        let files = Given {
+            setup,
+            ..with_script(&script)
+        };
+        let (exit, out) = call(&rt, alloc, words, files, fails, stuck)?;
+        assert_eq!(rt; exit.number(), number);
+        assert_eq!(rt; out.bytes(), b"".as_slice());
+        assert_eq!(rt; exit_text(alloc, &exit)?.as_slice(), line.as_bytes());
+    }
     Ok(())
 }

@@ -31,8 +31,8 @@ loop-name-preserved g c =
     let told = (state c.args.shelf.now).files in
     let given = subst (λ t. Gives t c.name-item.result c.in-Ok.ensures.ok.0) c.loop-name.invariant.later.files c.in-Ok.ensures.ok.1 in
     let more = tables-more told c.args.names.now c.loop-name.name-index c.name-item.result c.in-Ok.ensures.ok.0 c.loop-name.tables.items c.in-Ok.table
-        c.loop-name.invariant.read.0 c.loop-name.total c.loop-name-test.true c.name-item.is given c.in-Ok.ensures.ok.2
-        c.loop-name.invariant.read.1 (omega (arith, c.in-Ok.ensures.ok.3, c.in-Ok.ensures.fit)) in
+    c.loop-name.invariant.read.0 c.loop-name.total c.loop-name-test.true c.name-item.is given c.in-Ok.ensures.ok.2
+    c.loop-name.invariant.read.1 (omega (arith, c.in-Ok.ensures.ok.3, c.in-Ok.ensures.fit)) in
     record {
       number = omega arith;
       later = IsLater-trans (state c.args.shelf.now) (state c.loop-name.shelf) (state c.judge_table.new.shelf) c.loop-name.invariant.later c.in-Ok.ensures.later;
