@@ -1,5 +1,5 @@
 -- What was read, against what a call accepts or stops at.
-use Rattle.std.proofs.Common.{◌≡◌, ◌≤◌, ℕ, List, Option, Some, length, take, sym, ◌∙◌, ap, subst, refl, inl, inr}
+use Rattle.std.proofs.Common.{◌≡◌, ℕ, List, Option, Some, length, take, sym, ◌∙◌, ap, subst, inl, inr}
 use Rattle.std.specs.Prelude.{slice_get}
 use Rattle.std.specs.List.{sum_by}
 use Rattle.conc_types.specs.declared.plan.Plan.{Plan}
@@ -7,7 +7,6 @@ use Rattle.conc_types.specs.declared.refusal.FileKind.TheVariants as kind
 use Rattle.conc_types.specs.declared.refusal.ReadFail.{ReadFail}
 use Rattle.conc_types.specs.declared.refusal.ReadFail.TheVariants as fail
 use Rattle.conc_types.specs.declared.refusal.Refusal.{Refusal}
-use Rattle.conc_types.specs.declared.script.Readings.{Readings}
 use Rattle.conc_types.specs.declared.script.Script.{Script}
 use Rattle.conc_types.specs.declared.setup.Setup.{Setup}
 use Rattle.conc_types.specs.declared.table.Table.{Table}

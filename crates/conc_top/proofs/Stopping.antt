@@ -1,7 +1,7 @@
 -- A file that ends the reading, against what the exit means.
-use Rattle.std.proofs.Common.{◌≡◌, ◌≤◌, ℕ, ◌+◌, ◌<◌, List, [], ◌∷◌, ◌++◌, Option, None, Some, length, get_or, take, sym, ◌∙◌, ap, subst, refl, inl, inr, lit≤, arith}
-use Rattle.std.specs.Prelude.{IfSome, slice_get}
-use Rattle.std.specs.List.{AllZip, sum_by}
+use Rattle.std.proofs.Common.{◌≡◌, ◌≤◌, ℕ, ◌+◌, ◌<◌, List, [], ◌∷◌, ◌++◌, Option, None, Some, length, get_or, take, sym, ◌∙◌, subst, refl, inl, inr, lit≤, arith}
+use Rattle.std.specs.Prelude.{IfSome}
+use Rattle.std.specs.List.{sum_by}
 use Rattle.std.proofs.lemmas.List.Elements.{all_zip_more}
 use Rattle.std.proofs.lemmas.Option.{slice_get_read}
 use Rattle.std.proofs.lemmas.List.Sums.{sum_by-append}
@@ -22,7 +22,7 @@ use Rattle.conc_top.specs.declared.stop.Stop.TheVariants as stop
 use Rattle.conc_top.specs.Exits.{IsThere, StopsAt}
 use Rattle.conc_top.specs.Given.{HasTables, IsNext}
 use Rattle.conc_top.specs.Refusals.{fault_of_table, HasFault, IsFileRefused}
-use Rattle.conc_top.specs.Stops.{Ends, IsExitAt, IsTableStop, StopsInTables}
+use Rattle.conc_top.specs.Stops.{Ends, IsExitAt, StopsInTables}
 use Rattle.conc_top.specs.Ways.{exit_at}
 
 -- a count that rose late rose in all

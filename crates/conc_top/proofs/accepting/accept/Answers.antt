@@ -1,6 +1,4 @@
-use Rattle.std.proofs.Common.{sym, ◌∙◌, subst, ap}
-use Rattle.conc_plan.specs.Faults.{plan_fault}
-use Rattle.conc_top.specs.Given.{HasTables}
+use Rattle.std.proofs.Common.{◌∙◌}
 use Rattle.conc_top.proofs.Acceptance.{accepts, plan-refused, tables-end}
 use Rattle.conc_top.proofs.accepting.accept.Goals as goal
 

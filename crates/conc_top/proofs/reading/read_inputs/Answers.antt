@@ -1,4 +1,4 @@
-use Rattle.std.proofs.Common.{◌≡◌, ◌∙◌, refl, Some, subst}
+use Rattle.std.proofs.Common.{◌∙◌, refl, subst}
 use Rattle.conc_types.specs.declared.refusal.FileKind.TheVariants as kind
 use Rattle.conc_outside.specs.Files.{Gives}
 use Rattle.conc_top.proofs.Stopping.{IsLater-trans, stops-at}

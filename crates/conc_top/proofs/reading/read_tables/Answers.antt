@@ -1,8 +1,8 @@
-use Rattle.std.proofs.Common.{◌≡◌, ◌≤◌, ◌+◌, ◌++◌, ◌∷◌, [], true, refl, sym, ◌∙◌, ap, length, lit≤, subst, arith, inl, inr}
+use Rattle.std.proofs.Common.{◌≡◌, ◌+◌, ◌++◌, ◌∷◌, [], true, refl, sym, ◌∙◌, ap, length, lit≤, subst, arith}
 use Rattle.std.specs.List.{sum_by}
 use Rattle.std.specs.Prelude.{not, take}
 use Rattle.std.specs.Result.{is_ok}
-use Rattle.conc_outside.specs.Files.{Gives, IsLater}
+use Rattle.conc_outside.specs.Files.{Gives}
 use Rattle.conc_top.specs.Given.{HasTables}
 use Rattle.conc_top.proofs.Stopping.{IsLater-refl, IsLater-trans, tables-more, tables-none, tables-stop}
 use Rattle.conc_top.proofs.reading.read_tables.Goals as goal
