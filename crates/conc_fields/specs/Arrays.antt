@@ -1,7 +1,10 @@
 -- Arrays of values of one form.
-use Rattle.std.specs.Prelude.{ℕ, if◌then◌else◌, min, nat_lt, ◌+◌, List, [], ◌∷◌, length, Option, None, Some, Result, Ok, Err}
+use lib.Dec.{leb-zero}
+use Rattle.std.specs.Prelude.{ℕ, IsTrue, if◌then◌else◌, min, nat_lt, ◌+◌, List, [], ◌∷◌, length, Option, None, Some, Result, Ok, Err}
 use Rattle.toml.specs.Data.{Data, Items, no_items, item, as_array}
-use Rattle.conc_fields.specs.Kinds.{beside, or_kind}
+use Rattle.conc_types.specs.Words.{is_between}
+use Rattle.conc_fields.specs.Kinds.{judged, or_kind, proven}
+use Rattle.conc_fields.specs.declared.values.Counted.{Counted}
 
 -- what each item of an array is read as
 unfoldable pub read_all : {A : Type 0} → (Data → Result A ℕ) → Items → List (Result A ℕ)
@@ -36,18 +39,29 @@ unless (Some k) a = Err k
 abbrev pub all_good : {A : Type 0} → List (Result A ℕ) → Result (List A) ℕ
 all_good all = unless (worst all) (goods all)
 
--- what is wrong with a number of items: too few are kind 7, too many kind 10
-abbrev pub number_kind : ℕ → ℕ → ℕ → Option ℕ
-number_kind few most count = if nat_lt count few then Some 7 else if nat_lt most count then Some 10 else None
+-- what is wrong with a number of items that is off its limits: too few are kind 7, too many kind 10
+abbrev pub number_kind : ℕ → ℕ → ℕ
+number_kind few count = if nat_lt count few then 7 else 10
 
-abbrev pub counted : {A : Type 0} → ℕ → ℕ → List (Result A ℕ) → Result (List A) ℕ
-counted few most all = beside (number_kind few most (length all)) (all_good all)
+-- a list of so many values
+abbrev pub counted : {A : Type 0} (few most : ℕ) → List A → Result (Counted A few most) ℕ
+counted few most list =
+    proven (is_between few most (length list)) (λ counted. record { list = list; counted = counted }) (number_kind few (length list))
 
-abbrev pub array_of : {A : Type 0} → ℕ → ℕ → (Data → Result A ℕ) → Items → Result (List A) ℕ
-array_of few most form items = counted few most (read_all form items)
+-- there may be no value, where there need be none
+pub none_few : (most : ℕ) → IsTrue (is_between 0 most 0)
+none_few most = leb-zero most
 
--- an array of so many items of a form
-unfoldable pub array_in : {A : Type 0} → ℕ → ℕ → (Data → Result A ℕ) → Data → Result (List A) ℕ
+-- no values, where there need be none
+abbrev pub no_values : {A : Type 0} (most : ℕ) → Counted A 0 most
+no_values most = record { list = []; counted = none_few most }
+
+abbrev pub array_of : {A : Type 0} (few most : ℕ) → (Data → Result A ℕ) → Items → Result (Counted A few most) ℕ
+array_of few most form items = judged (counted few most) (all_good (read_all form items))
+
+-- an array of so many items of a form: the least kind of what is wrong with an item, and else what is
+-- wrong with their number
+unfoldable pub array_in : {A : Type 0} (few most : ℕ) → (Data → Result A ℕ) → Data → Result (Counted A few most) ℕ
 array_in few most form value = or_kind 4 (array_of few most form) (as_array value)
 
 -- the first with which something is wrong, as its line and its kind

@@ -1,5 +1,5 @@
 -- Values, or the least kind of the rules that are broken.
-use Rattle.std.specs.Prelude.{ℕ, min, Option, None, Some, Result, Ok, Err}
+use Rattle.std.specs.Prelude.{ℕ, Bool, true, false, IsTrue, refl, min, Option, None, Some, Result, Ok, Err}
 
 -- both values, or the lesser kind of what is wrong with them
 abbrev pub both : {A B : Type 0} → Result A ℕ → Result B ℕ → Result (A × B) ℕ
@@ -28,3 +28,8 @@ judged judge (Err k) = Err k
 abbrev pub or_kind : {A B : Type 0} → ℕ → (A → Result B ℕ) → Option A → Result B ℕ
 or_kind kind form None = Err kind
 or_kind kind form (Some a) = form a
+
+-- what is made of the fact that a test passes, and this kind where it fails
+abbrev pub proven : {A : Type 0} → (test : Bool) → (IsTrue test → A) → ℕ → Result A ℕ
+proven true make kind = Ok (make refl)
+proven false make kind = Err kind

@@ -1,9 +1,9 @@
-ghost use Rattle.std.specs.Prelude.{◌≡◌, IfOk, length};
-ghost use Rattle.conc_fields.specs.Arrays.{all_good as all_good_of, array_in, counted as counted_of, number_kind as number_kind_of, read_all as read_all_of};
+ghost use Rattle.std.specs.Prelude.{◌≡◌, IfOk};
+ghost use Rattle.conc_fields.specs.Arrays.{all_good as all_good_of, array_in, array_of as array_of_items, counted as counted_of, no_values as no_values_of, read_all as read_all_of};
 ghost use Rattle.toml.specs.View.{array_view, view};
 
 use crate::lines::{goods, worst};
-use crate::{Form, beside, kind};
+use crate::{Counted, Form, kind};
 use conc_types::{NoMemory, Seq};
 use std::alloc::Global;
 use std::marker::PhantomData;
@@ -33,47 +33,63 @@ fn all_good<T: Drop>(alloc: Global, all: Seq<Result<T, u8>>) -> Result<Result<Se
     }
 }
 
-fn number_kind(few: usize, most: usize, count: usize) -> Option<u8>
-    ensures { result ≡ number_kind_of few most count }
+/// No values, where there need be none.
+pub fn no_values<T: Drop, const MOST: usize>(alloc: Global) -> Counted<T, 0, MOST>
+    ensures { result ≡ no_values_of MOST }
 {
-    if count < few {
-        Some(kind::OUT_OF_RANGE)
-    } else if most < count {
-        Some(kind::TOO_MANY)
-    } else {
-        None
+    Counted {
+        list: Seq::from_vec(Vec::new(alloc)),
     }
 }
 
-fn counted<T: Drop>(
-    alloc: Global,
-    few: usize,
-    most: usize,
-    all: Seq<Result<T, u8>>,
-) -> Result<Result<Seq<T>, u8>, NoMemory>
-    ensures { IfOk result (λ r. r ≡ counted_of few most all) }
+fn counted<T: Drop, const FEW: usize, const MOST: usize>(
+    list: Seq<T>,
+) -> Result<Counted<T, FEW, MOST>, u8>
+    ensures { result ≡ counted_of FEW MOST list }
 {
-    let kind = number_kind(few, most, all.len());
-    let values = all_good(alloc, all)?;
-    Ok(beside(kind, values))
+    let count = list.len();
+    if FEW <= count && count <= MOST {
+        Ok(Counted { list })
+    } else if count < FEW {
+        Err(kind::OUT_OF_RANGE)
+    } else {
+        Err(kind::TOO_MANY)
+    }
 }
 
-/// An array of `FEW` to `MOST` items of a form. With fewer items it is `OUT_OF_RANGE`, with more
-/// `TOO_MANY`, unless an item breaks a rule of a lesser kind.
+fn array_of<F: Form, const FEW: usize, const MOST: usize>(
+    alloc: Global,
+    items: &Vec<Value>,
+) -> Result<Result<Counted<F::Out, FEW, MOST>, u8>, NoMemory>
+    ensures { IfOk result (λ r. r ≡ array_of_items FEW MOST F.form (array_view items.now)) }
+{
+    let all = read_all::<F>(alloc, items)?;
+    match all_good(alloc, all)? {
+        Ok(list) => Ok(counted(list)),
+        Err(kind) => Ok(Err(kind)),
+    }
+}
+
+/// An array of `FEW` to `MOST` items of a form, where `FEW` is 0 or 1. What is wrong with it is the
+/// least kind of what is wrong with an item, and only where nothing is, `OUT_OF_RANGE` for too few
+/// items and `TOO_MANY` for too many.
 pub struct ArrayForm<F, const FEW: usize, const MOST: usize> {
     item: PhantomData<F>,
 }
 
 impl<F: Form, const FEW: usize, const MOST: usize> Form for ArrayForm<F, FEW, MOST> {
-    type Out = Seq<F::Out>;
+    type Out = Counted<F::Out, FEW, MOST>;
 
     ghost form = { array_in FEW MOST F.form };
 
     #[tactic(auto, unfolding(crate::specs::Arrays::array_in))]
-    fn read(alloc: Global, value: &Value) -> Result<Result<Seq<F::Out>, u8>, NoMemory> {
+    fn read(
+        alloc: Global,
+        value: &Value,
+    ) -> Result<Result<Counted<F::Out, FEW, MOST>, u8>, NoMemory> {
         match value.as_array() {
             None => Ok(Err(kind::WRONG_KIND)),
-            Some(items) => counted(alloc, FEW, MOST, read_all::<F>(alloc, items)?),
+            Some(items) => array_of::<F, FEW, MOST>(alloc, items),
         }
     }
 }

@@ -3,8 +3,8 @@ ghost use Rattle.conc_fields.specs.Forms.{name_in, name_of as name_of_bytes, tex
 ghost use Rattle.toml.specs.Data.{Data};
 ghost use Rattle.toml.specs.View.{view};
 
-use crate::kind;
-use conc_types::{Name, NoMemory, Seq, Text, is_name, is_text};
+use crate::{ShortText, kind};
+use conc_types::{Name, NoMemory, Seq, is_name, is_text};
 use std::alloc::Global;
 use toml::Value;
 
@@ -49,25 +49,29 @@ impl Form for NameForm {
 /// A string of at most so many bytes without control bytes. Another string is `OUT_OF_RANGE`.
 pub struct TextForm<const MOST: usize>;
 
-fn text_of(alloc: Global, most: usize, bytes: &[u8]) -> Result<Result<Text, u8>, NoMemory>
-    ensures { IfOk result (λ r. r ≡ text_of_bytes most bytes.now) }
+fn text_of<const MOST: usize>(
+    alloc: Global,
+    bytes: &[u8],
+) -> Result<Result<ShortText<MOST>, u8>, NoMemory>
+    ensures { IfOk result (λ r. r ≡ text_of_bytes MOST bytes.now) }
 {
-    if is_text(most, bytes) {
-        Ok(Ok(Seq::from_vec(bytes.to_vec(alloc)?)))
+    if is_text(MOST, bytes) {
+        let text = Seq::from_vec(bytes.to_vec(alloc)?);
+        Ok(Ok(ShortText { text }))
     } else {
         Ok(Err(kind::OUT_OF_RANGE))
     }
 }
 
 impl<const MOST: usize> Form for TextForm<MOST> {
-    type Out = Text;
+    type Out = ShortText<MOST>;
 
     ghost form = { text_in MOST };
 
-    fn read(alloc: Global, value: &Value) -> Result<Result<Text, u8>, NoMemory> {
+    fn read(alloc: Global, value: &Value) -> Result<Result<ShortText<MOST>, u8>, NoMemory> {
         match value.as_str() {
             None => Ok(Err(kind::WRONG_KIND)),
-            Some(text) => text_of(alloc, MOST, text.as_bytes()),
+            Some(text) => text_of(alloc, text.as_bytes()),
         }
     }
 }

@@ -9,10 +9,12 @@ mod keys;
 pub mod kind;
 mod kinds;
 mod lines;
+mod values;
 
-pub use arrays::{ArrayForm, read_all};
+pub use arrays::{ArrayForm, no_values, read_all};
 pub use fields::{default, field, optional, required};
 pub use forms::{Form, NameForm, TextForm, TruthForm, WholeForm};
 pub use keys::keys_kind;
 pub use kinds::{beside, both};
 pub use lines::{first_wrong, goods};
+pub use values::{Counted, ShortText};
