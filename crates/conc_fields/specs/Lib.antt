@@ -1,0 +1,4 @@
+pub mod Arrays
+pub mod Fields
+pub mod Forms
+pub mod Kinds

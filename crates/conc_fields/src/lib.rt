@@ -1,0 +1,20 @@
+//! What the keys of a TOML table hold: a value of the form that is asked for, or the least kind of
+//! the rules that it breaks.
+#![tactic(auto)]
+
+mod arrays;
+mod fields;
+mod forms;
+mod keys;
+pub mod kind;
+mod kinds;
+mod lines;
+mod values;
+
+pub use arrays::{ArrayForm, no_values, read_all};
+pub use fields::{default, field, optional, required};
+pub use forms::{Form, NameForm, TextForm, TruthForm, WholeForm};
+pub use keys::keys_kind;
+pub use kinds::{beside, both};
+pub use lines::{first_wrong, goods};
+pub use values::{Counted, ShortText};

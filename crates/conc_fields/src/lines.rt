@@ -1,0 +1,54 @@
+ghost use Rattle.std.specs.Prelude.{◌≡◌, ◌≤◌, ◌+◌, ◌-◌, ◌^◌, IfOk, length};
+ghost use Rattle.conc_fields.specs.Arrays.{first_wrong as first_wrong_of, goods as goods_of, lesser as lesser_of, worst as worst_of};
+
+use conc_types::{NoMemory, Seq};
+use std::alloc::Global;
+
+fn lesser<T: Drop>(read: &Result<T, u8>, kind: Option<u8>) -> Option<u8>
+    ensures { result ≡ lesser_of read.now kind }
+{
+    match (read, kind) {
+        (Ok(_), kind) => kind,
+        (Err(j), None) => Some(*j),
+        (Err(j), Some(k)) => Some(k.min(*j)),
+    }
+}
+
+/// The least kind of what is wrong, if anything is.
+#[tactic(auto, unfolding(crate::specs::Arrays::worst))]
+pub(crate) fn worst<T: Drop>(all: &[Result<T, u8>]) -> Option<u8>
+    ensures { result ≡ worst_of all.now }
+{
+    match all.split_first() {
+        None => None,
+        Some((first, rest)) => lesser(first, worst(rest)),
+    }
+}
+
+/// The values of those with which nothing is wrong, in their order.
+#[tactic(auto, unfolding(crate::specs::Arrays::goods))]
+pub fn goods<T: Drop>(alloc: Global, all: Seq<Result<T, u8>>) -> Result<Seq<T>, NoMemory>
+    ensures { IfOk result (λ values. values ≡ goods_of all) }
+{
+    let mut values = Vec::new(alloc);
+    for read in all.into_vec() {
+        if let Ok(value) = read {
+            values.push(value)?;
+        }
+    }
+    Ok(Seq::from_vec(values))
+}
+
+/// The first with which something is wrong: its line, where the first of all has the line given,
+/// and its kind. None where nothing is wrong.
+#[tactic(auto, unfolding(crate::specs::Arrays::first_wrong))]
+pub fn first_wrong<T: Drop>(line: u64, all: &[Result<T, u8>]) -> Option<(u64, u8)>
+    requires { line + length all.now ≤ 2 ^ 64 - 1 }
+    ensures { result ≡ first_wrong_of line all.now }
+{
+    match all.split_first() {
+        None => None,
+        Some((Ok(_), rest)) => first_wrong(line + 1, rest),
+        Some((Err(kind), _)) => Some((line, *kind)),
+    }
+}
