@@ -1,3 +1,4 @@
 pub mod Meaning
 pub mod Stopping
 pub mod Acceptance
+pub mod SaidWords

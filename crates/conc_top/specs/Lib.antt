@@ -1,5 +1,6 @@
 pub mod Lines
 pub mod Words
+pub mod Saying
 pub mod Given
 pub mod Refusals
 pub mod Exits

@@ -295,6 +295,39 @@ fn files_have_a_greatest_length(rt: HostRuntime) -> Result<(), Fail> {
     Ok(())
 }
 
+// Words, and whether they are a command line.
+static WORDS: [(&str, bool); 19] = [
+    ("run a.toml a.csv a.clock --threads 0", true),
+    ("run --threads 0 a.toml a.csv a.clock", true),
+    ("run a.toml --threads=0 a.csv --watch=0 a.clock", true),
+    ("run a.toml --watch 0 a.csv a.clock --threads 0", true),
+    ("run a.toml a.csv a.clock", false),
+    ("run a.toml a.csv a.clock --threads 1", false),
+    ("run a.toml a.csv a.clock --threads 00", false),
+    ("run a.toml a.csv a.clock --threads", false),
+    ("run a.toml a.csv a.clock --threads=", false),
+    ("run a.toml a.csv a.clock --threads 0 --threads 0", false),
+    ("run a.toml a.csv a.clock --threads 0 --watch 1", false),
+    ("run a.toml a.csv a.clock --threads 0 --watch", false),
+    ("run a.toml a.csv a.clock --threads 0 --help", false),
+    ("run a.toml a.csv --threads 0", false),
+    ("run a.toml a.csv a.clock t.csv --threads 0", false),
+    ("run a.toml a.csv  --threads 0", false),
+    ("--threads 0 run a.toml a.csv a.clock", false),
+    ("plan a.toml a.csv", false),
+    ("", false),
+];
+
+#[test]
+fn options_stand_anywhere_behind_the_command(rt: HostRuntime) -> Result<(), Fail> {
+    for (words, is_command) in WORDS {
+        let (exit, _) = call(&rt, rt.alloc(), words, with_script(HEADER), None, None)?;
+        assert_eq!(rt; exit.number() == 0, is_command, "at {words:?}");
+        assert_eq!(rt; exit.number() == 2, !is_command, "at {words:?}");
+    }
+    Ok(())
+}
+
 #[test]
 fn each_stop_has_its_exit(rt: HostRuntime) -> Result<(), Fail> {
     let alloc = rt.alloc();

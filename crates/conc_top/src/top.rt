@@ -14,7 +14,8 @@ use std::thread::Threads;
 
 /// Does what the words ask for: `run SETUP SCRIPT CLOCK --threads 0` reads the three files and the
 /// setup's tables from the shelf, runs the plan that they give without workers, and writes the text
-/// of its history into the sink.
+/// of its history into the sink. The options `--threads 0` and `--watch 0`, also written with `=`, may
+/// stand anywhere behind `run`, each at most once; the second may be left out.
 ///
 /// Words off that form are Usage. The files are read in the order setup, script, clock, tables, each
 /// of them judged before the next one is read, and the first one that is lacking, that cannot be read

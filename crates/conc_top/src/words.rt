@@ -1,66 +1,223 @@
-ghost use Rattle.std.specs.Prelude.{◌≡◌, IfOk, IsTrue, List, map};
-ghost use Rattle.std.specs.Str.{bytes_eq};
+ghost use Rattle.std.specs.Prelude.{◌≡◌, ◌∷◌, codes, IfOk, IsTrue, OnOk, Some, map};
+ghost use Rattle.std.specs.Option.{option_map};
 ghost use Rattle.std.specs.String.{string_bytes};
 ghost use Rattle.conc_types.specs.Texts.{is_name as is_name_of};
-ghost use Rattle.conc_top.specs.Words.{are_words as are_words_of, is_positional as is_positional_of, names_of, word_at as word_at_of};
+ghost use Rattle.conc_top.specs.Saying.{shown};
+ghost use Rattle.conc_top.specs.Words.{behind as behind_of, is, takes_next as takes_next_of, with_option as with_option_of, is_positional as is_positional_of, is_zero as is_zero_of, is_zero_once as is_zero_once_of, is_zero_or_absent as is_zero_or_absent_of, names_among as names_among_of, names_of, names_said as names_said_of, nothing_said, said as said_of, said_by as said_by_of, with_file as with_file_of, with_threads as with_threads_of, with_watch as with_watch_of};
 
 use crate::names::Names;
-use conc_types::{Name, NoMemory, is_name};
+use conc_types::{Name, NoMemory, is_name, read_decimal};
 use std::alloc::Global;
+
+// How many words stand behind a command at most.
+const MOST_WORDS: usize = 7;
+
+// What the words behind a command say: the values of the options, and the other words, each in order.
+#[derive(Drop)]
+pub(crate) struct Said<'a> {
+    threads: Vec<&'a [u8]>,
+    watch: Vec<&'a [u8]>,
+    files: Vec<&'a [u8]>,
+}
+
+fn nothing<'a>(alloc: Global) -> Said<'a>
+    ensures { shown result ≡ nothing_said }
+{
+    Said {
+        threads: Vec::new(alloc),
+        watch: Vec::new(alloc),
+        files: Vec::new(alloc),
+    }
+}
+
+// Puts a word before others.
+fn put_first<'a>(words: &mut Vec<&'a [u8]>, word: &'a [u8]) -> Result<(), NoMemory>
+    ensures { OnOk result (map (λ w. w.now) words.new.items ≡ word.now ∷ map (λ w. w.now) words.old.items) }
+{
+    words.insert(0, word)?;
+    Ok(())
+}
+
+fn with_threads<'a>(value: &'a [u8], mut said: Said<'a>) -> Result<Said<'a>, NoMemory>
+    ensures { IfOk result (λ s. shown s ≡ with_threads_of value.now (shown said.entry)) }
+{
+    put_first(&mut said.threads, value)?;
+    Ok(said)
+}
+
+fn with_watch<'a>(value: &'a [u8], mut said: Said<'a>) -> Result<Said<'a>, NoMemory>
+    ensures { IfOk result (λ s. shown s ≡ with_watch_of value.now (shown said.entry)) }
+{
+    put_first(&mut said.watch, value)?;
+    Ok(said)
+}
+
+fn with_file<'a>(word: &'a [u8], mut said: Said<'a>) -> Result<Said<'a>, NoMemory>
+    ensures { IfOk result (λ s. shown s ≡ with_file_of word.now (shown said.entry)) }
+{
+    put_first(&mut said.files, word)?;
+    Ok(said)
+}
+
+// What stands behind the beginning of a word, if it begins so.
+fn behind<'a>(text: &[u8], word: &'a [u8]) -> Option<&'a [u8]>
+    ensures { option_map (λ w. w.now) result ≡ behind_of text.now word.now }
+{
+    word.strip_prefix(text)
+}
 
 fn is_positional(word: &[u8]) -> bool
     ensures { result ≡ is_positional_of word.now }
 {
-    is_name(word) && !word.starts_with(b"-")
+    !word.is_empty() && !word.starts_with(b"-")
 }
 
-fn word_at(words: &[String], i: usize) -> &[u8]
-    ensures { result.now ≡ word_at_of (map string_bytes words.now) i }
+// A word that is a file or an option with its value, before words that say more.
+fn said_by<'a>(word: &'a [u8], more: Said<'a>) -> Result<Option<Said<'a>>, NoMemory>
+    ensures { IfOk result (λ s. option_map shown s ≡ said_by_of word.now (Some (shown more.entry))) }
 {
-    match words.get(i) {
-        Some(word) => word.as_bytes(),
-        None => &[],
+    if let Some(value) = behind(b"--threads=", word) {
+        return Ok(Some(with_threads(value, more)?));
+    }
+    if let Some(value) = behind(b"--watch=", word) {
+        return Ok(Some(with_watch(value, more)?));
+    }
+    if is_positional(word) {
+        return Ok(Some(with_file(word, more)?));
+    }
+    Ok(None)
+}
+
+fn is_threads(word: &[u8]) -> bool
+    ensures { result ≡ is (codes "--threads") word.now }
+{
+    word == b"--threads".as_slice()
+}
+
+// Whether a word is an option whose value is the next word.
+fn takes_next(word: &[u8]) -> bool
+    ensures { result ≡ takes_next_of word.now }
+{
+    is_threads(word) || word == b"--watch".as_slice()
+}
+
+// An option with its value, before words that say more.
+fn with_option<'a>(option: &[u8], value: &'a [u8], more: Said<'a>) -> Result<Said<'a>, NoMemory>
+    ensures { IfOk result (λ s. shown s ≡ with_option_of option.now value.now (shown more.entry)) }
+{
+    if is_threads(option) {
+        with_threads(value, more)
+    } else {
+        with_watch(value, more)
     }
 }
 
-fn is_word_at(words: &[String], i: usize, word: &[u8]) -> bool
-    ensures { result ≡ bytes_eq (word_at_of (map string_bytes words.now) i) word.now }
+// What words behind a command say.
+fn read_said<'a>(alloc: Global, words: &'a [String]) -> Result<Option<Said<'a>>, NoMemory>
+    ensures { IfOk result (λ s. option_map shown s ≡ said_of (map string_bytes words.now)) }
 {
-    word_at(words, i) == word
+    let Some((word, rest)) = words.split_first() else {
+        return Ok(Some(nothing(alloc)));
+    };
+    if !takes_next(word.as_bytes()) {
+        return match read_said(alloc, rest)? {
+            Some(more) => said_by(word.as_bytes(), more),
+            None => Ok(None),
+        };
+    }
+    let Some((value, rest)) = rest.split_first() else {
+        return Ok(None);
+    };
+    match read_said(alloc, rest)? {
+        Some(more) => Ok(Some(with_option(word.as_bytes(), value.as_bytes(), more)?)),
+        None => Ok(None),
+    }
 }
 
-#[tactic(auto, unfolding(crate::specs::Words::are_words))]
-fn are_words(words: &[String]) -> bool
-    ensures { result ≡ are_words_of (map string_bytes words.now) }
+fn is_zero(word: &[u8]) -> bool
+    ensures { result ≡ is_zero_of word.now }
 {
-    words.len() == 6
-        && is_word_at(words, 0, b"run")
-        && is_positional(word_at(words, 1))
-        && is_positional(word_at(words, 2))
-        && is_positional(word_at(words, 3))
-        && is_word_at(words, 4, b"--threads")
-        && is_word_at(words, 5, b"0")
+    match read_decimal(word) {
+        Some(number) => number == 0,
+        None => false,
+    }
+}
+
+// Whether the option is given once, and as 0.
+fn is_zero_once(values: &[&[u8]]) -> bool
+    ensures { result ≡ is_zero_once_of (map (λ w. w.now) values.now) }
+{
+    match values {
+        [value] => is_zero(value),
+        _ => false,
+    }
+}
+
+// The same, or whether it is not given.
+fn is_zero_or_absent(values: &[&[u8]]) -> bool
+    ensures { result ≡ is_zero_or_absent_of (map (λ w. w.now) values.now) }
+{
+    values.is_empty() || is_zero_once(values)
 }
 
 // A name of its own with these bytes.
-pub(crate) fn own_name(alloc: Global, bytes: &[u8]) -> Result<Name, NoMemory>
+fn own_name(alloc: Global, bytes: &[u8]) -> Result<Name, NoMemory>
     requires { IsTrue (is_name_of bytes.now) }
     ensures { IfOk result (λ name. name ≡ bytes.now) }
 {
     Ok(Name::from_vec(Vec::from_slice(alloc, bytes)?))
 }
 
-/// The files that these words name, where they are `run SETUP SCRIPT CLOCK --threads 0`.
-#[tactic(auto, unfolding(crate::specs::Words::are_words, crate::specs::Words::names_of))]
-pub(crate) fn read_words(alloc: Global, words: &[String]) -> Result<Option<Names>, NoMemory>
-    ensures { IfOk result (λ names. names ≡ names_of (map string_bytes words.now)) }
+// The three files, where these are their names.
+fn names_among(alloc: Global, files: &[&[u8]]) -> Result<Option<Names>, NoMemory>
+    ensures { IfOk result (λ names. names ≡ names_among_of (map (λ w. w.now) files.now)) }
 {
-    if !are_words(words) {
+    let [setup, script, clock] = files else {
+        return Ok(None);
+    };
+    if !(is_name(setup) && is_name(script) && is_name(clock)) {
         return Ok(None);
     }
     Ok(Some(Names {
-        setup: own_name(alloc, word_at(words, 1))?,
-        script: own_name(alloc, word_at(words, 2))?,
-        clock: own_name(alloc, word_at(words, 3))?,
+        setup: own_name(alloc, setup)?,
+        script: own_name(alloc, script)?,
+        clock: own_name(alloc, clock)?,
     }))
+}
+
+fn names_said(alloc: Global, said: &Said<'_>) -> Result<Option<Names>, NoMemory>
+    ensures { IfOk result (λ names. names ≡ names_said_of (shown said.now)) }
+{
+    if is_zero_once(said.threads.as_slice()) && is_zero_or_absent(said.watch.as_slice()) {
+        names_among(alloc, said.files.as_slice())
+    } else {
+        Ok(None)
+    }
+}
+
+fn is_run(word: &[u8]) -> bool
+    ensures { result ≡ is (codes "run") word.now }
+{
+    word == b"run".as_slice()
+}
+
+/// The files that these words name, where they are `run SETUP SCRIPT CLOCK` with `--threads 0`, and with
+/// `--watch 0` or without it, anywhere behind `run`.
+#[tactic(auto, unfolding(crate::specs::Words::names_of))]
+pub(crate) fn read_words(alloc: Global, words: &[String]) -> Result<Option<Names>, NoMemory>
+    ensures { IfOk result (λ names. names ≡ names_of (map string_bytes words.now)) }
+{
+    let Some((command, rest)) = words.split_first() else {
+        return Ok(None);
+    };
+    if !is_run(command.as_bytes()) {
+        return Ok(None);
+    }
+    if rest.len() > MOST_WORDS {
+        return Ok(None);
+    }
+    match read_said(alloc, rest)? {
+        Some(said) => names_said(alloc, &said),
+        None => Ok(None),
+    }
 }
