@@ -1,0 +1,37 @@
+-- What is seen is among what a stop may leave.
+use Rattle.std.proofs.Common.{◌≡◌, ℕ, ◌+◌, ◌≤◌, List, [], ◌∷◌, ◌++◌, length, take, drop, min, max, true, false, IsTrue, refl, sym, ◌∙◌, ap, arith, length-append, length-take, length-drop, append_assoc}
+use Rattle.std.proofs.lemmas.List.{take_all, take_at, drop_at, take_min, same_lists, places}
+use Rattle.conc_disk.proofs.Changes.{both-first, both-second}
+use Rattle.conc_disk.specs.Disk.{Shortened, Torn, written}
+use Rattle.conc_disk.specs.Trace.{act_fits, ActLeaves, after, after_act, all_fit, Leaves}
+use Rattle.conc_disk.specs.declared.trace.Act.{Act}
+use Rattle.conc_disk.specs.declared.trace.Act.TheVariants.{Write, Cut, Sync}
+use Rattle.conc_disk.specs.declared.trace.Change.{Change}
+
+pub torn-written : (at n : ℕ) (bytes old : List ℕ) → at ≤ length old → length bytes ≤ n → Torn at n old (written at bytes old)
+torn-written at n bytes old within few = record {
+  before = grind (arith, take_at, append_assoc, length-take);
+  after = grind (arith, same_lists, places);
+  no_shorter = simp (length-append, length-take, length-drop) (omega arith);
+  no_longer = simp (length-append, length-take, length-drop) (omega arith);
+}
+
+pub shortened : (n : ℕ) (old : List ℕ) → Shortened n old (take n old)
+shortened n old = record {
+  front = grind (arith, length-take, take_min);
+  no_shorter = omega (arith, length-take n old);
+}
+
+pub act-leaves : (act : Act) (s : List ℕ) → IsTrue (act_fits act s) → ActLeaves act s s (after_act act s)
+act-leaves (Write at bytes) s fits = torn-written at (length bytes.items) bytes.items s (search (arith)) (omega arith)
+act-leaves (Cut n) s fits = shortened n s
+act-leaves Sync s fits = refl
+
+pub seen-left : (xs : List Change) (s : List ℕ) → IsTrue (all_fit xs s) → Leaves xs s s (after xs s)
+seen-left [] s fit = refl
+seen-left (x ∷ xs) s fit =
+    let after_x = after_act x.act s in (
+      after_x,
+      act-leaves x.act s (both-first (act_fits x.act s) (all_fit xs after_x) fit),
+      seen-left xs after_x (both-second (act_fits x.act s) (all_fit xs after_x) fit),
+    )

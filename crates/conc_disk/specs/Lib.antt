@@ -1,0 +1,4 @@
+pub mod Disk
+pub mod Grows
+pub mod Memory
+pub mod Trace

@@ -1,0 +1,8 @@
+//! Disks: what is read of them, what a stop at any moment may leave, and how often they failed.
+#![tactic(auto)]
+
+mod disk;
+mod trace;
+
+pub use conc_outside::Failed;
+pub use disk::Disk;
