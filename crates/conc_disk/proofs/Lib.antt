@@ -1,2 +1,3 @@
 pub mod Changes
-pub mod Images
+pub mod Grown
+pub mod Moments

@@ -1,8 +1,12 @@
 //! Disks: what is read of them, what a stop at any moment may leave, and how often they failed.
 #![tactic(auto)]
 
+mod counts;
 mod disk;
+mod memory;
+mod tear;
 mod trace;
 
 pub use conc_outside::Failed;
 pub use disk::Disk;
+pub use memory::MemDisk;

@@ -16,8 +16,8 @@ pub(crate) enum Act {
 /// What the call with this number did.
 #[derive(Drop)]
 pub(crate) struct Change {
-    number: u64,
-    act: Act,
+    pub(crate) number: u64,
+    pub(crate) act: Act,
 }
 
 /// What a disk had at first, each change since, and what is read now. Until the first change there
@@ -32,7 +32,7 @@ pub(crate) struct Trace {
 }
 
 /// Writes a piece over the bytes from here on, and past their end. Without memory the bytes stay.
-fn put(bytes: &mut Vec<u8>, at: usize, piece: &[u8]) -> Result<(), AllocError>
+pub(crate) fn put(bytes: &mut Vec<u8>, at: usize, piece: &[u8]) -> Result<(), AllocError>
     requires { at ≤ length bytes.old.items }
     ensures ok { OnOk result (bytes.new.items ≡ written at piece.now bytes.old.items) }
     ensures err { OnErr result (bytes.new.items ≡ bytes.old.items) }
@@ -58,6 +58,13 @@ impl Trace {
             bytes,
             changes: Vec::new(alloc),
         }
+    }
+
+    /// What a read gives.
+    pub(crate) fn bytes(&self) -> &[u8]
+        ensures { result.now ≡ self.now.bytes.items }
+    {
+        &self.bytes
     }
 
     /// Keeps a copy of what was there at first, if there is none yet.
