@@ -3,16 +3,12 @@ use Rattle.std.proofs.Common.{◌≡◌, ◌⊎◌, inl, inr, ℕ, zero, suc, �
 use Rattle.std.proofs.lemmas.List.{take_all, take-append-le}
 use Rattle.conc_disk.specs.Trace.{act_fits, ActLeaves, after, after_act, all_fit, Leaves, LeavesSince, start_of}
 use Rattle.std.specs.declared.alloc.Global.{Global}
-use Rattle.conc_disk.specs.Laws.{both-first, both-second}
+use Rattle.conc_disk.specs.Laws.{both, both-first, both-second}
 use Rattle.conc_disk.specs.declared.trace.Change.{Change}
 
 pub after-push : (xs : List Change) (y : Change) (s : List ℕ) → after (xs ++ y ∷ []) s ≡ after_act y.act (after xs s)
 after-push [] y s = refl
 after-push (x ∷ xs) y s = after-push xs y (after_act x.act s)
-
-pub both : (a b : Bool) → IsTrue a → IsTrue b → IsTrue (a && b)
-both true b p q = q
-both false b p q = cc
 
 pub fit-push : (xs : List Change) (y : Change) (s : List ℕ) → IsTrue (all_fit xs s) → IsTrue (act_fits y.act (after xs s)) → IsTrue (all_fit (xs ++ y ∷ []) s)
 fit-push [] y s fit fits = both (act_fits y.act s) true fits refl

@@ -1,5 +1,5 @@
 -- What a disk tells, and what its calls do to it.
-use Rattle.std.specs.Prelude.{◌≡◌, ◌⊎◌, ℕ, ◌+◌, ◌≤◌, min, max, List, ◌++◌, length, take, drop, Option, IfSome, IsSomeAnd}
+use Rattle.std.specs.Prelude.{◌≡◌, ◌⊎◌, ℕ, ◌+◌, ◌≤◌, min, max, List, ◌++◌, length, take, drop, Option, None, ⊤, IfSome, IsSomeAnd}
 use Rattle.std.specs.Option.{option_map}
 
 -- A disk at a moment. Where `seen` is none it tells nothing of bytes.
@@ -14,6 +14,16 @@ pub record DiskState : Type 1 where
   pub left_since : ℕ → List ℕ → Type 0
   -- how often a call failed
   pub faults : ℕ
+
+-- a disk that tells nothing of bytes: a stop may leave anything
+abbrev pub tells_nothing : ℕ → DiskState
+tells_nothing faults = record {
+  seen = None;
+  may_leave = λ image. ⊤;
+  moment = 0;
+  left_since = λ t image. ⊤;
+  faults = faults;
+}
 
 -- old with these bytes in the place of those from here on
 abbrev pub written : ℕ → List ℕ → List ℕ → List ℕ

@@ -1,6 +1,6 @@
 -- How a trace goes on.
 use Rattle.std.specs.Prelude.{◌≡◌, ℕ, List, [], ◌∷◌, ◌++◌}
-use Rattle.conc_disk.specs.Trace.{after, start_of}
+use Rattle.conc_disk.specs.Trace.{begun_in, Leaves, start_of}
 use Rattle.conc_disk.specs.declared.trace.Act.{Act}
 use Rattle.conc_disk.specs.declared.trace.Trace.{Trace}
 
@@ -17,3 +17,7 @@ pub record IsSame (old new : Trace) : Type 0 where
   pub start : start new ≡ start old
   pub changes : new.changes.items ≡ old.changes.items
   pub bytes : new.bytes.items ≡ old.bytes.items
+
+-- a stop in the call with this number may leave this image
+abbrev pub LeavesInCall : Trace → ℕ → List ℕ → Type 0
+LeavesInCall trace call image = Leaves (begun_in call trace.changes.items) (start trace) (start trace) image

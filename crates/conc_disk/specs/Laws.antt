@@ -7,6 +7,10 @@ use Rattle.conc_disk.specs.declared.trace.Act.{Act}
 use Rattle.conc_disk.specs.declared.trace.Act.TheVariants.{Write, Cut, Sync}
 use Rattle.conc_disk.specs.declared.trace.Change.{Change}
 
+pub both : (a b : Bool) → IsTrue a → IsTrue b → IsTrue (a && b)
+both true b p q = q
+both false b p q = cc
+
 pub both-first : (a b : Bool) → IsTrue (a && b) → IsTrue a
 both-first true b p = refl
 both-first false b p = p

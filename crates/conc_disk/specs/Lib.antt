@@ -1,5 +1,7 @@
+pub mod Calls
 pub mod Disk
 pub mod Faults
+pub mod Files
 pub mod Grows
 pub mod Laws
 pub mod Memory

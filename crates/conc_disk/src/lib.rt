@@ -3,10 +3,12 @@
 
 mod counts;
 mod disk;
+mod file;
 mod memory;
 mod tear;
 mod trace;
 
 pub use conc_outside::Failed;
 pub use disk::Disk;
+pub use file::{FileDisk, open_disk};
 pub use memory::MemDisk;

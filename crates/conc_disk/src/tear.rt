@@ -1,9 +1,10 @@
 // What a stop may leave: one image of many.
 ghost use Rattle.std.specs.Prelude.{◌≡◌, ◌≤◌, ◌<◌, ◌+◌, ◌^◌, length, drop, take, IfOk, IsTrue, OnOk, vec_len};
 ghost use Rattle.conc_disk.specs.Disk.{Shortened, Torn};
+ghost use Rattle.conc_disk.specs.Grows.{LeavesInCall};
 ghost use Rattle.conc_disk.specs.Trace.{act_fits, ActLeaves, after, after_act, all_fit, begun_in, is_begun, Leaves, is_sync};
 
-use crate::trace::{Act, Change, put};
+use crate::trace::{Act, Change, Trace, put};
 use std::alloc::{AllocError, Global};
 
 /// An odd number whose products spread over all bits.
@@ -149,4 +150,16 @@ fn image_after(
         apply(change, &mut seen)?;
     }
     Ok(image)
+}
+
+/// One image that a stop in the call with this number may leave.
+pub(crate) fn image_in_call(
+    alloc: Global,
+    trace: &Trace,
+    call: u64,
+    choice: u64,
+) -> Result<Vec<u8>, AllocError>
+    ensures { IfOk result (λ image. LeavesInCall trace.now call image.items) }
+{
+    image_after(alloc, trace.start(), begun(trace.changes(), call), choice)
 }

@@ -44,7 +44,7 @@ pub(crate) fn put(bytes: &mut Vec<u8>, at: usize, piece: &[u8]) -> Result<(), Al
 }
 
 impl Trace {
-    ghost use Rattle.conc_disk.specs.Grows.{Grows, IsSame};
+    ghost use Rattle.conc_disk.specs.Grows.{Grows, IsSame, start};
     ghost use Rattle.conc_disk.specs.declared.trace.Act.TheVariants.{Write, Cut, Sync};
 
     /// A trace without changes, which takes no memory.
@@ -65,6 +65,24 @@ impl Trace {
         ensures { result.now ≡ self.now.bytes.items }
     {
         &self.bytes
+    }
+
+    /// What it had at first.
+    pub(crate) fn start(&self) -> &[u8]
+        ensures bytes { result.now ≡ start self.now }
+        ensures fit { IsTrue (all_fit self.now.changes.items result.now) }
+    {
+        match &self.first {
+            Some(first) => first,
+            None => &self.bytes,
+        }
+    }
+
+    /// Each change, in order.
+    pub(crate) fn changes(&self) -> &[Change]
+        ensures { result.now ≡ self.now.changes.items }
+    {
+        &self.changes
     }
 
     /// Keeps a copy of what was there at first, if there is none yet.
