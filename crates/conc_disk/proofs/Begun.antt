@@ -8,9 +8,9 @@ pub fit-begun : (call : ℕ) (xs : List Change) (s : List ℕ) → IsTrue (all_f
 fit-begun call [] s fit = refl
 fit-begun call (x ∷ xs) s fit =
     elim (is_begun call x) as (λ b. IsTrue (all_fit (if b then x ∷ begun_in call xs else []) s)) [
-      true ↦ both (act_fits x.act s) (all_fit (begun_in call xs) (after_act x.act s))
-        (both-first (act_fits x.act s) (all_fit xs (after_act x.act s)) fit)
-        (fit-begun call xs (after_act x.act s) (both-second (act_fits x.act s) (all_fit xs (after_act x.act s)) fit))
+      | true ↦ both (act_fits x.act s) (all_fit (begun_in call xs) (after_act x.act s))
+          (both-first (act_fits x.act s) (all_fit xs (after_act x.act s)) fit)
+          (fit-begun call xs (after_act x.act s) (both-second (act_fits x.act s) (all_fit xs (after_act x.act s)) fit))
       | false ↦ refl
     ]
 
@@ -19,7 +19,7 @@ first-ones call [] = (0, omega arith, refl)
 first-ones call (x ∷ xs) =
     let rest = first-ones call xs in
     elim (is_begun call x) as (λ b. (k : ℕ) × (k ≤ length (x ∷ xs)) × ((if b then x ∷ begun_in call xs else []) ≡ take k (x ∷ xs))) [
-      true ↦ (suc rest.0, omega (arith, rest.1), ap (λ (l : List Change). x ∷ l) rest.2)
+      | true ↦ (suc rest.0, omega (arith, rest.1), ap (λ (l : List Change). x ∷ l) rest.2)
       | false ↦ (0, omega arith, refl)
     ]
 

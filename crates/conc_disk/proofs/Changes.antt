@@ -15,8 +15,8 @@ fit-push [] y s fit fits = both (act_fits y.act s) true fits refl
 fit-push (x ∷ xs) y s fit fits =
     let after_x = after_act x.act s in
     both (act_fits x.act s) (all_fit (xs ++ y ∷ []) after_x)
-      (both-first (act_fits x.act s) (all_fit xs after_x) fit)
-      (fit-push xs y after_x (both-second (act_fits x.act s) (all_fit xs after_x) fit) fits)
+    (both-first (act_fits x.act s) (all_fit xs after_x) fit)
+    (fit-push xs y after_x (both-second (act_fits x.act s) (all_fit xs after_x) fit) fits)
 
 -- an image after the last change is one before it that took the step
 pub leaves-push : (xs : List Change) (y : Change) (s d c : List ℕ) → Leaves (xs ++ y ∷ []) s d c → (e : List ℕ) × Leaves xs s d e × ActLeaves y.act (after xs s) e c
@@ -42,8 +42,8 @@ kept-push xs ys y s t old new kept same more is =
 pub fit-more : (xs ys : List Change) (y : Change) (s t old : List ℕ) → old ≡ after xs s → IsTrue (all_fit xs s) → t ≡ s → ys ≡ xs ++ y ∷ [] → IsTrue (act_fits y.act old) → IsTrue (all_fit ys t)
 fit-more xs ys y s t old kept fit same more fits =
     subst (λ (l : List ℕ). IsTrue (all_fit ys l)) (sym same)
-      (subst (λ (l : List Change). IsTrue (all_fit l s)) (sym more)
-        (fit-push xs y s fit (subst (λ (l : List ℕ). IsTrue (act_fits y.act l)) kept fits)))
+    (subst (λ (l : List Change). IsTrue (all_fit l s)) (sym more)
+    (fit-push xs y s fit (subst (λ (l : List ℕ). IsTrue (act_fits y.act l)) kept fits)))
 
 -- the same where the change may not have been taken, and what is read stays
 pub kept-if : (b : Bool) (xs ys : List Change) (y : Change) (s old : List ℕ) → after_act y.act old ≡ old → old ≡ after xs s → ys ≡ (if b then xs ++ y ∷ [] else xs) → old ≡ after ys s

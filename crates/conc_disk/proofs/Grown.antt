@@ -34,14 +34,14 @@ module _ (old new : Trace) (number : ℕ) (act : Act) (grows : Grows old new num
   pub later-grown : (before now : ℕ) → before ≤ now → IsLater (told (start old) old.bytes.items old.changes.items before) (told (start new) new.bytes.items new.changes.items now)
   later-grown before now le =
       subst (λ (s : List ℕ). IsLater (told (start old) old.bytes.items old.changes.items before) (told s new.bytes.items new.changes.items now)) (sym grows.start)
-        (subst (λ (l : List Change). IsLater (told (start old) old.bytes.items old.changes.items before) (told (start old) new.bytes.items l now)) (sym grows.changes)
-          (later-push old.changes.items (record { number = number; act = act }) (start old) old.bytes.items new.bytes.items before now le))
+      (subst (λ (l : List Change). IsLater (told (start old) old.bytes.items old.changes.items before) (told (start old) new.bytes.items l now)) (sym grows.changes)
+      (later-push old.changes.items (record { number = number; act = act }) (start old) old.bytes.items new.bytes.items before now le))
 
 -- a sync
 pub stays-synced : (old new : Trace) (number before now : ℕ) → Grows old new number Sync → Stays (told (start old) old.bytes.items old.changes.items before) (told (start new) new.bytes.items new.changes.items now)
 stays-synced old new number before now grows = record {
   seen = ap Some (bytes-grown old new number Sync grows);
   images = λ c left.
-    let split = images-grown old new number Sync grows c left in
-    subst (λ (l : List ℕ). Leaves old.changes.items (start old) (start old) l) (sym split.2) (seen-is-left old.changes.items (start old) old.bytes.items old.kept old.fit);
+      let split = images-grown old new number Sync grows c left in
+      subst (λ (l : List ℕ). Leaves old.changes.items (start old) (start old) l) (sym split.2) (seen-is-left old.changes.items (start old) old.bytes.items old.kept old.fit);
 }

@@ -30,9 +30,9 @@ module _ (xs : List Change) (y : Change) (start : List ℕ) where
 
   pub else-push : (t : ℕ) (c : List ℕ) → LeavesSince (xs ++ y ∷ []) start t c → LeavesSince xs start t c ⊎ Leaves (xs ++ y ∷ []) start start c
   else-push t c left = ⊎_elim
-    (λ (now : length xs < left.0). inr (subst (λ (l : List Change). Leaves l start start c) (take_all left.0 (xs ++ y ∷ []) (omega (arith, now, longer))) left.3))
-    (λ (before : left.0 ≤ length xs). inl (left.0, left.1, before, subst (λ (l : List Change). Leaves l start start c) (shorter left.0 before) left.3))
-    (cases_lt (length xs) left.0)
+      (λ (now : length xs < left.0). inr (subst (λ (l : List Change). Leaves l start start c) (take_all left.0 (xs ++ y ∷ []) (omega (arith, now, longer))) left.3))
+      (λ (before : left.0 ≤ length xs). inl (left.0, left.1, before, subst (λ (l : List Change). Leaves l start start c) (shorter left.0 before) left.3))
+      (cases_lt (length xs) left.0)
 
   pub later-push : (old new : List ℕ) (before now : ℕ) → before ≤ now → IsLater (told start old xs before) (told start new (xs ++ y ∷ []) now)
   later-push old new before now le = record {

@@ -1,7 +1,7 @@
 ghost use Rattle.std.specs.Prelude.{◌≡◌, ◌≤◌, is_err, IfOk, OnErr, OnOk};
 ghost use Rattle.conc_outside.specs.Counts.{Rose};
 
-use crate::Failed;
+use conc_outside::Failed;
 
 /// The calls of an object, those of them that are to fail, and how often one failed. The counts are
 /// of 64 bits and stand still at their end.

@@ -3,7 +3,7 @@ ghost use Rattle.std.specs.Option.{option_map};
 ghost use Rattle.conc_outside.specs.Counts.{Rose};
 ghost use Rattle.conc_disk.specs.Disk.{DiskState, Follows, HasAt, HasLength, IsLater, LeavesWhatWasSeen, Reaches, SeenFollows, Shortened, Stays, Torn, written};
 
-use crate::Failed;
+use conc_outside::Failed;
 
 /// A disk whose machine may stop at any moment. Between two syncs each written range, and the part
 /// past the old end, may hold any bytes after a stop; all other bytes stay. After a sync that

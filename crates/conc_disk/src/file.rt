@@ -6,7 +6,8 @@ ghost use Rattle.std.specs.Option.{option_map};
 ghost use Rattle.conc_outside.specs.Counts.{Rose};
 ghost use Rattle.conc_disk.specs.Disk.{Follows, HasAt, HasLength, IsLater, LeavesWhatWasSeen, Reaches, SeenFollows, Shortened, Stays, Torn, written};
 
-use crate::{Disk, Failed};
+use crate::Disk;
+use conc_outside::Failed;
 use std::fs::{File, OpenFile, OpenOptions};
 use std::io::{ErrorKind, Read, Seek, SeekFrom, Write};
 use std::path::Path;

@@ -6,9 +6,10 @@ mod disk;
 mod file;
 mod memory;
 mod tear;
+#[cfg(test)]
+mod tests;
 mod trace;
 
-pub use conc_outside::Failed;
 pub use disk::Disk;
 pub use file::{FileDisk, open_disk};
 pub use memory::MemDisk;

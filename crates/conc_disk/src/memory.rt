@@ -5,10 +5,11 @@ ghost use Rattle.conc_disk.specs.Disk.{Follows, HasAt, HasLength, IsLater, Leave
 ghost use Rattle.conc_disk.specs.Trace.{start_of};
 ghost use Rattle.conc_disk.specs.Laws.{now-counts, only-now, seen-is-left};
 
+use crate::Disk;
 use crate::counts::Counts;
 use crate::tear::image_in_call;
 use crate::trace::Trace;
-use crate::{Disk, Failed};
+use conc_outside::Failed;
 use conc_types::NoMemory;
 use std::alloc::Global;
 

@@ -5,7 +5,7 @@ use Rattle.conc_disk.proofs.tear.begun.Given as goal
 abbrev pub invariant-loop-count : goal.invariant-loop-count
 invariant-loop-count l = record {
   within : l.count ≤ length l.changes;
-  rest : begun_in l.call l.changes ≡ take l.count l.changes ++ begun_in l.call (drop l.count l.changes)
+  rest : begun_in l.call l.changes ≡ take l.count l.changes ++ begun_in l.call (drop l.count l.changes);
 }
 
 abbrev pub decreases-loop-count : goal.decreases-loop-count

@@ -8,7 +8,7 @@ apply-requires c =
     let x = c.change-item.result in
     let within : c.loop-change.change-index < length c.args.changes.now = omega arith in
     subst (λ (l : List ℕ). IsTrue (act_fits x.act l)) (sym c.loop-change.invariant.seen)
-      (fit-here c.args.changes.now c.loop-change.change-index x c.args.start.now within c.change-item.is c.requires)
+    (fit-here c.args.changes.now c.loop-change.change-index x c.args.start.now within c.change-item.is c.requires)
 
 pub loop-change-preserved : goal.loop-change-preserved
 loop-change-preserved c =
@@ -20,6 +20,6 @@ loop-change-preserved c =
     record {
       seen = c.in_ok-apply.ensures ∙ ap (after_act x.act) c.loop-change.invariant.seen ∙ sym (after-more xs c.loop-change.change-index x start within c.change-item.is);
       image = leaves-more xs c.loop-change.change-index x start within c.change-item.is start c.loop-change.image.items c.tear.new.image.items
-        c.loop-change.invariant.image
-        (subst (λ (l : List ℕ). ActLeaves x.act l c.loop-change.image.items c.tear.new.image.items) (seen ∙ c.loop-change.invariant.seen) c.in_ok-tear.ensures);
+          c.loop-change.invariant.image
+          (subst (λ (l : List ℕ). ActLeaves x.act l c.loop-change.image.items c.tear.new.image.items) (seen ∙ c.loop-change.invariant.seen) c.in_ok-tear.ensures);
     }

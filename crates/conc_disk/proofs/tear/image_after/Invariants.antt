@@ -5,5 +5,5 @@ use Rattle.conc_disk.proofs.tear.image_after.Given as goal
 abbrev pub invariant-loop-change : goal.invariant-loop-change
 invariant-loop-change l = record {
   seen : l.seen.items ≡ after (take l.change-index l.changes) l.start;
-  image : Leaves (take l.change-index l.changes) l.start l.start l.image.items
+  image : Leaves (take l.change-index l.changes) l.start l.start l.image.items;
 }

@@ -10,5 +10,5 @@ returns-else-choice-eq1 c =
     let bytes = c.args.bytes.now in
     let kept = c.reached-kept.result in
     let torn : Torn c.args.at (length bytes) old (written c.args.at (take kept bytes) old) =
-      torn-written c.args.at (length bytes) (take kept bytes) old (omega arith) (omega (arith, length-take kept bytes)) in
+    torn-written c.args.at (length bytes) (take kept bytes) old (omega arith) (omega (arith, length-take kept bytes)) in
     on_ok_weaker _ (λ is. subst (λ (l : List ℕ). Torn c.args.at (length bytes) old l) (sym is) torn) c.put-else-choice-eq1.ensures.ok
