@@ -1,5 +1,5 @@
 -- The changes that a stop in a call has begun are the first of a trace, and what they may leave was left since its start.
-use Rattle.std.proofs.Common.{◌≡◌, ℕ, suc, ◌≤◌, List, [], ◌∷◌, length, take, Bool, true, false, IsTrue, if◌then◌else◌, refl, sym, ap, subst, arith}
+use Rattle.std.proofs.Common.{◌≡◌, ℕ, suc, ◌≤◌, List, [], ◌∷◌, length, take, true, false, IsTrue, if◌then◌else◌, refl, ap, subst, arith}
 use Rattle.conc_disk.specs.Laws.{both, both-first, both-second}
 use Rattle.conc_disk.specs.Trace.{act_fits, after_act, all_fit, begun_in, is_begun, Leaves, LeavesSince}
 use Rattle.conc_disk.specs.declared.trace.Change.{Change}

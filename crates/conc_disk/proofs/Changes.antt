@@ -1,7 +1,6 @@
 -- One more change at the end of a trace.
-use Rattle.std.proofs.Common.{◌≡◌, ◌⊎◌, inl, inr, ℕ, zero, suc, ◌+◌, ◌≤◌, List, [], ◌∷◌, ◌++◌, length, take, Vec, Option, Some, None, IsSome, if◌then◌else◌, ◌∙◌, Bool, true, false, ◌&&◌, IsTrue, refl, sym, subst, ap, arith, length-append}
-use Rattle.std.proofs.lemmas.List.{take_all, take-append-le}
-use Rattle.conc_disk.specs.Trace.{act_fits, ActLeaves, after, after_act, all_fit, Leaves, LeavesSince, start_of}
+use Rattle.std.proofs.Common.{◌≡◌, ℕ, List, [], ◌∷◌, ◌++◌, Vec, Option, Some, None, IsSome, if◌then◌else◌, ◌∙◌, Bool, true, false, IsTrue, refl, sym, subst, ap}
+use Rattle.conc_disk.specs.Trace.{act_fits, ActLeaves, after, after_act, all_fit, Leaves, start_of}
 use Rattle.std.specs.declared.alloc.Global.{Global}
 use Rattle.conc_disk.specs.Laws.{both, both-first, both-second}
 use Rattle.conc_disk.specs.declared.trace.Change.{Change}

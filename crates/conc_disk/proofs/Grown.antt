@@ -1,5 +1,5 @@
 -- A trace with one more change: what is read, what a stop may leave, and how time goes on.
-use Rattle.std.proofs.Common.{◌≡◌, ℕ, ◌+◌, ◌≤◌, List, [], ◌∷◌, ◌++◌, Some, refl, sym, ◌∙◌, ap, subst}
+use Rattle.std.proofs.Common.{◌≡◌, ℕ, ◌≤◌, List, [], ◌∷◌, ◌++◌, Some, sym, ◌∙◌, ap, subst}
 use Rattle.conc_disk.specs.Disk.{IsLater, Stays}
 use Rattle.conc_disk.specs.Grows.{Grows, start}
 use Rattle.conc_disk.specs.Laws.{seen-is-left}

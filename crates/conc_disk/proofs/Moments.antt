@@ -1,10 +1,10 @@
 -- The moments of a trace: what a stop since one of them may have left, and how this goes on.
-use Rattle.std.proofs.Common.{◌≡◌, ◌⊎◌, inl, inr, ⊎_elim, ℕ, ◌+◌, ◌<◌, ◌≤◌, List, [], ◌∷◌, ◌++◌, length, take, IsTrue, refl, sym, subst, le_refl, arith, length-append}
+use Rattle.std.proofs.Common.{◌≡◌, ◌⊎◌, inl, inr, ⊎_elim, ℕ, ◌+◌, ◌<◌, ◌≤◌, List, [], ◌∷◌, ◌++◌, length, take, sym, subst, le_refl, arith, length-append}
 use Rattle.std.proofs.lemmas.Bool.{cases_lt}
 use Rattle.std.proofs.lemmas.List.{take_all, take-append-le}
 use Rattle.conc_disk.specs.Disk.{IsLater}
 use Rattle.conc_disk.specs.Memory.{told}
-use Rattle.conc_disk.specs.Trace.{after, all_fit, Leaves, LeavesSince}
+use Rattle.conc_disk.specs.Trace.{Leaves, LeavesSince}
 use Rattle.conc_disk.specs.declared.trace.Change.{Change}
 
 -- ---- time goes on

@@ -1,9 +1,8 @@
 -- The calls of a disk in memory, and which of them fail.
-use Rattle.std.specs.Prelude.{◌≡◌, ◌⊎◌, ℕ, ◌+◌, ◌<◌, ◌≤◌, min, List, Bool, ◌==◌, Result, IsErr, IsTrue}
-use Rattle.std.specs.List.{list_any}
+use Rattle.std.specs.Prelude.{◌≡◌, ◌⊎◌, ℕ, ◌+◌, ◌<◌, ◌≤◌, min, List, Bool, Result, IsErr, IsTrue}
 use Rattle.conc_outside.specs.Counts.{Rose}
 use Rattle.conc_disk.specs.Disk.{DiskState}
-use Rattle.conc_disk.specs.Faults.{is_listed, IsNextCall}
+use Rattle.conc_disk.specs.Faults.{is_listed}
 use Rattle.conc_disk.specs.Grows.{LeavesInCall, start}
 use Rattle.conc_disk.specs.Memory.{told}
 use Rattle.conc_disk.specs.declared.memory.MemDisk.{MemDisk}

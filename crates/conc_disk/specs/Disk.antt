@@ -1,6 +1,5 @@
 -- What a disk tells, and what its calls do to it.
 use Rattle.std.specs.Prelude.{◌≡◌, ◌⊎◌, ℕ, ◌+◌, ◌≤◌, min, max, List, ◌++◌, length, take, drop, Option, None, ⊤, IfSome, IsSomeAnd}
-use Rattle.std.specs.Option.{option_map}
 
 -- A disk at a moment. Where `seen` is none it tells nothing of bytes.
 pub record DiskState : Type 1 where

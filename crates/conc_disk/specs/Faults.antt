@@ -1,5 +1,5 @@
 -- The calls that are to fail.
-use Rattle.std.specs.Prelude.{◌≡◌, ℕ, ◌+◌, min, List, Bool, ◌==◌}
+use Rattle.std.specs.Prelude.{◌≡◌, ◌+◌, min, Bool, ◌==◌}
 use Rattle.std.specs.List.{list_any}
 use Rattle.conc_disk.specs.declared.counts.Counts.{Counts}
 

@@ -1,5 +1,5 @@
 -- A disk over a file.
-use Rattle.std.specs.Prelude.{ℕ, Bool}
+use Rattle.std.specs.Prelude.{Bool}
 use Rattle.conc_disk.specs.Disk.{DiskState, tells_nothing}
 use Rattle.conc_disk.specs.declared.file.FileDisk.{FileDisk}
 

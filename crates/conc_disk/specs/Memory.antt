@@ -1,5 +1,5 @@
 -- A disk in memory.
-use Rattle.std.specs.Prelude.{◌≡◌, ℕ, List, length, Some}
+use Rattle.std.specs.Prelude.{ℕ, List, length, Some}
 use Rattle.conc_disk.specs.Disk.{DiskState}
 use Rattle.conc_disk.specs.Trace.{Leaves, LeavesSince}
 use Rattle.conc_disk.specs.declared.trace.Change.{Change}

@@ -1,4 +1,5 @@
-ghost use Rattle.std.specs.Prelude.{◌≡◌, ◌≤◌, ◌+◌, List, ℕ, Some, IfOk, OnErr, OnOk, length, take};
+ghost use Rattle.std.specs.Prelude.{◌≡◌, ◌≤◌, ◌+◌, List, ℕ, Some, IfOk, OnErr, OnOk, Vec, length, take};
+ghost use Rattle.std.specs.declared.alloc.Global.{Global};
 ghost use Rattle.std.specs.Option.{option_map};
 ghost use Rattle.conc_outside.specs.Counts.{Rose};
 ghost use Rattle.conc_disk.specs.Disk.{Follows, HasAt, HasLength, IsLater, LeavesWhatWasSeen, Reaches, SeenFollows, Shortened, Stays, Torn, written};
@@ -64,7 +65,9 @@ impl MemDisk {
 }
 
 impl Disk for MemDisk {
-    ghost use Rattle.conc_disk.specs.Calls.{FailsAsListed, state_of};
+    ghost use Rattle.conc_disk.specs.Calls.{calls_of, FailsAsListed, state_of};
+    ghost use Rattle.conc_disk.specs.Grows.{Grows, IsSame};
+    ghost use Rattle.conc_disk.specs.declared.trace.Act.TheVariants.{Write, Cut, Sync};
 
     ghost state = { λ d. state_of d };
 
@@ -80,6 +83,7 @@ impl Disk for MemDisk {
         ensures stays { Stays (state_of self.old) (state_of self.new) }
         ensures failed { OnErr result (Rose (state_of self.old).faults (state_of self.new).faults) }
         ensures exact { FailsAsListed self.old self.new result }
+        ensures unchanged { IsSame self.old.trace self.new.trace }
     {
         self.counts.begin()?;
         Ok(self.trace.bytes().len() as u64)
@@ -92,6 +96,7 @@ impl Disk for MemDisk {
         ensures stays { Stays (state_of self.old) (state_of self.new) }
         ensures failed { OnErr result (Rose (state_of self.old).faults (state_of self.new).faults) }
         ensures exact { FailsAsListed self.old self.new result }
+        ensures unchanged { IsSame self.old.trace self.new.trace }
     {
         self.counts.begin()?;
         let from = at as usize;
@@ -107,6 +112,8 @@ impl Disk for MemDisk {
         ensures images { Follows (Torn at (length bytes.now)) (state_of self.old) (state_of self.new) }
         ensures failed { OnErr result (Rose (state_of self.old).faults (state_of self.new).faults) }
         ensures exact { FailsAsListed self.old self.new result }
+        ensures traced { OnOk result ((kept : Vec ℕ Global) × (kept.items ≡ bytes.now) × Grows self.old.trace self.new.trace (calls_of self.old) (Write at kept)) }
+        ensures unchanged { OnErr result (IsSame self.old.trace self.new.trace) }
     {
         let number = self.counts.begin()?;
         match self.trace.write(self.alloc, number, at as usize, bytes) {
@@ -123,6 +130,8 @@ impl Disk for MemDisk {
         ensures images { Follows (Shortened len) (state_of self.old) (state_of self.new) }
         ensures failed { OnErr result (Rose (state_of self.old).faults (state_of self.new).faults) }
         ensures exact { FailsAsListed self.old self.new result }
+        ensures traced { OnOk result (Grows self.old.trace self.new.trace (calls_of self.old) (Cut len)) }
+        ensures unchanged { OnErr result (IsSame self.old.trace self.new.trace) }
     {
         let number = self.counts.begin()?;
         match self.trace.cut(self.alloc, number, len as usize) {
@@ -137,6 +146,8 @@ impl Disk for MemDisk {
         ensures stays { Stays (state_of self.old) (state_of self.new) }
         ensures failed { OnErr result (Rose (state_of self.old).faults (state_of self.new).faults) }
         ensures exact { FailsAsListed self.old self.new result }
+        ensures traced { OnOk result (Grows self.old.trace self.new.trace (calls_of self.old) Sync) }
+        ensures unchanged { OnErr result (IsSame self.old.trace self.new.trace) }
     {
         let number = self.counts.begin()?;
         match self.trace.sync(number) {

@@ -1,4 +1,4 @@
-use Rattle.std.proofs.Common.{◌≡◌, ◌<◌, ◌∙◌, ℕ, List, length, IsTrue, ap, subst, sym, arith, rules}
+use Rattle.std.proofs.Common.{◌≡◌, ◌<◌, ◌∙◌, ℕ, List, length, IsTrue, ap, subst, sym, arith}
 use Rattle.conc_disk.specs.Trace.{act_fits, ActLeaves, after_act}
 use Rattle.conc_disk.proofs.Walk.{after-more, fit-here, leaves-more}
 use Rattle.conc_disk.proofs.tear.image_after.Goals as goal

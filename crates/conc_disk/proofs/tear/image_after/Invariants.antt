@@ -1,4 +1,4 @@
-use Rattle.std.proofs.Common.{◌≡◌, ◌≤◌, length, take}
+use Rattle.std.proofs.Common.{◌≡◌, take}
 use Rattle.conc_disk.specs.Trace.{after, Leaves}
 use Rattle.conc_disk.proofs.tear.image_after.Given as goal
 

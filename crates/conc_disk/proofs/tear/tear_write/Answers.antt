@@ -1,4 +1,4 @@
-use Rattle.std.proofs.Common.{◌≡◌, ◌≤◌, ℕ, List, length, take, arith, rules, subst, sym, length-take}
+use Rattle.std.proofs.Common.{ℕ, List, length, take, arith, subst, sym, length-take}
 use Rattle.std.proofs.lemmas.Result.{on_ok_weaker}
 use Rattle.conc_disk.specs.Disk.{Torn, written}
 use Rattle.conc_disk.specs.Laws.{torn-written}

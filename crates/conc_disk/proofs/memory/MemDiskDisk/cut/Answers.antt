@@ -1,7 +1,5 @@
-use Rattle.std.proofs.Common.{Some, ap, ◌≡◌, ◌∙◌, sym, subst, ℕ, ◌≤◌, ◌++◌, List, length, rules}
-use Rattle.conc_disk.specs.Disk.{Torn, written}
-use Rattle.conc_disk.specs.declared.trace.Act.TheVariants.{Cut, Sync, Write}
-use Rattle.conc_disk.proofs.Grown.{bytes-grown, images-grown, later-grown, stays-synced}
+use Rattle.std.proofs.Common.{Some, ap}
+use Rattle.conc_disk.proofs.Grown.{bytes-grown, images-grown, later-grown}
 use Rattle.conc_disk.proofs.memory.MemDiskDisk.cut.Goals as goal
 
 pub returns-in-Ok-clause-later : goal.returns-in-Ok-clause-later

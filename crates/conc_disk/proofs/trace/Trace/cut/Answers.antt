@@ -1,7 +1,6 @@
 use Rattle.std.proofs.Common.{◌≡◌, ◌++◌, [], ◌∷◌, refl, rules, ◌∙◌}
 use Rattle.conc_disk.specs.declared.trace.Act.TheVariants.{Cut}
 use Rattle.conc_disk.specs.declared.trace.Change.{Change}
-use Rattle.conc_disk.specs.Disk.{written}
 use Rattle.conc_disk.specs.Trace.{after_act, start_of}
 use Rattle.conc_disk.proofs.Changes.{copy-stays, fit-more, kept-push}
 use Rattle.conc_disk.proofs.trace.Trace.cut.Goals as goal

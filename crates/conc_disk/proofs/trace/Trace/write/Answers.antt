@@ -1,4 +1,4 @@
-use Rattle.std.proofs.Common.{◌≡◌, ◌≤◌, ◌++◌, [], ◌∷◌, length, IsTrue, refl, rules, ◌∙◌, arith}
+use Rattle.std.proofs.Common.{◌≡◌, ◌++◌, [], ◌∷◌, IsTrue, rules, ◌∙◌}
 use Rattle.conc_disk.specs.declared.trace.Act.TheVariants.{Write}
 use Rattle.conc_disk.specs.declared.trace.Change.{Change}
 use Rattle.conc_disk.specs.Trace.{act_fits, after_act, start_of}
