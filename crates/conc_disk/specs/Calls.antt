@@ -3,7 +3,7 @@ use Rattle.std.specs.Prelude.{◌≡◌, ◌⊎◌, ℕ, ◌+◌, ◌<◌, ◌�
 use Rattle.conc_outside.specs.Counts.{Rose}
 use Rattle.conc_disk.specs.Disk.{DiskState}
 use Rattle.conc_disk.specs.Faults.{is_listed}
-use Rattle.conc_disk.specs.Grows.{LeavesInCall, start}
+use Rattle.conc_disk.specs.Grows.{LeavesInCall, seen_in_call, start}
 use Rattle.conc_disk.specs.Memory.{told}
 use Rattle.conc_disk.specs.declared.memory.MemDisk.{MemDisk}
 
@@ -30,6 +30,10 @@ coming_fails disk = is_listed disk.counts
 -- a stop in the call with this number may leave this image
 abbrev pub MayLeaveIn : MemDisk → ℕ → List ℕ → Type 0
 MayLeaveIn disk call image = LeavesInCall disk.trace call image
+
+-- what a read gives where all that was begun up to this call is done
+abbrev pub seen_in : MemDisk → ℕ → List ℕ
+seen_in disk call = seen_in_call disk.trace call
 
 -- The call is counted, and fails exactly where it is listed or finds no memory.
 pub record FailsAsListed {T E : Type 0} (old new : MemDisk) (result : Result T E) : Type 0 where

@@ -1,6 +1,6 @@
 -- How a trace goes on.
 use Rattle.std.specs.Prelude.{◌≡◌, ℕ, List, [], ◌∷◌, ◌++◌}
-use Rattle.conc_disk.specs.Trace.{begun_in, Leaves, start_of}
+use Rattle.conc_disk.specs.Trace.{after, begun_in, Leaves, start_of}
 use Rattle.conc_disk.specs.declared.trace.Act.{Act}
 use Rattle.conc_disk.specs.declared.trace.Trace.{Trace}
 
@@ -21,3 +21,7 @@ pub record IsSame (old new : Trace) : Type 0 where
 -- a stop in the call with this number may leave this image
 abbrev pub LeavesInCall : Trace → ℕ → List ℕ → Type 0
 LeavesInCall trace call image = Leaves (begun_in call trace.changes.items) (start trace) (start trace) image
+
+-- what a read gives where all that was begun up to this call is done
+abbrev pub seen_in_call : Trace → ℕ → List ℕ
+seen_in_call trace call = after (begun_in call trace.changes.items) (start trace)

@@ -61,7 +61,9 @@ fn make_new<R: Files>(rt: &R, path: &str) -> Result<R::File, Failed> {
 
 /// Opens the file at this path as a disk, and makes it where there is none: then its name is on the
 /// disk too.
-pub fn open_disk<R: Files>(rt: &R, path: &str) -> Result<FileDisk<R::File>, Failed> {
+pub fn open_disk<R: Files>(rt: &R, path: &str) -> Result<FileDisk<R::File>, Failed>
+    ensures { IfOk result (λ disk. disk.faults ≡ 0) }
+{
     let file = match open_old(rt, path)? {
         Some(file) => file,
         None => make_new(rt, path)?,

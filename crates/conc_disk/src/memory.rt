@@ -25,7 +25,7 @@ pub struct MemDisk {
 }
 
 impl MemDisk {
-    ghost use Rattle.conc_disk.specs.Calls.{calls_of, fails_of, MayLeaveIn, starved_of};
+    ghost use Rattle.conc_disk.specs.Calls.{calls_of, fails_of, MayLeaveIn, seen_in, starved_of};
 
     /// A disk that reads as these bytes, with nothing pending. The calls with these numbers, counted
     /// from 0, are to fail. It takes no memory.
@@ -54,10 +54,11 @@ impl MemDisk {
     }
 
     /// One image that a stop in the call with this number may leave, the calls being counted from 0.
-    /// At the choice 0 nothing that was pending reached the disk, at 1 all of it did; any other
-    /// choice takes a part of each write and cut, and an odd one also turns the rest of each write.
+    /// At the choice 0 nothing that was pending reached the disk, and at 1 all of it did. Any other
+    /// takes a part of each write and cut, and an odd one also turns the rest of each write.
     pub fn image(&self, alloc: Global, calls: u64, choice: u64) -> Result<Vec<u8>, NoMemory>
         ensures in_call { IfOk result (λ image. MayLeaveIn self.now calls image.items) }
+        ensures all { choice ≡ 1 → IfOk result (λ image. image.items ≡ seen_in self.now calls) }
         ensures since_start { IfOk result (λ image. (⟦<MemDisk as Disk>⟧.state self.now).left_since 0 image.items) }
     {
         Ok(image_in_call(alloc, &self.trace, calls, choice)?)

@@ -1,7 +1,7 @@
 // What a stop may leave: one image of many.
 ghost use Rattle.std.specs.Prelude.{◌≡◌, ◌≤◌, ◌<◌, ◌+◌, ◌^◌, length, drop, take, IfOk, IsTrue, OnOk, vec_len};
-ghost use Rattle.conc_disk.specs.Disk.{Shortened, Torn};
-ghost use Rattle.conc_disk.specs.Grows.{LeavesInCall};
+ghost use Rattle.conc_disk.specs.Disk.{Shortened, Torn, written};
+ghost use Rattle.conc_disk.specs.Grows.{LeavesInCall, seen_in_call};
 ghost use Rattle.conc_disk.specs.Trace.{act_fits, ActLeaves, after, after_act, all_fit, begun_in, is_begun, Leaves, is_sync};
 
 use crate::trace::{Act, Change, Trace, put};
@@ -14,7 +14,8 @@ const SPREAD: u64 = 0x9E37_79B9_7F4A_7C15;
 /// the choice and the number of the call.
 fn reached(choice: u64, number: u64, len: usize) -> usize
     requires { len < 2 ^ 63 }
-    ensures { result ≤ len }
+    ensures within { result ≤ len }
+    ensures all { choice ≡ 1 → result ≡ len }
 {
     match choice {
         0 => 0,
@@ -48,13 +49,14 @@ fn tear_write(
     choice: u64,
     number: u64,
 ) -> Result<(), AllocError>
-    ensures { OnOk result (Torn at (length bytes.now) image.old.items image.new.items) }
+    ensures torn { OnOk result (Torn at (length bytes.now) image.old.items image.new.items) }
+    ensures all { choice ≡ 1 → at ≤ length image.old.items → OnOk result (image.new.items ≡ written at bytes.now image.old.items) }
 {
     if at > image.len() {
         return Ok(());
     }
     let kept = reached(choice, number, bytes.len());
-    if choice % 2 == 1 {
+    if choice > 1 && choice % 2 == 1 {
         let piece = turned(alloc, bytes, kept)?;
         put(image, at, &piece)
     } else {
@@ -64,7 +66,8 @@ fn tear_write(
 
 /// A cut that a stop cuts off: some of what is past the length is off.
 fn tear_cut(image: &mut Vec<u8>, len: usize, choice: u64, number: u64)
-    ensures { Shortened len image.old.items image.new.items }
+    ensures cut { Shortened len image.old.items image.new.items }
+    ensures all { choice ≡ 1 → image.new.items ≡ take len image.old.items }
 {
     if len < image.len() {
         let past = image.len() - len;
@@ -81,7 +84,8 @@ fn tear(
     image: &mut Vec<u8>,
     choice: u64,
 ) -> Result<(), AllocError>
-    ensures { OnOk result (ActLeaves change.now.act seen.now image.old.items image.new.items) }
+    ensures left { OnOk result (ActLeaves change.now.act seen.now image.old.items image.new.items) }
+    ensures all { choice ≡ 1 → image.old.items ≡ seen.now → IsTrue (act_fits change.now.act seen.now) → OnOk result (image.new.items ≡ after_act change.now.act seen.now) }
 {
     match &change.act {
         Act::Write { at, bytes } => tear_write(alloc, image, *at, bytes, choice, change.number),
@@ -141,7 +145,8 @@ fn image_after(
     choice: u64,
 ) -> Result<Vec<u8>, AllocError>
     requires { IsTrue (all_fit changes.now start.now) }
-    ensures { IfOk result (λ image. Leaves changes.now start.now start.now image.items) }
+    ensures left { IfOk result (λ image. Leaves changes.now start.now start.now image.items) }
+    ensures all { choice ≡ 1 → IfOk result (λ image. image.items ≡ after changes.now start.now) }
 {
     let mut seen = start.to_vec(alloc)?;
     let mut image = start.to_vec(alloc)?;
@@ -159,7 +164,8 @@ pub(crate) fn image_in_call(
     call: u64,
     choice: u64,
 ) -> Result<Vec<u8>, AllocError>
-    ensures { IfOk result (λ image. LeavesInCall trace.now call image.items) }
+    ensures left { IfOk result (λ image. LeavesInCall trace.now call image.items) }
+    ensures all { choice ≡ 1 → IfOk result (λ image. image.items ≡ seen_in_call trace.now call) }
 {
     image_after(alloc, trace.start(), begun(trace.changes(), call), choice)
 }

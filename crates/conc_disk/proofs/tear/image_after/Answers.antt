@@ -17,9 +17,14 @@ loop-change-preserved c =
     let start = c.args.start.now in
     let within : c.loop-change.change-index < length xs = omega arith in
     let seen : c.deref.result.now ≡ c.loop-change.seen.items = c.deref.ensures.value in
+    let fits = fit-here xs c.loop-change.change-index x start within c.change-item.is c.requires in
     record {
       seen = c.in_ok-apply.ensures ∙ ap (after_act x.act) c.loop-change.invariant.seen ∙ sym (after-more xs c.loop-change.change-index x start within c.change-item.is);
       image = leaves-more xs c.loop-change.change-index x start within c.change-item.is start c.loop-change.image.items c.tear.new.image.items
           c.loop-change.invariant.image
-          (subst (λ (l : List ℕ). ActLeaves x.act l c.loop-change.image.items c.tear.new.image.items) (seen ∙ c.loop-change.invariant.seen) c.in_ok-tear.ensures);
+          (subst (λ (l : List ℕ). ActLeaves x.act l c.loop-change.image.items c.tear.new.image.items) (seen ∙ c.loop-change.invariant.seen) c.in_ok-tear.ensures.left);
+      all = λ one.
+          c.in_ok-tear.ensures.all one (c.loop-change.invariant.all one ∙ sym seen) (subst (λ (l : List ℕ). IsTrue (act_fits x.act l)) (sym (seen ∙ c.loop-change.invariant.seen)) fits)
+          ∙ ap (after_act x.act) seen
+          ∙ sym c.in_ok-apply.ensures;
     }
