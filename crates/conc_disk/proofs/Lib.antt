@@ -1,0 +1,6 @@
+pub mod Begun
+pub mod Changes
+pub mod Grown
+pub mod Moments
+pub mod Walk
+pub mod Same
