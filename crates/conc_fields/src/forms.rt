@@ -1,5 +1,5 @@
 ghost use Rattle.std.specs.Prelude.{◌≡◌, IfOk, List, Option, Result, ℕ};
-ghost use Rattle.conc_fields.specs.Forms.{name_in, name_of as name_of_bytes, text_in, text_of as text_of_bytes, truth_in, whole_in, whole_of as whole_of_integer};
+ghost use Rattle.conc_fields.specs.Forms.{name_in, name_of as name_of_bytes, no_text as no_text_of, text_in, text_of as text_of_bytes, truth_in, whole_in, whole_of as whole_of_integer};
 ghost use Rattle.toml.specs.Data.{Data};
 ghost use Rattle.toml.specs.View.{view};
 
@@ -48,6 +48,15 @@ impl Form for NameForm {
 
 /// A string of at most so many bytes without control bytes. Another string is `OUT_OF_RANGE`.
 pub struct TextForm<const MOST: usize>;
+
+/// No bytes.
+pub fn no_text<const MOST: usize>(alloc: Global) -> ShortText<MOST>
+    ensures { result ≡ no_text_of MOST }
+{
+    ShortText {
+        text: Seq::from_vec(Vec::new(alloc)),
+    }
+}
 
 fn text_of<const MOST: usize>(
     alloc: Global,
