@@ -31,7 +31,10 @@ test_in value = or_kind 4 test_of (as_str value)
 abbrev pub filter_keys : List (List ℕ)
 filter_keys = codes "column" ∷ codes "test" ∷ codes "value" ∷ []
 
-abbrev pub to_filter : List ℕ × (Test × ShortText 200) → Filter
+abbrev pub FilterParts : Type 0
+FilterParts = List ℕ × (Test × ShortText 200)
+
+abbrev pub to_filter : FilterParts → Filter
 to_filter parts = record { column = parts.0; test = parts.1.0; value = parts.1.1.text; short = parts.1.1.short }
 
 unfoldable pub filter_of : Members → Result Filter ℕ
@@ -74,7 +77,10 @@ program_keys =
     codes "name" ∷ codes "type" ∷ codes "enabled" ∷ codes "run_alone" ∷ codes "restart" ∷ codes "table"
     ∷ codes "filter" ∷ codes "group" ∷ codes "sum" ∷ codes "warn_over" ∷ codes "error_over" ∷ []
 
-abbrev pub to_program : List ℕ × (ShortText 80 × (Bool × (Bool × (Bool × Job)))) → Program
+abbrev pub ProgramParts : Type 0
+ProgramParts = List ℕ × (ShortText 80 × (Bool × (Bool × (Bool × Job))))
+
+abbrev pub to_program : ProgramParts → Program
 to_program parts = record {
   name = parts.0;
   request_type = parts.1.0.text;

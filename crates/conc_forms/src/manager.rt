@@ -57,10 +57,18 @@ fn manager_of(alloc: Global, table: &Table) -> Result<Result<RawManager, u8>, No
     ensures { IfOk result (λ r. r ≡ spec.manager_of (table_view table.now)) }
 {
     let name = required::<NameForm>(alloc, table, "name")?;
-    let include =
-        default::<ListForm<RuleForm>>(alloc, Seq::from_vec(Vec::new(alloc)), table, "include")?;
-    let exclude =
-        default::<ListForm<RuleForm>>(alloc, Seq::from_vec(Vec::new(alloc)), table, "exclude")?;
+    let include = default::<ListForm<RuleForm>>(
+        alloc,
+        Seq::from_vec(Vec::new(alloc)),
+        table,
+        "include",
+    )?;
+    let exclude = default::<ListForm<RuleForm>>(
+        alloc,
+        Seq::from_vec(Vec::new(alloc)),
+        table,
+        "exclude",
+    )?;
     let shifts = default::<ArrayForm<ShiftForm, 0, 64>>(alloc, no_values(alloc), table, "shift")?;
     let manager = to_manager(both(name, both(include, both(exclude, shifts))));
     Ok(beside(manager_keys(table), manager))

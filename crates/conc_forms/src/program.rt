@@ -52,15 +52,21 @@ fn filter_keys(table: &Table) -> Option<u8>
     keys_kind(&["column", "test", "value"], table)
 }
 
+fn filter_with(column: Name, test: Test, value: ShortText<200>) -> Filter
+    ensures { result ≡ spec.to_filter (column, (test, value)) }
+{
+    Filter {
+        column,
+        test,
+        value: value.text,
+    }
+}
+
 fn to_filter(parts: Result<(Name, (Test, ShortText<200>)), u8>) -> Result<Filter, u8>
     ensures { result ≡ good spec.to_filter parts }
 {
     match parts {
-        Ok((column, (test, value))) => Ok(Filter {
-            column,
-            test,
-            value: value.text,
-        }),
+        Ok((column, (test, value))) => Ok(filter_with(column, test, value)),
         Err(kind) => Err(kind),
     }
 }
@@ -93,6 +99,26 @@ impl Form for FilterForm {
     }
 }
 
+fn job_with(
+    table: Name,
+    filters: Counted<Filter, 0, 16>,
+    group: Option<Name>,
+    sum: Option<Name>,
+    warn_over: Option<u64>,
+    error_over: Option<u64>,
+) -> Job
+    ensures { result ≡ spec.to_job (table, (filters, (group, (sum, (warn_over, error_over))))) }
+{
+    Job {
+        table,
+        filters: filters.list,
+        group,
+        sum,
+        warn_over,
+        error_over,
+    }
+}
+
 type JobParts = (
     Name,
     (
@@ -105,14 +131,9 @@ fn to_job(parts: Result<JobParts, u8>) -> Result<Job, u8>
     ensures { result ≡ good spec.to_job parts }
 {
     match parts {
-        Ok((table, (filters, (group, (sum, (warn_over, error_over)))))) => Ok(Job {
-            table,
-            filters: filters.list,
-            group,
-            sum,
-            warn_over,
-            error_over,
-        }),
+        Ok((table, (filters, (group, (sum, (warn_over, error_over)))))) => {
+            Ok(job_with(table, filters, group, sum, warn_over, error_over))
+        }
         Err(kind) => Err(kind),
     }
 }
@@ -122,8 +143,12 @@ fn job_of(alloc: Global, table: &Table) -> Result<Result<Job, u8>, NoMemory>
     ensures { IfOk result (λ r. r ≡ spec.job_of (table_view table.now)) }
 {
     let name = required::<NameForm>(alloc, table, "table")?;
-    let filters =
-        default::<ArrayForm<FilterForm, 0, 16>>(alloc, no_values(alloc), table, "filter")?;
+    let filters = default::<ArrayForm<FilterForm, 0, 16>>(
+        alloc,
+        no_values(alloc),
+        table,
+        "filter",
+    )?;
     let group = optional::<NameForm>(alloc, table, "group")?;
     let sum = optional::<NameForm>(alloc, table, "sum")?;
     let warn_over = optional::<WholeForm>(alloc, table, "warn_over")?;
@@ -156,20 +181,35 @@ fn program_keys(table: &Table) -> Option<u8>
     )
 }
 
+fn program_with(
+    name: Name,
+    request_type: ShortText<80>,
+    enabled: bool,
+    run_alone: bool,
+    restart: bool,
+    job: Job,
+) -> Program
+    ensures { result ≡ spec.to_program (name, (request_type, (enabled, (run_alone, (restart, job))))) }
+{
+    Program {
+        name,
+        request_type: request_type.text,
+        enabled,
+        run_alone,
+        restart,
+        job,
+    }
+}
+
 type ProgramParts = (Name, (ShortText<80>, (bool, (bool, (bool, Job)))));
 
 fn to_program(parts: Result<ProgramParts, u8>) -> Result<Program, u8>
     ensures { result ≡ good spec.to_program parts }
 {
     match parts {
-        Ok((name, (request_type, (enabled, (run_alone, (restart, job)))))) => Ok(Program {
-            name,
-            request_type: request_type.text,
-            enabled,
-            run_alone,
-            restart,
-            job,
-        }),
+        Ok((name, (request_type, (enabled, (run_alone, (restart, job)))))) => {
+            Ok(program_with(name, request_type, enabled, run_alone, restart, job))
+        }
         Err(kind) => Err(kind),
     }
 }
@@ -186,7 +226,10 @@ fn program_of(alloc: Global, table: &Table) -> Result<Result<Program, u8>, NoMem
     let job = job_of(alloc, table)?;
     let parts = both(
         name,
-        both(request_type, both(enabled, both(run_alone, both(restart, job)))),
+        both(
+            request_type,
+            both(enabled, both(run_alone, both(restart, job))),
+        ),
     );
     Ok(beside(program_keys(table), to_program(parts)))
 }
