@@ -1,5 +1,5 @@
 -- The forms of single values. A value of another TOML type breaks kind 4, one outside its form kind 7.
-use Rattle.std.specs.Prelude.{ℕ, ℤ, pos, negsuc, if◌then◌else◌, Bool, IsTrue, refl, [], List, Option, Result, Ok, Err}
+use Rattle.std.specs.Prelude.{ℕ, ℤ, pos, negsuc, if◌then◌else◌, Bool, IsTrue, refl, [], List, Result, Ok, Err}
 use lib.Dec.{leb-zero}
 use Rattle.std.proofs.lemmas.Bool.{and_from}
 use Rattle.std.specs.Str.{chars, is_utf8}

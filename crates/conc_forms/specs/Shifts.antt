@@ -1,5 +1,5 @@
 -- Work shifts, as the tables of a setup file give them.
-use Rattle.std.specs.Prelude.{ℕ, codes, if◌then◌else◌, ◌+◌, ◌-◌, ◌*◌, ◌/◌, Bool, not, ◌&&◌, ◌==◌, nat_le, nat_lt, List, [], ◌∷◌, ◌++◌, length, slice_index, Option, None, Some, Result, Ok, Err}
+use Rattle.std.specs.Prelude.{ℕ, codes, if◌then◌else◌, ◌+◌, ◌-◌, ◌*◌, ◌/◌, Bool, not, ◌&&◌, ◌==◌, nat_le, List, [], ◌∷◌, ◌++◌, length, slice_index, Option, None, Some, Result, Ok, Err}
 use Rattle.std.specs.List.{list_any}
 use Rattle.std.specs.Option.{option_map}
 use Rattle.std.specs.Str.{bytes_eq}
@@ -31,7 +31,7 @@ is_digit byte = nat_le 48 byte && nat_le byte 57
 abbrev pub minutes : ℕ → ℕ → ℕ → ℕ → ℕ
 minutes a b c d = 60 * (10 * (a - 48) + (b - 48)) + (10 * (c - 48) + (d - 48))
 
--- the seconds from midnight of the time HH:MM, up to 24:00
+-- the seconds from midnight of the time HH:MM, up to 24:00, which as a first time is not before any last one
 abbrev pub clock_of : ℕ → ℕ → ℕ → ℕ → ℕ → Result ℕ ℕ
 clock_of a b colon c d =
     if (is_digit a && (is_digit b && (is_digit c && is_digit d))) && (colon == 58 && (nat_le c 53 && nat_le (minutes a b c d) 1440))
