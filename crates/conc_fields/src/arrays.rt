@@ -33,7 +33,7 @@ fn all_good<T: Drop>(alloc: Global, all: Seq<Result<T, u8>>) -> Result<Result<Se
     }
 }
 
-/// No values, where there need be none.
+/// No values, where there need be none. It takes no memory.
 pub fn no_values<T: Drop, const MOST: usize>(alloc: Global) -> Counted<T, 0, MOST>
     ensures { result ≡ no_values_of MOST }
 {

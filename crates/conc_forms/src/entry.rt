@@ -98,8 +98,9 @@ fn entry_of(alloc: Global, table: &Table) -> Result<Result<RawEntry, u8>, NoMemo
     Ok(beside(entry_keys(table), entry))
 }
 
-/// An entry of the incompatibilities: a table of the array `incompatible`. Without a scope it covers
-/// the other item alone, and without a type it counts in one conflict domain.
+/// An entry of the incompatibilities: a table of the array `incompatible`, with the names of two
+/// programs or sets. Without a scope it covers the other item alone, and without a type it counts in
+/// one conflict domain.
 pub struct EntryForm;
 
 impl Form for EntryForm {

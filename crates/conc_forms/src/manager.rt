@@ -74,7 +74,8 @@ fn manager_of(alloc: Global, table: &Table) -> Result<Result<RawManager, u8>, No
     Ok(beside(manager_keys(table), manager))
 }
 
-/// A manager: a table of the array `manager`. More than 64 rules, or 64 shifts, are `TOO_MANY`.
+/// A manager: a table of the array `manager`. More than 64 rules, those that include and those that
+/// exclude together, are `TOO_MANY`, as are more than 64 shifts.
 pub struct ManagerForm;
 
 impl Form for ManagerForm {

@@ -234,7 +234,9 @@ fn program_of(alloc: Global, table: &Table) -> Result<Result<Program, u8>, NoMem
     Ok(beside(program_keys(table), to_program(parts)))
 }
 
-/// A program: a table of the array `program`. It takes its name, and what its requests report on.
+/// A program: a table of the array `program`, with the table that its requests report on. Without
+/// the keys for them, its type is the empty text, it is enabled, it does not run alone, and its
+/// requests do not run again after a stop.
 pub struct ProgramForm;
 
 impl Form for ProgramForm {

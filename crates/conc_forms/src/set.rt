@@ -114,7 +114,8 @@ fn set_of(alloc: Global, table: &Table) -> Result<Result<RawSet, u8>, NoMemory>
     Ok(beside(set_keys(table), to_set(both(name, stages))))
 }
 
-/// A request set: a table of the array `set`, with 1 to 64 stages.
+/// A request set: a table of the array `set`. No stage is `OUT_OF_RANGE`, as is a stage without a
+/// member, and more than 64 are `TOO_MANY`, as are more than 64 members of a stage.
 pub struct SetForm;
 
 impl Form for SetForm {
