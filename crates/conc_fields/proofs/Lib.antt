@@ -1,3 +1,4 @@
+pub mod FirstWrong
 pub mod Items
 pub mod Known
 pub mod Proven

@@ -1,12 +1,11 @@
 -- What is made of the fact that a test passes is the same for each proof of that fact.
-use Rattle.std.proofs.Common.{◌≡◌, sym, refl, ap, subst, ℕ, Bool, true, false, List, length, Result, Ok}
+use Rattle.std.proofs.Common.{◌≡◌, refl, ap, subst, ℕ, Bool, true, false, List, Ok}
 use Rattle.std.proofs.lemmas.Bool.{false≢true}
 use Rattle.std.specs.Prelude.{IsTrue}
 use mathlib.Core.Bool.{Bool-set}
 use Rattle.conc_types.specs.Texts.{is_text}
 use Rattle.conc_fields.specs.Forms.{text_of}
 use Rattle.conc_fields.specs.Kinds.{proven}
-use Rattle.conc_fields.specs.declared.values.ShortText.{ShortText}
 
 pub proven-pass : {A : Type 0} (test : Bool) (make : IsTrue test → A) (kind : ℕ) (fact : IsTrue test) → Ok (make fact) ≡ proven test make kind
 proven-pass true make kind fact = ap (λ f. Ok (make f)) (Bool-set true true fact refl)

@@ -1,6 +1,7 @@
 -- Arrays of values of one form.
 use lib.Dec.{leb-zero}
-use Rattle.std.specs.Prelude.{ℕ, IsTrue, if◌then◌else◌, min, nat_lt, ◌+◌, List, [], ◌∷◌, length, Option, None, Some, Result, Ok, Err}
+use Rattle.std.specs.Prelude.{ℕ, IsTrue, if◌then◌else◌, min, nat_lt, ◌+◌, ◌≤◌, List, [], ◌∷◌, length, Option, None, Some, Result, Ok, Err}
+use Rattle.std.proofs.lemmas.Bool.{and_parts, leb-true}
 use Rattle.toml.specs.Data.{Data, Items, no_items, item, as_array}
 use Rattle.conc_types.specs.Words.{is_between}
 use Rattle.conc_fields.specs.Kinds.{judged, or_kind, proven}
@@ -56,13 +57,21 @@ none_few most = leb-zero most
 abbrev pub no_values : {A : Type 0} (most : ℕ) → Counted A 0 most
 no_values most = record { list = []; counted = none_few most }
 
-abbrev pub array_of : {A : Type 0} (few most : ℕ) → (Data → Result A ℕ) → Items → Result (Counted A few most) ℕ
-array_of few most form items = judged (counted few most) (all_good (read_all form items))
+-- the number of the values is within the greater limit
+pub within_most : {A : Type 0} {few most : ℕ} (values : Counted A few most) → length values.list ≤ most
+within_most values = leb-true _ _ (and_parts _ _ values.counted).1
+
+abbrev pub list_of : {A : Type 0} → (Data → Result A ℕ) → Items → Result (List A) ℕ
+list_of form items = all_good (read_all form items)
+
+-- an array of items of a form, or the least kind of what is wrong with an item
+unfoldable pub list_in : {A : Type 0} → (Data → Result A ℕ) → Data → Result (List A) ℕ
+list_in form value = or_kind 4 (list_of form) (as_array value)
 
 -- an array of so many items of a form: the least kind of what is wrong with an item, and else what is
 -- wrong with their number
 unfoldable pub array_in : {A : Type 0} (few most : ℕ) → (Data → Result A ℕ) → Data → Result (Counted A few most) ℕ
-array_in few most form value = or_kind 4 (array_of few most form) (as_array value)
+array_in few most form value = judged (counted few most) (list_in form value)
 
 -- the first with which something is wrong, as its line and its kind
 unfoldable pub first_wrong : {A : Type 0} → ℕ → List (Result A ℕ) → Option (ℕ × ℕ)

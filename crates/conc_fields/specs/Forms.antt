@@ -1,5 +1,8 @@
 -- The forms of single values. A value of another TOML type breaks kind 4, one outside its form kind 7.
-use Rattle.std.specs.Prelude.{ℕ, ℤ, pos, negsuc, if◌then◌else◌, Bool, List, Option, Result, Ok, Err}
+use Rattle.std.specs.Prelude.{ℕ, ℤ, pos, negsuc, if◌then◌else◌, Bool, IsTrue, refl, [], List, Result, Ok, Err}
+use lib.Dec.{leb-zero}
+use Rattle.std.proofs.lemmas.Bool.{and_from}
+use Rattle.std.specs.Str.{chars, is_utf8}
 use Rattle.toml.specs.Data.{Data, as_bool, as_integer, as_str}
 use Rattle.conc_types.specs.Texts.{is_name, is_text}
 use Rattle.conc_fields.specs.Kinds.{or_kind, proven}
@@ -18,6 +21,14 @@ text_of most bytes = proven (is_text most bytes) (λ short. record { text = byte
 
 abbrev pub text_in : (most : ℕ) → Data → Result (ShortText most) ℕ
 text_in most value = or_kind 4 (text_of most) (as_str value)
+
+-- no bytes are a text of any limit
+pub is_text-empty : (most : ℕ) → IsTrue (is_text most [])
+unfolding chars is_utf8
+is_text-empty most = and_from _ _ (and_from _ _ (leb-zero most) refl) refl
+
+abbrev pub no_text : (most : ℕ) → ShortText most
+no_text most = record { text = []; short = is_text-empty most }
 
 -- a truth value
 abbrev pub truth_in : Data → Result Bool ℕ

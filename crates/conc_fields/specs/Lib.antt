@@ -1,4 +1,5 @@
 pub mod Arrays
+pub mod Faults
 pub mod Fields
 pub mod Forms
 pub mod Kinds

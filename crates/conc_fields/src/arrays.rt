@@ -1,5 +1,5 @@
 ghost use Rattle.std.specs.Prelude.{◌≡◌, IfOk};
-ghost use Rattle.conc_fields.specs.Arrays.{all_good as all_good_of, array_in, array_of as array_of_items, counted as counted_of, no_values as no_values_of, read_all as read_all_of};
+ghost use Rattle.conc_fields.specs.Arrays.{all_good as all_good_of, array_in, counted as counted_of, list_in, list_of as list_of_items, no_values as no_values_of, read_all as read_all_of};
 ghost use Rattle.toml.specs.View.{array_view, view};
 
 use crate::lines::{goods, worst};
@@ -33,7 +33,7 @@ fn all_good<T: Drop>(alloc: Global, all: Seq<Result<T, u8>>) -> Result<Result<Se
     }
 }
 
-/// No values, where there need be none.
+/// No values, where there need be none. It takes no memory.
 pub fn no_values<T: Drop, const MOST: usize>(alloc: Global) -> Counted<T, 0, MOST>
     ensures { result ≡ no_values_of MOST }
 {
@@ -57,16 +57,30 @@ fn counted<T: Drop, const FEW: usize, const MOST: usize>(
     }
 }
 
-fn array_of<F: Form, const FEW: usize, const MOST: usize>(
-    alloc: Global,
-    items: &Vec<Value>,
-) -> Result<Result<Counted<F::Out, FEW, MOST>, u8>, NoMemory>
-    ensures { IfOk result (λ r. r ≡ array_of_items FEW MOST F.form (array_view items.now)) }
+fn list_of<F: Form>(alloc: Global, items: &Vec<Value>) -> Result<Result<Seq<F::Out>, u8>, NoMemory>
+    ensures { IfOk result (λ r. r ≡ list_of_items F.form (array_view items.now)) }
 {
     let all = read_all::<F>(alloc, items)?;
-    match all_good(alloc, all)? {
-        Ok(list) => Ok(counted(list)),
-        Err(kind) => Ok(Err(kind)),
+    all_good(alloc, all)
+}
+
+/// An array of any number of items of a form. What is wrong with it is the least kind of what is
+/// wrong with an item.
+pub struct ListForm<F> {
+    item: PhantomData<F>,
+}
+
+impl<F: Form> Form for ListForm<F> {
+    type Out = Seq<F::Out>;
+
+    ghost form = { list_in F.form };
+
+    #[tactic(auto, unfolding(crate::specs::Arrays::list_in))]
+    fn read(alloc: Global, value: &Value) -> Result<Result<Seq<F::Out>, u8>, NoMemory> {
+        match value.as_array() {
+            None => Ok(Err(kind::WRONG_KIND)),
+            Some(items) => list_of::<F>(alloc, items),
+        }
     }
 }
 
@@ -87,9 +101,9 @@ impl<F: Form, const FEW: usize, const MOST: usize> Form for ArrayForm<F, FEW, MO
         alloc: Global,
         value: &Value,
     ) -> Result<Result<Counted<F::Out, FEW, MOST>, u8>, NoMemory> {
-        match value.as_array() {
-            None => Ok(Err(kind::WRONG_KIND)),
-            Some(items) => array_of::<F, FEW, MOST>(alloc, items),
+        match ListForm::<F>::read(alloc, value)? {
+            Ok(list) => Ok(counted(list)),
+            Err(kind) => Ok(Err(kind)),
         }
     }
 }

@@ -1,5 +1,5 @@
 ghost use Rattle.std.specs.Prelude.{◌≡◌, IfOk, List, Option, Result, ℕ};
-ghost use Rattle.conc_fields.specs.Forms.{name_in, name_of as name_of_bytes, text_in, text_of as text_of_bytes, truth_in, whole_in, whole_of as whole_of_integer};
+ghost use Rattle.conc_fields.specs.Forms.{name_in, name_of as name_of_bytes, no_text as no_text_of, text_in, text_of as text_of_bytes, truth_in, whole_in, whole_of as whole_of_integer};
 ghost use Rattle.toml.specs.Data.{Data};
 ghost use Rattle.toml.specs.View.{view};
 
@@ -8,19 +8,22 @@ use conc_types::{Name, NoMemory, Seq, is_name, is_text};
 use std::alloc::Global;
 use toml::Value;
 
-/// A form that the document's grammar gives for a value: what a value of this form is read as.
+/// A form that a document's grammar gives for a value: what a value of this form is read as. A value
+/// of another TOML type than the form's is `WRONG_KIND`.
 pub trait Form {
     /// What is read.
     type Out: Drop;
 
     ghost form: { Data → Result Self.Out ℕ };
 
-    /// What the value is read as, or the least kind of the rules that it breaks.
+    /// What the value is read as, or the least kind of the rules that it breaks. Where memory lacks
+    /// there is neither.
     fn read(alloc: Global, value: &Value) -> Result<Result<Self::Out, u8>, NoMemory>
         ensures { IfOk result (λ r. r ≡ form (view value.now)) };
 }
 
-/// A name: a string of 1 to 80 bytes without control bytes. Another string is `OUT_OF_RANGE`.
+/// A name: a string of 1 to 80 bytes without control bytes, which are those below 32 and 127. Another
+/// string is `OUT_OF_RANGE`.
 pub struct NameForm;
 
 fn name_of(alloc: Global, bytes: &[u8]) -> Result<Result<Name, u8>, NoMemory>
@@ -48,6 +51,15 @@ impl Form for NameForm {
 
 /// A string of at most so many bytes without control bytes. Another string is `OUT_OF_RANGE`.
 pub struct TextForm<const MOST: usize>;
+
+/// The text of no bytes. It takes no memory.
+pub fn no_text<const MOST: usize>(alloc: Global) -> ShortText<MOST>
+    ensures { result ≡ no_text_of MOST }
+{
+    ShortText {
+        text: Seq::from_vec(Vec::new(alloc)),
+    }
+}
 
 fn text_of<const MOST: usize>(
     alloc: Global,

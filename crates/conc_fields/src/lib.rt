@@ -11,9 +11,9 @@ mod kinds;
 mod lines;
 mod values;
 
-pub use arrays::{ArrayForm, no_values, read_all};
+pub use arrays::{ArrayForm, ListForm, no_values, read_all};
 pub use fields::{default, field, optional, required};
-pub use forms::{Form, NameForm, TextForm, TruthForm, WholeForm};
+pub use forms::{Form, NameForm, TextForm, TruthForm, WholeForm, no_text};
 pub use keys::keys_kind;
 pub use kinds::{beside, both};
 pub use lines::{first_wrong, goods};

@@ -1,4 +1,5 @@
-ghost use Rattle.std.specs.Prelude.{◌≡◌, ◌≤◌, ◌+◌, ◌-◌, ◌^◌, IfOk, length};
+ghost use Rattle.std.specs.Prelude.{◌≡◌, ◌≤◌, ◌+◌, ◌-◌, ◌^◌, IfOk, IfSome, IsNone, Ok, length, map};
+ghost use Rattle.conc_fields.specs.Faults.{IsFirstWrong};
 ghost use Rattle.conc_fields.specs.Arrays.{first_wrong as first_wrong_of, goods as goods_of, lesser as lesser_of, worst as worst_of};
 
 use conc_types::{NoMemory, Seq};
@@ -39,16 +40,25 @@ pub fn goods<T: Drop>(alloc: Global, all: Seq<Result<T, u8>>) -> Result<Seq<T>, 
     Ok(Seq::from_vec(values))
 }
 
-/// The first with which something is wrong: its line, where the first of all has the line given,
-/// and its kind. None where nothing is wrong.
 #[tactic(auto, unfolding(crate::specs::Arrays::first_wrong))]
-pub fn first_wrong<T: Drop>(line: u64, all: &[Result<T, u8>]) -> Option<(u64, u8)>
+fn wrong_from<T: Drop>(line: u64, all: &[Result<T, u8>]) -> Option<(u64, u8)>
     requires { line + length all.now ≤ 2 ^ 64 - 1 }
     ensures { result ≡ first_wrong_of line all.now }
 {
     match all.split_first() {
         None => None,
-        Some((Ok(_), rest)) => first_wrong(line + 1, rest),
+        Some((Ok(_), rest)) => wrong_from(line + 1, rest),
         Some((Err(kind), _)) => Some((line, *kind)),
     }
+}
+
+/// The first with which something is wrong: its line, where the first of all has the line given,
+/// and its kind. None where nothing is wrong with any. It takes no memory.
+pub fn first_wrong<T: Drop>(line: u64, all: &[Result<T, u8>]) -> Option<(u64, u8)>
+    requires { line + length all.now ≤ 2 ^ 64 - 1 }
+    ensures value { result ≡ first_wrong_of line all.now }
+    ensures first { IfSome result (IsFirstWrong line all.now) }
+    ensures none { IsNone result → all.now ≡ map Ok (goods_of all.now) }
+{
+    wrong_from(line, all)
 }
