@@ -1,0 +1,5 @@
+pub mod Vacant
+pub mod Tournaments
+pub mod Maps
+pub mod LeastOf
+pub mod Firsts

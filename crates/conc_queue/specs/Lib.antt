@@ -1,0 +1,4 @@
+pub mod Least
+pub mod Tournament
+pub mod Turns
+pub mod Written

@@ -1,0 +1,26 @@
+-- Keys as the leaves of a tree of which each inner node is the lesser of the two below it.
+use Rattle.std.specs.Prelude.{◌≡◌, ℕ, zero, suc, ◌+◌, ◌*◌, ◌/◌, ◌<◌, ◌≤◌, ◌⊎◌, List, length, slice_index_or, Option, None}
+use Rattle.conc_queue.specs.Least.{lesser}
+
+-- the key of a node
+abbrev pub node : List (Option ℕ) → ℕ → Option ℕ
+node nodes i = slice_index_or nodes i None
+
+-- the lesser of the two nodes below a node
+abbrev pub played : List (Option ℕ) → ℕ → Option ℕ
+played nodes i = lesser (node nodes (i * 2)) (node nodes (i * 2 + 1))
+
+-- the seats are the last nodes, and each node before them is the lesser of the two below it; no node is at 0
+pub record IsTournament (seats : ℕ) (nodes : List (Option ℕ)) : Type 0 where
+  pub size : length nodes ≡ seats * 2
+  pub inner : (i : ℕ) → 1 ≤ i → i < seats → node nodes i ≡ played nodes i
+
+-- the node so many steps above a node
+abbrev pub above : ℕ → ℕ → ℕ
+above zero i = i
+above (suc k) i = above k (i / 2)
+
+-- each node before the seats is the lesser of the two below it, but perhaps those above the node at
+pub record IsTournamentBelow (seats : ℕ) (nodes : List (Option ℕ)) (at : ℕ) : Type 0 where
+  pub size : length nodes ≡ seats * 2
+  pub inner : (i : ℕ) → 1 ≤ i → i < seats → (node nodes i ≡ played nodes i) ⊎ ((k : ℕ) × (i ≡ above (suc k) at))
