@@ -5,6 +5,7 @@ ghost use Rattle.conc_types.specs.Words.{numbered};
 ghost use Rattle.conc_law.specs.Next.{blocks as blocks_of, forced as forced_of, forced_command as forced_command_of, forced_interrupt as forced_interrupt_of, forced_let as forced_let_of, forced_step as forced_step_of, has_step as has_step_of, is_due as is_due_of, is_free as is_free_of, is_left_running as is_left_running_of, let_event as let_event_of, may_let as may_let_of};
 ghost use Rattle.conc_law.specs.Plans.{precedes as precedes_of};
 ghost use Rattle.conc_law.specs.Words.{first_by};
+ghost use Rattle.conc_decide.specs.Members.{AreMembers};
 
 use crate::lookup::{facts_at, has_come, is_completed, is_live, is_running, is_waiting};
 use crate::stages::set_step;
@@ -56,8 +57,9 @@ fn is_done(standing: &Standing, number: u32) -> bool
         .unwrap_or(false)
 }
 
+/// Whether a command, which is given with its number, is due: it is not done, and its moment has come.
 #[tactic(auto, unfolding(conc_law::specs::Next::is_due))]
-fn is_due(standing: &Standing, number: u32, order: &Order) -> bool
+pub fn is_due(standing: &Standing, number: u32, order: &Order) -> bool
     ensures { result ≡ is_due_of standing.now (number, order.now) }
 {
     !is_done(standing, number) && has_come(standing.time, order.at)
@@ -87,28 +89,32 @@ fn forced_command(plan: &Plan, standing: &Standing) -> Option<Event>
 
 // ---- steps of sets
 
+/// Whether a request is an open set that has something to do. All members of the set stand among the
+/// requests that are given.
 #[tactic(auto, unfolding(conc_law::specs::Next::has_step))]
-fn has_step(plan: &Plan, standing: &Standing, r: &Req) -> bool
+pub fn has_step(plan: &Plan, standing: &Standing, r: &Req, members: &[Req]) -> bool
+    requires { AreMembers plan.now r.now.number members.now }
     ensures { result ≡ has_step_of plan.now standing.now r.now }
 {
-    facts_at(standing, r).opened && set_step(plan, standing, r).is_some()
+    facts_at(standing, r).opened && set_step(plan, standing, r, members).is_some()
 }
 
+#[tactic(auto, unfolding(conc_law::specs::Plans::members))]
 fn first_with_step<'a>(plan: &'a Plan, standing: &Standing) -> Option<&'a Req>
     ensures { option_copied result ≡ find (has_step_of plan.now standing.now) plan.now.requests }
 {
     plan.requests
         .as_slice()
         .iter()
-        .find(|r| has_step(plan, standing, r))
+        .find(|r| has_step(plan, standing, r, plan.requests.as_slice()))
 }
 
-#[tactic(auto, unfolding(conc_law::specs::Next::forced_step))]
+#[tactic(auto, unfolding(conc_law::specs::Next::forced_step, conc_law::specs::Plans::members))]
 fn forced_step(plan: &Plan, standing: &Standing) -> Option<Event>
     ensures { result ≡ forced_step_of plan.now standing.now }
 {
     match first_with_step(plan, standing) {
-        Some(r) => set_step(plan, standing, r),
+        Some(r) => set_step(plan, standing, r, plan.requests.as_slice()),
         None => None,
     }
 }

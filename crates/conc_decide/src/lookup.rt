@@ -84,8 +84,9 @@ pub(crate) fn has_come(now: Option<Moment>, t: Moment) -> bool
     }
 }
 
+/// Whether a moment is not earlier than the last tick.
 #[tactic(auto, unfolding(conc_law::specs::Standing::is_not_earlier))]
-pub(crate) fn is_not_earlier(now: Option<Moment>, t: Moment) -> bool
+pub fn is_not_earlier(now: Option<Moment>, t: Moment) -> bool
     ensures { result ≡ is_not_earlier_of now t }
 {
     match now {

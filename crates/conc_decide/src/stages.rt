@@ -2,7 +2,8 @@ ghost use Rattle.std.specs.Prelude.{◌≡◌, ◌+◌, ◌<◌, ◌^◌, IfSome
 ghost use Rattle.std.specs.List.{enumerate_from, filter, filter_map, list_all};
 ghost use Rattle.conc_types.specs.Words.{greatest, is_empty};
 ghost use Rattle.conc_law.specs.Plans.{is_member as is_member_of};
-ghost use Rattle.conc_law.specs.Stages.{completed_at as completed_at_of, counts_for_set as counts_for_set_of, has_ended as has_ended_of, link as link_of, next_stage as next_stage_of, of_severity as of_severity_of, outcome_at as outcome_at_of, set_outcome as set_outcome_of, set_step as set_step_of, severity as severity_of, stage_outcome as stage_outcome_of};
+ghost use Rattle.conc_law.specs.Stages.{completed_at as completed_at_of, counts_for_set as counts_for_set_of, link as link_of, next_stage as next_stage_of, of_severity as of_severity_of, outcome_at as outcome_at_of, set_outcome as set_outcome_of, set_step as set_step_of, severity as severity_of, worst};
+ghost use Rattle.conc_decide.specs.Members.{AreMembers};
 
 use crate::lookup::{facts_at, is_completed};
 use conc_rules::{is_member, stages_of};
@@ -55,13 +56,6 @@ fn are_members_completed(standing: &Standing, set: RequestId, stage: u32, reques
     }
 }
 
-#[tactic(auto, unfolding(conc_law::specs::Stages::has_ended, conc_law::specs::Plans::members))]
-fn has_ended(plan: &Plan, standing: &Standing, set: &Req, stage: u32) -> bool
-    ensures { result ≡ has_ended_of plan.now standing.now set.now stage }
-{
-    are_members_completed(standing, set.number, stage, plan.requests.as_slice())
-}
-
 // The worst severity among those of the requests that are members of the stage.
 fn worst_member(standing: &Standing, set: RequestId, stage: u32, requests: &[Req]) -> u32
     ensures { result ≡ greatest (map severity_of (filter_map (outcome_at_of standing.now) (filter (is_member_of set stage) requests.now))) }
@@ -81,11 +75,12 @@ fn worst_member(standing: &Standing, set: RequestId, stage: u32, requests: &[Req
     }
 }
 
-#[tactic(auto, unfolding(conc_law::specs::Stages::stage_outcome, conc_law::specs::Stages::worst, conc_law::specs::Plans::members))]
-fn stage_outcome(plan: &Plan, standing: &Standing, set: &Req, stage: u32) -> Outcome
-    ensures { result ≡ stage_outcome_of plan.now standing.now set.now stage }
+// The worst outcome among those of the requests that are members of the stage.
+#[tactic(auto, unfolding(conc_law::specs::Stages::worst))]
+fn worst_outcome(standing: &Standing, set: RequestId, stage: u32, requests: &[Req]) -> Outcome
+    ensures { result ≡ worst (filter_map (outcome_at_of standing.now) (filter (is_member_of set stage) requests.now)) }
 {
-    of_severity(worst_member(standing, set.number, stage, plan.requests.as_slice()))
+    of_severity(worst_member(standing, set, stage, requests))
 }
 
 fn link(stage: &Stage, outcome: Outcome) -> Option<u32>
@@ -99,15 +94,22 @@ fn link(stage: &Stage, outcome: Outcome) -> Option<u32>
     }
 }
 
-#[tactic(auto, unfolding(conc_law::specs::Stages::next_stage))]
-fn next_stage(plan: &Plan, standing: &Standing, set: &Req, stage: u32) -> Option<u32>
+#[tactic(auto, unfolding(conc_law::specs::Stages::next_stage, conc_law::specs::Stages::stage_outcome))]
+fn next_stage(
+    plan: &Plan,
+    standing: &Standing,
+    set: &Req,
+    stage: u32,
+    members: &[Req],
+) -> Option<u32>
+    requires { AreMembers plan.now set.now.number members.now }
     ensures { result ≡ next_stage_of plan.now standing.now set.now stage }
 {
     if stage == 0 {
         return None;
     }
     match stages_of(plan, set).get(stage as usize - 1) {
-        Some(found) => match link(found, stage_outcome(plan, standing, set, stage)) {
+        Some(found) => match link(found, worst_outcome(standing, set.number, stage, members)) {
             Some(place) => Some(place + 1),
             None => None,
         },
@@ -137,22 +139,22 @@ fn none_counts(facts: Facts, stages: &[Stage], number: u32) -> bool
 
 // The worst severity among those of the stages that are critical and ran.
 fn worst_critical(
-    plan: &Plan,
     standing: &Standing,
-    set: &Req,
+    set: RequestId,
     facts: Facts,
     stages: &[Stage],
     number: u32,
+    members: &[Req],
 ) -> u32
     requires { number + length stages.now < 2 ^ 32 }
-    ensures { result ≡ greatest (map severity_of (map (λ stage. stage_outcome_of plan.now standing.now set.now stage.0) (filter (counts_for_set_of facts) (enumerate_from number stages.now)))) }
+    ensures { result ≡ greatest (map severity_of (map (λ stage. worst (filter_map (outcome_at_of standing.now) (filter (is_member_of set stage.0) members.now))) (filter (counts_for_set_of facts) (enumerate_from number stages.now)))) }
 {
     match stages.split_first() {
         None => 0,
         Some((stage, rest)) => {
-            let below = worst_critical(plan, standing, set, facts, rest, number + 1);
+            let below = worst_critical(standing, set, facts, rest, number + 1, members);
             if counts_for_set(facts, number, stage) {
-                severity(stage_outcome(plan, standing, set, number)).max(below)
+                severity(worst_outcome(standing, set, number, members)).max(below)
             } else {
                 below
             }
@@ -160,22 +162,24 @@ fn worst_critical(
     }
 }
 
-#[tactic(auto, unfolding(conc_law::specs::Stages::set_outcome, conc_law::specs::Stages::critical_stages, conc_law::specs::Stages::worst))]
-fn set_outcome(plan: &Plan, standing: &Standing, set: &Req, last: u32) -> Outcome
+fn set_outcome(plan: &Plan, standing: &Standing, set: &Req, last: u32, members: &[Req]) -> Outcome
+    requires { AreMembers plan.now set.now.number members.now }
     ensures { result ≡ set_outcome_of plan.now standing.now set.now last }
 {
     let facts = facts_at(standing, set);
     let stages = stages_of(plan, set);
     if none_counts(facts, stages, 1) {
-        stage_outcome(plan, standing, set, last)
+        worst_outcome(standing, set.number, last, members)
     } else {
-        of_severity(worst_critical(plan, standing, set, facts, stages, 1))
+        of_severity(worst_critical(standing, set.number, facts, stages, 1, members))
     }
 }
 
-// What an open set does next, where something is due.
-#[tactic(auto, unfolding(conc_law::specs::Stages::set_step))]
-pub(crate) fn set_step(plan: &Plan, standing: &Standing, set: &Req) -> Option<Event>
+/// What an open set does next, where something is due: its first stage, the stage that follows, or
+/// its close. All members of the set stand among the requests that are given.
+#[tactic(auto, unfolding(conc_law::specs::Stages::set_step, conc_law::specs::Stages::has_ended))]
+pub fn set_step(plan: &Plan, standing: &Standing, set: &Req, members: &[Req]) -> Option<Event>
+    requires { AreMembers plan.now set.now.number members.now }
     ensures { result ≡ set_step_of plan.now standing.now set.now }
 {
     match facts_at(standing, set).stage {
@@ -184,17 +188,17 @@ pub(crate) fn set_step(plan: &Plan, standing: &Standing, set: &Req) -> Option<Ev
             stage: 1,
         }),
         Some(stage) => {
-            if !has_ended(plan, standing, set, stage) {
+            if !are_members_completed(standing, set.number, stage, members) {
                 return None;
             }
-            match next_stage(plan, standing, set, stage) {
+            match next_stage(plan, standing, set, stage, members) {
                 Some(next) => Some(Event::Stage {
                     set: set.number,
                     stage: next,
                 }),
                 None => Some(Event::CloseSet {
                     set: set.number,
-                    outcome: set_outcome(plan, standing, set, stage),
+                    outcome: set_outcome(plan, standing, set, stage, members),
                 }),
             }
         }

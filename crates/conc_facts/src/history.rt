@@ -33,9 +33,9 @@ fn named_by(plan: &Plan, e: Event) -> Option<RequestId>
     }
 }
 
-// The facts of the request that a cancel or a close names.
+/// The facts of the request that a cancel or a close names, and none for any other event.
 #[tactic(auto, unfolding(crate::specs::Advance::named_facts))]
-fn named_facts(plan: &Plan, facts: &[Facts], e: Event) -> Facts
+pub fn named_facts(plan: &Plan, facts: &[Facts], e: Event) -> Facts
     ensures { result ≡ named_facts_of facts.now (named_by_of plan.now e) }
 {
     match named_by(plan, e) {
@@ -63,7 +63,8 @@ fn step_all(plan: &Plan, named: Facts, e: Event, facts: &mut Seq<Facts>)
     }
 }
 
-fn mark_done(done: &mut Seq<bool>, e: Event)
+/// Marks the command of an event as done. It takes no memory.
+pub fn mark_done(done: &mut Seq<bool>, e: Event)
     ensures { done.new ≡ done_after done.old e }
 {
     if let Event::Command { number } = e {
@@ -73,7 +74,8 @@ fn mark_done(done: &mut Seq<bool>, e: Event)
     }
 }
 
-fn used_after(used: Option<u64>, e: Event) -> Option<u64>
+/// How many bytes of the spool the extents take after one more event, where 64 bits hold it.
+pub fn used_after(used: Option<u64>, e: Event) -> Option<u64>
     ensures { result ≡ used_after_of used e }
 {
     match used {

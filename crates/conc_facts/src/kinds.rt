@@ -11,7 +11,8 @@ pub(crate) fn is_resume(e: Event) -> bool
     matches!(e, Event::Resume)
 }
 
-pub(crate) fn tick_of(e: Event) -> Option<Moment>
+/// The moment of a tick.
+pub fn tick_of(e: Event) -> Option<Moment>
     ensures { result ≡ tick_of_of e }
 {
     match e {
@@ -106,8 +107,9 @@ pub(crate) fn extent_length(e: Event) -> u32
 
 // ---- commands
 
+/// What the command of an event does.
 #[tactic(auto, unfolding(conc_law::specs::Kinds::act_of))]
-pub(crate) fn act(plan: &Plan, e: Event) -> Option<&Act>
+pub fn act(plan: &Plan, e: Event) -> Option<&Act>
     ensures { option_copied result ≡ act_of plan.now e }
 {
     match e {

@@ -7,4 +7,6 @@ mod kinds;
 mod step;
 
 pub use fresh::begin;
-pub use history::{advance, standing_after};
+pub use history::{advance, mark_done, named_facts, standing_after, used_after};
+pub use kinds::{act, tick_of};
+pub use step::facts_after;

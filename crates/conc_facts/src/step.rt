@@ -172,10 +172,10 @@ fn terminated_after(plan: &Plan, r: &Req, e: Event, own: Facts) -> bool
         || (!starts(r.number, e) && own.terminated)
 }
 
-// The facts of r after one more event, where the request that a cancel or a close names has the
-// facts `named`.
+/// The facts of a request after one more event. `named` are those of the request that a cancel or a
+/// close names, before the event.
 #[tactic(auto, unfolding(crate::specs::Step::facts_after))]
-pub(crate) fn facts_after(plan: &Plan, named: Facts, e: Event, r: &Req, own: Facts) -> Facts
+pub fn facts_after(plan: &Plan, named: Facts, e: Event, r: &Req, own: Facts) -> Facts
     ensures { result ≡ facts_after_of plan.now named e r.now own }
 {
     Facts {
