@@ -1,0 +1,6 @@
+pub mod Passes
+pub mod Within
+pub mod Unchanged
+pub mod Around
+pub mod Widening
+pub mod Members
