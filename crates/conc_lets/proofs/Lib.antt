@@ -1,0 +1,10 @@
+pub mod Lists
+pub mod Queues
+pub mod Loops
+pub mod Turns
+pub mod Free
+pub mod Written
+pub mod Counts
+pub mod Choice
+pub mod NoEvents
+pub mod Alike

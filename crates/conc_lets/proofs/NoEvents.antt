@@ -1,0 +1,68 @@
+-- What is kept before the first event.
+use Rattle.std.proofs.Common.{◌≡◌, ℕ, Bool, true, false, ◌&&◌, List, [], ◌∷◌, length, map, None, Some, refl, sym, ◌∙◌, ap, inl, inr, arith}
+use Rattle.std.specs.Prelude.{slice_get, unwrap_or}
+use Rattle.std.specs.Bool.{then_some}
+use Rattle.std.specs.List.{range_with_len}
+use Rattle.std.proofs.lemmas.Bool.{and_left}
+use Rattle.conc_types.specs.declared.plan.Plan.{Plan}
+use Rattle.conc_types.specs.declared.plan.Req.{Req}
+use Rattle.conc_law.specs.Facts.{completion, current_stage, facts_of, is_entered, is_held, is_let, is_open, running_place, stages_begun, was_started, was_terminated}
+use Rattle.conc_law.specs.Past.{last_life}
+use Rattle.conc_law.specs.Standing.{facts_at, is_live, no_facts, standing}
+use Rattle.conc_law.specs.Words.{Has, is_set}
+use Rattle.conc_law.proofs.FactsAt.{facts_at-standing}
+use Rattle.conc_queue.specs.Least.{vacant}
+use Rattle.conc_queue.specs.Turns.{turn, turns_of}
+use Rattle.conc_classes.specs.Classes.{AreClasses, of_class}
+use Rattle.conc_classes.specs.declared.classes.Classes.{Classes}
+use Rattle.conc_lets.specs.Lets.{all_classes, is_live_rival, is_ready, live_rivals}
+use Rattle.conc_lets.proofs.Lists.{length-filter_none, map_range-within, place-some}
+use Rattle.conc_lets.proofs.Queues.{of_class-has}
+
+and-no : (b : Bool) → (b && false) ≡ false
+and-no true = refl
+and-no false = refl
+
+-- no event speaks of a request
+facts_of-none : (plan : Plan) (r : Req) → facts_of plan [] r ≡ no_facts
+unfolding facts_of is_entered is_held is_open current_stage stages_begun is_let running_place was_started was_terminated completion last_life
+facts_of-none plan r = rw (and-no (is_set r.item)) refl
+
+facts_at-none : (plan : Plan) (r : Req) → Has plan.requests r → facts_at (standing plan []) r ≡ no_facts
+facts_at-none plan r has = facts_at-standing plan [] r has ∙ facts_of-none plan r
+
+-- none is ready
+ready-none : (plan : Plan) (r : Req) → Has plan.requests r → is_ready plan (standing plan []) r ≡ false
+unfolding is_ready
+ready-none plan r has = and_left _ _ (ap (λ f. f.entered) (facts_at-none plan r has))
+
+-- none is live
+pub live-none : (plan : Plan) (classes : Classes) (c : ℕ) → live_rivals plan classes (standing plan []) c ≡ 0
+unfolding live_rivals is_live_rival
+live-none plan classes c = length-filter_none (is_live_rival classes (standing plan []) c) plan.requests
+    (λ q has. and_left _ _ (ap (λ f. is_live f) (facts_at-none plan q has)))
+
+vacant-turns : (test : Req → Bool) (xs : List Req) → ((y : Req) → Has xs y → test y ≡ false) → vacant (length xs) ≡ turns_of test xs
+unfolding vacant turns_of
+vacant-turns test [] h = refl
+vacant-turns test (x ∷ xs) h = ap (λ l. None ∷ l) (vacant-turns test xs (λ y has. h y (inr has))) ∙ ap (λ b. then_some b (turn x) ∷ turns_of test xs) (sym (h x (inl refl)))
+
+-- vacant queues are those of no events
+pub queues-none : (plan : Plan) (classes : Classes) → AreClasses plan classes → (n : ℕ) → n ≡ length classes.sizes
+    → map (λ c. vacant (unwrap_or (slice_get classes.sizes c) 0)) (range_with_len 0 n)
+    ≡ map (λ c. turns_of (is_ready plan (standing plan [])) (of_class plan classes c)) (all_classes classes)
+queues-none plan classes are n e =
+    ap (λ m. map (λ c. vacant (unwrap_or (slice_get classes.sizes c) 0)) (range_with_len 0 m)) e
+    ∙ map_range-within (λ c. vacant (unwrap_or (slice_get classes.sizes c) 0)) (λ c. turns_of (is_ready plan (standing plan [])) (of_class plan classes c)) 0 (length classes.sizes)
+    (λ c le within.
+    let size : (m : ℕ) × (slice_get classes.sizes c ≡ Some m) = place-some classes.sizes c (omega (arith, within)) in
+    ap (λ o. vacant (unwrap_or o 0)) size.1
+    ∙ ap vacant (sym (are.sized c size.0 size.1))
+    ∙ vacant-turns (is_ready plan (standing plan [])) (of_class plan classes c) (λ y has. ready-none plan y (of_class-has plan classes c y has).0))
+
+-- zeros are the counts of no events
+pub zeros-none : (plan : Plan) (classes : Classes) (n : ℕ) → n ≡ length classes.sizes
+    → map (λ (c : ℕ). 0) (range_with_len 0 n) ≡ map (live_rivals plan classes (standing plan [])) (all_classes classes)
+zeros-none plan classes n e =
+    ap (λ m. map (λ (c : ℕ). 0) (range_with_len 0 m)) e
+    ∙ map_range-within (λ (c : ℕ). 0) (live_rivals plan classes (standing plan [])) 0 (length classes.sizes) (λ c le within. sym (live-none plan classes c))

@@ -1,0 +1,6 @@
+pub mod Lets
+pub mod Refresh
+pub mod Rivals
+pub mod Forced
+pub mod Renewal
+pub mod Starts
