@@ -1,0 +1,58 @@
+-- A pass over the facts within a span.
+use Rattle.std.proofs.Common.{◌≡◌, ℕ, Bool, ◌≤◌, List, take, refl, sym, ◌∙◌, ap, arith}
+use Rattle.std.proofs.lemmas.Bool.Decides.{nat_tests}
+use Rattle.conc_types.specs.declared.event.Event.{Event}
+use Rattle.conc_types.specs.declared.facts.Facts.{Facts}
+use Rattle.conc_types.specs.declared.plan.Plan.{Plan}
+use Rattle.conc_types.specs.declared.plan.Req.{Req}
+use Rattle.conc_facts.specs.Advance.{all_after}
+use Rattle.conc_reach.specs.Spans.{is_within, LeavesOthers}
+use Rattle.conc_reach.specs.declared.span.Span.{Span}
+use Rattle.conc_reach.proofs.Passes.{all_after-before, all_after-behind}
+use Rattle.conc_machine.specs.Kept.{AreFacts}
+use Rattle.conc_machine.specs.declared.kept.Kept.{Kept}
+
+-- what is outside a wider span is outside the span
+outside-wider : (span : Span) (end i : ℕ) → span.to ≤ end → is_within i (record { from = span.from; to = end }) ≡ Bool.false → is_within i span ≡ Bool.false
+outside-wider span end i wide out = grind (arith, nat_tests)
+
+-- nothing changes behind an index that is behind the span
+pub all_after-from : (plan : Plan) (named : Facts) (e : Event) (span : Span) (facts : List Facts) (end : ℕ) → LeavesOthers plan e span → span.to ≤ end
+    → all_after plan named e (take end plan.requests) facts ≡ all_after plan named e plan.requests facts
+all_after-from plan named e span facts end leaves wide =
+    all_after-behind plan named e (record { from = span.from; to = end }) facts
+    (λ i r at out. leaves i r at (outside-wider span end i wide out))
+
+-- nothing has changed before the first of them
+pub AreFacts-none : (plan : Plan) (kept : Kept) (named : Facts) (e : Event) (span : Span) → LeavesOthers plan e span
+    → AreFacts kept kept (all_after plan named e (take span.from plan.requests) kept.standing.facts)
+AreFacts-none plan kept named e span leaves = record {
+  facts = sym (all_after-before plan named e span kept.standing.facts leaves);
+  empty = refl;
+  time = refl;
+  used = refl;
+  done = refl;
+  command = refl;
+}
+
+-- equal facts
+pub AreFacts-is : (before after : Kept) (facts all : List Facts) → AreFacts before after facts → facts ≡ all → AreFacts before after all
+AreFacts-is before after facts all are same = record {
+  facts = are.facts ∙ same;
+  empty = are.empty;
+  time = are.time;
+  used = are.used;
+  done = are.done;
+  command = are.command;
+}
+
+-- one change after the other
+pub AreFacts-then : (before middle after : Kept) (facts all : List Facts) → AreFacts before middle facts → AreFacts middle after all → AreFacts before after all
+AreFacts-then before middle after facts all first then = record {
+  facts = then.facts;
+  empty = then.empty ∙ first.empty;
+  time = then.time ∙ first.time;
+  used = then.used ∙ first.used;
+  done = then.done ∙ first.done;
+  command = then.command ∙ first.command;
+}

@@ -1,0 +1,15 @@
+use Rattle.std.proofs.Common.{◌∙◌, ap}
+use Rattle.conc_facts.proofs.NextStanding.{standing-next}
+use Rattle.conc_machine.specs.Stands.{readings_of}
+use Rattle.conc_machine.proofs.Standings.{time-of}
+use Rattle.conc_machine.proofs.machine.Machine.apply.Goals as goal
+
+pub returns-clause-readings : goal.returns-clause-readings
+unfolding readings_of
+returns-clause-readings c = c.live_on.ensures.readings
+
+pub returns-clause-stands : goal.returns-clause-stands
+returns-clause-stands c = λ past stands. record {
+  standing = standing-next _ _ _ _ past c.take_in.ensures.after stands.standing;
+  life = c.live_on.ensures.lives past (time-of c.args.self.now past stands) stands.life;
+}

@@ -1,0 +1,9 @@
+use Rattle.std.proofs.Common.{◌≡◌, ◌≤◌, take, length}
+use Rattle.conc_facts.specs.Advance.{all_after}
+use Rattle.conc_machine.specs.Kept.{AreFacts, AreParts}
+use Rattle.conc_machine.proofs.writing.write_all.Given as goal
+
+abbrev pub invariant-loop-i : goal.invariant-loop-i
+invariant-loop-i l =
+    AreParts l.plan l.kept
+    × AreFacts l.fn.kept l.kept (all_after l.plan l.named l.e (take l.i l.plan.requests) l.fn.kept.standing.facts)

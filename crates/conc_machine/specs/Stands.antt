@@ -1,0 +1,28 @@
+-- The lists of events that a machine stands for.
+use Rattle.std.specs.Prelude.{◌≡◌, List, Option, Some}
+use Rattle.std.specs.Option.{option_map}
+use Rattle.conc_types.specs.declared.event.Event.{Event}
+use Rattle.conc_types.specs.declared.plan.Plan.{Plan}
+use Rattle.conc_types.specs.declared.script.Reading.{Reading}
+use Rattle.conc_law.specs.Standing.{standing}
+use Rattle.conc_life.specs.Life.{IsLife}
+use Rattle.conc_life.specs.declared.life.Life.{Life}
+use Rattle.conc_machine.specs.declared.machine.Machine.{Machine}
+
+-- the plan of a machine
+abbrev pub plan_of : Machine → Plan
+plan_of machine = machine.plan.now
+
+-- the readings that it took, if it took any. Without them each life is judged as an earlier one
+unfoldable pub readings_of : Machine → Option (List Reading)
+readings_of machine = option_map (λ life. life.readings.list) machine.life
+
+-- the readings of the life, where they are known, are those of the list's last life
+abbrev pub AreLived : Option Life → List Event → Type 0
+AreLived known past = (life : Life) → known ≡ Some life → IsLife life past
+
+-- the machine stands for the list, which is given with the latest event first: what it keeps is what stands
+-- after the list
+pub record Stands (machine : Machine) (past : List Event) : Type 0 where
+  pub standing : machine.kept.standing ≡ standing machine.plan.now past
+  pub life : AreLived machine.life past

@@ -1,0 +1,147 @@
+ghost use Rattle.std.specs.Prelude.{◌≡◌, List};
+ghost use Rattle.std.specs.List.{find};
+ghost use Rattle.std.specs.Option.{option_and_then, option_map};
+ghost use Rattle.conc_types.specs.declared.event.Event.{Event};
+ghost use Rattle.conc_types.specs.declared.event.Event.TheVariants as event;
+ghost use Rattle.conc_types.specs.declared.event.RequestId.{RequestId};
+ghost use Rattle.conc_types.specs.declared.event.PlaceId.{PlaceId};
+ghost use Rattle.conc_types.specs.Plans.{request as request_of};
+ghost use Rattle.conc_types.specs.Words.{some_and};
+ghost use Rattle.conc_law.specs.Alone.{first_start as first_start_of};
+ghost use Rattle.conc_law.specs.Law.{may_follow};
+ghost use Rattle.conc_law.specs.Next.{forced as forced_of, is_at_rest as is_at_rest_of, may_start as may_start_of, may_take as may_take_of, runs_somewhere};
+ghost use Rattle.conc_law.specs.Places.{is_usable as is_usable_of};
+ghost use Rattle.conc_law.specs.Readings.{next_reading as next_reading_of};
+ghost use Rattle.conc_law.specs.Standing.{facts_at as facts_at_of, is_stopping, now, standing};
+ghost use Rattle.conc_law.specs.Status.{status_of};
+ghost use Rattle.conc_machine.specs.Stands.{plan_of, readings_of, Stands};
+
+use crate::forcing::forced;
+use crate::judging::{is_at_rest, may_come, may_start, may_take};
+use crate::machine::Machine;
+use conc_decide::{facts_at, status};
+use conc_time::is_usable;
+use conc_types::{Event, Phase, PlaceId, Reading, RequestId, Status};
+
+impl<'p> Machine<'p> {
+    // The next reading of this life, where its readings are known.
+    fn known_next(&self) -> Option<Option<Reading>>
+        ensures { (past : List Event) → Stands self.now past → result ≡ option_map (λ readings. next_reading_of readings past) (readings_of self.now) }
+    {
+        match &self.life {
+            Some(life) => Some(life.next_reading()),
+            None => None,
+        }
+    }
+
+    /// Whether the event may come next.
+    pub fn judge(&self, event: &Event) -> bool
+        ensures { (past : List Event) → Stands self.now past → result ≡ may_follow (plan_of self.now) (readings_of self.now) past event.now }
+    {
+        may_come(self.plan, &self.kept, self.known_next(), *event)
+    }
+
+    /// The event that is forced, if one is due.
+    pub fn forced(&self) -> Option<Event>
+        ensures { (past : List Event) → Stands self.now past → result ≡ forced_of (plan_of self.now) (standing (plan_of self.now) past) }
+    {
+        forced(self.plan, &self.kept)
+    }
+
+    /// Whether a request may start at a place, where nothing is forced.
+    pub fn may_start(&self, request: RequestId, place: PlaceId) -> bool
+        ensures { (past : List Event) → Stands self.now past →
+            result ≡ some_and (λ r. may_start_of (plan_of self.now) (standing (plan_of self.now) past) r place) (request_of (plan_of self.now) request) }
+    {
+        may_start(self.plan, &self.kept, request, place)
+    }
+
+    /// The first let request in precedence that has an allowed place, with the first such place.
+    pub fn first_start(&self) -> Option<(RequestId, PlaceId)>
+        ensures { (past : List Event) → Stands self.now past →
+            option_map (λ (start : RequestId × PlaceId). event.Started start.0 start.1) result ≡ first_start_of (plan_of self.now) (standing (plan_of self.now) past) }
+    {
+        self.kept.starts.first_start(self.plan, &self.kept.standing)
+    }
+
+    /// The request with the least number of those that run at a place.
+    pub fn first_running(&self) -> Option<RequestId>
+        ensures { (past : List Event) → Stands self.now past →
+            result ≡ option_map (λ r. r.number) (find (runs_somewhere (standing (plan_of self.now) past)) (plan_of self.now).requests) }
+    {
+        match self.kept.running.first(self.plan, &self.kept.standing) {
+            Some(r) => Some(r.number),
+            None => None,
+        }
+    }
+
+    /// The next reading of this life, if one is left. Without readings there is none.
+    pub fn next_reading(&self) -> Option<Reading>
+        ensures { (past : List Event) → Stands self.now past → result ≡ option_and_then (λ readings. next_reading_of readings past) (readings_of self.now) }
+    {
+        match &self.life {
+            Some(life) => life.next_reading(),
+            None => None,
+        }
+    }
+
+    /// Whether the next reading may be taken: one is left, and it is early or the system is at rest.
+    pub fn may_tick(&self) -> bool
+        ensures { (past : List Event) → Stands self.now past →
+            result ≡ some_and (may_take_of (plan_of self.now) (standing (plan_of self.now) past)) (option_and_then (λ readings. next_reading_of readings past) (readings_of self.now)) }
+    {
+        match self.next_reading() {
+            Some(reading) => may_take(self.plan, &self.kept, reading),
+            None => false,
+        }
+    }
+
+    /// Whether the system is at rest: nothing is forced, no request runs, and none may start.
+    pub fn at_rest(&self) -> bool
+        ensures { (past : List Event) → Stands self.now past → result ≡ is_at_rest_of (plan_of self.now) (standing (plan_of self.now) past) }
+    {
+        is_at_rest(self.plan, &self.kept)
+    }
+
+    /// How many bytes of the spool the extents take, where 64 bits hold it.
+    pub fn used(&self) -> Option<u64>
+        ensures { (past : List Event) → Stands self.now past → result ≡ (standing (plan_of self.now) past).used }
+    {
+        self.kept.standing.used
+    }
+
+    /// Whether a place may be used at the last tick. Before the first tick none may.
+    pub fn usable(&self, place: PlaceId) -> bool
+        ensures { (past : List Event) → Stands self.now past → result ≡ some_and (λ t. is_usable_of (plan_of self.now) t place) (now past) }
+    {
+        match self.kept.standing.time {
+            Some(t) => is_usable(self.plan, t, place),
+            None => false,
+        }
+    }
+
+    /// Whether a request has to stop: it runs, and was terminated.
+    pub fn must_stop(&self, request: RequestId) -> bool
+        ensures { (past : List Event) → Stands self.now past →
+            result ≡ some_and (λ r. is_stopping (facts_at_of (standing (plan_of self.now) past) r)) (request_of (plan_of self.now) request) }
+    {
+        match self.plan.request(request) {
+            Some(r) => {
+                let facts = facts_at(&self.kept.standing, r);
+                facts.place.is_some() && facts.terminated
+            }
+            None => false,
+        }
+    }
+
+    /// The phase and status of a request; None exactly where it is not submitted.
+    pub fn status(&self, request: RequestId) -> Option<(Phase, Status)>
+        ensures { (past : List Event) → Stands self.now past →
+            result ≡ option_and_then (status_of (plan_of self.now) (standing (plan_of self.now) past)) (request_of (plan_of self.now) request) }
+    {
+        match self.plan.request(request) {
+            Some(r) => status(self.plan, &self.kept.standing, r),
+            None => None,
+        }
+    }
+}

@@ -1,0 +1,45 @@
+ghost use Rattle.std.specs.Prelude.{◌≡◌, ◌≤◌, ◌<◌, ◌+◌, IsTrue, length, slice_get, take};
+ghost use Rattle.std.specs.List.{list_all};
+ghost use Rattle.std.specs.Bool.{then_some};
+ghost use Rattle.std.specs.Option.{option_and_then};
+ghost use Rattle.conc_types.specs.declared.event.Event.TheVariants.{Command as command};
+ghost use Rattle.conc_law.specs.Next.{forced_command as forced_command_of, is_due as is_due_of};
+ghost use Rattle.conc_machine.specs.Kept.{first_undone as first_undone_of};
+
+use conc_decide::is_due;
+use conc_types::{Event, Plan, Standing};
+
+/// The place of the first command that is not done, from 0, where all before one are done.
+pub(crate) fn first_undone(done: &[bool], from: usize) -> usize
+    requires before { IsTrue (list_all (λ d. d) (take from done.now)) }
+    requires inside { from ≤ length done.now }
+    ensures { result ≡ first_undone_of done.now }
+{
+    let mut next = from;
+    while next < done.len() && done[next] {
+        next += 1;
+    }
+    next
+}
+
+// The command at a place, from 0, if it is due.
+fn due_at(plan: &Plan, standing: &Standing, place: usize) -> Option<Event>
+    ensures { result ≡ option_and_then (λ order. then_some (is_due_of standing.now (place + 1, order)) (command (place + 1))) (slice_get plan.now.script.commands place) }
+{
+    let order = plan.script.commands.as_slice().get(place)?;
+    let number = place as u32 + 1;
+    if is_due(standing, number, order) {
+        Some(Event::Command { number })
+    } else {
+        None
+    }
+}
+
+/// The first command that is due, where the first that is not done stands at a place.
+pub(crate) fn forced_command(plan: &Plan, standing: &Standing, next: usize) -> Option<Event>
+    requires flags { length standing.now.done ≡ length plan.now.script.commands }
+    requires next { next ≡ first_undone_of standing.now.done }
+    ensures { result ≡ forced_command_of plan.now standing.now }
+{
+    due_at(plan, standing, next)
+}

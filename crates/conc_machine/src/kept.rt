@@ -1,0 +1,20 @@
+use conc_classes::Classes;
+use conc_lets::Lets;
+use conc_reach::Spans;
+use conc_starts::Starts;
+use conc_steps::{Running, Steps};
+use conc_types::Standing;
+
+/// What a machine keeps: what stands, and of it what the next event is found by.
+#[derive(Drop)]
+pub(crate) struct Kept {
+    pub(crate) spans: Spans,
+    pub(crate) classes: Classes,
+    pub(crate) standing: Standing,
+    pub(crate) running: Running,
+    pub(crate) steps: Steps,
+    pub(crate) lets: Lets,
+    pub(crate) starts: Starts,
+    /// The first command that is not done, from 0.
+    pub(crate) next_command: usize,
+}

@@ -1,0 +1,15 @@
+//! The incremental machine: it stands for a list of events of any length, and answers for it what the
+//! rules read from the list.
+#![tactic(auto)]
+
+mod answers;
+mod commands;
+mod forcing;
+mod judging;
+mod kept;
+mod machine;
+mod making;
+mod taking;
+mod writing;
+
+pub use machine::Machine;

@@ -1,0 +1,87 @@
+ghost use Rattle.std.specs.Prelude.{◌≡◌, [], ◌∷◌, IfOk, List, OnErr, OnOk, Some};
+ghost use Rattle.std.specs.Option.{option_map};
+ghost use Rattle.conc_types.specs.declared.event.Event.{Event};
+ghost use Rattle.conc_law.specs.Past.{last_life};
+ghost use Rattle.conc_law.specs.Standing.{now, standing};
+ghost use Rattle.conc_machine.specs.Kept.{AreKept};
+ghost use Rattle.conc_machine.specs.Stands.{AreLived, plan_of, readings_of, Stands};
+
+use crate::kept::Kept;
+use crate::machine::Machine;
+use crate::taking::take_in;
+use conc_classes::Classes;
+use conc_facts::begin;
+use conc_lets::Lets;
+use conc_life::Life;
+use conc_reach::Spans;
+use conc_starts::Starts;
+use conc_steps::{Running, Steps};
+use conc_types::{Event, Moment, NoMemory, Plan, Readings};
+use std::alloc::Global;
+
+// What is kept before the first event.
+fn begun(alloc: Global, plan: &Plan) -> Result<Kept, NoMemory>
+    ensures kept { IfOk result (λ kept. AreKept plan.now kept) }
+    ensures none { IfOk result (λ kept. kept.standing ≡ standing plan.now []) }
+{
+    let classes = Classes::new(alloc, plan)?;
+    Ok(Kept {
+        spans: Spans::new(alloc, plan)?,
+        standing: begin(alloc, plan)?,
+        running: Running::new(alloc, plan)?,
+        steps: Steps::new(alloc, plan)?,
+        lets: Lets::new(alloc, plan, &classes)?,
+        starts: Starts::new(alloc, plan)?,
+        classes,
+        next_command: 0,
+    })
+}
+
+// Takes one more event into a life, if its readings are known. The last tick came at a moment.
+fn live_on(life: &mut Option<Life>, e: Event, time: Option<Moment>)
+    ensures readings { option_map (λ life. life.readings.list) life.new ≡ option_map (λ life. life.readings.list) life.old }
+    ensures lives { (past : List Event) → time ≡ now past → AreLived life.old past → AreLived life.new (e ∷ past) }
+{
+    if let Some(life) = life {
+        life.take_in(e, time);
+    }
+}
+
+impl<'p> Machine<'p> {
+    /// The machine that stands for no events. It takes all the memory that later calls need, but for the
+    /// readings.
+    pub fn new(alloc: Global, plan: &'p Plan) -> Result<Machine<'p>, NoMemory>
+        ensures plan { IfOk result (λ machine. plan_of machine ≡ plan.now) }
+        ensures stands { IfOk result (λ machine. Stands machine []) }
+    {
+        Ok(Machine {
+            plan,
+            kept: begun(alloc, plan)?,
+            life: None,
+        })
+    }
+
+    /// Takes the readings of the life that begins here. From here on a tick is judged by them, where it
+    /// was judged as one of an earlier life before. Without memory the machine stays as it was.
+    pub fn take_readings(&mut self, alloc: Global, readings: &Readings) -> Result<(), NoMemory>
+        ensures plan { plan_of self.new ≡ plan_of self.old }
+        ensures readings { OnOk result (readings_of self.new ≡ Some readings.now.list) }
+        ensures stands { OnOk result ((past : List Event) → last_life past ≡ [] → Stands self.old past → Stands self.new past) }
+        ensures err { OnErr result (self.new ≡ self.old) }
+    {
+        let life = Life::new(alloc, readings, self.kept.standing.time)?;
+        self.life = Some(life);
+        Ok(())
+    }
+
+    /// Takes in one more event. It takes no memory.
+    pub fn apply(&mut self, event: Event)
+        ensures plan { plan_of self.new ≡ plan_of self.old }
+        ensures readings { readings_of self.new ≡ readings_of self.old }
+        ensures stands { (past : List Event) → Stands self.old past → Stands self.new (event ∷ past) }
+    {
+        let time = self.kept.standing.time;
+        live_on(&mut self.life, event, time);
+        take_in(self.plan, &mut self.kept, event);
+    }
+}
