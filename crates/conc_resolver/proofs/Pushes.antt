@@ -1,19 +1,14 @@
 -- A history of a run without workers, one event longer.
 use Rattle.std.proofs.Common.{◌≡◌, ℕ, zero, suc, ◌+◌, ◌<◌, true, false, List, [], ◌∷◌, ◌++◌, length, reverse, Some, if◌then◌else◌, refl, sym, ◌∙◌, ap, inl, inr, arith}
-use Rattle.std.specs.Prelude.{slice_get, is_some}
-use Rattle.std.specs.List.{filter}
+use Rattle.std.specs.Prelude.{slice_get}
 use Rattle.std.proofs.lemmas.Bool.{and_from, cases_lt, cond-false}
 use Rattle.std.proofs.lemmas.List.{length-append, take_at, take-append-le}
 use Rattle.conc_types.specs.declared.event.Event.{Event}
-use Rattle.conc_types.specs.declared.event.Event.TheVariants as event
 use Rattle.conc_types.specs.declared.plan.Plan.{Plan}
 use Rattle.conc_types.specs.declared.script.Reading.{Reading}
 use Rattle.conc_law.specs.Alone.{Follows, next_alone}
-use Rattle.conc_law.specs.Kinds.{is_resume, tick_of}
+use Rattle.conc_law.specs.Kinds.{is_resume}
 use Rattle.conc_law.specs.Law.{is_lawful, may_follow}
-use Rattle.conc_law.specs.Past.{earlier_lives, last_life}
-use Rattle.conc_law.specs.Readings.{life_readings, ticks}
-use Rattle.conc_law.specs.Standing.{is_not_earlier, now}
 
 -- an element of the front is one of the whole
 slice_get-append_left : (xs ys : List Event) (i : ℕ) → i < length xs → slice_get (xs ++ ys) i ≡ slice_get xs i
@@ -45,21 +40,3 @@ pub is_lawful-more : (plan : Plan) (readings : List Reading) (past : List Event)
     → is_lawful plan readings past ≡ true → may_follow plan (Some readings) past e ≡ true → is_lawful plan readings (e ∷ past) ≡ true
 unfolding is_lawful
 is_lawful-more plan readings past e n l m = and_from _ _ (cond-false (is_resume e) _ _ n ∙ l) m
-
--- an event that is no resume leaves the readings of the life
-pub life_readings-more : (readings : List Reading) (past : List Event) (e : Event) → is_resume e ≡ false → life_readings readings (e ∷ past) ≡ life_readings readings past
-unfolding life_readings earlier_lives
-life_readings-more readings past e n = ap (λ l. filter (λ q. is_not_earlier (now l) q.moment) readings) (cond-false (is_resume e) past (earlier_lives past) n)
-
--- a tick takes one reading
-pub ticks-more : (past : List Event) (e : Event) → is_resume e ≡ false → ticks (e ∷ past) ≡ ticks past + (if is_some (tick_of e) then 1 else 0)
-unfolding ticks last_life
-ticks-more past (event.Tick t) n = omega arith
-ticks-more past event.Resume n = cc
-ticks-more past _ n = omega arith
-
--- before any event every reading is one of the life
-pub life_readings-none : (readings : List Reading) → life_readings readings [] ≡ readings
-unfolding life_readings earlier_lives is_not_earlier now
-life_readings-none [] = refl
-life_readings-none (q ∷ readings) = ap (λ l. q ∷ l) (life_readings-none readings)

@@ -1,12 +1,19 @@
-ghost use Rattle.std.specs.Prelude.{◌≡◌, ◌<◌, ◌≤◌, ◌^◌, IfOk, length};
-ghost use Rattle.std.specs.Option.{ForSome, option_and_then, option_map, option_or};
-ghost use Rattle.conc_law.specs.Alone.{choice as choice_of, end_of as end_of_of, end_with, first_end as first_end_of, first_start as first_start_of, next_tick as next_tick_of, report_of as report_of_of};
+ghost use Rattle.std.specs.Prelude.{◌≡◌, ◌<◌, ◌≤◌, ◌^◌, IfOk, None, Some, if◌then◌else◌, length, reverse};
+ghost use Rattle.std.specs.List.{find};
+ghost use Rattle.std.specs.Option.{ForSome, option_and_then, option_copied, option_map, option_or};
+ghost use Rattle.conc_types.specs.declared.event.Event.TheVariants as event;
+ghost use Rattle.conc_types.specs.declared.event.Outcome.TheVariants as outcome;
+ghost use Rattle.conc_law.specs.Alone.{end_with, first_end as first_end_of, first_start as first_start_of, next_alone, next_tick as next_tick_of, report_of as report_of_of};
+ghost use Rattle.conc_law.specs.Next.{forced as forced_of, runs_somewhere};
+ghost use Rattle.conc_law.specs.Readings.{next_reading as next_reading_of};
+ghost use Rattle.conc_law.specs.Standing.{standing};
 ghost use Rattle.conc_resolver.specs.Made.{as_report};
+ghost use Rattle.conc_resolver.specs.SoFar.{SoFar};
 
-use conc_decide::{facts_at, first_running, first_start, forced, next_tick};
+use crate::running::Run;
 use conc_reports::{Made, report};
 use conc_rules::program_of;
-use conc_types::{Event, Extent, NoMemory, Outcome, Plan, Reading, Req, Standing};
+use conc_types::{Event, Extent, NoMemory, Outcome, Plan, Readings, Req};
 use std::alloc::Global;
 
 // The report of a request of a program.
@@ -44,17 +51,17 @@ fn reported_end(r: &Req, made: Option<Made>, used: Option<u64>) -> Option<Event>
     })
 }
 
-// The end of a running request.
-fn end_of(
+// The end of a running request, which has to stop or not, where the extents take so many bytes.
+fn end_by(
     alloc: Global,
     plan: &Plan,
-    standing: &Standing,
     r: &Req,
+    stopping: bool,
+    used: Option<u64>,
 ) -> Result<Option<Event>, NoMemory>
-    ensures { IfOk result (λ e. e ≡ end_of_of plan.now standing.now r.now) }
+    ensures { IfOk result (λ e. e ≡ (if stopping then Some (event.Ended r.now.number outcome.Terminated None) else option_and_then (λ made. option_map (end_with r.now made) used) (report_of_of plan.now r.now))) }
 {
-    let facts = facts_at(standing, r);
-    if facts.place.is_some() && facts.terminated {
+    if stopping {
         return Ok(Some(Event::Ended {
             request: r.number,
             outcome: Outcome::Terminated,
@@ -62,46 +69,99 @@ fn end_of(
         }));
     }
     let made = report_of(alloc, plan, r)?;
-    Ok(reported_end(r, made, standing.used))
+    Ok(reported_end(r, made, used))
+}
+
+// The request that runs, if one does.
+fn running<'a>(plan: &'a Plan, readings: &Readings, run: &Run) -> Option<&'a Req>
+    requires { SoFar plan.now readings.now run.now }
+    ensures { option_copied result ≡ find (runs_somewhere (standing plan.now (reverse run.now.events.items))) plan.now.requests }
+{
+    match run.machine.first_running() {
+        Some(id) => plan.request(id),
+        None => None,
+    }
 }
 
 // The end of the request that runs.
-#[tactic(auto, unfolding(conc_law::specs::Alone::first_end))]
-fn first_end(alloc: Global, plan: &Plan, standing: &Standing) -> Result<Option<Event>, NoMemory>
-    ensures { IfOk result (λ e. e ≡ first_end_of plan.now standing.now) }
+fn first_end(
+    alloc: Global,
+    plan: &Plan,
+    readings: &Readings,
+    run: &Run,
+) -> Result<Option<Event>, NoMemory>
+    requires { SoFar plan.now readings.now run.now }
+    ensures { IfOk result (λ e. e ≡ first_end_of plan.now (standing plan.now (reverse run.now.events.items))) }
 {
-    match first_running(plan, standing) {
-        Some(r) => end_of(alloc, plan, standing, r),
+    match running(plan, readings, run) {
+        Some(r) => {
+            let stopping = run.machine.must_stop(r.number);
+            end_by(alloc, plan, r, stopping, run.machine.used())
+        }
         None => Ok(None),
     }
 }
 
-// The start or the tick that comes next where nothing is forced and nothing runs.
-fn start_or_tick(plan: &Plan, standing: &Standing, next: Option<Reading>) -> Option<Event>
-    ensures { result ≡ option_or (first_start_of plan.now standing.now) (next_tick_of plan.now standing.now next) }
+// The event that is forced, if one is due.
+fn forced(plan: &Plan, readings: &Readings, run: &Run) -> Option<Event>
+    requires { SoFar plan.now readings.now run.now }
+    ensures { result ≡ forced_of plan.now (standing plan.now (reverse run.now.events.items)) }
 {
-    match first_start(plan, standing) {
+    run.machine.forced()
+}
+
+// The start that comes first, if one may come.
+fn first_start(plan: &Plan, readings: &Readings, run: &Run) -> Option<Event>
+    requires { SoFar plan.now readings.now run.now }
+    ensures { result ≡ first_start_of plan.now (standing plan.now (reverse run.now.events.items)) }
+{
+    match run.machine.first_start() {
+        Some((request, place)) => Some(Event::Started { request, place }),
+        None => None,
+    }
+}
+
+// The tick of the next reading, if one is left and may be taken.
+fn next_tick(plan: &Plan, readings: &Readings, run: &Run) -> Option<Event>
+    requires { SoFar plan.now readings.now run.now }
+    ensures { result ≡ next_tick_of plan.now (standing plan.now (reverse run.now.events.items)) (next_reading_of readings.now.list (reverse run.now.events.items)) }
+{
+    match run.machine.next_reading() {
+        Some(reading) if run.machine.may_tick() => Some(Event::Tick {
+            moment: reading.moment,
+        }),
+        _ => None,
+    }
+}
+
+// The start or the tick that comes next where nothing is forced and nothing runs.
+fn start_or_tick(plan: &Plan, readings: &Readings, run: &Run) -> Option<Event>
+    requires { SoFar plan.now readings.now run.now }
+    ensures { result ≡ option_or (first_start_of plan.now (standing plan.now (reverse run.now.events.items))) (next_tick_of plan.now (standing plan.now (reverse run.now.events.items)) (next_reading_of readings.now.list (reverse run.now.events.items))) }
+{
+    match first_start(plan, readings, run) {
         Some(e) => Some(e),
-        None => next_tick(plan, standing, next),
+        None => next_tick(plan, readings, run),
     }
 }
 
 /// The one event that comes next in a run without workers, if one does: the forced one, else the end
 /// of the request that runs, else the first start, else the next tick.
-#[tactic(auto, unfolding(conc_law::specs::Alone::choice))]
-pub(crate) fn choice(
+#[tactic(auto, unfolding(conc_law::specs::Alone::choice, conc_law::specs::Alone::next_alone))]
+pub(crate) fn next_event(
     alloc: Global,
     plan: &Plan,
-    standing: &Standing,
-    next: Option<Reading>,
+    readings: &Readings,
+    run: &Run,
 ) -> Result<Option<Event>, NoMemory>
-    ensures { IfOk result (λ e. e ≡ choice_of plan.now standing.now next) }
+    requires { SoFar plan.now readings.now run.now }
+    ensures { IfOk result (λ e. e ≡ next_alone plan.now readings.now.list (reverse run.now.events.items)) }
 {
-    if let Some(e) = forced(plan, standing) {
+    if let Some(e) = forced(plan, readings, run) {
         return Ok(Some(e));
     }
-    match first_end(alloc, plan, standing)? {
+    match first_end(alloc, plan, readings, run)? {
         Some(e) => Ok(Some(e)),
-        None => Ok(start_or_tick(plan, standing, next)),
+        None => Ok(start_or_tick(plan, readings, run)),
     }
 }
