@@ -23,8 +23,11 @@ pub fn read_all<F: Form>(
     Ok(Seq::from_vec(all))
 }
 
-// All the values, or the least kind of what is wrong with one of them.
-fn all_good<T: Drop>(alloc: Global, all: Seq<Result<T, u8>>) -> Result<Result<Seq<T>, u8>, NoMemory>
+/// All the values, or the least kind of what is wrong with one of them.
+pub fn all_good<T: Drop>(
+    alloc: Global,
+    all: Seq<Result<T, u8>>,
+) -> Result<Result<Seq<T>, u8>, NoMemory>
     ensures { IfOk result (λ r. r ≡ all_good_of all) }
 {
     match worst(all.as_slice()) {
@@ -42,7 +45,9 @@ pub fn no_values<T: Drop, const MOST: usize>(alloc: Global) -> Counted<T, 0, MOS
     }
 }
 
-fn counted<T: Drop, const FEW: usize, const MOST: usize>(
+/// A list of `FEW` to `MOST` values: `OUT_OF_RANGE` for a shorter list, and else `TOO_MANY` for a longer
+/// one. It takes no memory.
+pub fn counted<T: Drop, const FEW: usize, const MOST: usize>(
     list: Seq<T>,
 ) -> Result<Counted<T, FEW, MOST>, u8>
     ensures { result ≡ counted_of FEW MOST list }

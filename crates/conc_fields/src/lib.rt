@@ -11,7 +11,7 @@ mod kinds;
 mod lines;
 mod values;
 
-pub use arrays::{ArrayForm, ListForm, no_values, read_all};
+pub use arrays::{ArrayForm, ListForm, all_good, counted, no_values, read_all};
 pub use fields::{default, field, optional, required};
 pub use forms::{Form, NameForm, TextForm, TruthForm, WholeForm, no_text};
 pub use keys::keys_kind;

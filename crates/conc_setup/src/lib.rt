@@ -1,0 +1,21 @@
+//! The reader of the setup file.
+#![tactic(auto)]
+
+mod copies;
+mod document;
+mod entry;
+mod first_pass;
+mod kind;
+mod manager;
+mod names;
+mod places;
+mod raw;
+mod resolve;
+mod second_pass;
+mod set;
+mod setup;
+#[cfg(test)]
+mod tests;
+mod third_pass;
+
+pub use setup::read_setup;

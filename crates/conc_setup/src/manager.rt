@@ -1,0 +1,85 @@
+ghost use Rattle.std.specs.Prelude.{◌≡◌, ◌≤◌, ◌+◌, IfOk, IsTrue, Ok, length};
+ghost use Rattle.std.specs.Option.{option_map};
+ghost use Rattle.conc_types.specs.Fields.{is_rule};
+ghost use Rattle.conc_setup.specs.ThirdPass as spec;
+
+use crate::copies::{copy_of_name, copy_of_text};
+use crate::resolve::{Items, Resolve, program_of, resolve_good};
+use conc_fields::both;
+use conc_forms::{RawManager, RawRule};
+use conc_types::{Manager, Name, NoMemory, Rule, Seq};
+use std::alloc::Global;
+
+fn program_if_named(items: &Items, name: &Option<Name>) -> Result<Option<u32>, u8>
+    ensures { result ≡ spec.if_named (spec.program_of items.now.programs.now) name.now }
+{
+    match name {
+        None => Ok(None),
+        Some(name) => match program_of(items, name) {
+            Ok(place) => Ok(Some(place)),
+            Err(kind) => Err(kind),
+        },
+    }
+}
+
+fn rule_for(alloc: Global, program: Option<u32>, raw: &RawRule) -> Result<Rule, NoMemory>
+    requires { IsTrue (is_rule program (option_map (λ t. t.text) raw.now.request_type) raw.now.user) }
+    ensures { IfOk result (λ rule. spec.to_rule raw.now program ≡ Ok rule) }
+{
+    let request_type = copy_of_text(alloc, &raw.request_type)?;
+    let user = copy_of_name(alloc, &raw.user)?;
+    Ok(Rule {
+        program,
+        request_type,
+        user,
+    })
+}
+
+impl Resolve for RawRule {
+    type Out = Rule;
+
+    ghost resolved = { λ programs sets raw. spec.resolved_rule programs raw };
+
+    #[tactic(auto, unfolding(crate::specs::ThirdPass::resolved_rule))]
+    fn resolve(&self, alloc: Global, items: &Items) -> Result<Result<Rule, u8>, NoMemory> {
+        match program_if_named(items, &self.program) {
+            Ok(program) => Ok(Ok(rule_for(alloc, program, self)?)),
+            Err(kind) => Ok(Err(kind)),
+        }
+    }
+}
+
+fn manager_with(
+    alloc: Global,
+    raw: &RawManager,
+    include: Seq<Rule>,
+    exclude: Seq<Rule>,
+) -> Result<Manager, NoMemory>
+    requires { length include + length exclude ≤ 64 }
+    ensures { IfOk result (λ manager. spec.to_manager raw.now (include, exclude) ≡ Ok manager) }
+{
+    let name = raw.name.try_clone(alloc)?;
+    let shifts = Seq::from_vec(raw.shifts.list.as_slice().to_vec(alloc)?);
+    Ok(Manager {
+        name,
+        include,
+        exclude,
+        shifts,
+    })
+}
+
+impl Resolve for RawManager {
+    type Out = Manager;
+
+    ghost resolved = { λ programs sets raw. spec.resolved_manager programs raw };
+
+    #[tactic(auto, unfolding(crate::specs::ThirdPass::resolved_manager))]
+    fn resolve(&self, alloc: Global, items: &Items) -> Result<Result<Manager, u8>, NoMemory> {
+        let include = resolve_good(alloc, items, self.include.as_slice())?;
+        let exclude = resolve_good(alloc, items, self.exclude.as_slice())?;
+        match both(include, exclude) {
+            Ok((include, exclude)) => Ok(Ok(manager_with(alloc, self, include, exclude)?)),
+            Err(kind) => Ok(Err(kind)),
+        }
+    }
+}

@@ -1,0 +1,50 @@
+ghost use Rattle.std.specs.Prelude.{◌≡◌, ◌≤◌, ◌*◌, length, map};
+ghost use Rattle.conc_types.specs.Shifts.{most_places as most_places_of};
+ghost use Rattle.conc_types.specs.Words.{greatest};
+ghost use Rattle.conc_fields.specs.Arrays.{goods};
+ghost use Rattle.conc_setup.specs.Places.{places_in_all as places_in_all_of};
+
+use conc_fields::Counted;
+use conc_forms::RawManager;
+use conc_types::Shift;
+
+fn greatest_shift(shifts: &[Shift]) -> u32
+    ensures { result ≡ greatest (map (λ shift. shift.places) shifts.now) }
+{
+    match shifts.split_first() {
+        None => 0,
+        Some((shift, rest)) => shift.places.max(greatest_shift(rest)),
+    }
+}
+
+fn most_places(shifts: &[Shift]) -> u32
+    ensures { result ≡ most_places_of shifts.now }
+{
+    if shifts.is_empty() {
+        1
+    } else {
+        greatest_shift(shifts)
+    }
+}
+
+#[tactic(auto, unfolding(conc_fields::specs::Arrays::goods))]
+fn places_of(managers: &[Result<RawManager, u8>]) -> u64
+    requires { length managers.now ≤ 64 }
+    ensures value { result ≡ places_in_all_of (goods managers.now) }
+    ensures small { result ≤ 4294967296 * length managers.now }
+{
+    match managers.split_first() {
+        None => 0,
+        Some((Ok(manager), rest)) => {
+            u64::from(most_places(manager.shifts.list.as_slice())) + places_of(rest)
+        }
+        Some((Err(_), rest)) => places_of(rest),
+    }
+}
+
+/// How many places the managers with which nothing is wrong have together.
+pub(crate) fn places_in_all(managers: &Counted<Result<RawManager, u8>, 0, 64>) -> u64
+    ensures { result ≡ places_in_all_of (goods managers.now.list) }
+{
+    places_of(managers.list.as_slice())
+}

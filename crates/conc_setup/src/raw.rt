@@ -1,0 +1,32 @@
+ghost use Rattle.std.specs.Prelude.{IsTrue, nat_le};
+ghost use Rattle.conc_fields.specs.Arrays.{goods};
+ghost use Rattle.conc_setup.specs.Places.{places_in_all};
+
+use conc_fields::Counted;
+use conc_forms::{RawEntry, RawManager, RawSet};
+use conc_types::{Name, Program, Seq};
+
+/// A line of a file, where 0 is the file as a whole, and the kind of the rule that it breaks.
+pub(crate) type Fault = (u64, u8);
+
+/// A setup file whose top level is right: the entries of its arrays, each as it is read, or the least
+/// kind of what is wrong with it.
+#[derive(Drop)]
+pub(crate) struct Document {
+    pub tables: Counted<Name, 0, 64>,
+    pub programs: Counted<Result<Program, u8>, 0, 1024>,
+    pub entries: Counted<Result<RawEntry, u8>, 0, 4096>,
+    pub managers: Counted<Result<RawManager, u8>, 0, 64>,
+    pub sets: Counted<Result<RawSet, u8>, 0, 256>,
+    ghost few_places: { IsTrue (nat_le (places_in_all (goods managers.list)) 64) },
+}
+
+/// A setup whose entries are right each by itself, with names that have not been looked up.
+#[derive(Drop)]
+pub(crate) struct RawSetup {
+    pub tables: Counted<Name, 0, 64>,
+    pub programs: Seq<Program>,
+    pub entries: Seq<RawEntry>,
+    pub managers: Seq<RawManager>,
+    pub sets: Seq<RawSet>,
+}
