@@ -189,7 +189,8 @@ fn first_to_let<'a>(plan: &'a Plan, standing: &Standing) -> Option<&'a Req>
         .find(|r| is_first(plan, standing, r))
 }
 
-fn let_event(r: &Req) -> Event
+/// The let of a request, or the open where it is a set.
+pub fn let_event(r: &Req) -> Event
     ensures { result ≡ let_event_of r.now }
 {
     if is_set(r.item) {

@@ -13,8 +13,8 @@ mod statuses;
 
 pub use alone::{first_running, first_start, next_tick};
 pub use equality::is_same_event;
-pub use forcing::{forced, has_step, is_due};
-pub use lookup::{facts_at, is_not_earlier};
+pub use forcing::{forced, has_step, is_due, let_event};
+pub use lookup::{facts_at, has_come, is_completed, is_live, is_not_earlier, is_waiting};
 pub use permits::{is_at_rest, may_come, may_end, may_start, may_take};
 pub use stages::set_step;
 pub use statuses::status;

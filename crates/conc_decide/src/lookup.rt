@@ -51,21 +51,23 @@ pub(crate) fn is_stopping(facts: Facts) -> bool
     is_running(facts) && facts.terminated
 }
 
-pub(crate) fn is_live(facts: Facts) -> bool
+/// Whether a request with these facts is live: let out, or an open set.
+pub fn is_live(facts: Facts) -> bool
     ensures { result ≡ is_live_of facts }
 {
     facts.let_out || facts.opened
 }
 
-pub(crate) fn is_completed(facts: Facts) -> bool
+/// Whether a request with these facts is completed.
+pub fn is_completed(facts: Facts) -> bool
     ensures { result ≡ is_completed_of facts }
 {
     facts.outcome.is_some()
 }
 
-// Whether r is a member whose stage has not begun.
+/// Whether r is a member whose stage has not begun.
 #[tactic(auto, unfolding(conc_law::specs::Standing::is_waiting))]
-pub(crate) fn is_waiting(plan: &Plan, standing: &Standing, r: &Req) -> bool
+pub fn is_waiting(plan: &Plan, standing: &Standing, r: &Req) -> bool
     ensures { result ≡ is_waiting_of plan.now standing.now r.now }
 {
     match parent(plan, r) {
@@ -74,8 +76,9 @@ pub(crate) fn is_waiting(plan: &Plan, standing: &Standing, r: &Req) -> bool
     }
 }
 
+/// Whether a moment has come: it is not after the last tick.
 #[tactic(auto, unfolding(conc_law::specs::Standing::has_come))]
-pub(crate) fn has_come(now: Option<Moment>, t: Moment) -> bool
+pub fn has_come(now: Option<Moment>, t: Moment) -> bool
     ensures { result ≡ has_come_of now t }
 {
     match now {

@@ -3,27 +3,18 @@ ghost use Rattle.std.specs.Bool.{then_some};
 ghost use Rattle.std.specs.Option.{option_and_then, option_map};
 ghost use Rattle.conc_types.specs.Words.{some_and};
 ghost use Rattle.conc_law.specs.Next.{let_event as let_event_of};
-ghost use Rattle.conc_queue.specs.Least.{least as least_of, lesser as lesser_of};
+ghost use Rattle.conc_queue.specs.Least.{least as least_of};
 ghost use Rattle.conc_queue.specs.Turns.{request_at_turn as request_at_turn_of, turn as turn_of, turns_of};
 ghost use Rattle.conc_reach.specs.Spans.{AreSpans};
 ghost use Rattle.conc_lets.specs.Forced.{is_spared as is_spared_of};
 
 use crate::kin::{live_members, live_parents};
-use crate::lookup::{is_ready, let_event};
+use crate::readiness::is_ready;
 use conc_classes::Classes;
-use conc_queue::{Queue, request_at_turn, turn};
+use conc_decide::let_event;
+use conc_queue::{Queue, lesser, request_at_turn, turn};
 use conc_reach::Spans;
 use conc_types::{Event, Plan, Req, Standing};
-
-pub(crate) fn lesser(a: Option<u64>, b: Option<u64>) -> Option<u64>
-    ensures { result ≡ lesser_of a b }
-{
-    match (a, b) {
-        (None, _) => b,
-        (Some(_), None) => a,
-        (Some(x), Some(y)) => Some(if y < x { y } else { x }),
-    }
-}
 
 // Whether r is of the class and ready, and so many live requests as exclude its class are kin of it.
 #[tactic(auto, unfolding(crate::specs::Forced::is_spared))]

@@ -4,8 +4,8 @@ ghost use Rattle.conc_reach.specs.Spans.{AreSpans};
 ghost use Rattle.conc_lets.specs.Forced.{is_child as is_child_of, is_live_member as is_live_member_of, is_live_outside as is_live_outside_of, live_members as live_members_of, live_parents as live_parents_of};
 ghost use Rattle.conc_lets.specs.Lets.{is_live_rival as is_live_rival_of};
 
-use crate::lookup::{facts_at, is_live};
 use conc_classes::Classes;
+use conc_decide::{facts_at, is_live};
 use conc_reach::Spans;
 use conc_rules::parent;
 use conc_types::{Plan, Req, RequestId, Standing};

@@ -10,13 +10,13 @@ ghost use Rattle.conc_reach.specs.Spans.{AreSpans};
 ghost use Rattle.conc_lets.specs.Forced.{turn_in_class as turn_in_class_of};
 ghost use Rattle.conc_lets.specs.Lets.{AreLets};
 
-use crate::forced::{event_at, is_turn_spared, least_of_class, least_spared, lesser};
+use crate::forced::{event_at, is_turn_spared, least_of_class, least_spared};
 use crate::fresh::{vacant_queues, zeros};
 use crate::refresh::refresh_span;
 use crate::renewal::{recount, renew};
 use crate::starts::Lull;
 use conc_classes::Classes;
-use conc_queue::Queue;
+use conc_queue::{Queue, lesser};
 use conc_reach::{Span, Spans};
 use conc_types::{Event, Facts, NoMemory, Plan, Seq, Standing};
 use std::alloc::Global;

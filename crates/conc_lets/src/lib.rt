@@ -6,7 +6,7 @@ mod forced;
 mod fresh;
 mod kin;
 mod lets;
-mod lookup;
+mod readiness;
 mod refresh;
 mod renewal;
 mod rivals;

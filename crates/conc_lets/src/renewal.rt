@@ -2,10 +2,10 @@ ghost use Rattle.std.specs.Prelude.{◌≡◌, slice_get};
 ghost use Rattle.conc_classes.specs.Classes.{class_at, rivals_at};
 ghost use Rattle.conc_lets.specs.Renewal.{recounted, recounted_by, renewed, renewed_within};
 
-use crate::lookup::{facts_at, is_live};
 use crate::refresh::{refresh_request, refresh_span};
 use crate::rivals::count_all;
 use conc_classes::Classes;
+use conc_decide::{facts_at, is_live};
 use conc_queue::Queue;
 use conc_reach::{Span, Spans};
 use conc_types::{Facts, Plan, Seq, Standing};

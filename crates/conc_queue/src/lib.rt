@@ -9,5 +9,5 @@ mod tests;
 mod turns;
 
 pub use laws::{first_by_number, first_in_precedence};
-pub use queue::Queue;
+pub use queue::{Queue, lesser};
 pub use turns::{request_at_turn, turn};

@@ -81,7 +81,8 @@ impl Queue {
     }
 }
 
-fn lesser(a: Option<u64>, b: Option<u64>) -> Option<u64>
+/// The lesser of two keys, where both are there, and else the one that is.
+pub fn lesser(a: Option<u64>, b: Option<u64>) -> Option<u64>
     ensures { result ≡ lesser_of a b }
 {
     match (a, b) {

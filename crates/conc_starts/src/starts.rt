@@ -11,7 +11,7 @@ ghost use Rattle.conc_law.specs.Next.{may_start as may_start_of, may_start_somew
 ghost use Rattle.conc_law.specs.Plans.{precedes};
 ghost use Rattle.conc_law.specs.Standing.{is_running, standing};
 ghost use Rattle.conc_law.specs.Words.{first_by};
-ghost use Rattle.conc_queue.specs.Least.{least as least_of, lesser as lesser_of};
+ghost use Rattle.conc_queue.specs.Least.{least as least_of};
 ghost use Rattle.conc_queue.specs.Turns.{turns_of};
 ghost use Rattle.conc_queue.specs.Written.{IsWritten};
 ghost use Rattle.conc_starts.specs.Starts.{AreStarts, owner_of as owner_of_of};
@@ -19,7 +19,7 @@ ghost use Rattle.conc_starts.specs.Updates.{is_open as is_open_of, manager_at as
 
 use crate::updates::{enter, leave, refresh, renew};
 use conc_decide::facts_at;
-use conc_queue::{Queue, request_at_turn};
+use conc_queue::{Queue, lesser, request_at_turn};
 use conc_rules::admits;
 use conc_time::{place_count, place_of};
 use conc_types::{Facts, Manager, NoMemory, PlaceId, Plan, Req, RequestId, Seq, Standing};
@@ -45,16 +45,6 @@ fn owner_of(plan: &Plan, place: PlaceId) -> u32
     match place_of(plan, place) {
         Some((owner, _, _)) => owner.saturating_sub(1),
         None => 0,
-    }
-}
-
-fn lesser(a: Option<u64>, b: Option<u64>) -> Option<u64>
-    ensures { result ≡ lesser_of a b }
-{
-    match (a, b) {
-        (None, _) => b,
-        (Some(_), None) => a,
-        (Some(x), Some(y)) => Some(if y < x { y } else { x }),
     }
 }
 
