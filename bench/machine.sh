@@ -65,6 +65,9 @@ fn inputs(rt: &HostRuntime) -> Option<(Plan, Readings)> {
     let script = read_script(alloc, &fs::read(rt, "a.csv").ok()?, &setup).ok()?;
     let readings = read_clock(alloc, &fs::read(rt, "a.clock").ok()?).ok()?;
     let tables = tables(rt, &setup)?;
+    if tables.len() != setup.tables.len() {
+        return None;
+    }
     let plan = make_plan(alloc, setup, script, Seq::from_vec(tables)).ok()?;
     Some((plan, readings))
 }

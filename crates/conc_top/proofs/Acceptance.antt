@@ -2,6 +2,7 @@
 use Rattle.std.proofs.Common.{◌≡◌, ℕ, List, Option, Some, length, take, sym, ◌∙◌, ap, subst, inl, inr}
 use Rattle.std.specs.Prelude.{slice_get}
 use Rattle.std.specs.List.{sum_by}
+use Rattle.std.proofs.lemmas.Slice.Zip.{AllZip-long}
 use Rattle.conc_types.specs.declared.plan.Plan.{Plan}
 use Rattle.conc_types.specs.declared.refusal.FileKind.TheVariants as kind
 use Rattle.conc_types.specs.declared.refusal.ReadFail.{ReadFail}
@@ -10,8 +11,9 @@ use Rattle.conc_types.specs.declared.refusal.Refusal.{Refusal}
 use Rattle.conc_types.specs.declared.script.Script.{Script}
 use Rattle.conc_types.specs.declared.setup.Setup.{Setup}
 use Rattle.conc_types.specs.declared.table.Table.{Table}
-use Rattle.conc_outside.specs.Files.{Files, IsLater, ShelfState}
+use Rattle.conc_outside.specs.Files.{Files, Gives, IsLater, ShelfState}
 use Rattle.conc_plan.specs.Faults.{IsFailure, plan_fault}
+use Rattle.conc_tables.specs.Tables.{SpellsTable}
 use Rattle.conc_top.specs.declared.exit.Exit.{Exit}
 use Rattle.conc_top.specs.declared.names.Names.{Names}
 use Rattle.conc_top.specs.declared.reading.Inputs.{Inputs}
@@ -21,6 +23,11 @@ use Rattle.conc_top.specs.Reading.{HasInputs}
 use Rattle.conc_top.specs.Refusals.{fault_of_table, IsRefused, name_of}
 use Rattle.conc_top.specs.Stops.{Ends, IsTableStop, StopsInTables}
 use Rattle.conc_top.proofs.Stopping.{ends-wider, IsLater-refl, stops-at}
+
+-- there are as many tables as names of them
+pub tables-long : (told : Option Files) (names : List (List ℕ)) (tables : List Table) → HasTables told names tables → length tables ≡ length names
+tables-long told names tables has =
+    AllZip-long SpellsTable has.contents tables has.spell ∙ AllZip-long (Gives told) names has.contents has.given
 
 -- the tables that were read are those of the setup that was read
 tables-of : (told before : Option Files) (names : Names) (inputs : Inputs) (has : HasInputs told names inputs) (named : List (List ℕ)) (tables : List Table)

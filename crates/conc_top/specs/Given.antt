@@ -1,5 +1,5 @@
 -- The files that were read, each of them there and accepted, and the file to be read next.
-use Rattle.std.specs.Prelude.{◌≡◌, ℕ, ◌≤◌, List, length, Option, Some, slice_get, take}
+use Rattle.std.specs.Prelude.{◌≡◌, ℕ, ◌≤◌, List, length, Ok, Option, Some, slice_get, take}
 use Rattle.std.specs.List.{AllZip, sum_by}
 use Rattle.conc_types.specs.declared.plan.Plan.{Plan}
 use Rattle.conc_types.specs.declared.refusal.FileKind.{FileKind}
@@ -9,10 +9,10 @@ use Rattle.conc_types.specs.declared.script.Script.{Script}
 use Rattle.conc_types.specs.declared.setup.Setup.{Setup}
 use Rattle.conc_types.specs.declared.table.Table.{Table}
 use Rattle.conc_outside.specs.Files.{Files, Gives}
+use Rattle.conc_setup.specs.Setups.{setup_in}
 use Rattle.conc_script.specs.Clock.{SpellsClock}
 use Rattle.conc_script.specs.Script.{SpellsScript}
 use Rattle.conc_tables.specs.Tables.{SpellsTable}
-use Rattle.conc_thin.specs.Thin.{SpellsSetup}
 use Rattle.conc_top.specs.declared.names.Names.{Names}
 
 -- the setup's bytes were read under its name, and spell this setup
@@ -20,7 +20,7 @@ pub record HasSetup (told : Option Files) (names : Names) : Type 0 where
   pub bytes : List ℕ
   pub given : Gives told names.setup bytes
   pub setup : Setup
-  pub spells : SpellsSetup bytes setup
+  pub spells : setup_in bytes ≡ Ok setup
 
 -- then the script's
 pub record HasScript (told : Option Files) (names : Names) : Type 0 where

@@ -8,6 +8,7 @@ use Rattle.conc_types.specs.declared.table.Table.{Table}
 use Rattle.conc_types.specs.Faults.{Fault}
 use Rattle.conc_outside.specs.Files.{Files, Gives}
 use Rattle.conc_plan.specs.Faults.{plan_fault}
+use Rattle.conc_setup.specs.Setups.{fault_in}
 use Rattle.conc_script.specs.Clock.{clock_fault}
 use Rattle.conc_script.specs.Script.{script_fault}
 use Rattle.conc_tables.specs.Tables.{table_fault}
@@ -18,9 +19,9 @@ use Rattle.conc_top.specs.Given.{HasAll, IsNext}
 abbrev pub fault_of_table : ℕ → List ℕ → Option Fault
 fault_of_table before bytes = if nat_lt 134217728 (before + length bytes) then Some (0, 33) else table_fault bytes
 
--- this is the first fault of the bytes of the file that was next. A setup that is not in the thin form has kind 90
+-- this is the first fault of the bytes of the file that was next
 abbrev pub HasFault : (told : Option Files) (names : Names) (file : FileKind) (name : List ℕ) → IsNext told names file name → List ℕ → Fault → Type 0
-HasFault told names kind.Setup name next bytes fault = fault ≡ (0, 90)
+HasFault told names kind.Setup name next bytes fault = fault_in bytes ≡ Some fault
 HasFault told names kind.Script name next bytes fault = script_fault next.0.setup bytes ≡ Some fault
 HasFault told names kind.Clock name next bytes fault = clock_fault bytes ≡ Some fault
 HasFault told names (kind.Table number) name next bytes fault = fault_of_table (sum_by length next.given.contents) bytes ≡ Some fault

@@ -1,11 +1,11 @@
-ghost use Rattle.std.specs.Prelude.{◌≡◌, ◌+◌, ◌≤◌, IfErr, IfOk, IsTrue, List, length, Some, ℕ};
+ghost use Rattle.std.specs.Prelude.{◌≡◌, ◌+◌, ◌≤◌, IfErr, IfOk, IsTrue, List, length, Ok, Some, ℕ};
 ghost use Rattle.conc_types.specs.declared.refusal.FileKind.TheVariants as kind;
 ghost use Rattle.conc_types.specs.Scripts.{are_commands};
 ghost use Rattle.conc_outside.specs.Files.{Gives, IsLater};
+ghost use Rattle.conc_setup.specs.Setups.{fault_in, setup_in};
 ghost use Rattle.conc_script.specs.Clock.{clock_fault, SpellsClock};
 ghost use Rattle.conc_script.specs.Script.{script_fault, SpellsScript};
 ghost use Rattle.conc_tables.specs.Tables.{SpellsTable};
-ghost use Rattle.conc_thin.specs.Thin.{SpellsSetup};
 ghost use Rattle.conc_top.specs.Refusals.{fault_of_table};
 ghost use Rattle.conc_top.specs.Stops.{Ends, EndsUnread};
 ghost use Rattle.conc_top.specs.Ways.{stop_for};
@@ -13,8 +13,8 @@ ghost use Rattle.conc_top.specs.Ways.{stop_for};
 use crate::stop::Stop;
 use conc_outside::{Shelf, ShelfFail};
 use conc_script::{read_clock, read_script};
+use conc_setup::read_setup;
 use conc_tables::read_table;
-use conc_thin::read_setup;
 use conc_types::{FileKind, Name, ReadFail, Readings, Refusal, Script, Setup, Table};
 use std::alloc::Global;
 
@@ -52,8 +52,8 @@ pub(crate) fn judge_setup<F: Shelf>(
     name: &Name,
 ) -> Result<Setup, Stop>
     ensures later { IsLater (F.state shelf.old) (F.state shelf.new) }
-    ensures ok { IfOk result (λ setup. (bytes : List ℕ) × Gives (F.state shelf.old).files name.now bytes × SpellsSetup bytes setup) }
-    ensures err { IfErr result (Ends (F.state shelf.old) (F.state shelf.new) (λ bytes fault. Some (0, 90) ≡ Some fault) kind.Setup name.now) }
+    ensures ok { IfOk result (λ setup. (bytes : List ℕ) × Gives (F.state shelf.old).files name.now bytes × (setup_in bytes ≡ Ok setup)) }
+    ensures err { IfErr result (Ends (F.state shelf.old) (F.state shelf.new) (λ bytes fault. fault_in bytes ≡ Some fault) kind.Setup name.now) }
 {
     let bytes = read(alloc, shelf, name)?;
     match read_setup(alloc, &bytes) {

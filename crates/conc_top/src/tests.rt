@@ -343,11 +343,19 @@ fn each_stop_has_its_exit(rt: HostRuntime) -> Result<(), Fail> {
         ),
         (
             RUN,
+            "programs = []\n",
+            None,
+            None,
+            3,
+            "refused: a.toml: 0: 2\n",
+        ),
+        (
+            RUN,
             "tables = []\n",
             None,
             None,
             3,
-            "refused: a.toml: 0: 90\n",
+            "refused: a.csv: 2: 23\n",
         ),
         (
             "run a.toml a.csv b.clock --threads 0",

@@ -1,6 +1,12 @@
-use Rattle.std.proofs.Common.{◌∙◌}
-use Rattle.conc_top.proofs.Acceptance.{accepts, plan-refused, tables-end}
+use Rattle.std.proofs.Common.{◌∙◌, ap, length}
+use Rattle.conc_top.proofs.Acceptance.{accepts, plan-refused, tables-end, tables-long}
 use Rattle.conc_top.proofs.accepting.accept.Goals as goal
+
+pub make_plan-requires-clause-tables : goal.make_plan-requires-clause-tables
+make_plan-requires-clause-tables g c =
+    ap length c.from_vec.ensures
+    ∙ tables-long (g.F.Shelf.state c.read_inputs.new.shelf).files c.as_slice.result.now c.in-Ok-read_tables.tables.items c.in-Ok-read_tables.ensures.ok
+    ∙ ap length c.as_slice.ensures
 
 pub returns-in-Err-read_tables-clause-err : goal.returns-in-Err-read_tables-clause-err
 returns-in-Err-read_tables-clause-err g c =
