@@ -1,10 +1,9 @@
 -- A pass over the facts within a span.
-use Rattle.std.proofs.Common.{◌≡◌, ℕ, Bool, ◌≤◌, List, take, refl, sym, ◌∙◌, ap, arith}
+use Rattle.std.proofs.Common.{◌≡◌, ℕ, Bool, ◌≤◌, List, take, refl, sym, ◌∙◌, arith}
 use Rattle.std.proofs.lemmas.Bool.Decides.{nat_tests}
 use Rattle.conc_types.specs.declared.event.Event.{Event}
 use Rattle.conc_types.specs.declared.facts.Facts.{Facts}
 use Rattle.conc_types.specs.declared.plan.Plan.{Plan}
-use Rattle.conc_types.specs.declared.plan.Req.{Req}
 use Rattle.conc_facts.specs.Advance.{all_after}
 use Rattle.conc_reach.specs.Spans.{is_within, LeavesOthers}
 use Rattle.conc_reach.specs.declared.span.Span.{Span}

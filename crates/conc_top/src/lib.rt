@@ -8,6 +8,8 @@ mod line;
 mod names;
 mod printing;
 mod reading;
+#[cfg(test)]
+mod rows;
 mod stop;
 #[cfg(test)]
 mod tests;

@@ -21,7 +21,7 @@ const CLOCK: &str = "2025-03-03T09:00:00\n";
 
 const TABLE: &str = "k,v\na,10\nb,20\na,5\n";
 
-const RUN: &str = "run a.toml a.csv a.clock --threads 0";
+pub(crate) const RUN: &str = "run a.toml a.csv a.clock --threads 0";
 
 fn name(rt: &impl Abort, alloc: Global, text: &str) -> Result<Name, Fail> {
     let bytes = text.as_bytes().to_vec(alloc)?;
@@ -49,14 +49,14 @@ fn are_distinct(files: &[(Name, Vec<u8>)]) -> bool
 
 // The four files of a call.
 #[derive(Clone, Copy)]
-struct Given<'a> {
-    setup: &'a str,
-    script: &'a str,
-    clock: &'a str,
-    table: &'a str,
+pub(crate) struct Given<'a> {
+    pub(crate) setup: &'a str,
+    pub(crate) script: &'a str,
+    pub(crate) clock: &'a str,
+    pub(crate) table: &'a str,
 }
 
-fn with_script(script: &str) -> Given<'_> {
+pub(crate) fn with_script(script: &str) -> Given<'_> {
     Given {
         setup: SETUP,
         script,
@@ -75,7 +75,7 @@ fn listed(alloc: Global, number: Option<u64>) -> Result<Vec<u64>, Fail> {
 
 // The exit and the output of a call with these words, over the four files, where the read and the
 // write with these numbers fail.
-fn call<Rt: Abort + Threads + Wait + Sync>(
+pub(crate) fn call<Rt: Abort + Threads + Wait + Sync>(
     rt: &Rt,
     alloc: Global,
     words: &str,
@@ -143,7 +143,7 @@ static HISTORIES: [(&str, &str, &str); 6] = [
     ),
 ];
 
-fn script_of(alloc: Global, records: &str) -> Result<String, Fail> {
+pub(crate) fn script_of(alloc: Global, records: &str) -> Result<String, Fail> {
     Ok(format!(in alloc; "{HEADER}{records}")?)
 }
 

@@ -1,4 +1,4 @@
-use Rattle.std.proofs.Common.{◌≡◌, ◌-◌, ◌≤◌, IsTrue, length, take}
+use Rattle.std.proofs.Common.{◌-◌, ◌≤◌, IsTrue, length, take}
 use Rattle.std.specs.List.{list_all}
 use Rattle.conc_machine.proofs.commands.first_undone.Given as goal
 

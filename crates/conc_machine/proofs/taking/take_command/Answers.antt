@@ -1,6 +1,4 @@
-use Rattle.std.proofs.Common.{◌∙◌, ap, take, length, arith, subst, sym}
-use Rattle.std.specs.Bool.{IsTrue}
-use Rattle.std.specs.List.{list_all}
+use Rattle.std.proofs.Common.{◌∙◌}
 use Rattle.conc_machine.proofs.Frames.{all_before-after, few-after}
 use Rattle.conc_machine.proofs.taking.take_command.Goals as goal
 

@@ -1,4 +1,4 @@
-use Rattle.std.proofs.Common.{◌∙◌, ap, add-one, arith}
+use Rattle.std.proofs.Common.{add-one, arith}
 use Rattle.conc_facts.proofs.Passes.{all_after-more}
 use Rattle.conc_machine.proofs.Passes.{all_after-from, AreFacts-is, AreFacts-none, AreFacts-then}
 use Rattle.conc_machine.proofs.writing.write_all.Goals as goal

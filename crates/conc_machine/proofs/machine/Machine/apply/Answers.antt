@@ -1,4 +1,3 @@
-use Rattle.std.proofs.Common.{◌∙◌, ap}
 use Rattle.conc_facts.proofs.NextStanding.{standing-next}
 use Rattle.conc_machine.specs.Stands.{readings_of}
 use Rattle.conc_machine.proofs.Standings.{time-of}

@@ -1,0 +1,12 @@
+//! The clock that is handed in, and what it tells: the moments that it still gives.
+#![tactic(auto)]
+
+mod clock;
+mod memory;
+mod system;
+#[cfg(test)]
+mod tests;
+
+pub use clock::Clock;
+pub use memory::MemClock;
+pub use system::{SystemClock, SystemZone};
