@@ -1,9 +1,11 @@
-//! The printed text of a history.
+//! The printed texts of histories and plans.
 #![tactic(auto)]
 
 mod lines;
+mod listing;
 mod table;
 mod text;
 mod words;
 
+pub use listing::put_plan;
 pub use text::put_history;

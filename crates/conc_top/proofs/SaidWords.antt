@@ -4,7 +4,7 @@ use Rattle.std.specs.Option.{option_and_then, option_map}
 use Rattle.std.proofs.lemmas.List.{length-map, nil_from_length}
 use Rattle.std.specs.Prelude.{if◌then◌else◌, ◌&&◌, codes}
 use Rattle.conc_top.specs.declared.names.Names.{Names}
-use Rattle.conc_top.specs.Words.{behind, is, is_positional, is_zero, names_among, names_of, names_said, nothing_said, said, Said, said_by, said_by_threads, said_by_watch, takes_next, with_file, with_option, with_threads, with_watch}
+use Rattle.conc_top.specs.Words.{behind, is, is_positional, is_zero, names_among, names_said, nothing_said, said, Said, said_by, said_by_threads, said_by_watch, takes_next, with_file, with_option, with_threads, with_watch}
 
 -- a word that is no option before its value
 pub said-first : (word : List ℕ) (rest : List (List ℕ)) → takes_next word ≡ false → said (word ∷ rest) ≡ said_by word (said rest)
@@ -161,8 +161,6 @@ said-by-many words (Some s) e many = names-few s.threads s.watch s.files (omega 
 said-many : (words : List (List ℕ)) → 7 < length words → option_and_then names_said (said words) ≡ None
 said-many words many = said-by-many words (said words) refl many
 
--- a command with more than seven words behind it is no command line
-pub names-many : {S : Type 0} (f : S → List ℕ) (words rest : List S) (command : S) → words ≡ command ∷ rest → 7 < length rest → names_of (map f words) ≡ None
-unfolding names_of
-names-many f words rest command e many =
-    rw e (none-if (is (codes "run") (f command)) (option_and_then names_said (said (map f rest))) (said-many (map f rest) (omega (arith, many, length-map rest f))))
+-- more than seven words behind `run` are no command line
+pub names-many : {S : Type 0} (f : S → List ℕ) (words : List S) → 7 < length words → option_and_then names_said (said (map f words)) ≡ None
+names-many f words many = said-many (map f words) (omega (arith, many, length-map words f))

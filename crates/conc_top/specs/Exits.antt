@@ -4,6 +4,7 @@ use Rattle.conc_types.specs.declared.event.Event.{Event}
 use Rattle.conc_types.specs.declared.plan.Plan.{Plan}
 use Rattle.conc_types.specs.declared.refusal.FileKind.{FileKind}
 use Rattle.conc_types.specs.declared.script.Readings.{Readings}
+use Rattle.conc_history.specs.Listing.{listing}
 use Rattle.conc_law.specs.Alone.{Alone}
 use Rattle.conc_law.specs.Ends.{AreReported}
 use Rattle.conc_law.specs.Law.{Finished, Lawful}
@@ -70,20 +71,32 @@ pub record Ran (plan : Plan) (readings : Readings) (history : List Event) : Type
   pub apart : NoOverlap plan history
   pub reported : AreReported plan 0 history
 
--- the run that the words ask for: its files are accepted, and this is its history
+-- the run that the words ask for, which has a clock: its files are accepted, and this is its history
 pub record IsRun (call : Call) : Type 0 where
   pub names : Names
   pub words : names_of call.words ≡ Some names
   pub plan : Plan
   pub readings : Readings
-  pub accepted : Accepts call.shelf_before.files names plan readings
+  pub accepted : Accepts call.shelf_before.files names plan (Some readings)
   pub history : List Event
   pub ran : Ran plan readings history
 
--- the text of the history was written
+-- the plan whose listing the words ask for, which has no clock: its files are accepted
+pub record IsPlan (call : Call) : Type 0 where
+  pub names : Names
+  pub words : names_of call.words ≡ Some names
+  pub plan : Plan
+  pub accepted : Accepts call.shelf_before.files names plan None
+
+-- the text that the words ask for: that of the history of a run, or the listing of a plan
+abbrev pub IsAsked : Call → List ℕ → Type 0
+IsAsked call text = ((run : IsRun call) × (text ≡ text_of run.plan run.history)) ⊎ ((asked : IsPlan call) × (text ≡ listing asked.plan))
+
+-- the text was written
 pub record IsDone (call : Call) : Type 0 where
-  pub run : IsRun call
-  pub printed : Took call.taken_before call.taken_after (text_of run.plan run.history)
+  pub text : List ℕ
+  pub asked : IsAsked call text
+  pub printed : Took call.taken_before call.taken_after text
 
 -- the words are no command line
 pub record IsUsage (call : Call) : Type 0 where
@@ -99,8 +112,9 @@ pub record IsStopped (call : Call) (end : Exit) : Type 0 where
 
 -- a prefix of the text was written
 pub record IsPart (call : Call) : Type 0 where
-  pub run : IsRun call
-  pub part : TookPrefix call.taken_before call.taken_after (text_of run.plan run.history)
+  pub text : List ℕ
+  pub asked : IsAsked call text
+  pub part : TookPrefix call.taken_before call.taken_after text
 
 -- what each exit means. Want of memory is the one that needs no cause; what was written then is a part of the text, or nothing
 abbrev pub Means : Call → Exit → Type 0

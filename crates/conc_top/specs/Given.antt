@@ -1,5 +1,5 @@
 -- The files that were read, each of them there and accepted, and the file to be read next.
-use Rattle.std.specs.Prelude.{◌≡◌, ℕ, ◌≤◌, List, length, Ok, Option, Some, slice_get, take}
+use Rattle.std.specs.Prelude.{◌≡◌, ℕ, ◌≤◌, List, length, Ok, Option, None, Some, slice_get, take}
 use Rattle.std.specs.List.{AllZip, sum_by}
 use Rattle.conc_types.specs.declared.plan.Plan.{Plan}
 use Rattle.conc_types.specs.declared.refusal.FileKind.{FileKind}
@@ -30,13 +30,17 @@ pub record HasScript (told : Option Files) (names : Names) : Type 0 where
   pub script : Script
   pub spells : SpellsScript before.setup bytes script
 
+-- the clock's bytes were read under its name, and spell these readings; or there is no clock, and there are none
+abbrev pub ReadsClock : Option Files → Option (List ℕ) → Option Readings → Type 0
+ReadsClock told (Some name) (Some readings) = (bytes : List ℕ) × Gives told name bytes × SpellsClock bytes readings
+ReadsClock told None None = Unit {0}
+ReadsClock told _ _ = ⊥
+
 -- then the clock's
 pub record HasClock (told : Option Files) (names : Names) : Type 0 where
   pub before : HasScript told names
-  pub bytes : List ℕ
-  pub given : Gives told names.clock bytes
-  pub readings : Readings
-  pub spells : SpellsClock bytes readings
+  pub readings : Option Readings
+  pub given : ReadsClock told names.clock readings
 
 -- then those of the tables with these names, in their order. Together they have at most 134,217,728 bytes
 pub record HasTables (told : Option Files) (names : List (List ℕ)) (tables : List Table) : Type 0 where
@@ -56,7 +60,7 @@ pub record IsNextTable (told : Option Files) (names : Names) (number : ℕ) (nam
 abbrev pub IsNext : Option Files → Names → FileKind → List ℕ → Type 0
 IsNext told names kind.Setup name = name ≡ names.setup
 IsNext told names kind.Script name = HasSetup told names × (name ≡ names.script)
-IsNext told names kind.Clock name = HasScript told names × (name ≡ names.clock)
+IsNext told names kind.Clock name = HasScript told names × (names.clock ≡ Some name)
 IsNext told names (kind.Table number) name = IsNextTable told names number name
 
 -- all files were there and accepted, with these tables
@@ -64,8 +68,8 @@ pub record HasAll (told : Option Files) (names : Names) (tables : List Table) : 
   pub before : HasClock told names
   pub given : HasTables told before.before.before.setup.tables tables
 
--- they give this plan and these readings
-pub record Accepts (told : Option Files) (names : Names) (plan : Plan) (readings : Readings) : Type 0 where
+-- they give this plan and, where there is a clock, these readings
+pub record Accepts (told : Option Files) (names : Names) (plan : Plan) (readings : Option Readings) : Type 0 where
   pub files : HasAll told names plan.tables
   pub setup : plan.setup ≡ files.before.before.before.setup
   pub script : plan.script ≡ files.before.before.script

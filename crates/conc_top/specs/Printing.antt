@@ -1,4 +1,4 @@
--- What running a plan and printing its history ends with.
+-- What writing a text, once it is known, ends with.
 use Rattle.std.specs.Prelude.{◌≡◌, ℕ, List, Option}
 use Rattle.conc_types.specs.declared.event.Event.{Event}
 use Rattle.conc_types.specs.declared.plan.Plan.{Plan}
@@ -25,11 +25,17 @@ sunk taken taken' faults faults' = record {
   faults_after = faults';
 }
 
-abbrev pub Prints : Plan → Readings → Sunk → Exit → Type 0
-Prints plan readings sink exit.Done =
-    (history : List Event) × Ran plan readings history × Took sink.taken_before sink.taken_after (text_of plan history)
-Prints plan readings sink exit.WriteFault =
-    (history : List Event) × Ran plan readings history
-    × TookPrefix sink.taken_before sink.taken_after (text_of plan history) × Rose sink.faults_before sink.faults_after
-Prints plan readings sink exit.NoMemory = sink.taken_after ≡ sink.taken_before
-Prints plan readings sink _ = ⊥
+-- the text of the history of a run
+abbrev pub IsHistory : Plan → Readings → List ℕ → Type 0
+IsHistory plan readings text = (history : List Event) × Ran plan readings history × (text ≡ text_of plan history)
+
+-- this text was written, or a prefix of it
+abbrev pub Wrote : List ℕ → Sunk → Exit → Type 0
+Wrote text sink exit.Done = Took sink.taken_before sink.taken_after text
+Wrote text sink exit.WriteFault = TookPrefix sink.taken_before sink.taken_after text × Rose sink.faults_before sink.faults_after
+Wrote text sink _ = ⊥
+
+-- a text of this kind was made and written, or a prefix of it; or there was no memory for it
+abbrev pub Prints : (List ℕ → Type 0) → Sunk → Exit → Type 0
+Prints Is sink exit.NoMemory = sink.taken_after ≡ sink.taken_before
+Prints Is sink end = (text : List ℕ) × Is text × Wrote text sink end

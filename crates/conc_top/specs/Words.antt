@@ -87,13 +87,26 @@ is_zero_or_absent values = is_zero_once values
 -- three files with names
 abbrev pub names_among : List (List ℕ) → Option Names
 names_among (setup ∷ script ∷ clock ∷ []) =
-    then_some (is_name setup && (is_name script && is_name clock)) (record { setup = setup; script = script; clock = clock })
+    then_some (is_name setup && (is_name script && is_name clock)) (record { setup = setup; script = script; clock = Some clock })
 names_among _ = None
 
 abbrev pub names_said : Said → Option Names
 names_said s = if is_zero_once s.threads && is_zero_or_absent s.watch then names_among s.files else None
 
--- the files that `run` is given: `run SETUP SCRIPT CLOCK`, with `--threads 0`, and `--watch 0` or without it, anywhere behind `run`
+abbrev pub is_file : List ℕ → Bool
+is_file word = is_positional word && is_name word
+
+-- two files with names, and no clock
+abbrev pub names_among_two : List (List ℕ) → Option Names
+names_among_two (setup ∷ script ∷ []) =
+    then_some (is_file setup && is_file script) (record { setup = setup; script = script; clock = None })
+names_among_two _ = None
+
+-- the files that a command is given: `run SETUP SCRIPT CLOCK`, with `--threads 0`, and `--watch 0` or without it, anywhere
+-- behind `run`; and `plan SETUP SCRIPT`, which has no options and no clock
 unfoldable pub names_of : List (List ℕ) → Option Names
 names_of [] = None
-names_of (command ∷ words) = if is (codes "run") command then option_and_then names_said (said words) else None
+names_of (command ∷ words) =
+    if is (codes "run") command then option_and_then names_said (said words)
+    else if is (codes "plan") command then names_among_two words
+    else None

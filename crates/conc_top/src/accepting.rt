@@ -16,7 +16,7 @@ pub(crate) fn accept<F: Shelf>(
     alloc: Global,
     shelf: &mut F,
     names: Names,
-) -> Result<(Plan, Readings), Exit>
+) -> Result<(Plan, Option<Readings>), Exit>
     ensures ok { IfOk result (λ p. Accepts (F.state shelf.old).files names p.0 p.1) }
     ensures err { IfErr result (StopsAt (F.state shelf.old) (F.state shelf.new) names) }
 {

@@ -1,11 +1,11 @@
 use conc_types::{FileKind, Name};
 
-/// The files that a run is given.
+/// The files that a command is given; `plan` is given no clock.
 #[derive(Drop)]
 pub(crate) struct Names {
     pub(crate) setup: Name,
     pub(crate) script: Name,
-    pub(crate) clock: Name,
+    pub(crate) clock: Option<Name>,
 }
 
 impl Names {

@@ -14,15 +14,15 @@ use conc_outside::Shelf;
 use conc_types::{Name, NoMemory, Readings, Script, Setup, Table};
 use std::alloc::Global;
 
-// What the three files say that the words name.
+// What the files say that the words name.
 #[derive(Drop)]
 pub(crate) struct Inputs {
     pub(crate) setup: Setup,
     pub(crate) script: Script,
-    pub(crate) readings: Readings,
+    pub(crate) readings: Option<Readings>,
 }
 
-// Reads the setup, the script and the clock, each of them judged before the next one is read.
+// Reads the setup, the script and, where there is one, the clock, each of them judged before the next one is read.
 pub(crate) fn read_inputs<F: Shelf>(
     alloc: Global,
     shelf: &mut F,
@@ -41,13 +41,20 @@ pub(crate) fn read_inputs<F: Shelf>(
         Ok(script) => script,
         Err(stop) => return Err(exit_at(alloc, stop, &names.script)),
     };
-    match judge_clock(alloc, shelf, &names.clock) {
+    let Some(clock) = &names.clock else {
+        return Ok(Inputs {
+            setup,
+            script,
+            readings: None,
+        });
+    };
+    match judge_clock(alloc, shelf, clock) {
         Ok(readings) => Ok(Inputs {
             setup,
             script,
-            readings,
+            readings: Some(readings),
         }),
-        Err(stop) => Err(exit_at(alloc, stop, &names.clock)),
+        Err(stop) => Err(exit_at(alloc, stop, clock)),
     }
 }
 

@@ -15,6 +15,48 @@ use std::thread::Threads;
 const SETUP: &str =
     "tables = [\"t.csv\"]\n[[program]]\nname = \"P\"\ntable = \"t.csv\"\ngroup = \"k\"\nsum = \"v\"\n[[incompatible]]\nprogram = \"P\"\nwith = \"P\"\n[[manager]]\nname = \"M\"\n";
 
+// A set of two stages, and a program that excludes it.
+const STAGED: &str = r#"tables = ["t.csv"]
+
+[[program]]
+name = "Q"
+table = "t.csv"
+group = "k"
+sum = "v"
+
+[[program]]
+name = "R"
+table = "t.csv"
+group = "k"
+sum = "v"
+
+[[program]]
+name = "X"
+table = "t.csv"
+group = "k"
+sum = "v"
+
+[[incompatible]]
+program = "X"
+with = "S"
+scope = "program"
+
+[[manager]]
+name = "M"
+
+[[set]]
+name = "S"
+
+[[set.stage]]
+name = "One"
+members = ["Q"]
+on_success = "Two"
+
+[[set.stage]]
+name = "Two"
+members = ["R"]
+"#;
+
 const HEADER: &str = "at,do,what,user,priority,start,domain,argument\n";
 
 const CLOCK: &str = "2025-03-03T09:00:00\n";
@@ -296,7 +338,7 @@ fn files_have_a_greatest_length(rt: HostRuntime) -> Result<(), Fail> {
 }
 
 // Words, and whether they are a command line.
-static WORDS: [(&str, bool); 19] = [
+static WORDS: [(&str, bool); 25] = [
     ("run a.toml a.csv a.clock --threads 0", true),
     ("run --threads 0 a.toml a.csv a.clock", true),
     ("run a.toml --threads=0 a.csv --watch=0 a.clock", true),
@@ -314,7 +356,13 @@ static WORDS: [(&str, bool); 19] = [
     ("run a.toml a.csv a.clock t.csv --threads 0", false),
     ("run a.toml a.csv  --threads 0", false),
     ("--threads 0 run a.toml a.csv a.clock", false),
-    ("plan a.toml a.csv", false),
+    ("plan a.toml a.csv", true),
+    ("plan a.toml", false),
+    ("plan a.toml a.csv a.clock", false),
+    ("plan a.toml a.csv --threads 0", false),
+    ("plan --threads=0 a.csv", false),
+    ("plan a.toml -", false),
+    ("check a.toml a.csv", false),
     ("", false),
 ];
 
@@ -376,6 +424,78 @@ fn each_stop_has_its_exit(rt: HostRuntime) -> Result<(), Fail> {
         assert_eq!(rt; exit.number(), number);
         assert_eq!(rt; out.bytes(), b"".as_slice());
         assert_eq!(rt; exit_text(alloc, &exit)?.as_slice(), line.as_bytes());
+    }
+    Ok(())
+}
+
+// The words of a call, the records of its script, the clock and the table, and what it ends with: its
+// status, its output, and the line that tells its exit.
+static PLANS: [(&str, &str, &str, &str, u8, &str, &str); 6] = [
+    (
+        "plan a.toml a.csv",
+        "2025-03-03T09:00:00,submit,S,ann,,,,\n2025-03-03T09:00:00,submit,X,ann,,,,\n",
+        CLOCK,
+        TABLE,
+        0,
+        "1\t50\t2025-03-03T09:00:00\t0\t0\tStandard\tann\tS\n2\t50\t2025-03-03T09:00:00\t1\t1\tStandard\tann\tQ\n3\t50\t2025-03-03T09:00:00\t1\t2\tStandard\tann\tR\n4\t50\t2025-03-03T09:00:00\t0\t0\tStandard\tann\tX\n",
+        "",
+    ),
+    // A priority, a later start and a domain; commands on requests have no line.
+    (
+        "plan a.toml a.csv",
+        "2025-03-03T09:00:00,submit,X,bob,7,2025-03-04T00:00:00,D 1,\n2025-03-03T09:00:00,hold,1,ann,,,,\n",
+        CLOCK,
+        TABLE,
+        0,
+        "1\t7\t2025-03-04T00:00:00\t0\t0\tD 1\tbob\tX\n",
+        "",
+    ),
+    // No request, and a clock that is not read.
+    ("plan a.toml a.csv", "", "", TABLE, 0, "", ""),
+    // The tables are read.
+    (
+        "plan a.toml a.csv",
+        "",
+        CLOCK,
+        "k,v\na,1\nb\n",
+        3,
+        "",
+        "refused: t.csv: 3: 31\n",
+    ),
+    (
+        "plan a.toml a.csv",
+        "2025-03-03T09:00:00,submit,Y,ann,,,,\n",
+        CLOCK,
+        "",
+        3,
+        "",
+        "refused: a.csv: 2: 23\n",
+    ),
+    (
+        "plan a.toml b.csv",
+        "",
+        CLOCK,
+        TABLE,
+        4,
+        "",
+        "absent: b.csv\n",
+    ),
+];
+
+#[test]
+fn plans_are_listed(rt: HostRuntime) -> Result<(), Fail> {
+    for (words, records, clock, table, number, text, line) in PLANS {
+        let script = script_of(rt.alloc(), records)?;
+        let files = Given {
+            setup: STAGED,
+            script: &script,
+            clock,
+            table,
+        };
+        let (exit, out) = call(&rt, rt.alloc(), words, files, None, None)?;
+        assert_eq!(rt; exit.number(), number, "at {records:?}");
+        assert_eq!(rt; out.bytes(), text.as_bytes(), "at {records:?}");
+        assert_eq!(rt; exit_text(rt.alloc(), &exit)?.as_slice(), line.as_bytes());
     }
     Ok(())
 }

@@ -4,7 +4,7 @@ ghost use Rattle.conc_top.specs.Exits.{Means};
 
 use crate::Exit;
 use crate::accepting::accept;
-use crate::printing::run_and_print;
+use crate::printing::{print_listing, run_and_print};
 use crate::words::read_words;
 use conc_outside::{Shelf, Sink};
 use conc_types::NoMemory;
@@ -15,9 +15,10 @@ use std::thread::Threads;
 /// Does what the words ask for: `run SETUP SCRIPT CLOCK --threads 0` reads the three files and the
 /// setup's tables from the shelf, runs the plan that they give without workers, and writes the text
 /// of its history into the sink. The options `--threads 0` and `--watch 0`, also written with `=`, may
-/// stand anywhere behind `run`, each at most once; the second may be left out.
+/// stand anywhere behind `run`, each at most once; the second may be left out. `plan SETUP SCRIPT` reads
+/// the two files and the setup's tables, and writes the listing of the plan that they give.
 ///
-/// Words off that form are Usage. The files are read in the order setup, script, clock, tables, each
+/// Words off these forms are Usage. The files are read in the order setup, script, clock, tables, each
 /// of them judged before the next one is read, and the first one that is lacking, that cannot be read
 /// or that is refused ends the call, with nothing written. The text is written once it is whole;
 /// where the sink fails, it has taken a prefix of it.
@@ -44,8 +45,12 @@ pub fn conc<Rt: Threads + Wait + Sync, F: Shelf, O: Sink>(
         Ok(None) => return Exit::Usage,
         Err(NoMemory) => return Exit::NoMemory,
     };
-    match accept(alloc, shelf, names) {
-        Ok((plan, readings)) => run_and_print(alloc, &plan, &readings, out),
-        Err(exit) => exit,
+    let (plan, readings) = match accept(alloc, shelf, names) {
+        Ok(accepted) => accepted,
+        Err(exit) => return exit,
+    };
+    match readings {
+        Some(readings) => run_and_print(alloc, &plan, &readings, out),
+        None => print_listing(alloc, &plan, out),
     }
 }

@@ -1,9 +1,9 @@
-ghost use Rattle.std.specs.Prelude.{◌≡◌, ◌∷◌, codes, IfOk, IsTrue, OnOk, Some, map};
-ghost use Rattle.std.specs.Option.{option_map};
+ghost use Rattle.std.specs.Prelude.{◌≡◌, ◌∷◌, [], codes, IfOk, IsTrue, OnOk, Some, map};
+ghost use Rattle.std.specs.Option.{option_and_then, option_map};
 ghost use Rattle.std.specs.String.{string_bytes};
 ghost use Rattle.conc_types.specs.Texts.{is_name as is_name_of};
 ghost use Rattle.conc_top.specs.Saying.{shown};
-ghost use Rattle.conc_top.specs.Words.{behind as behind_of, is, takes_next as takes_next_of, with_option as with_option_of, is_positional as is_positional_of, is_zero as is_zero_of, is_zero_once as is_zero_once_of, is_zero_or_absent as is_zero_or_absent_of, names_among as names_among_of, names_of, names_said as names_said_of, nothing_said, said as said_of, said_by as said_by_of, with_file as with_file_of, with_threads as with_threads_of, with_watch as with_watch_of};
+ghost use Rattle.conc_top.specs.Words.{behind as behind_of, is, takes_next as takes_next_of, with_option as with_option_of, is_file as is_file_of, is_positional as is_positional_of, is_zero as is_zero_of, is_zero_once as is_zero_once_of, is_zero_or_absent as is_zero_or_absent_of, names_among as names_among_of, names_among_two as names_among_two_of, names_of, names_said as names_said_of, nothing_said, said as said_of, said_by as said_by_of, with_file as with_file_of, with_threads as with_threads_of, with_watch as with_watch_of};
 
 use crate::names::Names;
 use conc_types::{Name, NoMemory, is_name, read_decimal};
@@ -181,7 +181,7 @@ fn names_among(alloc: Global, files: &[&[u8]]) -> Result<Option<Names>, NoMemory
     Ok(Some(Names {
         setup: own_name(alloc, setup)?,
         script: own_name(alloc, script)?,
-        clock: own_name(alloc, clock)?,
+        clock: Some(own_name(alloc, clock)?),
     }))
 }
 
@@ -201,8 +201,57 @@ fn is_run(word: &[u8]) -> bool
     word == b"run".as_slice()
 }
 
+fn is_plan(word: &[u8]) -> bool
+    ensures { result ≡ is (codes "plan") word.now }
+{
+    word == b"plan".as_slice()
+}
+
+// The files of a run, where these words stand behind its command.
+fn run_names(alloc: Global, words: &[String]) -> Result<Option<Names>, NoMemory>
+    ensures { IfOk result (λ names. names ≡ option_and_then names_said_of (said_of (map string_bytes words.now))) }
+{
+    if words.len() > MOST_WORDS {
+        return Ok(None);
+    }
+    match read_said(alloc, words)? {
+        Some(said) => names_said(alloc, &said),
+        None => Ok(None),
+    }
+}
+
+fn is_file(word: &[u8]) -> bool
+    ensures { result ≡ is_file_of word.now }
+{
+    is_positional(word) && is_name(word)
+}
+
+// The two files of a plan, where these are their names.
+fn names_among_two(alloc: Global, setup: &[u8], script: &[u8]) -> Result<Option<Names>, NoMemory>
+    ensures { IfOk result (λ names. names ≡ names_among_two_of (setup.now ∷ script.now ∷ [])) }
+{
+    if !(is_file(setup) && is_file(script)) {
+        return Ok(None);
+    }
+    Ok(Some(Names {
+        setup: own_name(alloc, setup)?,
+        script: own_name(alloc, script)?,
+        clock: None,
+    }))
+}
+
+// The same, where these words stand behind its command.
+fn plan_names(alloc: Global, words: &[String]) -> Result<Option<Names>, NoMemory>
+    ensures { IfOk result (λ names. names ≡ names_among_two_of (map string_bytes words.now)) }
+{
+    match words {
+        [setup, script] => names_among_two(alloc, setup.as_bytes(), script.as_bytes()),
+        _ => Ok(None),
+    }
+}
+
 /// The files that these words name, where they are `run SETUP SCRIPT CLOCK` with `--threads 0`, and with
-/// `--watch 0` or without it, anywhere behind `run`.
+/// `--watch 0` or without it, anywhere behind `run`; or `plan SETUP SCRIPT`.
 #[tactic(auto, unfolding(crate::specs::Words::names_of))]
 pub(crate) fn read_words(alloc: Global, words: &[String]) -> Result<Option<Names>, NoMemory>
     ensures { IfOk result (λ names. names ≡ names_of (map string_bytes words.now)) }
@@ -210,14 +259,11 @@ pub(crate) fn read_words(alloc: Global, words: &[String]) -> Result<Option<Names
     let Some((command, rest)) = words.split_first() else {
         return Ok(None);
     };
-    if !is_run(command.as_bytes()) {
-        return Ok(None);
-    }
-    if rest.len() > MOST_WORDS {
-        return Ok(None);
-    }
-    match read_said(alloc, rest)? {
-        Some(said) => names_said(alloc, &said),
-        None => Ok(None),
+    if is_run(command.as_bytes()) {
+        run_names(alloc, rest)
+    } else if is_plan(command.as_bytes()) {
+        plan_names(alloc, rest)
+    } else {
+        Ok(None)
     }
 }

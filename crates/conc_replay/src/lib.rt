@@ -1,0 +1,6 @@
+//! What stands after a list of events, each of which is taken in by the requests that it can change.
+#![tactic(auto)]
+
+mod replay;
+
+pub use replay::standing_after;
