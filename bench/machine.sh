@@ -103,24 +103,26 @@ R
   (cd "$work/copy/crates/bench_machine" && rt run > "$work/build.log" 2>&1) || true
 fi
 [ -x "$binary" ] || { tail -40 "$work/build.log"; exit 1; }
-timed() { # FOLDER REPEATS: seconds, KB, and what it printed
+timed() { # FOLDER REPEATS: seconds, and what it printed
   (cd "$1" && python3 - "$binary" "$2" <<'P'
-import resource, subprocess, sys, time
+import subprocess, sys, time
 start = time.monotonic()
 made = subprocess.run(sys.argv[1:], stdout=subprocess.PIPE, check=True)
-took = time.monotonic() - start
-print('%.6f %d %s' % (took, resource.getrusage(resource.RUSAGE_CHILDREN).ru_maxrss, made.stdout.decode().strip()))
+print('%.6f %s' % (time.monotonic() - start, made.stdout.decode().strip()))
 P
   )
+}
+memory() { # FOLDER: the greatest memory of a run in KB
+  (cd "$1" && /usr/bin/time -f %M "$binary" 1 2>&1 >/dev/null | tail -1)
 }
 for folder in "${folders[@]}"; do
   ours=() peers=()
   for _ in 1 2 3 4 5; do
     none=$(timed "$folder" 0) many=$(timed "$folder" "$repeats")
-    ours+=("$(echo "$none $many" | awk -v n="$repeats" '{printf "%.3f", ($4 - $1) * 1000 / n}')")
+    ours+=("$(echo "$none $many" | awk -v n="$repeats" '{printf "%.3f", ($3 - $1) * 1000 / n}')")
     [ -z "$peer" ] || peers+=("$("$peer" "$folder" 2>&1 >/dev/null | tail -1)")
   done
-  line="$folder: $(printf '%s\n' "${ours[@]}" | sort -g | sed -n 3p) ms, $(echo "$many" | cut -d' ' -f2) KB, $(echo "$many" | cut -d' ' -f3) events"
+  line="$folder: $(printf '%s\n' "${ours[@]}" | sort -g | sed -n 3p) ms, $(memory "$folder") KB, $(echo "$many" | cut -d' ' -f2) events"
   [ -z "$peer" ] || line="$line; by hand $(printf '%s\n' "${peers[@]}" | sort -g | sed -n 3p) ms"
   echo "$line"
 done

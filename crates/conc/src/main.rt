@@ -1,12 +1,16 @@
-//! The program: it hands the real shelf and sink to the one call, tells a fault on standard error,
+//! The program: it hands the real shelf, sink and clock to the one call, tells a fault on standard error,
 //! and ends with the exit's number.
 #![tactic(auto)]
 
+use conc_clock::{SystemClock, SystemZone};
 use conc_outside::{FileShelf, WriterSink};
 use conc_top::{Exit, conc, exit_text};
+use conc_types::NoMemory;
 use std::env;
 use std::io::{self, Write};
 use std::process::ExitCode;
+use std::sync::Wait;
+use std::thread::Threads;
 
 // The words after the program's name.
 fn words(rt: &HostRuntime) -> io::Result<Vec<String>> {
@@ -24,13 +28,22 @@ fn tell(rt: &HostRuntime, exit: &Exit) {
     }
 }
 
+// Does what the words ask for, with the clock of the system in its zone.
+fn run<Rt: Threads + Wait + Sync>(
+    rt: &Rt,
+    host: &HostRuntime,
+    words: &[String],
+) -> Result<Exit, NoMemory> {
+    let zone = SystemZone::new(host.alloc(), host)?;
+    let mut clock = SystemClock::new(host, &zone)?;
+    let mut shelf = FileShelf::new(host);
+    let mut out = WriterSink::new(host.stdout());
+    Ok(conc(rt, host.alloc(), words, &mut shelf, &mut out, &mut clock))
+}
+
 fn main(rt: HostRuntime) -> ExitCode {
     let exit = match words(&rt) {
-        Ok(words) => {
-            let mut shelf = FileShelf::new(&rt);
-            let mut out = WriterSink::new(rt.stdout());
-            conc(&rt, rt.alloc(), &words, &mut shelf, &mut out)
-        }
+        Ok(words) => run(&rt, &rt, &words).unwrap_or(Exit::NoMemory),
         Err(_) => Exit::NoMemory,
     };
     tell(&rt, &exit);

@@ -18,7 +18,7 @@ use Rattle.conc_top.specs.declared.exit.Exit.{Exit}
 use Rattle.conc_top.specs.declared.names.Names.{Names}
 use Rattle.conc_top.specs.declared.reading.Inputs.{Inputs}
 use Rattle.conc_top.specs.Exits.{StopsAt}
-use Rattle.conc_top.specs.Given.{Accepts, HasAll, HasTables}
+use Rattle.conc_top.specs.Given.{Accepts, HasAll, HasTables, Sources, Told, told_by}
 use Rattle.conc_top.specs.Reading.{HasInputs}
 use Rattle.conc_top.specs.Refusals.{fault_of_table, IsRefused, name_of}
 use Rattle.conc_top.specs.Stops.{Ends, IsTableStop, StopsInTables}
@@ -30,15 +30,15 @@ tables-long told names tables has =
     AllZip-long SpellsTable has.contents tables has.spell ∙ AllZip-long (Gives told) names has.contents has.given
 
 -- the tables that were read are those of the setup that was read
-tables-of : (told before : Option Files) (names : Names) (inputs : Inputs) (has : HasInputs told names inputs) (named : List (List ℕ)) (tables : List Table)
-    → named ≡ inputs.setup.tables → before ≡ told → HasTables before named tables → HasAll told names tables
+tables-of : (told : Told) (before : Option Files) (names : Names) (inputs : Inputs) (has : HasInputs told names inputs) (named : List (List ℕ)) (tables : List Table)
+    → named ≡ inputs.setup.tables → before ≡ told.files → HasTables before named tables → HasAll told names tables
 tables-of told before names inputs has named tables same files read =
     let at : named ≡ has.files.before.before.setup.tables = same ∙ ap (λ (s : Setup). s.tables) has.setup in
     record { before = has.files; given = subst (λ t. HasTables t has.files.before.before.setup.tables tables) files (subst (λ l. HasTables before l tables) at read) }
 
 -- all was read, and this is the plan
-pub accepts : (told before : Option Files) (names : Names) (inputs : Inputs) (has : HasInputs told names inputs) (named : List (List ℕ)) (tables : List Table) (plan : Plan)
-    → named ≡ inputs.setup.tables → before ≡ told → HasTables before named tables
+pub accepts : (told : Told) (before : Option Files) (names : Names) (inputs : Inputs) (has : HasInputs told names inputs) (named : List (List ℕ)) (tables : List Table) (plan : Plan)
+    → named ≡ inputs.setup.tables → before ≡ told.files → HasTables before named tables
     → plan.setup ≡ inputs.setup → plan.script ≡ inputs.script → plan.tables ≡ tables → Accepts told names plan inputs.readings
 unfolding tables-of
 accepts told before names inputs has named tables plan same files read setup script these = record {
@@ -49,8 +49,8 @@ accepts told before names inputs has named tables plan same files read setup scr
 }
 
 -- all was read, and the plan is refused
-pub plan-refused : (told before : Option Files) (names : Names) (inputs : Inputs) (has : HasInputs told names inputs) (named : List (List ℕ)) (tables : List Table) (refusal : Refusal) (name : List ℕ)
-    → named ≡ inputs.setup.tables → before ≡ told → HasTables before named tables
+pub plan-refused : (told : Told) (before : Option Files) (names : Names) (inputs : Inputs) (has : HasInputs told names inputs) (named : List (List ℕ)) (tables : List Table) (refusal : Refusal) (name : List ℕ)
+    → named ≡ inputs.setup.tables → before ≡ told.files → HasTables before named tables
     → (made : List Table) → made ≡ tables → (e : ReadFail) → e ≡ fail.Refused refusal → IsFailure (plan_fault inputs.setup inputs.script.commands made) e
     → name ≡ name_of names refusal.file → IsRefused told names refusal name
 unfolding tables-of
@@ -65,25 +65,25 @@ plan-refused told before names inputs has named tables refusal name same files r
       named = at;
     })
 
-at-table : (old mid new : ShelfState) (names : Names) (inputs : Inputs) (has : HasInputs old.files names inputs) (named : List (List ℕ)) (end : Exit)
-    → named ≡ has.files.before.before.setup.tables → IsLater old mid → IsTableStop mid new named end → StopsAt old new names end
-at-table old mid new names inputs has named end same later stop =
+at-table : (old new : Sources) (mid : ShelfState) (names : Names) (inputs : Inputs) (has : HasInputs (told_by old new) names inputs) (named : List (List ℕ)) (end : Exit)
+    → named ≡ has.files.before.before.setup.tables → IsLater old.shelf mid → IsTableStop mid new.shelf named end → StopsAt old new names end
+at-table old new mid names inputs has named end same later stop =
     let P : Option Files → List (List ℕ) → Type 0 = λ files all.
     (given : HasTables files (take stop.number all) stop.tables) × (slice_get all stop.number ≡ Some stop.name)
-    × Ends old new (λ bytes fault. fault_of_table (sum_by length given.contents) bytes ≡ Some fault) (kind.Table stop.number) stop.name stop.cause in
+    × Ends old.shelf new.shelf (λ bytes fault. fault_of_table (sum_by length given.contents) bytes ≡ Some fault) (kind.Table stop.number) stop.name stop.cause in
     let here : P mid.files named = (
       stop.given,
       stop.named,
-      ends-wider old mid new (λ bytes fault. fault_of_table (sum_by length stop.given.contents) bytes ≡ Some fault) (kind.Table stop.number) stop.name stop.cause later stop.ends,
+      ends-wider old.shelf mid new.shelf (λ bytes fault. fault_of_table (sum_by length stop.given.contents) bytes ≡ Some fault) (kind.Table stop.number) stop.name stop.cause later stop.ends,
     ) in
-    let there : P old.files has.files.before.before.setup.tables = subst (P old.files) same (subst (λ t. P t named) later.files here) in
-    stops-at old old new names (kind.Table stop.number) stop.name
+    let there : P old.shelf.files has.files.before.before.setup.tables = subst (P old.shelf.files) same (subst (λ t. P t named) later.files here) in
+    stops-at old new old.shelf names (kind.Table stop.number) stop.name
     (record { before = has.files; tables = stop.tables; given = there.0; named = there.1 })
-    stop.cause end (IsLater-refl old) there.2 (inl stop.is)
+    stop.cause end (IsLater-refl old.shelf) there.2 (inl stop.is)
 
 -- the reading of the tables ended
-pub tables-end : (old mid new : ShelfState) (names : Names) (inputs : Inputs) (has : HasInputs old.files names inputs) (named : List (List ℕ)) (end : Exit)
-    → named ≡ inputs.setup.tables → IsLater old mid → StopsInTables mid new named end → StopsAt old new names end
-tables-end old mid new names inputs has named end same later (inl none) = subst (StopsAt old new names) (sym none) tt
-tables-end old mid new names inputs has named end same later (inr stop) =
-    at-table old mid new names inputs has named end (same ∙ ap (λ (s : Setup). s.tables) has.setup) later stop
+pub tables-end : (old new : Sources) (mid : ShelfState) (names : Names) (inputs : Inputs) (has : HasInputs (told_by old new) names inputs) (named : List (List ℕ)) (end : Exit)
+    → named ≡ inputs.setup.tables → IsLater old.shelf mid → StopsInTables mid new.shelf named end → StopsAt old new names end
+tables-end old new mid names inputs has named end same later (inl none) = subst (StopsAt old new names) (sym none) tt
+tables-end old new mid names inputs has named end same later (inr stop) =
+    at-table old new mid names inputs has named end (same ∙ ap (λ (s : Setup). s.tables) has.setup) later stop

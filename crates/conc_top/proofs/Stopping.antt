@@ -1,5 +1,5 @@
 -- A file that ends the reading, against what the exit means.
-use Rattle.std.proofs.Common.{◌≡◌, ◌≤◌, ℕ, ◌+◌, ◌<◌, List, [], ◌∷◌, ◌++◌, Option, None, Some, length, get_or, take, sym, ◌∙◌, subst, refl, inl, inr, lit≤, arith}
+use Rattle.std.proofs.Common.{◌≡◌, ◌≤◌, ℕ, ◌+◌, ◌<◌, List, [], ◌∷◌, ◌++◌, Option, None, Some, length, get_or, take, sym, ◌∙◌, subst, refl, inl, inr, lit≤, arith, true}
 use Rattle.std.specs.Prelude.{IfSome}
 use Rattle.std.specs.List.{sum_by}
 use Rattle.std.proofs.lemmas.List.Elements.{all_zip_more}
@@ -9,6 +9,7 @@ use Rattle.std.proofs.lemmas.Slice.Zip.{all_zipped_more}
 use Rattle.conc_types.specs.declared.refusal.FileKind.{FileKind}
 use Rattle.conc_types.specs.declared.refusal.FileKind.TheVariants as kind
 use Rattle.conc_types.specs.declared.refusal.Refusal.{Refusal}
+use Rattle.conc_types.specs.declared.script.Readings.{Readings}
 use Rattle.conc_types.specs.declared.table.Table.{Table}
 use Rattle.conc_types.specs.Faults.{Fault}
 use Rattle.conc_outside.specs.Counts.{Rose}
@@ -16,14 +17,16 @@ use Rattle.conc_outside.specs.declared.error.ShelfFail.TheVariants as fail
 use Rattle.conc_outside.specs.Files.{file_named, Files, Gives, IsLater, Lacks, ShelfState}
 use Rattle.conc_tables.specs.Tables.{SpellsTable}
 use Rattle.conc_top.specs.declared.exit.Exit.{Exit}
+use Rattle.conc_top.specs.declared.exit.Exit.TheVariants as exit
 use Rattle.conc_top.specs.declared.names.Names.{Names}
 use Rattle.conc_top.specs.declared.stop.Stop.{Stop}
 use Rattle.conc_top.specs.declared.stop.Stop.TheVariants as stop
 use Rattle.conc_top.specs.Exits.{IsThere, StopsAt}
-use Rattle.conc_top.specs.Given.{HasTables, IsNext}
+use Rattle.conc_top.specs.Given.{HasScript, HasTables, IsNext, ReadsFrom, Sources, sources, Told, told_by}
 use Rattle.conc_top.specs.Refusals.{fault_of_table, HasFault, IsFileRefused}
-use Rattle.conc_top.specs.Stops.{Ends, IsExitAt, StopsInTables}
+use Rattle.conc_top.specs.Stops.{Ends, IsExitAt, StopsAtClock, StopsInTables, StopsUnshown}
 use Rattle.conc_top.specs.Ways.{exit_at}
+use Rattle.conc_top.specs.Words.{is_system}
 
 -- a count that rose late rose in all
 Rose-wider : (a b c : ℕ) → a ≤ b → Rose b c → Rose a c
@@ -51,26 +54,51 @@ ends-wider old mid new has_fault file name stop.ReadFault later h =
     (subst (λ t. IsThere t name) later.files h.0, Rose-wider old.faults mid.faults new.faults later.faults h.1)
 ends-wider old mid new has_fault file name stop.NoMemory later h = tt
 
-refused : (told : Option Files) (names : Names) (file : FileKind) (name : List ℕ) (next : IsNext told names file name) (refusal : Refusal) (bytes : List ℕ)
-    → refusal.file ≡ file → Gives told name bytes → HasFault told names file name next bytes (refusal.line, refusal.kind) → IsFileRefused told names refusal name
+refused : (told : Told) (names : Names) (file : FileKind) (name : List ℕ) (next : IsNext told names file name) (refusal : Refusal) (bytes : List ℕ)
+    → refusal.file ≡ file → Gives told.files name bytes → HasFault told names file name next bytes (refusal.line, refusal.kind) → IsFileRefused told names refusal name
 refused told names file name next refusal bytes same given fault =
     let at : (n : IsNext told names refusal.file name) × HasFault told names refusal.file name n bytes (refusal.line, refusal.kind)
     = subst (λ k. (n : IsNext told names k name) × HasFault told names k name n bytes (refusal.line, refusal.kind)) (sym same) (next, fault) in
     record { next = at.0; bytes = bytes; given = given; fault = at.1 }
 
-stops-by : (old new : ShelfState) (names : Names) (file : FileKind) (name : List ℕ) (next : IsNext old.files names file name) (s : Stop)
-    → Ends old new (HasFault old.files names file name next) file name s → StopsAt old new names (exit_at s name)
-stops-by old new names file name next (stop.Refused refusal) h = inl (refused old.files names file name next refusal h.bytes h.file_is h.given h.fault)
+stops-by : (old new : Sources) (names : Names) (file : FileKind) (name : List ℕ) (next : IsNext (told_by old new) names file name) (s : Stop)
+    → Ends old.shelf new.shelf (HasFault (told_by old new) names file name next) file name s → StopsAt old new names (exit_at s name)
+stops-by old new names file name next (stop.Refused refusal) h = inl (refused (told_by old new) names file name next refusal h.bytes h.file_is h.given h.fault)
 stops-by old new names file name next stop.Absent h = record { file = file; next = next; lacking = h.0; counted = h.1 }
 stops-by old new names file name next stop.ReadFault h = record { file = file; next = next; there = h.0; counted = h.1 }
 stops-by old new names file name next stop.NoMemory h = tt
 
 -- the file that was next ends the reading, and this is its exit
-pub stops-at : (old mid new : ShelfState) (names : Names) (file : FileKind) (name : List ℕ) (next : IsNext old.files names file name) (s : Stop) (end : Exit)
-    → IsLater old mid → Ends mid new (HasFault old.files names file name next) file name s → IsExitAt s name end → StopsAt old new names end
-stops-at old mid new names file name next s end later h (inl is) = subst (StopsAt old new names) (sym is)
-    (stops-by old new names file name next s (ends-wider old mid new (HasFault old.files names file name next) file name s later h))
-stops-at old mid new names file name next s end later h (inr is) = subst (StopsAt old new names) (sym is) tt
+pub stops-at : (old new : Sources) (mid : ShelfState) (names : Names) (file : FileKind) (name : List ℕ) (next : IsNext (told_by old new) names file name) (s : Stop) (end : Exit)
+    → IsLater old.shelf mid → Ends mid new.shelf (HasFault (told_by old new) names file name next) file name s → IsExitAt s name end → StopsAt old new names end
+stops-at old new mid names file name next s end later h (inl is) = subst (StopsAt old new names) (sym is)
+    (stops-by old new names file name next s (ends-wider old.shelf mid new.shelf (HasFault (told_by old new) names file name next) file name s later h))
+stops-at old new mid names file name next s end later h (inr is) = subst (StopsAt old new names) (sym is) tt
+
+-- the clock that is named was read, also as seen from the beginning
+pub reads-clock : (old new : Sources) (mid : ShelfState) → mid.files ≡ old.shelf.files → (name : List ℕ) (readings : Readings)
+    → ReadsFrom (told_by (sources mid old.clock) new) name readings (is_system name) → ReadsFrom (told_by old new) name readings (is_system name)
+reads-clock old new mid same name readings =
+    subst (λ files. ReadsFrom (record { files = files; clock_before = old.clock; clock_after = new.clock }) name readings (is_system name)) same
+
+-- the clock that was asked ends the reading
+unshown : (old new : Sources) (names : Names) (name : List ℕ) → HasScript old.shelf.files names → names.clock ≡ Some name → is_system name ≡ true
+    → (end : Exit) → StopsUnshown old.clock new.clock end → StopsAt old new names end
+unshown old new names name before named asked exit.ClockFault h = record { before = before; name = name; named = named; asked = asked; silent = h }
+unshown old new names name before named asked exit.NoMemory h = tt
+unshown old new names name before named asked exit.Done h = absurd h
+unshown old new names name before named asked exit.Usage h = absurd h
+unshown old new names name before named asked exit.WriteFault h = absurd h
+unshown old new names name before named asked (exit.Refused refusal file) h = absurd h
+unshown old new names name before named asked (exit.Absent file) h = absurd h
+unshown old new names name before named asked (exit.ReadFault file) h = absurd h
+
+-- the clock that is named ends the reading
+pub clock-end : (old new : Sources) (mid : ShelfState) (names : Names) (name : List ℕ) (end : Exit) → HasScript old.shelf.files names → names.clock ≡ Some name
+    → IsLater old.shelf mid → StopsAtClock (sources mid old.clock) new name end → StopsAt old new names end
+clock-end old new mid names name end before named later (inl h) = unshown old new names name before named h.0 end h.1
+clock-end old new mid names name end before named later (inr h) =
+    stops-at old new mid names kind.Clock name (before, named, h.from_file) h.cause end later h.ends h.is
 
 -- a read that failed, where a lacking file is told as absent, was of a file that is there
 pub failed-there : (told : Option Files) (name : List ℕ) → IfSome told (λ files. file_named files name ≡ None → fail.Failed ≡ fail.Absent) → IsThere told name

@@ -1,19 +1,40 @@
 -- The files that were read, each of them there and accepted, and the file to be read next.
-use Rattle.std.specs.Prelude.{◌≡◌, ℕ, ◌≤◌, List, length, Ok, Option, None, Some, slice_get, take}
+use Rattle.std.specs.Prelude.{◌≡◌, ℕ, ◌≤◌, Bool, false, true, List, [], ◌∷◌, length, Ok, Option, None, Some, slice_get, take}
 use Rattle.std.specs.List.{AllZip, sum_by}
+use Rattle.conc_clock.specs.Clocks.{ClockState, Gives as Shows}
+use Rattle.conc_types.specs.declared.event.Moment.{Moment}
 use Rattle.conc_types.specs.declared.plan.Plan.{Plan}
 use Rattle.conc_types.specs.declared.refusal.FileKind.{FileKind}
 use Rattle.conc_types.specs.declared.refusal.FileKind.TheVariants as kind
+use Rattle.conc_types.specs.declared.script.Reading.{Reading}
 use Rattle.conc_types.specs.declared.script.Readings.{Readings}
 use Rattle.conc_types.specs.declared.script.Script.{Script}
 use Rattle.conc_types.specs.declared.setup.Setup.{Setup}
 use Rattle.conc_types.specs.declared.table.Table.{Table}
-use Rattle.conc_outside.specs.Files.{Files, Gives}
+use Rattle.conc_outside.specs.Files.{Files, Gives, ShelfState}
 use Rattle.conc_setup.specs.Setups.{setup_in}
 use Rattle.conc_script.specs.Clock.{SpellsClock}
 use Rattle.conc_script.specs.Script.{SpellsScript}
 use Rattle.conc_tables.specs.Tables.{SpellsTable}
 use Rattle.conc_top.specs.declared.names.Names.{Names}
+use Rattle.conc_top.specs.Words.{is_system}
+
+-- what a call reads from
+pub record Sources : Type 0 where
+  pub shelf : ShelfState
+  pub clock : ClockState
+
+abbrev pub sources : ShelfState → ClockState → Sources
+sources shelf clock = record { shelf = shelf; clock = clock }
+
+-- what they tell: the files, and the clock before and after the reading
+pub record Told : Type 0 where
+  pub files : Option Files
+  pub clock_before : ClockState
+  pub clock_after : ClockState
+
+abbrev pub told_by : Sources → Sources → Told
+told_by old new = record { files = old.shelf.files; clock_before = old.clock; clock_after = new.clock }
 
 -- the setup's bytes were read under its name, and spell this setup
 pub record HasSetup (told : Option Files) (names : Names) : Type 0 where
@@ -30,15 +51,28 @@ pub record HasScript (told : Option Files) (names : Names) : Type 0 where
   pub script : Script
   pub spells : SpellsScript before.setup bytes script
 
--- the clock's bytes were read under its name, and spell these readings; or there is no clock, and there are none
-abbrev pub ReadsClock : Option Files → Option (List ℕ) → Option Readings → Type 0
-ReadsClock told (Some name) (Some readings) = (bytes : List ℕ) × Gives told name bytes × SpellsClock bytes readings
-ReadsClock told None None = Unit {0}
+-- the one reading of this moment, which is not early
+abbrev pub reading_at : Moment → Reading
+reading_at moment = record { moment = moment; early = false }
+
+-- the clock gave one moment, which these readings are
+abbrev pub IsShown : ClockState → ClockState → Readings → Type 0
+IsShown old new readings = (moment : Moment) × Shows old.moments moment new.moments × (readings.list ≡ reading_at moment ∷ [])
+
+-- readings of the system's clock; or of the file with this name, whose bytes spell them, and that clock was not asked
+abbrev pub ReadsFrom : Told → List ℕ → Readings → Bool → Type 0
+ReadsFrom told name readings true = IsShown told.clock_before told.clock_after readings
+ReadsFrom told name readings false = (bytes : List ℕ) × Gives told.files name bytes × SpellsClock bytes readings × (told.clock_after ≡ told.clock_before)
+
+-- the clock that is named gave these readings; or none is named, and there are none
+abbrev pub ReadsClock : Told → Option (List ℕ) → Option Readings → Type 0
+ReadsClock told (Some name) (Some readings) = ReadsFrom told name readings (is_system name)
+ReadsClock told None None = told.clock_after ≡ told.clock_before
 ReadsClock told _ _ = ⊥
 
 -- then the clock's
-pub record HasClock (told : Option Files) (names : Names) : Type 0 where
-  pub before : HasScript told names
+pub record HasClock (told : Told) (names : Names) : Type 0 where
+  pub before : HasScript told.files names
   pub readings : Option Readings
   pub given : ReadsClock told names.clock readings
 
@@ -50,26 +84,26 @@ pub record HasTables (told : Option Files) (names : List (List ℕ)) (tables : L
   pub fit : sum_by length contents ≤ 134217728
 
 -- the table with this number, from 0, is to be read next
-pub record IsNextTable (told : Option Files) (names : Names) (number : ℕ) (name : List ℕ) : Type 0 where
+pub record IsNextTable (told : Told) (names : Names) (number : ℕ) (name : List ℕ) : Type 0 where
   pub before : HasClock told names
   pub tables : List Table
-  pub given : HasTables told (take number before.before.before.setup.tables) tables
+  pub given : HasTables told.files (take number before.before.before.setup.tables) tables
   pub named : slice_get before.before.before.setup.tables number ≡ Some name
 
 -- all files before this one were there and accepted, and it is to be read next, under this name
-abbrev pub IsNext : Option Files → Names → FileKind → List ℕ → Type 0
+abbrev pub IsNext : Told → Names → FileKind → List ℕ → Type 0
 IsNext told names kind.Setup name = name ≡ names.setup
-IsNext told names kind.Script name = HasSetup told names × (name ≡ names.script)
-IsNext told names kind.Clock name = HasScript told names × (names.clock ≡ Some name)
+IsNext told names kind.Script name = HasSetup told.files names × (name ≡ names.script)
+IsNext told names kind.Clock name = HasScript told.files names × (names.clock ≡ Some name) × (is_system name ≡ false)
 IsNext told names (kind.Table number) name = IsNextTable told names number name
 
 -- all files were there and accepted, with these tables
-pub record HasAll (told : Option Files) (names : Names) (tables : List Table) : Type 0 where
+pub record HasAll (told : Told) (names : Names) (tables : List Table) : Type 0 where
   pub before : HasClock told names
-  pub given : HasTables told before.before.before.setup.tables tables
+  pub given : HasTables told.files before.before.before.setup.tables tables
 
 -- they give this plan and, where there is a clock, these readings
-pub record Accepts (told : Option Files) (names : Names) (plan : Plan) (readings : Option Readings) : Type 0 where
+pub record Accepts (told : Told) (names : Names) (plan : Plan) (readings : Option Readings) : Type 0 where
   pub files : HasAll told names plan.tables
   pub setup : plan.setup ≡ files.before.before.before.setup
   pub script : plan.script ≡ files.before.before.script

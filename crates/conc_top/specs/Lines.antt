@@ -11,6 +11,7 @@ number_of (exit.Refused refusal name) = 3
 number_of (exit.Absent name) = 4
 number_of (exit.ReadFault name) = 5
 number_of exit.WriteFault = 6
+number_of exit.ClockFault = 8
 number_of exit.NoMemory = 12
 
 -- the line that tells an exit; none where the command is done
@@ -22,4 +23,5 @@ line_of (exit.Refused refusal name) =
 line_of (exit.Absent name) = codes "absent: " ++ name ++ codes "\n"
 line_of (exit.ReadFault name) = codes "read fault: " ++ name ++ codes "\n"
 line_of exit.WriteFault = codes "write fault\n"
+line_of exit.ClockFault = codes "clock fault\n"
 line_of exit.NoMemory = codes "no memory\n"

@@ -1,6 +1,7 @@
 -- Why one file ends the reading.
-use Rattle.std.specs.Prelude.{◌≡◌, ◌⊎◌, ℕ, List, length, Option, Some, slice_get, take}
+use Rattle.std.specs.Prelude.{◌≡◌, ◌⊎◌, ℕ, false, true, List, length, Option, Some, slice_get, take}
 use Rattle.std.specs.List.{sum_by}
+use Rattle.conc_clock.specs.Clocks.{ClockState}
 use Rattle.conc_types.specs.declared.refusal.FileKind.{FileKind}
 use Rattle.conc_types.specs.declared.refusal.Refusal.{Refusal}
 use Rattle.conc_types.specs.declared.refusal.FileKind.TheVariants as kind
@@ -8,14 +9,16 @@ use Rattle.conc_types.specs.declared.table.Table.{Table}
 use Rattle.conc_types.specs.Faults.{Fault}
 use Rattle.conc_outside.specs.Counts.{Rose}
 use Rattle.conc_outside.specs.Files.{Files, Gives, Lacks, ShelfState}
+use Rattle.conc_script.specs.Clock.{clock_fault}
 use Rattle.conc_top.specs.declared.stop.Stop.{Stop}
 use Rattle.conc_top.specs.declared.stop.Stop.TheVariants as stop
 use Rattle.conc_top.specs.declared.exit.Exit.{Exit}
 use Rattle.conc_top.specs.declared.exit.Exit.TheVariants as exit
-use Rattle.conc_top.specs.Exits.{IsThere}
-use Rattle.conc_top.specs.Given.{HasTables}
+use Rattle.conc_top.specs.Exits.{IsSilent, IsThere}
+use Rattle.conc_top.specs.Given.{HasTables, Sources}
 use Rattle.conc_top.specs.Refusals.{fault_of_table}
 use Rattle.conc_top.specs.Ways.{exit_at}
+use Rattle.conc_top.specs.Words.{is_system}
 
 -- the bytes of the file were read, and have this fault
 pub record WasRefused (told : Option Files) (has_fault : List ℕ → Fault → Type 0) (file : FileKind) (name : List ℕ) (refusal : Refusal) : Type 0 where
@@ -39,6 +42,24 @@ Ends old new has_fault file name s = EndsUnread old new name s
 -- the exit for the file with this name, unless there was no memory for it
 abbrev pub IsExitAt : Stop → List ℕ → Exit → Type 0
 IsExitAt s name end = (end ≡ exit_at s name) ⊎ (end ≡ exit.NoMemory)
+
+-- ---- the clock
+
+-- the clock gave no moment, or there was no memory for its reading
+abbrev pub StopsUnshown : ClockState → ClockState → Exit → Type 0
+StopsUnshown old new exit.ClockFault = IsSilent old new
+StopsUnshown old new exit.NoMemory = Unit {0}
+StopsUnshown old new _ = ⊥
+
+-- the clock's file ends the reading
+pub record IsClockFileStop (old new : Sources) (name : List ℕ) (end : Exit) : Type 0 where
+  pub from_file : is_system name ≡ false
+  pub cause : Stop
+  pub ends : Ends old.shelf new.shelf (λ bytes fault. clock_fault bytes ≡ Some fault) kind.Clock name cause
+  pub is : IsExitAt cause name end
+
+abbrev pub StopsAtClock : Sources → Sources → List ℕ → Exit → Type 0
+StopsAtClock old new name end = ((is_system name ≡ true) × StopsUnshown old.clock new.clock end) ⊎ IsClockFileStop old new name end
 
 -- ---- tables
 

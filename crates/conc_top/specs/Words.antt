@@ -69,6 +69,10 @@ said (word ∷ next ∷ words) =
     if takes_next word then option_map (with_option word next) (said words)
     else said_by word (said (next ∷ words))
 
+-- the name of a clock that asks the clock of the system, and is no file's
+abbrev pub is_system : List ℕ → Bool
+is_system name = is (codes "system") name
+
 -- ---- commands
 
 abbrev pub is_zero : List ℕ → Bool

@@ -15,6 +15,8 @@ pub enum Exit {
     ReadFault { name: Name },
     /// The output could not be written.
     WriteFault,
+    /// The clock of the system gave no moment.
+    ClockFault,
     /// There was no memory.
     NoMemory,
 }
@@ -34,6 +36,7 @@ impl Exit {
             Exit::Absent { .. } => 4,
             Exit::ReadFault { .. } => 5,
             Exit::WriteFault => 6,
+            Exit::ClockFault => 8,
             Exit::NoMemory => 12,
         }
     }

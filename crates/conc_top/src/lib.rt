@@ -1,7 +1,8 @@
-//! The commands of the program, over a shelf of files and a sink.
+//! The commands of the program, over a shelf of files, a sink and a clock.
 #![tactic(auto)]
 
 mod accepting;
+mod clocks;
 mod exit;
 mod given;
 mod line;

@@ -44,6 +44,7 @@ fn put_line(out: &mut Vec<u8>, exit: &Exit) -> Result<(), NoMemory>
         Exit::Absent { name } => put_name(out, b"absent: ", name),
         Exit::ReadFault { name } => put_name(out, b"read fault: ", name),
         Exit::WriteFault => put(out, b"write fault\n"),
+        Exit::ClockFault => put(out, b"clock fault\n"),
         Exit::NoMemory => put(out, b"no memory\n"),
     }
 }

@@ -2,16 +2,18 @@ ghost use Rattle.std.specs.Prelude.{◌≡◌, ◌≤◌, length, IfErr, IfOk, I
 ghost use Rattle.conc_types.specs.Scripts.{are_commands};
 ghost use Rattle.conc_outside.specs.Files.{IsLater};
 ghost use Rattle.conc_top.specs.Exits.{StopsAt};
-ghost use Rattle.conc_top.specs.Given.{HasTables};
-ghost use Rattle.conc_top.specs.Stops.{IsExitAt, StopsInTables};
+ghost use Rattle.conc_top.specs.Given.{HasTables, sources, told_by};
+ghost use Rattle.conc_top.specs.Stops.{StopsInTables};
 ghost use Rattle.conc_top.specs.Reading.{HasInputs};
 
 use crate::Exit;
-use crate::given::{judge_clock, judge_script, judge_setup, judge_table};
+use crate::clocks::read_readings;
+use crate::given::{judge_script, judge_setup, judge_table};
 use crate::names::Names;
-use crate::stop::Stop;
+use crate::stop::exit_at;
+use conc_clock::Clock;
 use conc_outside::Shelf;
-use conc_types::{Name, NoMemory, Readings, Script, Setup, Table};
+use conc_types::{Name, Readings, Script, Setup, Table};
 use std::alloc::Global;
 
 // What the files say that the words name.
@@ -22,16 +24,17 @@ pub(crate) struct Inputs {
     pub(crate) readings: Option<Readings>,
 }
 
-// Reads the setup, the script and, where there is one, the clock, each of them judged before the next one is read.
-pub(crate) fn read_inputs<F: Shelf>(
+// Reads the setup, the script and, where one is named, the clock, each of them judged before the next one is read.
+pub(crate) fn read_inputs<F: Shelf, C: Clock>(
     alloc: Global,
     shelf: &mut F,
+    clock: &mut C,
     names: &Names,
 ) -> Result<Inputs, Exit>
     ensures later { IsLater (F.state shelf.old) (F.state shelf.new) }
-    ensures ok { IfOk result (HasInputs (F.state shelf.old).files names.now) }
+    ensures ok { IfOk result (HasInputs (told_by (sources (F.state shelf.old) (C.state clock.old)) (sources (F.state shelf.new) (C.state clock.new))) names.now) }
     ensures fits { IfOk result (λ inputs. IsTrue (are_commands inputs.setup inputs.script.commands)) }
-    ensures err { IfErr result (StopsAt (F.state shelf.old) (F.state shelf.new) names.now) }
+    ensures err { IfErr result (StopsAt (sources (F.state shelf.old) (C.state clock.old)) (sources (F.state shelf.new) (C.state clock.new)) names.now) }
 {
     let setup = match judge_setup(alloc, shelf, &names.setup) {
         Ok(setup) => setup,
@@ -41,30 +44,20 @@ pub(crate) fn read_inputs<F: Shelf>(
         Ok(script) => script,
         Err(stop) => return Err(exit_at(alloc, stop, &names.script)),
     };
-    let Some(clock) = &names.clock else {
+    let Some(name) = &names.clock else {
         return Ok(Inputs {
             setup,
             script,
             readings: None,
         });
     };
-    match judge_clock(alloc, shelf, clock) {
+    match read_readings(alloc, shelf, clock, name) {
         Ok(readings) => Ok(Inputs {
             setup,
             script,
             readings: Some(readings),
         }),
-        Err(stop) => Err(exit_at(alloc, stop, clock)),
-    }
-}
-
-// The exit for the file with this name, where there is memory for a name.
-fn exit_at(alloc: Global, stop: Stop, name: &Name) -> Exit
-    ensures { IsExitAt stop name.now result }
-{
-    match name.try_clone(alloc) {
-        Ok(name) => stop.at(name),
-        Err(NoMemory) => Exit::NoMemory,
+        Err(exit) => Err(exit),
     }
 }
 

@@ -1,5 +1,8 @@
+ghost use Rattle.conc_top.specs.Stops.{IsExitAt};
+
 use crate::Exit;
-use conc_types::{Name, Refusal};
+use conc_types::{Name, NoMemory, Refusal};
+use std::alloc::Global;
 
 // Why a file ends the reading.
 #[derive(Clone, Copy)]
@@ -24,5 +27,15 @@ impl Stop {
             Stop::ReadFault => Exit::ReadFault { name },
             Stop::NoMemory => Exit::NoMemory,
         }
+    }
+}
+
+// The exit for the file with this name, where there is memory for a name.
+pub(crate) fn exit_at(alloc: Global, stop: Stop, name: &Name) -> Exit
+    ensures { IsExitAt stop name.now result }
+{
+    match name.try_clone(alloc) {
+        Ok(name) => stop.at(name),
+        Err(NoMemory) => Exit::NoMemory,
     }
 }

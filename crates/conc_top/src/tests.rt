@@ -4,8 +4,9 @@ ghost use Rattle.std.specs.Str.{bytes_eq};
 ghost use Rattle.conc_types.specs.Words.{are_distinct as are_distinct_of};
 
 use super::*;
+use conc_clock::MemClock;
 use conc_outside::{MemShelf, MemSink};
-use conc_types::{Name, is_name};
+use conc_types::{Moment, Name, is_name};
 use std::alloc::Global;
 use std::process::Abort;
 use std::sync::Wait;
@@ -115,16 +116,14 @@ fn listed(alloc: Global, number: Option<u64>) -> Result<Vec<u64>, Fail> {
     Ok(numbers)
 }
 
-// The exit and the output of a call with these words, over the four files, where the read and the
-// write with these numbers fail.
-pub(crate) fn call<Rt: Abort + Threads + Wait + Sync>(
-    rt: &Rt,
+// The four files in a shelf, the clock's under this name, where the read with this number fails.
+fn shelf_of(
+    rt: &impl Abort,
     alloc: Global,
-    words: &str,
     given: Given<'_>,
+    clock: &str,
     fails: Option<u64>,
-    stuck: Option<u64>,
-) -> Result<(Exit, MemSink), Fail> {
+) -> Result<MemShelf, Fail> {
     let files = vec![in alloc;
         (
             name(rt, alloc, "a.toml")?,
@@ -135,7 +134,7 @@ pub(crate) fn call<Rt: Abort + Threads + Wait + Sync>(
             given.script.as_bytes().to_vec(alloc)?
         ),
         (
-            name(rt, alloc, "a.clock")?,
+            name(rt, alloc, clock)?,
             given.clock.as_bytes().to_vec(alloc)?
         ),
         (
@@ -144,14 +143,101 @@ pub(crate) fn call<Rt: Abort + Threads + Wait + Sync>(
         ),
     ]?;
     assert!(rt; are_distinct(&files));
-    let mut shelf = MemShelf::new(files, listed(alloc, fails)?);
-    let mut out = MemSink::new(alloc, listed(alloc, stuck)?);
+    Ok(MemShelf::new(files, listed(alloc, fails)?))
+}
+
+fn words_of(alloc: Global, words: &str) -> Result<Vec<String>, Fail> {
     let mut list = Vec::new(alloc);
     for word in words.split(' ') {
         list.push(format!(in alloc; "{word}")?)?;
     }
-    let exit = conc(rt, alloc, &list, &mut shelf, &mut out);
+    Ok(list)
+}
+
+// The exit and the output of a call with these words, over the four files and a clock without a
+// moment, where the read and the write with these numbers fail.
+pub(crate) fn call<Rt: Abort + Threads + Wait + Sync>(
+    rt: &Rt,
+    alloc: Global,
+    words: &str,
+    given: Given<'_>,
+    fails: Option<u64>,
+    stuck: Option<u64>,
+) -> Result<(Exit, MemSink), Fail> {
+    let mut shelf = shelf_of(rt, alloc, given, "a.clock", fails)?;
+    let mut out = MemSink::new(alloc, listed(alloc, stuck)?);
+    let list = words_of(alloc, words)?;
+    let mut clock = MemClock::new(Vec::new(alloc));
+    let exit = conc(rt, alloc, &list, &mut shelf, &mut out, &mut clock);
     Ok((exit, out))
+}
+
+// The clock's word, the name of the clock's file, whether the clock has its one moment, and what the run ends with: its status, its output, and the line that tells its exit.
+type Asked = (
+    &'static str,
+    &'static str,
+    bool,
+    u8,
+    &'static str,
+    &'static str,
+);
+
+// The clock's moment is 2025-03-03T10:10:01, and its file has 2025-03-03T09:00:00.
+static ASKED: [Asked; 6] = [
+    (
+        "system",
+        "a.clock",
+        true,
+        0,
+        "tick 2025-03-03T10:10:01\n--\n",
+        "",
+    ),
+    ("system", "a.clock", false, 8, "", "clock fault\n"),
+    // A file with this name is not read.
+    (
+        "system",
+        "system",
+        true,
+        0,
+        "tick 2025-03-03T10:10:01\n--\n",
+        "",
+    ),
+    ("system", "system", false, 8, "", "clock fault\n"),
+    // Another name is a file's.
+    (
+        "./system",
+        "./system",
+        true,
+        0,
+        "tick 2025-03-03T09:00:00\n--\n",
+        "",
+    ),
+    ("./system", "system", true, 4, "", "absent: ./system\n"),
+];
+
+#[test]
+fn the_clock_of_the_system_is_asked_by_its_word(rt: HostRuntime) -> Result<(), Fail> {
+    let alloc = rt.alloc();
+    for (word, file, has_moment, number, text, line) in ASKED {
+        let mut shelf = shelf_of(&rt, alloc, with_script(HEADER), file, None)?;
+        let mut out = MemSink::new(alloc, Vec::new(alloc));
+        let list = words_of(
+            alloc,
+            &format!(in alloc; "run a.toml a.csv {word} --threads 0")?,
+        )?;
+        let mut moments = Vec::new(alloc);
+        if has_moment {
+            moments.push(Moment {
+                seconds: 63_876_593_401,
+            })?;
+        }
+        let mut clock = MemClock::new(moments);
+        let exit = conc(&rt, alloc, &list, &mut shelf, &mut out, &mut clock);
+        assert_eq!(rt; exit.number(), number, "at {word:?}");
+        assert_eq!(rt; out.bytes(), text.as_bytes(), "at {word:?}");
+        assert_eq!(rt; exit_text(alloc, &exit)?.as_slice(), line.as_bytes());
+    }
+    Ok(())
 }
 
 // Worked histories: a script with its header alone; a program that is incompatible with itself; the
