@@ -37,8 +37,8 @@ type = "domain"
 [[manager]]
 name = "M"
 "#,
-        records: "2025-03-03T09:00:00,submit,Q,ann,,,D1,
-2025-03-03T09:00:00,submit,R,ann,,,D2,
+        records: "2025-03-03T09:00:00,submit,Q,ann,,,North,
+2025-03-03T09:00:00,submit,R,ann,,,South,
 ",
         clock: "2025-03-03T09:00:00
 ",
@@ -80,8 +80,8 @@ type = "global"
 [[manager]]
 name = "M"
 "#,
-        records: "2025-03-03T09:00:00,submit,Q,ann,,,D1,
-2025-03-03T09:00:00,submit,R,ann,,,D2,
+        records: "2025-03-03T09:00:00,submit,Q,ann,,,North,
+2025-03-03T09:00:00,submit,R,ann,,,South,
 ",
         clock: "2025-03-03T09:00:00
 ",

@@ -462,46 +462,50 @@ fn options_stand_anywhere_behind_the_command(rt: HostRuntime) -> Result<(), Fail
     Ok(())
 }
 
+// The words of a call, its setup, the read that fails, the write that the sink stops at, and what it ends
+// with: its status and the line that tells its exit.
+static STOPS: [(&str, &str, Option<u64>, Option<u64>, u8, &str); 6] = [
+    (
+        "run a.toml",
+        SETUP,
+        None,
+        None,
+        2,
+        "usage: conc run|plan|check|status|output|make\n",
+    ),
+    (
+        RUN,
+        "programs = []\n",
+        None,
+        None,
+        3,
+        "refused: a.toml: 0: 2\n",
+    ),
+    (
+        RUN,
+        "tables = []\n",
+        None,
+        None,
+        3,
+        "refused: a.csv: 2: 23\n",
+    ),
+    (
+        "run a.toml a.csv b.clock --threads 0",
+        SETUP,
+        None,
+        None,
+        4,
+        "absent: b.clock\n",
+    ),
+    (RUN, SETUP, Some(3), None, 5, "read fault: t.csv\n"),
+    (RUN, SETUP, None, Some(0), 6, "write fault\n"),
+];
+
 #[test]
 fn each_stop_has_its_exit(rt: HostRuntime) -> Result<(), Fail> {
     let alloc = rt.alloc();
     let script = script_of(alloc, "2025-03-03T09:00:00,submit,P,ann,,,,\n")?;
-    for (words, setup, fails, stuck, number, line) in [
-        (
-            "run a.toml",
-            SETUP,
-            None,
-            None,
-            2,
-            "usage: conc run|plan|check|status|output|make\n",
-        ),
-        (
-            RUN,
-            "programs = []\n",
-            None,
-            None,
-            3,
-            "refused: a.toml: 0: 2\n",
-        ),
-        (
-            RUN,
-            "tables = []\n",
-            None,
-            None,
-            3,
-            "refused: a.csv: 2: 23\n",
-        ),
-        (
-            "run a.toml a.csv b.clock --threads 0",
-            SETUP,
-            None,
-            None,
-            4,
-            "absent: b.clock\n",
-        ),
-        (RUN, SETUP, Some(3), None, 5, "read fault: t.csv\n"),
-        (RUN, SETUP, None, Some(0), 6, "write fault\n"),
-    ] {
+    for &(words, setup, fails, stuck, number, line) in &STOPS {
         let files = Given {
             setup,
             ..with_script(&script)

@@ -267,17 +267,17 @@ pub fn places() -> Trial {
     Trial {
         texts: Texts {
             setup: PLACES,
-            script: "2025-03-03T09:00:00,submit,Ledger,ann,,,D1,
-2025-03-03T09:00:00,submit,Ledger,bob,10,,D2,
-2025-03-03T09:00:00,submit,World,ann,,,D2,
-2025-03-03T09:00:00,submit,Alone,cat,,,D1,
-2025-03-03T09:00:00,submit,Shy,cat,,,D1,
-2025-03-03T09:00:00,submit,Close,ann,,,D1,
-2025-03-03T09:30:00,submit,Alone,bob,,,D1,
-2025-03-03T09:30:00,submit,Shy,bob,,,D3,
+            script: "2025-03-03T09:00:00,submit,Ledger,ann,,,North,
+2025-03-03T09:00:00,submit,Ledger,bob,10,,South,
+2025-03-03T09:00:00,submit,World,ann,,,South,
+2025-03-03T09:00:00,submit,Alone,cat,,,North,
+2025-03-03T09:00:00,submit,Shy,cat,,,North,
+2025-03-03T09:00:00,submit,Close,ann,,,North,
+2025-03-03T09:30:00,submit,Alone,bob,,,North,
+2025-03-03T09:30:00,submit,Shy,bob,,,West,
 2025-03-03T10:00:00,submit,World,ann,,,,
 2025-03-03T10:00:00,submit,Ledger,ann,,2025-03-03T22:30:00,,
-2025-03-03T10:30:00,submit,Close,bob,,,D3,
+2025-03-03T10:30:00,submit,Close,bob,,,West,
 ",
             clock: "2025-03-03T09:00:00
 2025-03-03T09:30:00 !
