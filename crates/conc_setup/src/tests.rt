@@ -12,7 +12,7 @@ fn refusal(read: Result<Setup, ReadFail>) -> Option<Refusal> {
 }
 
 // Setup files, each with the line and the kind for which it is refused.
-static REFUSED: [(&str, u64, u8); 29] = [
+static REFUSED: [(&str, u64, u8); 30] = [
     // A key twice.
     ("tables = []\ntables = []\n", 0, 1),
     // A key that the top level does not list.
@@ -111,6 +111,12 @@ static REFUSED: [(&str, u64, u8); 29] = [
     (
         "[[manager]]\nname = \"M\"\nshift = [{ places = 64 }]\n\n[[manager]]\nname = \"N\"\n\n[[manager]]\nplace = 1\n",
         0,
+        10,
+    ),
+    // 17 filters of a program.
+    (
+        "[[program]]\nname = \"P\"\ntable = \"t.csv\"\n\n[[program]]\nname = \"Q\"\ntable = \"t.csv\"\nfilter = [{ column = \"k\", test = \"is\", value = \"$\" }, { column = \"k\", test = \"is\", value = \"$\" }, { column = \"k\", test = \"is\", value = \"$\" }, { column = \"k\", test = \"is\", value = \"$\" }, { column = \"k\", test = \"is\", value = \"$\" }, { column = \"k\", test = \"is\", value = \"$\" }, { column = \"k\", test = \"is\", value = \"$\" }, { column = \"k\", test = \"is\", value = \"$\" }, { column = \"k\", test = \"is\", value = \"$\" }, { column = \"k\", test = \"is\", value = \"$\" }, { column = \"k\", test = \"is\", value = \"$\" }, { column = \"k\", test = \"is\", value = \"$\" }, { column = \"k\", test = \"is\", value = \"$\" }, { column = \"k\", test = \"is\", value = \"$\" }, { column = \"k\", test = \"is\", value = \"$\" }, { column = \"k\", test = \"is\", value = \"$\" }, { column = \"k\", test = \"is\", value = \"$\" }]\n",
+        2,
         10,
     ),
     // The places of a manager that is refused do not count.

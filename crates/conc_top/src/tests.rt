@@ -424,31 +424,87 @@ fn files_have_a_greatest_length(rt: HostRuntime) -> Result<(), Fail> {
 }
 
 // Words, and whether they are a command line.
-static WORDS: [(&str, bool); 25] = [
+static WORDS: [(&str, bool); 70] = [
     ("run a.toml a.csv a.clock --threads 0", true),
     ("run --threads 0 a.toml a.csv a.clock", true),
     ("run a.toml --threads=0 a.csv --watch=0 a.clock", true),
     ("run a.toml --watch 0 a.csv a.clock --threads 0", true),
+    ("run --watch=0 --threads=0 a.toml a.csv a.clock", true),
+    ("run --threads 0 --watch 0 a.toml a.csv a.clock", true),
+    ("run a.toml a.csv --threads 0 a.clock", true),
+    ("run a.toml a.csv a.clock --threads=0 --watch 0", true),
+    // A count that is not 0 or no decimal, or none for the threads.
     ("run a.toml a.csv a.clock", false),
     ("run a.toml a.csv a.clock --threads 1", false),
+    ("run a.toml a.csv a.clock --threads=4", false),
+    ("run a.toml a.csv a.clock --threads=32", false),
+    ("run a.toml a.csv a.clock --threads=33", false),
     ("run a.toml a.csv a.clock --threads 00", false),
+    ("run a.toml a.csv a.clock --threads -0", false),
+    ("run a.toml a.csv a.clock --threads +0", false),
+    ("run a.toml a.csv a.clock --threads=0x0", false),
+    ("run a.toml a.csv a.clock --threads zero", false),
     ("run a.toml a.csv a.clock --threads", false),
     ("run a.toml a.csv a.clock --threads=", false),
-    ("run a.toml a.csv a.clock --threads 0 --threads 0", false),
+    ("run a.toml a.csv a.clock --threads ", false),
     ("run a.toml a.csv a.clock --threads 0 --watch 1", false),
+    ("run a.toml a.csv a.clock --threads 0 --watch=8", false),
+    ("run a.toml a.csv a.clock --threads 0 --watch=9", false),
     ("run a.toml a.csv a.clock --threads 0 --watch", false),
+    ("run a.toml a.csv a.clock --threads 0 --watch=", false),
+    ("run a.toml a.csv a.clock --watch 0", false),
+    // An option twice.
+    ("run a.toml a.csv a.clock --threads 0 --threads 0", false),
+    ("run a.toml a.csv a.clock --threads=0 --threads 0", false),
+    (
+        "run a.toml a.csv a.clock --threads 0 --watch 0 --watch 0",
+        false,
+    ),
+    (
+        "run a.toml a.csv a.clock --threads 0 --watch=0 --watch=0",
+        false,
+    ),
+    // Other options.
     ("run a.toml a.csv a.clock --threads 0 --help", false),
+    ("run a.toml a.csv a.clock --threads 0 -h", false),
+    ("run a.toml a.csv a.clock --threads 0 --", false),
+    ("run a.toml a.csv a.clock -threads 0", false),
+    ("run a.toml a.csv a.clock --thread 0", false),
+    ("run a.toml a.csv a.clock --THREADS 0", false),
+    ("run a.toml a.csv a.clock --threads0", false),
+    ("run a.toml a.csv a.clock --watches=0 --threads=0", false),
+    // Another number of files, or a word that names none.
     ("run a.toml a.csv --threads 0", false),
+    ("run a.toml --threads 0", false),
+    ("run --threads 0", false),
+    ("run", false),
     ("run a.toml a.csv a.clock t.csv --threads 0", false),
     ("run a.toml a.csv  --threads 0", false),
+    ("run  a.csv a.clock --threads 0", false),
+    ("run a.toml a.csv - --threads 0", false),
+    ("run - a.csv a.clock --threads 0", false),
+    ("run a.toml -a.csv a.clock --threads 0", false),
+    ("run a.toml a.csv \u{7f} --threads 0", false),
+    ("run a\tb a.csv a.clock --threads 0", false),
+    // Another command, or none.
     ("--threads 0 run a.toml a.csv a.clock", false),
+    ("Run a.toml a.csv a.clock --threads 0", false),
+    ("start a.toml a.csv a.clock --threads 0", false),
+    (" run a.toml a.csv a.clock --threads 0", false),
     ("plan a.toml a.csv", true),
     ("plan a.toml", false),
     ("plan a.toml a.csv a.clock", false),
     ("plan a.toml a.csv --threads 0", false),
     ("plan --threads=0 a.csv", false),
     ("plan a.toml -", false),
-    ("check a.toml a.csv", false),
+    ("plan a.toml ", false),
+    ("plan", false),
+    ("check a.toml a.csv a.clock a.txt", false),
+    ("status a.toml a.csv", false),
+    ("output a.toml a.csv 1", false),
+    ("make 7 2000", false),
+    ("--help", false),
+    ("help", false),
     ("", false),
 ];
 
@@ -586,6 +642,41 @@ fn plans_are_listed(rt: HostRuntime) -> Result<(), Fail> {
         assert_eq!(rt; exit.number(), number, "at {records:?}");
         assert_eq!(rt; out.bytes(), text.as_bytes(), "at {records:?}");
         assert_eq!(rt; exit_text(rt.alloc(), &exit)?.as_slice(), line.as_bytes());
+    }
+    Ok(())
+}
+
+// A setup whose one set has a stage of 63 members, all of one program.
+fn crowd(alloc: Global) -> Result<String, Fail> {
+    let members = "\"P\", ".repeat(alloc, 62)?;
+    Ok(format!(in alloc;
+        "{SETUP}[[set]]\nname = \"S\"\nstage = [{{ name = \"A\", members = [{members}\"P\"] }}]\n"
+    )?)
+}
+
+#[test]
+fn a_plan_has_at_most_16384_requests(rt: HostRuntime) -> Result<(), Fail> {
+    let alloc = rt.alloc();
+    let setup = crowd(alloc)?;
+    let records = "2025-03-03T09:00:00,submit,S,ann,,,,\n".repeat(alloc, 256)?;
+    for (more, number, lines, line) in [
+        ("", 0, 16_384, ""),
+        (
+            "2025-03-03T09:00:00,submit,P,ann,,,,\n",
+            3,
+            0,
+            "refused: a.csv: 258: 42\n",
+        ),
+    ] {
+        let script = script_of(alloc, &format!(in alloc; "{records}{more}")?)?;
+        let files = Given {
+            setup: &setup,
+            ..with_script(&script)
+        };
+        let (exit, out) = call(&rt, alloc, "plan a.toml a.csv", files, None, None)?;
+        assert_eq!(rt; exit.number(), number);
+        assert_eq!(rt; out.bytes().split(|b| *b == b'\n').count(), lines + 1);
+        assert_eq!(rt; exit_text(alloc, &exit)?.as_slice(), line.as_bytes());
     }
     Ok(())
 }
