@@ -7,7 +7,7 @@ use conc_outside::{FileShelf, WriterSink};
 use conc_top::{Exit, conc, exit_text};
 use conc_types::NoMemory;
 use std::env;
-use std::io::{self, Write};
+use std::io::{self, ErrorKind, Write};
 use std::process::ExitCode;
 use std::sync::Wait;
 use std::thread::Threads;
@@ -19,6 +19,15 @@ fn words(rt: &HostRuntime) -> io::Result<Vec<String>> {
         words.push(word)?;
     }
     Ok(words)
+}
+
+// The exit where the words could not be taken. A word that is not UTF-8 belongs to no command line.
+fn exit_without_words(error: &io::Error) -> Exit {
+    if error.kind() == ErrorKind::InvalidData {
+        Exit::Usage
+    } else {
+        Exit::NoMemory
+    }
 }
 
 // Writes the line that tells an exit, where there is memory for it.
@@ -44,7 +53,7 @@ fn run<Rt: Threads + Wait + Sync>(
 fn main(rt: HostRuntime) -> ExitCode {
     let exit = match words(&rt) {
         Ok(words) => run(&rt, &rt, &words).unwrap_or(Exit::NoMemory),
-        Err(_) => Exit::NoMemory,
+        Err(error) => exit_without_words(&error),
     };
     tell(&rt, &exit);
     ExitCode::from(exit.number())
