@@ -32,7 +32,7 @@ impl Spool {
         ensures same { Stays (E.state disk.old) (E.state disk.new) }
         ensures survives { LeavesOnly (E.state disk.old).may_leave (E.state disk.old) (E.state disk.new) }
     {
-        disk.sync()?;
+        disk.sync()?; // so that what is read is on the disk
         let len = disk.len()?;
         if len < used {
             return Err(SpoolFail::Short { len });
@@ -70,7 +70,7 @@ impl Spool {
         ensures survives { LeavesOnly (KeepsBelow (used_of self.old) (E.state disk.old)) (E.state disk.old) (E.state disk.new) }
     {
         disk.write_at(self.used, bytes)?;
-        disk.sync()?;
+        disk.sync()?; // from here on each image has the text
         let extent = Extent {
             offset: self.used,
             length: bytes.len() as u32,
