@@ -1,5 +1,5 @@
 -- What is read, and what a stop may leave, after a text was written at the end of a spool and synced.
-use Rattle.std.proofs.Common.{◌≡◌, ◌∙◌, sym, ap, subst, refl, ℕ, ◌+◌, ◌≤◌, List, ◌++◌, length, take, drop, Option, Some, None, Result, Ok, Err, IfSome, IsSomeAnd, OnErr, arith, append_assoc, length-append, length-take, length-drop}
+use Rattle.std.proofs.Common.{◌≡◌, ◌∙◌, sym, ap, subst, refl, ℕ, ◌+◌, ◌≤◌, List, ◌++◌, length, take, drop, Option, Some, None, IfSome, IsSomeAnd, MatchOption, arith, append_assoc, length-append, length-take, length-drop}
 use Rattle.std.proofs.lemmas.List.{take_at, drop_at}
 use Rattle.std.proofs.lemmas.Option.{same_Some}
 use Rattle.std.specs.Option.{option_map}
@@ -12,19 +12,15 @@ pub reaches : (used : ℕ) (seen : Option (List ℕ)) (may_leave : List ℕ → 
     → IfSome seen (λ bytes. used ≤ length bytes)
 reaches used seen may_leave on here = if_some-both seen on here (λ bytes each left. (each bytes left).no_shorter)
 
-pub on_err-any : {T E P : Type 0} (r : Result T E) → P → OnErr r P
-on_err-any (Ok x) p = tt
-on_err-any (Err e) p = p
-
 torn-agrees : (used n : ℕ) (old new : List ℕ) → used ≤ length old → Torn used n old new → Agrees used old new
 torn-agrees used n old new reach torn = record { no_shorter = omega (arith, reach, torn.no_shorter); front = torn.before }
 
 -- a write at the end of the spool leaves its bytes in each image, whatever it leaves behind them
 pub on-torn : (used n : ℕ) (old new : Option (List ℕ)) (could may_leave : List ℕ → Type 0) → IfSome old (λ bytes. (image : List ℕ) → could image → Agrees used bytes image) → IfSome old could
-    → IfSome old (λ before. IsSomeAnd new (λ after. Torn used n before after)) → ((image : List ℕ) → may_leave image → (from : List ℕ) × could from × Torn used n from image)
-    → IfSome old (λ before. IfSome new (λ bytes. (image : List ℕ) → may_leave image → Agrees used bytes image))
-on-torn used n None new could may_leave on here torn images = tt
-on-torn used n (Some before) None could may_leave on here torn images = tt
+    → MatchOption old (new ≡ None) (λ before. IsSomeAnd new (λ after. Torn used n before after)) → ((image : List ℕ) → may_leave image → (from : List ℕ) × could from × Torn used n from image)
+    → IfSome new (λ bytes. (image : List ℕ) → may_leave image → Agrees used bytes image)
+on-torn used n old None could may_leave on here torn images = tt
+on-torn used n None (Some bytes) could may_leave on here torn images = absurd (cc torn)
 on-torn used n (Some before) (Some bytes) could may_leave on here torn images = λ image left.
     let from = images image left in
     let was = on from.0 from.1 in

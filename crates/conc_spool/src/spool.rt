@@ -1,4 +1,4 @@
-ghost use Rattle.std.specs.Prelude.{◌≡◌, ◌+◌, ◌<◌, ◌≤◌, ◌^◌, length, vec_len, IfErr, IfOk, IfSome, IsErrOf, OnErr, OnOk};
+ghost use Rattle.std.specs.Prelude.{◌≡◌, ◌+◌, ◌<◌, ◌≤◌, ◌^◌, length, vec_len, IfErr, IfOk, IsErrOf, OnErr, OnOk};
 ghost use Rattle.conc_outside.specs.Counts.{Rose};
 ghost use Rattle.conc_disk.specs.Disk.{HasAt, Reaches, SeenFollows, Stays};
 ghost use Rattle.conc_disk.specs.Left.{LeavesOnly};
@@ -64,8 +64,7 @@ impl Spool {
         ensures unchanged { OnErr result (used_of self.new ≡ used_of self.old) }
         ensures fault { OnErr result (Rose (E.state disk.old).faults (E.state disk.new).faults) }
 
-        ensures on { OnOk result (IsOn self.new (E.state disk.new)) }
-        ensures on_failed { OnErr result (IfSome (E.state disk.old).seen (λ bytes. IsOn self.new (E.state disk.new))) }
+        ensures on { IsOn self.new (E.state disk.new) }
         ensures before { SeenFollows (Agrees (used_of self.old)) (E.state disk.old) (E.state disk.new) }
         ensures survives { LeavesOnly (KeepsBelow (used_of self.old) (E.state disk.old)) (E.state disk.old) (E.state disk.new) }
     {
