@@ -15,7 +15,7 @@ pub if_some-both : {X : Type 0} (o : Option X) {P Q R : X → Type 0} → IfSome
 if_some-both (Some x) p q r = r x p q
 if_some-both None p q r = tt
 
--- where the second tells, the first does
+-- what holds where the second is some holds where the first is
 pub if_some-as : {X : Type 0} (P : Type 0) (o s : Option X) → is_some s ≡ is_some o → IfSome s (λ x. P) → IfSome o (λ x. P)
 if_some-as P (Some x) (Some y) same p = p
 if_some-as P (Some x) None same p = absurd (cc same)
