@@ -4,3 +4,4 @@ pub mod Grown
 pub mod Moments
 pub mod Walk
 pub mod Same
+pub mod Leaving

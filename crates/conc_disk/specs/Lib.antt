@@ -4,5 +4,6 @@ pub mod Faults
 pub mod Files
 pub mod Grows
 pub mod Laws
+pub mod Left
 pub mod Memory
 pub mod Trace

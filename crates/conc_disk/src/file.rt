@@ -9,7 +9,8 @@ ghost use Rattle.conc_disk.specs.Disk.{Follows, HasAt, HasLength, IsLater, Leave
 use crate::Disk;
 use conc_outside::Failed;
 use std::fs::{File, OpenFile, OpenOptions};
-use std::io::{ErrorKind, Read, Seek, SeekFrom, Write};
+use std::io::ErrorKind;
+use std::os::unix::fs::FileExt;
 use std::path::Path;
 use std::rt::Files;
 
@@ -17,7 +18,7 @@ use std::rt::Files;
 /// After a sync that failed each call fails, since what the system then still has to write is
 /// unknown. The count is of 64 bits and stands still at its end.
 #[derive(Drop)]
-pub struct FileDisk<F: Read + Write + Seek + OpenFile> {
+pub struct FileDisk<F: FileExt + OpenFile> {
     file: F,
     broken: bool,
     faults: u64,
@@ -62,6 +63,8 @@ fn make_new<R: Files>(rt: &R, path: &str) -> Result<R::File, Failed> {
 /// Opens the file at this path as a disk, and makes it where there is none: then its name is on the
 /// disk too.
 pub fn open_disk<R: Files>(rt: &R, path: &str) -> Result<FileDisk<R::File>, Failed>
+where
+    R::File: FileExt,
     ensures { IfOk result (λ disk. disk.faults ≡ 0) }
 {
     let file = match open_old(rt, path)? {
@@ -79,38 +82,29 @@ fn length_of<F: OpenFile>(file: &F) -> Result<u64, Failed> {
     }
 }
 
-/// Goes to a place within the file, or to its end.
-fn go_to<F: Seek + OpenFile>(file: &mut F, at: u64) -> Result<(), Failed> {
-    if at > length_of(file)? {
-        return Err(Failed);
-    }
-    match file.seek(SeekFrom::Start(at)) {
-        Ok(_) => Ok(()),
-        Err(_) => Err(Failed),
-    }
+/// Whether a range of so many bytes from here on is within a file.
+fn is_within<F: OpenFile>(file: &F, at: u64, bytes: usize) -> Result<bool, Failed> {
+    let len = length_of(file)?;
+    Ok(at.checked_add(bytes as u64).is_some_and(|end| end <= len))
 }
 
 /// Fills the piece with the bytes from here on.
-fn read_piece<F: Read + Seek + OpenFile>(
-    file: &mut F,
-    at: u64,
-    into: &mut [u8],
-) -> Result<(), Failed> {
-    go_to(file, at)?;
-    match file.read_exact(into) {
+fn read_piece<F: FileExt + OpenFile>(file: &F, at: u64, into: &mut [u8]) -> Result<(), Failed> {
+    if !is_within(file, at, into.len())? {
+        return Err(Failed);
+    }
+    match file.read_exact_at(into, at) {
         Ok(()) => Ok(()),
         Err(_) => Err(Failed),
     }
 }
 
-/// Writes the bytes from here on.
-fn write_piece<F: Write + Seek + OpenFile>(
-    file: &mut F,
-    at: u64,
-    bytes: &[u8],
-) -> Result<(), Failed> {
-    go_to(file, at)?;
-    match file.write_all(bytes) {
+/// Writes the bytes from here on, which is within the file or its end.
+fn write_piece<F: FileExt + OpenFile>(file: &F, at: u64, bytes: &[u8]) -> Result<(), Failed> {
+    if !is_within(file, at, 0)? {
+        return Err(Failed);
+    }
+    match file.write_all_at(bytes, at) {
         Ok(()) => Ok(()),
         Err(_) => Err(Failed),
     }
@@ -127,15 +121,15 @@ fn cut_to<F: OpenFile>(file: &F, len: u64) -> Result<(), Failed> {
     }
 }
 
-/// Brings all that was written to the disk.
-fn sync_whole<F: Write + OpenFile>(file: &mut F) -> Result<(), Failed> {
-    if file.flush().is_err() || file.sync_all().is_err() {
-        return Err(Failed);
+/// Brings all that was written to the disk, and the length of the file with it.
+fn sync_whole<F: OpenFile>(file: &F) -> Result<(), Failed> {
+    match file.sync_data() {
+        Ok(()) => Ok(()),
+        Err(_) => Err(Failed),
     }
-    Ok(())
 }
 
-impl<F: Read + Write + Seek + OpenFile> FileDisk<F> {
+impl<F: FileExt + OpenFile> FileDisk<F> {
     ghost use Rattle.conc_disk.specs.Files.{is_broken};
 
     /// A disk over an open file. It takes no memory.
@@ -161,7 +155,7 @@ impl<F: Read + Write + Seek + OpenFile> FileDisk<F> {
     }
 }
 
-impl<F: Read + Write + Seek + OpenFile> Disk for FileDisk<F> {
+impl<F: FileExt + OpenFile> Disk for FileDisk<F> {
     ghost use Rattle.conc_disk.specs.Files.{file_state, is_broken};
 
     ghost state = { λ d. file_state d };
@@ -203,7 +197,7 @@ impl<F: Read + Write + Seek + OpenFile> Disk for FileDisk<F> {
         let done = if self.broken {
             Err(Failed)
         } else {
-            read_piece(&mut self.file, at, into)
+            read_piece(&self.file, at, into)
         };
         match done {
             Ok(()) => Ok(()),
@@ -224,7 +218,7 @@ impl<F: Read + Write + Seek + OpenFile> Disk for FileDisk<F> {
         let done = if self.broken {
             Err(Failed)
         } else {
-            write_piece(&mut self.file, at, bytes)
+            write_piece(&self.file, at, bytes)
         };
         match done {
             Ok(()) => Ok(()),
@@ -264,7 +258,7 @@ impl<F: Read + Write + Seek + OpenFile> Disk for FileDisk<F> {
         let done = if self.broken {
             Err(Failed)
         } else {
-            sync_whole(&mut self.file)
+            sync_whole(&self.file)
         };
         match done {
             Ok(()) => Ok(()),
