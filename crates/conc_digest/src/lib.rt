@@ -1,0 +1,8 @@
+//! The digest of the input of a run: of its setup, its script and its tables, not of its clock.
+#![tactic(auto)]
+
+mod input;
+#[cfg(test)]
+mod tests;
+
+pub use input::InputDigest;
