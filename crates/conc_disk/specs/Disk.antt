@@ -1,5 +1,5 @@
 -- What a disk tells, and what its calls do to it.
-use Rattle.std.specs.Prelude.{◌≡◌, ◌⊎◌, ℕ, ◌+◌, ◌≤◌, min, max, List, ◌++◌, length, take, drop, Option, None, ⊤, IfSome, IsSomeAnd}
+use Rattle.std.specs.Prelude.{◌≡◌, ◌⊎◌, ℕ, ◌+◌, ◌≤◌, min, max, List, ◌++◌, length, take, drop, Option, None, ⊤, IfSome, IsSomeAnd, MatchOption}
 
 -- A disk at a moment. Where `seen` is none it tells nothing of bytes.
 pub record DiskState : Type 1 where
@@ -59,9 +59,9 @@ pub record Stays (old new : DiskState) : Type 0 where
 abbrev pub Follows : (List ℕ → List ℕ → Type 0) → DiskState → DiskState → Type 0
 Follows step old new = (c : List ℕ) → new.may_leave c → (d : List ℕ) × old.may_leave d × step d c
 
--- where the disk tells, what is read took this step
+-- where the disk tells, what is read took this step; else it goes on telling nothing
 abbrev pub SeenFollows : (List ℕ → List ℕ → Type 0) → DiskState → DiskState → Type 0
-SeenFollows step old new = IfSome old.seen (λ before. IsSomeAnd new.seen (λ after. step before after))
+SeenFollows step old new = MatchOption old.seen (new.seen ≡ None) (λ before. IsSomeAnd new.seen (λ after. step before after))
 
 -- where the disk tells, each image is this one
 abbrev pub LeavesWhatWasSeen : DiskState → DiskState → Type 0

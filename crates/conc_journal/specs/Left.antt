@@ -1,11 +1,27 @@
 -- What a call may have left on a disk.
-use Rattle.std.specs.Prelude.{◌⊎◌, ℕ, ◌≤◌, List, IfSome}
-use Rattle.conc_disk.specs.Disk.{DiskState}
+use Rattle.std.specs.Prelude.{◌≡◌, ◌⊎◌, ℕ, ◌≤◌, List, is_some, IfSome}
+use Rattle.conc_disk.specs.Disk.{DiskState, Torn, written}
 
--- Faults and moments do not fall. A stop since an earlier moment left what it may have left before the call,
--- or, where the disk tells, an image of this kind; and what it may have left before still counts.
+-- where the disk tells, each image now is of this kind
+abbrev pub EachImage : (List ℕ → Type 0) → DiskState → Type 0
+EachImage kind disk = IfSome disk.seen (λ bytes. (image : List ℕ) → disk.may_leave image → kind image)
+
+-- Faults and moments do not fall, and what it tells it goes on telling. A stop since an earlier moment left
+-- what it may have left before the call, or, where the disk tells, an image of this kind; and what it may
+-- have left before still counts.
 pub record LeavesOnly (kind : List ℕ → Type 0) (old new : DiskState) : Type 0 where
   pub faults : old.faults ≤ new.faults
   pub moment : old.moment ≤ new.moment
+  pub tells : is_some new.seen ≡ is_some old.seen
   pub keeps : (t : ℕ) (c : List ℕ) → t ≤ old.moment → old.left_since t c → new.left_since t c
   pub nothing_else : IfSome old.seen (λ bytes. (t : ℕ) (c : List ℕ) → t ≤ old.moment → new.left_since t c → old.left_since t c ⊎ kind c)
+
+-- ---- one write and a sync
+
+-- an image before, with any bytes in this range of n
+abbrev pub TornFrom : DiskState → ℕ → ℕ → List ℕ → Type 0
+TornFrom old at n image = (before : List ℕ) × old.may_leave before × Torn at n before image
+
+-- where the disk tells, each image now is one before with these bytes from here on
+abbrev pub LeavesWritten : ℕ → List ℕ → DiskState → DiskState → Type 0
+LeavesWritten at bytes old new = EachImage (λ image. (before : List ℕ) × old.may_leave before × (image ≡ written at bytes before)) new

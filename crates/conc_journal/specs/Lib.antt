@@ -1,3 +1,4 @@
-pub mod Left
 pub mod Journals
-pub mod Tellers
+pub mod Left
+pub mod Receipts
+pub mod Stages

@@ -2,8 +2,13 @@
 //! leaves the events before it, with that event or without.
 #![tactic(auto)]
 
-mod begin;
+mod durable;
+mod fault;
 mod journal;
-mod opened;
 mod receipt;
 mod teller;
+
+pub use fault::{AppendFail, DiskFault, JournalFail};
+pub use journal::Journal;
+pub use receipt::Receipt;
+pub use teller::{Silent, Teller};

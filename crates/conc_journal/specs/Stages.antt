@@ -1,0 +1,28 @@
+-- The stages of a journal.
+use Rattle.std.specs.Prelude.{ℕ, Bool, true, false, ◌==◌, ◌||◌, List, Option, None, Some}
+use Rattle.conc_journal.specs.declared.journal.Stage.{Stage}
+use Rattle.conc_journal.specs.declared.journal.Stage.TheVariants.{NotBegun, BeginFailed, Begun, Broken, AppendFailed}
+
+-- the digest of the header, where the journal is begun
+abbrev pub stage_digest : Stage → Option (List ℕ)
+stage_digest NotBegun = None
+stage_digest (BeginFailed digest) = None
+stage_digest (Begun digest) = Some digest
+stage_digest (Broken digest) = Some digest
+stage_digest (AppendFailed digest event) = Some digest
+
+-- it is begun and no record of it is broken
+abbrev pub takes_events : Stage → Bool
+takes_events NotBegun = false
+takes_events (BeginFailed digest) = false
+takes_events (Begun digest) = true
+takes_events (Broken digest) = false
+takes_events (AppendFailed digest event) = true
+
+-- a journal with this many events may be at this stage: before it is begun it has none
+abbrev pub fits_count : Stage → ℕ → Bool
+fits_count NotBegun n = n == 0
+fits_count (BeginFailed digest) n = n == 0
+fits_count (Begun digest) n = true
+fits_count (Broken digest) n = true
+fits_count (AppendFailed digest event) n = true
