@@ -3,3 +3,8 @@
 #![tactic(auto)]
 
 mod fields;
+mod record;
+
+pub use record::{read_record, record_of};
+
+mod events;
