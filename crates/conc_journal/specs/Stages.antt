@@ -1,5 +1,6 @@
 -- The stages of a journal.
 use Rattle.std.specs.Prelude.{ℕ, Bool, true, false, ◌==◌, ◌||◌, List, Option, None, Some}
+use Rattle.conc_types.specs.declared.event.Event.{Event}
 use Rattle.conc_journal.specs.declared.journal.Stage.{Stage}
 use Rattle.conc_journal.specs.declared.journal.Stage.TheVariants.{NotBegun, BeginFailed, Begun, Broken, AppendFailed}
 
@@ -18,6 +19,19 @@ takes_events (BeginFailed digest) = false
 takes_events (Begun digest) = true
 takes_events (Broken digest) = false
 takes_events (AppendFailed digest event) = true
+
+-- an append to it met a fault
+abbrev pub has_faulted : Stage → Bool
+has_faulted NotBegun = false
+has_faulted (BeginFailed digest) = false
+has_faulted (Begun digest) = false
+has_faulted (Broken digest) = false
+has_faulted (AppendFailed digest event) = true
+
+-- after an append of this event that met a fault
+abbrev pub after_fault : Event → Stage → Stage
+after_fault event (Begun digest) = AppendFailed digest event
+after_fault event stage = stage
 
 -- a journal with this many events may be at this stage: before it is begun it has none
 abbrev pub fits_count : Stage → ℕ → Bool

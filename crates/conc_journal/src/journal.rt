@@ -1,7 +1,10 @@
-ghost use Rattle.std.specs.Prelude.{◌≡◌, ◌+◌, ◌≤◌, length, max, vec_len, IsOk, IsTrue, OnErr, OnOk};
+ghost use Rattle.std.specs.Prelude.{◌≡◌, ◌↔◌, ◌+◌, ◌<◌, ◌≤◌, [], ◌∷◌, ◌++◌, length, max, vec_len, IfOk, IsErrOf, IsOk, IsTrue, OnErr, OnOk};
 ghost use Rattle.std.specs.Vec.{vec_capacity};
 ghost use Rattle.conc_journal.specs.Stages.{fits_count};
 
+use crate::append::{add_record, record_before_gate};
+use crate::{AppendFail, Receipt};
+use conc_disk::Disk;
 use conc_types::{Event, NoMemory};
 
 /// What is known of a journal's disk.
@@ -40,8 +43,13 @@ pub struct Journal {
 }
 
 impl Journal {
-    ghost use Rattle.conc_journal.specs.Journals.{list_of, room_of, stage_of};
-    ghost use Rattle.conc_journal.specs.Stages.{takes_events};
+    ghost use Rattle.conc_outside.specs.Counts.{Rose};
+    ghost use Rattle.conc_image.specs.Fields.{has_record};
+    ghost use Rattle.conc_journal.specs.Journals.{FitsStage, IsOn, list_of, room_of, stage_of};
+    ghost use Rattle.conc_journal.specs.Left.{LeavesOnly};
+    ghost use Rattle.conc_journal.specs.Receipts.{event_of, number_of};
+    ghost use Rattle.conc_journal.specs.Stages.{after_fault, has_faulted, takes_events};
+    ghost use Rattle.conc_journal.specs.declared.fault.AppendFail.TheVariants as AppendFail;
 
     /// The events that it has.
     pub fn events(&self) -> &[Event]
@@ -76,5 +84,64 @@ impl Journal {
         self.events.reserve(records as usize)?;
         self.room = self.room.max(records);
         Ok(())
+    }
+
+    // Adds an event for which there is room.
+    fn push(&mut self, event: Event)
+        requires room { 0 < room_of self.old }
+        requires takes { IsTrue (takes_events (stage_of self.old)) }
+        ensures list { list_of self.new ≡ list_of self.old ++ event ∷ [] }
+        ensures room { room_of self.new + 1 ≡ room_of self.old }
+        ensures stage { stage_of self.new ≡ stage_of self.old }
+    {
+        match self.events.push(event) {
+            Ok(()) => self.room -= 1,
+            Err(_) => unreachable!(),
+        }
+    }
+
+    /// Adds an event. After an `Ok` each image that a stop may leave has it. After a fault the disk has
+    /// the list with the event or without, and each later call fails and does nothing until the file is
+    /// opened again. It takes no memory.
+    pub fn append<D: Disk>(&mut self, disk: &mut D, event: Event) -> Result<Receipt, AppendFail>
+        requires takes { IsTrue (takes_events (stage_of self.old)) }
+        requires room { 0 < room_of self.old }
+        requires spelled { IsTrue (has_record event) }
+        requires on { IsOn self.old (D.state disk.old) }
+
+        ensures on { IsOn self.new (D.state disk.new) }
+
+        // What was acknowledged.
+        ensures appended { OnOk result (list_of self.new ≡ list_of self.old ++ event ∷ []) }
+        ensures number { IfOk result (λ receipt. number_of receipt ≡ length (list_of self.new)) }
+        ensures event { IfOk result (λ receipt. event_of receipt ≡ event) }
+        ensures stage { OnOk result (stage_of self.new ≡ stage_of self.old) }
+        ensures room { OnOk result (room_of self.new + 1 ≡ room_of self.old) }
+
+        // A fault.
+        ensures fault { IsErrOf result AppendFail.DiskFault → Rose (D.state disk.old).faults (D.state disk.new).faults }
+        ensures faulted { IsErrOf result AppendFail.DiskFault → stage_of self.new ≡ after_fault event (stage_of self.old) }
+        ensures list { OnErr result (list_of self.new ≡ list_of self.old) }
+        ensures no_room_taken { OnErr result (room_of self.new ≡ room_of self.old) }
+
+        // After a fault.
+        ensures failed { IsErrOf result AppendFail.Failed ↔ IsTrue (has_faulted (stage_of self.old)) }
+        ensures same { IsErrOf result AppendFail.Failed → self.new ≡ self.old }
+        ensures untouched { IsErrOf result AppendFail.Failed → disk.new ≡ disk.old }
+
+        // A stop at any moment leaves the list with the event or without.
+        ensures survives { LeavesOnly (FitsStage (after_fault event (stage_of self.old)) (list_of self.old)) (D.state disk.old) (D.state disk.new) }
+    {
+        let Stage::Begun { digest } = self.stage else {
+            return Err(AppendFail::Failed);
+        };
+        let number = self.events.len() as u64 + 1;
+        let at = 32 + 32 * number;
+        if add_record(disk, at, &record_before_gate(event)).is_err() {
+            self.stage = Stage::AppendFailed { digest, event };
+            return Err(AppendFail::DiskFault);
+        }
+        self.push(event);
+        Ok(Receipt { number, event })
     }
 }

@@ -2,6 +2,7 @@
 //! leaves the events before it, with that event or without.
 #![tactic(auto)]
 
+mod append;
 mod durable;
 mod fault;
 mod journal;

@@ -1,0 +1,5 @@
+mod Added
+mod Appended
+mod Found
+mod Images
+mod Steps

@@ -1,0 +1,133 @@
+-- How calls of a disk go on from one another.
+use Rattle.std.proofs.Common.{◌≡◌, ◌⊎◌, inl, inr, ⊎_elim, ℕ, ◌+◌, ◌<◌, ◌≤◌, List, [], ◌∷◌, length, Option, None, Some, length-append, length-take, is_some, IfSome, refl, ◌∙◌, ap, subst, sym, arith}
+use Rattle.conc_disk.specs.Disk.{DiskState, Follows, IsLater, Reaches, Torn, written}
+use Rattle.conc_journal.specs.Left.{AddedFrom, AddsTo, EachImage, LeavesAdded, LeavesOnly, LeavesWritten, TornFrom}
+
+-- ---- where it tells
+
+-- what tells now told before, so what was known there goes on
+pub told-if : (old new : Option (List ℕ)) (P Q : Type 0) → is_some new ≡ is_some old → IfSome old (λ bytes. P) → (P → Q) → IfSome new (λ bytes. Q)
+told-if None None P Q same p f = tt
+told-if None (Some b) P Q same p f = absurd (cc)
+told-if (Some a) None P Q same p f = tt
+told-if (Some a) (Some b) P Q same p f = f p
+
+pub told-both : (old : Option (List ℕ)) (P Q R : Type 0) → IfSome old (λ bytes. P) → IfSome old (λ bytes. Q) → (P → Q → R) → IfSome old (λ bytes. R)
+told-both None P Q R p q f = tt
+told-both (Some a) P Q R p q f = f p q
+
+pub told-always : (old : Option (List ℕ)) (P : Type 0) → P → IfSome old (λ bytes. P)
+told-always None P p = tt
+told-always (Some a) P p = p
+
+-- ---- images
+
+-- images of one kind are of each kind that follows from it
+pub each-more : (P Q : List ℕ → Type 0) (disk : DiskState) → EachImage P disk → ((c : List ℕ) → P c → Q c) → EachImage Q disk
+each-more P Q disk each more =
+    told-if disk.seen disk.seen ((c : List ℕ) → disk.may_leave c → P c) ((c : List ℕ) → disk.may_leave c → Q c) refl each (λ p c left. more c (p c left))
+
+-- the same from one state to the next, where the disk tells what the images before were like
+pub each-from : (P Q R : List ℕ → Type 0) (old new : DiskState) → is_some new.seen ≡ is_some old.seen → EachImage R old → EachImage P new → (((d : List ℕ) → old.may_leave d → R d) → (c : List ℕ) → P c → Q c) → EachImage Q new
+each-from P Q R old new tells was is more =
+    told-both new.seen ((d : List ℕ) → old.may_leave d → R d) ((c : List ℕ) → new.may_leave c → P c) ((c : List ℕ) → new.may_leave c → Q c)
+      (told-if old.seen new.seen ((d : List ℕ) → old.may_leave d → R d) ((d : List ℕ) → old.may_leave d → R d) tells was (λ r. r)) is (λ r p c left. more r c (p c left))
+
+-- a disk reaches as far as each of its images
+pub reaches : (P : List ℕ → Type 0) (n : ℕ) (disk : DiskState) → IfSome disk.seen disk.may_leave → EachImage P disk → ((c : List ℕ) → P c → n ≤ length c) → Reaches disk n
+reaches P n disk is_left each long = far disk.seen is_left each
+  where
+    far : (seen : Option (List ℕ)) → IfSome seen disk.may_leave → IfSome seen (λ bytes. (c : List ℕ) → disk.may_leave c → P c) → IfSome seen (λ bytes. n ≤ length bytes)
+    far None is_left each = tt
+    far (Some bytes) is_left each = long bytes (each bytes is_left)
+
+-- ---- what a run of calls leaves
+
+-- what is of one kind is of each kind that follows from it
+pub left-more : (P Q : List ℕ → Type 0) (old new : DiskState) → LeavesOnly P old new → ((c : List ℕ) → P c → Q c) → LeavesOnly Q old new
+left-more P Q old new left more = record {
+  faults = left.faults;
+  moment = left.moment;
+  tells = left.tells;
+  keeps = left.keeps;
+  nothing_else =
+      told-if old.seen old.seen ((t : ℕ) (c : List ℕ) → t ≤ old.moment → new.left_since t c → old.left_since t c ⊎ P c) ((t : ℕ) (c : List ℕ) → t ≤ old.moment → new.left_since t c → old.left_since t c ⊎ Q c) refl left.nothing_else (λ p t c le since. ⊎_elim (λ was. inl was) (λ is. inr (more c is)) (p t c le since));
+}
+
+-- the same, where the disk tells what the images before were like
+pub left-from : (P Q R : List ℕ → Type 0) (old new : DiskState) → EachImage R old → LeavesOnly P old new → (((d : List ℕ) → old.may_leave d → R d) → (c : List ℕ) → P c → Q c) → LeavesOnly Q old new
+left-from P Q R old new each left more = record {
+  faults = left.faults;
+  moment = left.moment;
+  tells = left.tells;
+  keeps = left.keeps;
+  nothing_else =
+      told-both old.seen ((d : List ℕ) → old.may_leave d → R d) ((t : ℕ) (c : List ℕ) → t ≤ old.moment → new.left_since t c → old.left_since t c ⊎ P c) ((t : ℕ) (c : List ℕ) → t ≤ old.moment → new.left_since t c → old.left_since t c ⊎ Q c) each left.nothing_else (λ r p t c le since. ⊎_elim (λ was. inl was) (λ is. inr (more r c is)) (p t c le since));
+}
+
+-- one run after another
+pub left-then : (P : List ℕ → Type 0) (old mid new : DiskState) → LeavesOnly P old mid → LeavesOnly P mid new → LeavesOnly P old new
+left-then P old mid new first second = record {
+  faults = omega (arith, first.faults, second.faults);
+  moment = omega (arith, first.moment, second.moment);
+  tells = second.tells ∙ first.tells;
+  keeps = λ t c le since. second.keeps t c (omega (arith, le, first.moment)) (first.keeps t c le since);
+  nothing_else = go old.seen mid.seen first.tells first.nothing_else second.nothing_else;
+}
+  where
+    go : (a b : Option (List ℕ)) → is_some b ≡ is_some a
+        → IfSome a (λ bytes. (t : ℕ) (c : List ℕ) → t ≤ old.moment → mid.left_since t c → old.left_since t c ⊎ P c)
+        → IfSome b (λ bytes. (t : ℕ) (c : List ℕ) → t ≤ mid.moment → new.left_since t c → mid.left_since t c ⊎ P c)
+        → IfSome a (λ bytes. (t : ℕ) (c : List ℕ) → t ≤ old.moment → new.left_since t c → old.left_since t c ⊎ P c)
+    go None b same one two = tt
+    go (Some a) None same one two = absurd (cc)
+    go (Some a) (Some b) same one two = λ t c le since. ⊎_elim (λ was. one t c le was) (λ is. inr is) (two t c (omega (arith, le, first.moment)) since)
+
+-- ---- a record that is added
+
+-- one of the images before, with these bytes from here on
+abbrev pub WrittenFrom : DiskState → ℕ → List ℕ → List ℕ → Type 0
+WrittenFrom old at bytes image = (before : List ℕ) × old.may_leave before × (at ≤ length before) × (image ≡ written at bytes before)
+
+length-written : (at : ℕ) (bytes before : List ℕ) → at ≤ length before → at ≤ length (written at bytes before)
+length-written at bytes before le = simp (length-append, length-take) (omega arith)
+
+-- after the record is written, the disk reaches its gate
+pub reaches-gate : (at : ℕ) (bytes : List ℕ) (old mid : DiskState) → IfSome mid.seen mid.may_leave → LeavesWritten (at + 1) bytes old mid → Reaches mid at
+reaches-gate at bytes old mid is_left each =
+    reaches (WrittenFrom old (at + 1) bytes) at mid is_left each (λ c from. rw from.3 (omega (arith, length-written (at + 1) bytes from.0 from.2)))
+
+-- images of the first step
+pub torn-added : (at : ℕ) (bytes : List ℕ) (old mid : DiskState) → Follows (Torn (at + 1) (length bytes)) old mid → EachImage (AddedFrom old at bytes) mid
+torn-added at bytes old mid follows =
+    told-always mid.seen ((c : List ℕ) → mid.may_leave c → AddedFrom old at bytes c) (λ c left. let from = follows c left in (from.0, from.1, inl from.2))
+
+-- images of the second step, by those before the first
+pub gate-added : (at : ℕ) (bytes : List ℕ) (old mid new : DiskState) → is_some new.seen ≡ is_some mid.seen → LeavesWritten (at + 1) bytes old mid → Follows (Torn at 1) mid new → EachImage (AddedFrom old at bytes) new
+gate-added at bytes old mid new tells each follows =
+    told-if mid.seen new.seen ((d : List ℕ) → mid.may_leave d → WrittenFrom old (at + 1) bytes d) ((c : List ℕ) → new.may_leave c → AddedFrom old at bytes c) tells each (λ was c left.
+      let from = follows c left in
+      let first = was from.0 from.1 in
+      (first.0, first.1, inr (subst (λ (d : List ℕ). Torn at 1 d c) first.3 from.2)))
+
+-- and when both are done
+pub both-added : (at : ℕ) (bytes : List ℕ) (old mid new : DiskState) → is_some new.seen ≡ is_some mid.seen → LeavesWritten (at + 1) bytes old mid → LeavesWritten at (1 ∷ []) mid new → LeavesAdded at bytes old new
+both-added at bytes old mid new tells each opened =
+    let mid_told = told-if mid.seen new.seen ((d : List ℕ) → mid.may_leave d → WrittenFrom old (at + 1) bytes d) ((d : List ℕ) → mid.may_leave d → WrittenFrom old (at + 1) bytes d) tells each (λ p. p) in
+    told-both new.seen ((d : List ℕ) → mid.may_leave d → WrittenFrom old (at + 1) bytes d) ((c : List ℕ) → new.may_leave c → WrittenFrom mid at (1 ∷ []) c)
+      ((c : List ℕ) → new.may_leave c → (before : List ℕ) × old.may_leave before × (at < length before) × (c ≡ written at (1 ∷ []) (written (at + 1) bytes before))) mid_told opened (λ was is c left.
+        let second = is c left in
+        let first = was second.0 second.1 in
+        (first.0, first.1, omega (arith, first.2), second.3 ∙ ap (λ (l : List ℕ). written at (1 ∷ []) l) first.3))
+
+-- what the first step leaves
+pub torn-left : (at : ℕ) (bytes : List ℕ) (old mid : DiskState) → LeavesOnly (TornFrom old (at + 1) (length bytes)) old mid → LeavesOnly (AddedFrom old at bytes) old mid
+torn-left at bytes old mid left = left-more (TornFrom old (at + 1) (length bytes)) (AddedFrom old at bytes) old mid left (λ c from. (from.0, from.1, inl from.2))
+
+-- and both
+pub both-left : (at : ℕ) (bytes : List ℕ) (old mid new : DiskState) → LeavesOnly (TornFrom old (at + 1) (length bytes)) old mid → LeavesWritten (at + 1) bytes old mid → LeavesOnly (TornFrom mid at 1) mid new → LeavesOnly (AddedFrom old at bytes) old new
+both-left at bytes old mid new left each gate_left =
+    left-then (AddedFrom old at bytes) old mid new (torn-left at bytes old mid left)
+      (left-from (TornFrom mid at 1) (AddedFrom old at bytes) (WrittenFrom old (at + 1) bytes) mid new each gate_left (λ was c from.
+        let first = was from.0 from.1 in
+        (first.0, first.1, inr (subst (λ (d : List ℕ). Torn at 1 d c) first.3 from.2))))
