@@ -80,13 +80,18 @@ tick_of f = then_some (has_a_wide_number f && nat_lt f.wide 315537897600) (event
 abbrev pub close_of : Fields → Option Event
 close_of f = if has_first_and_outcome f then option_map (λ o. event.CloseSet (request_of f.first) o) (report_outcome f.outcome) else None
 
--- the end of a request whose report has this outcome and stands there in the spool, or that was terminated
+-- the end of a request whose report has this outcome and stands there in the spool
+abbrev pub report_end_of : Fields → Option Event
+report_end_of f =
+    if f.second == 0 && nat_lt 0 f.length
+    then option_map (λ o. event.Ended (request_of f.first) o (Some (record { offset = f.wide; length = f.length }))) (report_outcome f.outcome)
+    else None
+
+-- the end of a request, with a report or by a termination
 abbrev pub end_of : Fields → Option Event
 end_of f =
     if f.outcome == 4 then then_some (has_first_and_outcome f) (event.Ended (request_of f.first) outcome.Terminated None)
-    else if f.second == 0 && nat_lt 0 f.length then
-    option_map (λ o. event.Ended (request_of f.first) o (Some (record { offset = f.wide; length = f.length }))) (report_outcome f.outcome)
-    else None
+    else report_end_of f
 
 -- the event of these fields
 unfoldable pub event_of : Fields → Option Event

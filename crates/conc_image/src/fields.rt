@@ -2,6 +2,8 @@ ghost use Rattle.std.specs.Prelude.{◌≡◌, ◌+◌, ◌≤◌, ◌&&◌, Som
 ghost use Rattle.std.specs.Int.{from_be_bytes, w32, w64};
 ghost use Rattle.conc_image.specs.Fields.{are_zero, fields_of, has_a_wide_number, has_first_alone, has_first_and_outcome, has_two_numbers, wide_at, word_at};
 
+use crate::bytes::are_zero;
+
 // A record behind its gate, by its fields.
 #[derive(Clone, Copy)]
 pub(crate) struct Fields {
@@ -47,13 +49,6 @@ fn wide_bytes(number: u64) -> [u8; 8]
     ensures { from_be_bytes w64 result ≡ number }
 {
     number.to_be_bytes()
-}
-
-// Each of these bytes is 0.
-fn are_zero(bytes: &[u8]) -> bool
-    ensures { result ≡ are_zero bytes.now }
-{
-    bytes.iter().all(|byte| *byte == 0)
 }
 
 // The bytes that belong to no field are 0.

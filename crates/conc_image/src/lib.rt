@@ -2,9 +2,15 @@
 //! that are found.
 #![tactic(auto)]
 
+mod bytes;
+mod events;
 mod fields;
+mod found;
+mod header;
+mod laws;
 mod record;
 
+pub use found::{Found, MOST_RECORDS, read_records};
+pub use header::{Header, header_of, judge_header};
+pub use laws::{spelled_has_record, spelling_is_unique};
 pub use record::{read_record, record_of};
-
-mod events;
