@@ -7,6 +7,7 @@ use Rattle.conc_disk.specs.Disk.{Torn, written}
 use Rattle.conc_image.specs.Fields.{event_in}
 use Rattle.conc_image.specs.Image.{is_closed, IsJournal, whole_record}
 use Rattle.conc_journal.specs.Left.{AddsTo}
+use Rattle.conc_journal.specs.Records.{IsSpelled}
 use Rattle.conc_journal.proofs.Found.{front-less, gate-same, HoldsEvents, is_true_or_false, piece-same}
 use Rattle.conc_journal.proofs.Images.{holds-end, journal-few, journal-holds, journal-join, journal-long}
 
@@ -28,11 +29,6 @@ journal-same digest events at xs ys is journal same long =
       (gate-same 1 (drop at xs) (drop at ys) (omega arith) (piece-same (at + 1) at 1 xs ys (omega arith) same) ∙ there)
 
 -- ---- a record behind the list
-
--- the bytes of an event's record behind its gate, and a closed gate
-pub record IsSpelled (event : Event) (spelled : List ℕ) : Type 0 where
-  pub event_of : event_in (take 31 spelled) ≡ Some event
-  pub gate : drop 31 spelled ≡ 0 ∷ []
 
 -- an image with the bytes of the first up to here, any gate, and this record
 pub record StandsBehind (at : ℕ) (spelled xs ys : List ℕ) : Type 0 where

@@ -1,4 +1,5 @@
 pub mod Journals
 pub mod Left
 pub mod Receipts
+pub mod Records
 pub mod Stages

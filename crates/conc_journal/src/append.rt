@@ -1,8 +1,9 @@
-ghost use Rattle.std.specs.Prelude.{◌≡◌, ◌+◌, ◌^◌, ◌<◌, [], ◌∷◌, drop, take, IsTrue, OnErr, OnOk, Some};
+ghost use Rattle.std.specs.Prelude.{◌≡◌, ◌+◌, ◌^◌, ◌<◌, IsTrue, OnErr, OnOk};
 ghost use Rattle.conc_outside.specs.Counts.{Rose};
 ghost use Rattle.conc_disk.specs.Disk.{Reaches};
-ghost use Rattle.conc_image.specs.Fields.{event_in, has_record};
+ghost use Rattle.conc_image.specs.Fields.{has_record};
 ghost use Rattle.conc_journal.specs.Left.{AddedFrom, EachImage, LeavesAdded, LeavesOnly};
+ghost use Rattle.conc_journal.specs.Records.{IsSpelled};
 
 use crate::durable::write_durable;
 use conc_disk::Disk;
@@ -13,8 +14,7 @@ use conc_types::Event;
 /// The event's record behind its gate, and the closed gate of the next one.
 pub(crate) fn record_before_gate(event: Event) -> [u8; 32]
     requires { IsTrue (has_record event) }
-    ensures spelled { event_in (take 31 result) ≡ Some event }
-    ensures gate { drop 31 result ≡ 0 ∷ [] }
+    ensures { IsSpelled event result }
 {
     let mut bytes = [0; 32];
     bytes[..31].copy_from_slice(&record_of(event));

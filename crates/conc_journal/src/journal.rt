@@ -5,6 +5,7 @@ ghost use Rattle.conc_journal.specs.Stages.{fits_count};
 use crate::append::{add_record, record_before_gate};
 use crate::{AppendFail, Receipt};
 use conc_disk::Disk;
+use conc_outside::Failed;
 use conc_types::{Event, NoMemory};
 
 /// What is known of a journal's disk.
@@ -137,11 +138,15 @@ impl Journal {
         };
         let number = self.events.len() as u64 + 1;
         let at = 32 + 32 * number;
-        if add_record(disk, at, &record_before_gate(event)).is_err() {
-            self.stage = Stage::AppendFailed { digest, event };
-            return Err(AppendFail::DiskFault);
+        match add_record(disk, at, &record_before_gate(event)) {
+            Ok(()) => {
+                self.push(event);
+                Ok(Receipt { number, event })
+            }
+            Err(Failed) => {
+                self.stage = Stage::AppendFailed { digest, event };
+                Err(AppendFail::DiskFault)
+            }
         }
-        self.push(event);
-        Ok(Receipt { number, event })
     }
 }

@@ -1,30 +1,51 @@
-use Rattle.std.proofs.Common.{rules, ◌≡◌, ◌↔◌, ◌+◌, ◌<◌, ◌≤◌, [], ◌∷◌, ◌++◌, length, max, vec_len, IfOk, IsErrOf, IsOk, IsTrue, OnErr, OnOk, ℕ, ◌-◌, ◌*◌, ◌/◌, ◌%◌, Bool, true, false, nat_eq, nat_lt, List, slice_index_or, slice_set, bit_and, bit_or, Fits, w8, w32, w64, Bor, MutBor}
-use Rattle.std.specs.Vec.{vec_capacity}
-use Rattle.conc_journal.specs.Stages.{fits_count, after_fault, has_faulted, takes_events}
-use Rattle.conc_outside.specs.Counts.{Rose}
-use Rattle.conc_image.specs.Fields.{has_record}
-use Rattle.conc_journal.specs.Journals.{FitsStage, IsOn, list_of, room_of, stage_of}
-use Rattle.conc_journal.specs.Left.{LeavesOnly}
-use Rattle.conc_journal.specs.Receipts.{event_of, number_of}
-use Rattle.conc_journal.specs.declared.fault.AppendFail.TheVariants as AppendFail
+use Rattle.std.proofs.Common.{◌≡◌, ◌+◌, ◌*◌, ◌<◌, [], ◌∷◌, ◌++◌, List, length, subst, sym, ap, ◌∙◌, rules, arith}
+use Rattle.conc_types.specs.declared.event.Event.{Event}
+use Rattle.conc_image.specs.Image.{IsJournal}
+use Rattle.conc_journal.specs.Journals.{FitsStage}
+use Rattle.conc_journal.specs.Left.{EachImage, LeavesOnly}
+use Rattle.conc_journal.specs.Stages.{after_fault}
+use Rattle.conc_journal.specs.declared.journal.Stage.{Stage}
+use Rattle.conc_journal.proofs.Appended.{begun-images, images-fit, images-have, journal-reaches, left-fits}
 use Rattle.conc_journal.proofs.journal.Journal.append.Goals as goal
 
--- src/journal.rt:140:12
 pub add_record-requires-clause-behind : goal.add_record-requires-clause-behind
-add_record-requires-clause-behind g c = ?
+add_record-requires-clause-behind g c =
+    let old = g.D.Disk.state c.args.disk.now in
+    let was = begun-images c.args.self.now c.in-Begun.digest old c.in-Begun.is c.requires.on in
+    journal-reaches c.in-Begun.digest c.args.self.now.events.items (32 + 32 * (c.len.result + 1)) old (omega (arith, c.len.ensures)) (g.met.D.Disk.seen_is_left c.args.disk.now) was
 
--- src/journal.rt:142:13
-pub returns-then-is_err-clause-on : goal.returns-then-is_err-clause-on
-returns-then-is_err-clause-on g c = ?
+pub returns-in-Err-clause-on : goal.returns-in-Err-clause-on
+returns-in-Err-clause-on g c =
+    let old = g.D.Disk.state c.args.disk.now in
+    let was = begun-images c.args.self.now c.in-Begun.digest old c.in-Begun.is c.requires.on in
+    images-fit c.in-Begun.digest c.args.self.now.events.items c.args.event (32 + 32 * (c.len.result + 1)) c.record_before_gate.result (omega (arith, c.len.ensures)) (omega (arith, c.args.self.now.few, c.requires.room)) c.record_before_gate.ensures old (g.D.Disk.state c.add_record.new.disk) was
+      c.add_record.ensures.survives.tells c.add_record.ensures.images
 
--- src/journal.rt:142:13
-pub returns-then-is_err-clause-survives : goal.returns-then-is_err-clause-survives
-returns-then-is_err-clause-survives g c = ?
+pub returns-in-Err-clause-survives : goal.returns-in-Err-clause-survives
+returns-in-Err-clause-survives g c =
+    let old = g.D.Disk.state c.args.disk.now in
+    let new = g.D.Disk.state c.add_record.new.disk in
+    let events = c.args.self.now.events.items in
+    let was = begun-images c.args.self.now c.in-Begun.digest old c.in-Begun.is c.requires.on in
+    subst (λ (s : Stage). LeavesOnly (FitsStage (after_fault c.args.event s) events) old new) (sym c.in-Begun.is)
+      (left-fits c.in-Begun.digest events c.args.event (32 + 32 * (c.len.result + 1)) c.record_before_gate.result (omega (arith, c.len.ensures)) (omega (arith, c.args.self.now.few, c.requires.room)) c.record_before_gate.ensures old new was c.add_record.ensures.survives)
 
--- src/journal.rt:106:5
-pub returns-clause-on : goal.returns-clause-on
-returns-clause-on g c = ?
+pub returns-in-Ok-clause-on : goal.returns-in-Ok-clause-on
+returns-in-Ok-clause-on g c =
+    let old = g.D.Disk.state c.args.disk.now in
+    let new = g.D.Disk.state c.add_record.new.disk in
+    let events = c.args.self.now.events.items in
+    let was = begun-images c.args.self.now c.in-Begun.digest old c.in-Begun.is c.requires.on in
+    let have = images-have c.in-Begun.digest events c.args.event (32 + 32 * (c.len.result + 1)) c.record_before_gate.result (omega (arith, c.len.ensures)) (omega (arith, c.args.self.now.few, c.requires.room)) c.record_before_gate.ensures old new was
+      c.add_record.ensures.survives.tells c.in-Ok.ensures.added in
+    subst (λ (l : List Event). EachImage (FitsStage c.push.new.self.stage l) new) (sym c.push.ensures.list)
+      (subst (λ (s : Stage). EachImage (FitsStage s (events ++ c.args.event ∷ [])) new) (sym (c.push.ensures.stage ∙ c.in-Begun.is)) have)
 
--- src/journal.rt:106:5
-pub returns-clause-survives : goal.returns-clause-survives
-returns-clause-survives g c = ?
+pub returns-in-Ok-clause-survives : goal.returns-in-Ok-clause-survives
+returns-in-Ok-clause-survives g c =
+    let old = g.D.Disk.state c.args.disk.now in
+    let new = g.D.Disk.state c.add_record.new.disk in
+    let events = c.args.self.now.events.items in
+    let was = begun-images c.args.self.now c.in-Begun.digest old c.in-Begun.is c.requires.on in
+    subst (λ (s : Stage). LeavesOnly (FitsStage (after_fault c.args.event s) events) old new) (sym c.in-Begun.is)
+      (left-fits c.in-Begun.digest events c.args.event (32 + 32 * (c.len.result + 1)) c.record_before_gate.result (omega (arith, c.len.ensures)) (omega (arith, c.args.self.now.few, c.requires.room)) c.record_before_gate.ensures old new was c.add_record.ensures.survives)
