@@ -1,5 +1,6 @@
 mod Added
 mod Appended
+mod Begins
 mod Found
 mod Images
 mod Steps

@@ -1,6 +1,6 @@
 -- How calls of a disk go on from one another.
-use Rattle.std.proofs.Common.{◌≡◌, ◌⊎◌, inl, inr, ⊎_elim, ℕ, ◌+◌, ◌<◌, ◌≤◌, List, [], ◌∷◌, length, Option, None, Some, length-append, length-take, is_some, IfSome, refl, ◌∙◌, ap, subst, sym, arith}
-use Rattle.conc_disk.specs.Disk.{DiskState, Follows, IsLater, Reaches, Torn, written}
+use Rattle.std.proofs.Common.{◌≡◌, ◌⊎◌, inl, inr, ⊎_elim, ℕ, ◌+◌, ◌<◌, ◌≤◌, List, [], ◌∷◌, length, Option, None, Some, length-append, length-take, is_some, IfSome, Result, Ok, Err, OnOk, refl, ◌∙◌, ap, subst, sym, arith}
+use Rattle.conc_disk.specs.Disk.{DiskState, Follows, HasLength, IsLater, LeavesWhatWasSeen, Reaches, Stays, Torn, written}
 use Rattle.conc_journal.specs.Left.{AddedFrom, AddsTo, EachImage, LeavesAdded, LeavesOnly, LeavesWritten, TornFrom}
 
 -- ---- where it tells
@@ -19,6 +19,11 @@ told-both (Some a) P Q R p q f = f p q
 pub told-always : (old : Option (List ℕ)) (P : Type 0) → P → IfSome old (λ bytes. P)
 told-always None P p = tt
 told-always (Some a) P p = p
+
+-- what follows where a call did what it was to do
+pub on-ok : {E : Type 0} (r : Result (Unit {0}) E) (P Q : Type 0) → OnOk r P → (P → Q) → OnOk r Q
+on-ok (Ok x) P Q p f = f p
+on-ok (Err e) P Q p f = tt
 
 -- ---- images
 
@@ -82,6 +87,33 @@ left-then P old mid new first second = record {
     go None b same one two = tt
     go (Some a) None same one two = absurd (cc)
     go (Some a) (Some b) same one two = λ t c le since. ⊎_elim (λ was. one t c le was) (λ is. inr is) (two t c (omega (arith, le, first.moment)) since)
+
+-- ---- one write, where it is known what the images before were like
+
+-- what each image is then
+pub each-torn : (R Q : List ℕ → Type 0) (at n : ℕ) (old new : DiskState) → is_some new.seen ≡ is_some old.seen → EachImage R old → Follows (Torn at n) old new → ((d c : List ℕ) → R d → Torn at n d c → Q c) → EachImage Q new
+each-torn R Q at n old new tells was follows more =
+    told-if old.seen new.seen ((d : List ℕ) → old.may_leave d → R d) ((c : List ℕ) → new.may_leave c → Q c) tells was (λ r c left. let from = follows c left in more from.0 c (r from.0 from.1) from.2)
+
+-- at each moment
+pub left-torn : (R Q : List ℕ → Type 0) (at n : ℕ) (old new : DiskState) → EachImage R old → LeavesOnly (TornFrom old at n) old new → ((d c : List ℕ) → R d → Torn at n d c → Q c) → LeavesOnly Q old new
+left-torn R Q at n old new was left more = left-from (TornFrom old at n) Q R old new was left (λ r c from. more from.0 c (r from.0 from.1) from.2)
+
+-- and when it is done
+pub each-written : (R Q : List ℕ → Type 0) (at : ℕ) (bytes : List ℕ) (old new : DiskState) → is_some new.seen ≡ is_some old.seen → EachImage R old → LeavesWritten at bytes old new → ((d c : List ℕ) → R d → c ≡ written at bytes d → Q c) → EachImage Q new
+each-written R Q at bytes old new tells was done more =
+    each-from (λ image. (before : List ℕ) × old.may_leave before × (at ≤ length before) × (image ≡ written at bytes before)) Q R old new tells was done (λ r c from. more from.0 c (r from.0 from.1) from.3)
+
+-- after a sync each image has the length that is told
+pub settled : (R : List ℕ → Type 0) (n : ℕ) (old new : DiskState) → EachImage R old → Stays old new → LeavesWhatWasSeen old new → HasLength new n → EachImage (λ c. R c × (n ≡ length c)) new
+settled R n old new was stays durable long =
+    subst (λ (s : Option (List ℕ)). IfSome s (λ bytes. (c : List ℕ) → new.may_leave c → R c × (n ≡ length c))) (sym stays.seen)
+      (go old.seen was durable (subst (λ (s : Option (List ℕ)). IfSome s (λ bytes. n ≡ length bytes)) stays.seen long))
+  where
+    go : (seen : Option (List ℕ)) → IfSome seen (λ bytes. (d : List ℕ) → old.may_leave d → R d) → IfSome seen (λ bytes. (c : List ℕ) → new.may_leave c → c ≡ bytes) → IfSome seen (λ bytes. n ≡ length bytes)
+        → IfSome seen (λ bytes. (c : List ℕ) → new.may_leave c → R c × (n ≡ length c))
+    go None was durable long = tt
+    go (Some bytes) was durable long = λ c left. (was c (stays.images c left), long ∙ ap length (sym (durable c left)))
 
 -- ---- a record that is added
 

@@ -3,6 +3,7 @@
 #![tactic(auto)]
 
 mod append;
+mod begin;
 mod durable;
 mod fault;
 mod journal;
