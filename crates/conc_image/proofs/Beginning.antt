@@ -1,12 +1,14 @@
 -- Headers of images.
-use Rattle.std.proofs.Common.{◌≡◌, ◌≢◌, ℕ, zero, suc, ◌+◌, ◌<◌, ◌≤◌, ◌==◌, Bool, true, false, List, [], ◌∷◌, ◌++◌, length, take, drop, replicate, refl, sym, ap, ◌∙◌, arith, IsTrue, IsFalse}
-use Rattle.std.specs.Prelude.{codes, nat_le}
+use Rattle.std.proofs.Common.{◌≡◌, ◌≢◌, ◌⊎◌, inl, inr, subst, ℕ, zero, suc, ◌+◌, ◌<◌, ◌≤◌, ◌==◌, Bool, true, false, List, [], ◌∷◌, ◌++◌, length, take, drop, replicate, refl, sym, ap, ◌∙◌, arith, IsTrue, IsFalse}
+use Rattle.std.specs.Prelude.{codes, nat_le, not, slice_index, ◌||◌}
+use Rattle.std.proofs.lemmas.Bool.{and_parts, cases_eq}
 use Rattle.std.proofs.lemmas.Bool.Decides.{nat_tests}
-use Rattle.std.proofs.lemmas.List.{append_assoc, drop-drop, drop_at, length-append, take_at}
+use Rattle.std.proofs.lemmas.List.{append_assoc, drop-drop, drop_at, length-append, take-append-drop, take_at}
 use Rattle.conc_image.specs.Fields.{are_zero}
 use Rattle.conc_image.specs.Headers.{BeginsJournal}
-use Rattle.conc_image.specs.Image.{digest_in, ends_here, found_in, has_header, is_closed, IsJournal}
+use Rattle.conc_image.specs.Image.{digest_in, ends_here, found_in, has_header, is_closed, IsJournal, is_not_begun}
 use Rattle.conc_image.proofs.Finding.{found_from-closed}
+use Rattle.conc_image.proofs.Fronts.{is_closed-front}
 
 -- the bytes of a header, behind its gate, and the closed gate of the first record
 abbrev pub header_behind : List ℕ → List ℕ
@@ -49,3 +51,55 @@ begins digest long gate rest open_gate = record {
   of_input = digest_in-begun gate digest rest long;
   found = found_in-begun gate digest rest long;
 }
+
+-- ---- while a journal is begun
+
+-- with its gate closed none was begun
+pub closed-not_begun : (c : List ℕ) → IsTrue (is_closed c) → IsTrue (is_not_begun c)
+unfolding is_not_begun
+closed-not_begun c h = by (nat_le (length c) 1) where
+  by : (b : Bool) → (b || is_closed c) ≡ true
+  by true = refl
+  by false = h
+
+-- nor with one byte
+pub short-not_begun : (c : List ℕ) → length c ≤ 1 → IsTrue (is_not_begun c)
+unfolding is_not_begun
+short-not_begun c h = let short : nat_le (length c) 1 ≡ true = grind (arith, nat_tests) in ap (λ b. b || is_closed c) short
+
+-- of two bytes or more the first tells
+not_begun-closed : (c : List ℕ) → 2 ≤ length c → IsTrue (is_not_begun c) → IsTrue (is_closed c)
+unfolding is_not_begun
+not_begun-closed c long h = let short : nat_le (length c) 1 ≡ false = grind (arith, nat_tests) in sym (ap (λ b. b || is_closed c) short) ∙ h
+
+-- with the same first byte it stays not begun, whatever stands behind
+pub not_begun-stays : (d c : List ℕ) → IsTrue (is_not_begun d) → 2 ≤ length d → take 1 c ≡ take 1 d → IsTrue (is_not_begun c)
+not_begun-stays d c h long same =
+    closed-not_begun
+    c
+    (sym (is_closed-front 1 c (omega arith)) ∙ ap (λ xs. is_closed xs) same ∙ is_closed-front 1 d (omega arith) ∙ not_begun-closed d long h)
+
+-- behind an open gate the header begins a journal
+pub opened-begins : (digest header c : List ℕ) → BeginsJournal digest header → take 64 (drop 1 c) ≡ header → slice_index c 0 ≢ 0 → IsJournal digest [] c
+opened-begins digest header [] begins here opens = absurd (opens refl)
+opened-begins digest header (gate ∷ rest) begins here opens =
+    let split : header ++ drop 64 rest ≡ rest = ap (λ xs. xs ++ drop 64 rest) (sym here) ∙ take-append-drop 64 rest in
+    subst (λ xs. IsJournal digest [] (gate ∷ xs)) split (begins gate (drop 64 rest) opens)
+
+-- Whatever the gate holds, none was begun, or one without events.
+pub begun-either : (digest header c : List ℕ) → BeginsJournal digest header → take 64 (drop 1 c) ≡ header → IsTrue (is_not_begun c) ⊎ IsJournal digest [] c
+begun-either digest header c begins here =
+    elim (cases_eq (slice_index c 0) 0) [
+      | inl closed ↦ inl (closed-not_begun c (ap (λ k. k == 0) closed))
+      | inr opens ↦ inr (opened-begins digest header c begins here opens)
+    ]
+
+-- where the header is there, a journal was begun
+pub header-begun : (image : List ℕ) → IsTrue (has_header image) → IsFalse (is_not_begun image)
+unfolding is_not_begun has_header
+header-begun image h =
+    let p = and_parts (nat_le 65 (length image)) _ h in
+    let q = and_parts (not (is_closed image)) _ p.1 in
+    let short : nat_le (length image) 1 ≡ false = grind (arith, nat_tests) in
+    let opens : is_closed image ≡ false = grind (arith, nat_tests) in
+    ap (λ b. b || is_closed image) short ∙ opens

@@ -289,6 +289,15 @@ between xs e h = by (fields_of xs) refl h where
   by None is h = absurd cc
   by (Some f) is h = (f, is, h)
 
+-- a spelling has 31 bytes
+pub length-spelled : (xs : List ℕ) (e : Event) → event_in xs ≡ Some e → length xs ≡ 31
+unfolding fields_of
+length-spelled xs e h =
+    let b = between xs e h in
+    let found = passed _ _ b.0 b.1 in
+    let p : ((length xs == 31) ≡ true) × ((are_zero (take 1 (drop 2 xs)) && are_zero (drop 23 xs)) ≡ true) = and_parts _ _ found.0 in
+    eqb-true _ _ p.0
+
 -- what is spelled has a record
 pub spelled-has_record : (xs : List ℕ) (e : Event) → event_in xs ≡ Some e → IsTrue (has_record e)
 spelled-has_record xs e h = let b = between xs e h in (tells b.0 e b.2).0

@@ -12,5 +12,8 @@ mod record;
 
 pub use found::{Found, MOST_RECORDS, read_records};
 pub use header::{Header, header_of, judge_header};
-pub use laws::{spelled_has_record, spelling_is_unique};
+pub use laws::{
+    front_tells_all, gate_adds, gate_begins, journal_is_long_enough, journal_stays,
+    not_begun_stays, spelled_has_record, spelling_is_unique,
+};
 pub use record::{read_record, record_of};
