@@ -4,45 +4,24 @@ use Rattle.std.proofs.lemmas.List.{drop_more}
 use Rattle.std.proofs.lemmas.Bool.{cases_eq}
 use Rattle.std.proofs.lemmas.Bool.Decides.{nat_tests}
 use Rattle.conc_disk.specs.Disk.{Torn, written}
+use Rattle.conc_image.proofs.Beginning.{closed-not_begun, short-not_begun}
+use Rattle.conc_image.proofs.Fronts.{is_closed-front}
 use Rattle.conc_image.specs.Headers.{BeginsJournal}
 use Rattle.conc_image.specs.Image.{is_closed, IsJournal, is_not_begun}
 use Rattle.conc_journal.specs.Records.{IsHeaded, IsShut, IsUnbegun, MayBegin}
-use Rattle.conc_journal.proofs.Found.{gate-same}
-
-or-second : (a b : Bool) → b ≡ true → (a || b) ≡ true
-or-second true b p = refl
-or-second false b p = p
-
-or-not-first : (a b : Bool) → (a || b) ≡ true → a ≡ false → b ≡ true
-or-not-first true b p unlike = absurd (let none : true ≡ false = unlike in cc)
-or-not-first false b p unlike = p
-
-or-first : (a b : Bool) → a ≡ true → (a || b) ≡ true
-or-first true b p = refl
-or-first false b p = absurd (let none : false ≡ true = p in cc)
-
--- ---- not begun
-
-pub closed-unbegun : (image : List ℕ) → is_closed image ≡ true → IsUnbegun image
-unfolding is_not_begun
-closed-unbegun image shut = or-second (nat_le (length image) 1) (is_closed image) shut
-
-pub short-unbegun : (image : List ℕ) → length image ≤ 1 → IsUnbegun image
-unfolding is_not_begun
-short-unbegun image short = let fits : nat_le (length image) 1 ≡ true = grind (arith, nat_tests) in or-first (nat_le (length image) 1) (is_closed image) fits
 
 -- where there is more than a gate, it is closed
 pub long-shut : (image : List ℕ) → 1 < length image → IsUnbegun image → IsShut image
 unfolding is_not_begun
 long-shut image long is = let more : nat_le (length image) 1 ≡ false = grind (arith, nat_tests) in record {
-  gate = or-not-first (nat_le (length image) 1) (is_closed image) is more;
+  gate = sym (ap (λ (b : Bool). b || is_closed image) more) ∙ is;
   some = omega arith;
 }
 
 -- ---- the gate is closed
 
 pub torn-short : (before image : List ℕ) → length before ≤ 1 → Torn 0 1 before image → IsUnbegun image
-torn-short before image short torn = short-unbegun image (omega (arith, torn.no_longer))
+torn-short before image short torn = short-not_begun image (omega (arith, torn.no_longer))
 
 pub written-shut : (before image : List ℕ) → image ≡ written 0 (0 ∷ []) before → IsShut image
 written-shut before image is = rw is (record { gate = refl; some = omega arith })
@@ -50,7 +29,7 @@ written-shut before image is = rw is (record { gate = refl; some = omega arith }
 -- ---- the header is written behind it
 
 pub torn-behind : (n : ℕ) (before image : List ℕ) → IsShut before → Torn 1 n before image → IsUnbegun image
-torn-behind n before image shut torn = closed-unbegun image (gate-same 1 before image (omega arith) torn.before ∙ shut.gate)
+torn-behind n before image shut torn = closed-not_begun image (sym (is_closed-front 1 image (omega arith)) ∙ ap (λ (l : List ℕ). is_closed l) torn.before ∙ is_closed-front 1 before (omega arith) ∙ shut.gate)
 
 closed-gate : (image : List ℕ) → IsShut image → take 1 image ≡ 0 ∷ []
 closed-gate [] shut = absurd (omega (arith, shut.some))
@@ -73,7 +52,7 @@ torn-gate digest header before image begins headed torn =
     let parts : image ≡ gate ∷ (header ++ headed.0) =
     drop_more image 0 0 (omega (arith, headed-long header before headed, torn.no_shorter)) ∙ ap (λ (l : List ℕ). gate ∷ l) (torn.after ∙ ap (λ (l : List ℕ). drop 1 l) headed.1) in
     elim (cases_eq gate 0) [
-      | inl shut ↦ inl (closed-unbegun image (let is = shut in grind (arith, nat_tests)))
+      | inl shut ↦ inl (closed-not_begun image (let is = shut in grind (arith, nat_tests)))
       | inr is_open ↦ inr (subst (λ (l : List ℕ). IsJournal digest [] l) (sym parts) (begins gate headed.0 is_open))
     ]
 

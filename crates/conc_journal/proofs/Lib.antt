@@ -1,6 +1,4 @@
 mod Added
 mod Appended
 mod Begins
-mod Found
-mod Images
 mod Steps

@@ -3,7 +3,8 @@ ghost use Rattle.std.specs.Vec.{vec_capacity};
 ghost use Rattle.conc_journal.specs.Stages.{fits_count};
 
 use crate::append::{add_record, record_before_gate};
-use crate::{AppendFail, Receipt};
+use crate::begin::write_header;
+use crate::{AppendFail, DiskFault, Receipt};
 use conc_disk::Disk;
 use conc_outside::Failed;
 use conc_types::{Event, NoMemory};
@@ -51,6 +52,7 @@ impl Journal {
     ghost use Rattle.conc_journal.specs.Receipts.{event_of, number_of};
     ghost use Rattle.conc_journal.specs.Stages.{after_fault, has_faulted, takes_events};
     ghost use Rattle.conc_journal.specs.declared.fault.AppendFail.TheVariants as AppendFail;
+    ghost use Rattle.conc_journal.specs.declared.journal.Stage.TheVariants.{Begun, BeginFailed, NotBegun};
 
     /// The events that it has.
     pub fn events(&self) -> &[Event]
@@ -85,6 +87,32 @@ impl Journal {
         self.events.reserve(records as usize)?;
         self.room = self.room.max(records);
         Ok(())
+    }
+
+    /// Begins a journal for the input with this digest, where none was begun. After an `Ok` each image
+    /// that a stop may leave has its header, and no event. After a fault only `events` is of use.
+    pub fn begin<D: Disk>(&mut self, disk: &mut D, digest: &[u8; 32]) -> Result<(), DiskFault>
+        requires stage { stage_of self.old ≡ NotBegun }
+        requires on { IsOn self.old (D.state disk.old) }
+        ensures on { IsOn self.new (D.state disk.new) }
+        ensures begun { OnOk result (stage_of self.new ≡ Begun digest.now) }
+        ensures failed { OnErr result (stage_of self.new ≡ BeginFailed digest.now) }
+        ensures fault { OnErr result (Rose (D.state disk.old).faults (D.state disk.new).faults) }
+        ensures list { list_of self.new ≡ list_of self.old }
+        ensures empty { list_of self.new ≡ [] }
+        ensures room { room_of self.new ≡ room_of self.old }
+        ensures survives { LeavesOnly (FitsStage (BeginFailed digest.now) []) (D.state disk.old) (D.state disk.new) }
+    {
+        match write_header(disk, digest) {
+            Ok(()) => {
+                self.stage = Stage::Begun { digest: *digest };
+                Ok(())
+            }
+            Err(Failed) => {
+                self.stage = Stage::BeginFailed { digest: *digest };
+                Err(DiskFault)
+            }
+        }
     }
 
     // Adds an event for which there is room.
