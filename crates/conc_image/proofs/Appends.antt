@@ -12,7 +12,7 @@ use Rattle.conc_image.proofs.Finding.{found_from-closed, found_from-taken, with_
 use Rattle.conc_image.proofs.Fronts.{digest_in-front, drop-front, has_header-front, is_closed-front, part-front}
 use Rattle.conc_image.proofs.Writes.{drop-written, part-written, take-written}
 use Rattle.conc_image.proofs.Unique.{length-spelled}
-use Rattle.conc_image.proofs.Runs.{closed-behind, length-found, length-records, run, whole}
+use Rattle.conc_image.proofs.Runs.{closed-behind, length-found_in, length-records, run, whole}
 
 -- ---- the length of a journal
 
@@ -21,8 +21,7 @@ unfolding has_header
 has_header-long image h = grind (arith, nat_tests)
 
 pub length-events : (digest : List ℕ) (events : List Event) (image : List ℕ) → IsJournal digest events image → length events ≤ 1048576
-unfolding found_in
-length-events digest events image j = omega (arith, length-found 1048576 1 (drop 64 image), ap (λ f. length f.events) j.found)
+length-events digest events image j = length-found_in image events (sym (ap (λ f. f.events) j.found))
 
 pub length-journal : (digest : List ℕ) (events : List Event) (image : List ℕ) → IsJournal digest events image → 64 + 32 * length events + 1 ≤ length image
 unfolding found_in

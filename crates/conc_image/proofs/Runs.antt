@@ -5,7 +5,7 @@ use Rattle.std.proofs.lemmas.Bool.Decides.{nat_tests}
 use Rattle.std.proofs.lemmas.List.{append_cancel_left, append-nil, drop-drop, length-drop, length-take}
 use Rattle.conc_types.specs.declared.event.Event.{Event}
 use Rattle.conc_image.specs.Fields.{event_in}
-use Rattle.conc_image.specs.Image.{breaks_here, ends_here, Found, found_from, found_with, is_closed, whole_record, with_event}
+use Rattle.conc_image.specs.Image.{breaks_here, ends_here, Found, found_from, found_in, found_with, is_closed, whole_record, with_event}
 use Rattle.conc_image.proofs.Finding.{found_from-taken, with_events}
 use Rattle.conc_image.proofs.Fronts.{drop-front, is_closed-front, part-front}
 
@@ -84,6 +84,11 @@ length-found (suc more) number bytes = by (is_closed bytes) (whole_record bytes)
   by true w few = omega arith
   by false None few = omega arith
   by false (Some x) few = omega arith
+
+-- so there are few in an image
+pub length-found_in : (image : List ℕ) (events : List Event) → events ≡ (found_in image).events → length events ≤ 1048576
+unfolding found_in
+length-found_in image events e = omega (arith, ap length e, length-found 1048576 1 (drop 64 image))
 
 -- each has its 32 bytes, and a gate stands behind the last
 pub length-records : (more number : ℕ) (bytes : List ℕ) (events : List Event) → found_from more number bytes ≡ whole events → 1 ≤ length bytes → 32 * length events + 1 ≤ length bytes

@@ -4,7 +4,7 @@ use Rattle.std.specs.Bool.{then_some}
 use Rattle.std.specs.Int.{from_be_bytes, to_be_bytes, w32, w64}
 use Rattle.std.specs.List.{All}
 use Rattle.std.specs.Option.{option_and_then, option_map}
-use Rattle.std.specs.Prelude.{cond, nat_lt}
+use Rattle.std.specs.Prelude.{cond, IfSome, nat_lt}
 use Rattle.std.proofs.lemmas.Bool.{and_parts, eqb-true}
 use Rattle.std.proofs.lemmas.Bool.Decides.{nat_tests}
 use Rattle.std.proofs.lemmas.List.{drop-drop, get_or-drop, get_or-take, length-drop, length-take, length-take-le, take-append-drop}
@@ -278,6 +278,11 @@ tells f e h =
     either (f.kind == 7) _ _ _ h (λ k h. tells_two f 7 (event.Started (request_of f.first) (record { index = f.second })) e (eqb-true _ _ k) refl refl h) (λ _ h.
     either (f.kind == 8) _ _ _ h (λ k h. tells_end f e (eqb-true _ _ k) h) (λ _ h.
     either (f.kind == 9) _ _ _ h (λ k h. tells_resume f e (eqb-true _ _ k) h) (λ _ h. tells_interrupt f e h)))))))))
+
+-- the event of fields has a record
+pub event_of-recorded : (f : Fields) (found : Option Event) → found ≡ event_of f → IfSome found (λ e. IsTrue (has_record e))
+event_of-recorded f None h = tt
+event_of-recorded f (Some e) h = (tells f e (sym h)).0
 
 -- ---- the bytes of an event
 

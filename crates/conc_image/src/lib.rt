@@ -9,6 +9,8 @@ mod found;
 mod header;
 mod laws;
 mod record;
+#[cfg(test)]
+mod tests;
 
 pub use found::{Found, MOST_RECORDS, read_records};
 pub use header::{Header, header_of, judge_header};

@@ -1,4 +1,4 @@
-ghost use Rattle.std.specs.Prelude.{◌≡◌, IsTrue};
+ghost use Rattle.std.specs.Prelude.{◌≡◌, IfSome, IsTrue};
 ghost use Rattle.conc_image.specs.Fields.{event_in, has_record};
 
 use crate::events::{event_of, fields_for};
@@ -8,7 +8,8 @@ use conc_types::Event;
 /// The event that the 31 bytes behind a record's gate spell.
 #[tactic(auto, unfolding(crate::specs::Fields::event_in))]
 pub fn read_record(bytes: &[u8; 31]) -> Option<Event>
-    ensures { result ≡ event_in bytes.now }
+    ensures event { result ≡ event_in bytes.now }
+    ensures recorded { IfSome result (λ event. IsTrue (has_record event)) }
 {
     event_of(&Fields::of(bytes)?)
 }

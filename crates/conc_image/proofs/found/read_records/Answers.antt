@@ -3,6 +3,7 @@ use Rattle.std.specs.Bool.{then_some}
 use Rattle.std.specs.Prelude.{not}
 use Rattle.conc_image.specs.Image.{found_from, found_in, is_closed, whole_record}
 use Rattle.conc_image.proofs.Finding.{all-found, loop-broken, loop-closed, loop-ended, loop-taken, too_many, with_events}
+use Rattle.conc_image.proofs.Runs.{length-found_in}
 use Rattle.conc_image.proofs.found.read_records.Goals as goal
 
 pub loop-number-init : goal.loop-number-init
@@ -14,14 +15,16 @@ loop-number-init c =
 pub returns-then-is_closed : goal.returns-then-is_closed
 returns-then-is_closed c =
     let found = sym (loop-closed c.loop-number.events.items _ c.loop-number.number c.loop-number.rest.now (sym c.if-is_closed.ensures)) ∙ c.loop-number.invariant in
-    record { events = ap (λ f. f.events) found; broken = ap (λ f. f.broken) found }
+    let same = ap (λ f. f.events) found in
+    record { events = same; broken = ap (λ f. f.broken) found; few = length-found_in c.args.image.now c.loop-number.events.items same }
 
 pub returns-in_default : goal.returns-in_default
 returns-in_default c =
     let found =
     sym (loop-broken c.loop-number.events.items c.loop-number.number c.loop-number.rest.now c.loop-number-test.true (sym c.if-is_closed.ensures) (sym c.in_default.ensures.event))
     ∙ c.loop-number.invariant in
-    record { events = ap (λ f. f.events) found; broken = ap (λ f. f.broken) found }
+    let same = ap (λ f. f.events) found in
+    record { events = same; broken = ap (λ f. f.broken) found; few = length-found_in c.args.image.now c.loop-number.events.items same }
 
 pub loop-number-preserved : goal.loop-number-preserved
 loop-number-preserved c =
@@ -39,4 +42,5 @@ returns c =
     let end : c.loop-number.number ≡ too_many = omega arith in
     let broken = c.then_some-broken.ensures ∙ ap (λ b. then_some (not b) too_many) c.is_closed-2.ensures in
     let found = sym (loop-ended c.loop-number.events.items c.loop-number.number c.loop-number.rest.now end) ∙ c.loop-number.invariant in
-    record { events = ap (λ f. f.events) found; broken = broken ∙ ap (λ f. f.broken) found }
+    let same = ap (λ f. f.events) found in
+    record { events = same; broken = broken ∙ ap (λ f. f.broken) found; few = length-found_in c.args.image.now c.loop-number.events.items same }
