@@ -12,6 +12,12 @@ stage_digest (Begun digest) = Some digest
 stage_digest (Broken digest) = Some digest
 stage_digest (AppendFailed digest event) = Some digest
 
+-- the stage that goes with a digest and a broken record, if there is one of each
+abbrev pub stage_with : Option (List ℕ) → Option ℕ → Stage
+stage_with None broken = NotBegun
+stage_with (Some digest) None = Begun digest
+stage_with (Some digest) (Some number) = Broken digest
+
 -- it is begun and no record of it is broken
 abbrev pub takes_events : Stage → Bool
 takes_events NotBegun = false

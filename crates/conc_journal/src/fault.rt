@@ -2,6 +2,7 @@ ghost use Rattle.std.specs.Prelude.{◌≡◌};
 ghost use Rattle.conc_journal.specs.declared.fault.JournalFail.TheVariants as journal_fail;
 
 use conc_outside::Failed;
+use conc_types::NoMemory;
 use std::alloc::{AllocError, AllocFailed};
 use thiserror::Error;
 
@@ -35,6 +36,14 @@ impl From<Failed> for JournalFail {
 
     fn from(_: Failed) -> Self {
         JournalFail::DiskFault
+    }
+}
+
+impl From<NoMemory> for JournalFail {
+    ghost from_gives = { λ _ e. e ≡ journal_fail.NoMemory };
+
+    fn from(_: NoMemory) -> Self {
+        JournalFail::NoMemory
     }
 }
 

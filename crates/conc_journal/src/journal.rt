@@ -54,6 +54,21 @@ impl Journal {
     ghost use Rattle.conc_journal.specs.declared.fault.AppendFail.TheVariants as AppendFail;
     ghost use Rattle.conc_journal.specs.declared.journal.Stage.TheVariants.{Begun, BeginFailed, NotBegun};
 
+    // A journal with these events, without room for more.
+    pub(crate) fn with_events(stage: Stage, events: Vec<Event>) -> Journal
+        requires few { vec_len events ≤ 1048576 }
+        requires stage { IsTrue (fits_count stage (vec_len events)) }
+        ensures list { list_of result ≡ events.items }
+        ensures stage { stage_of result ≡ stage }
+        ensures room { room_of result ≡ 0 }
+    {
+        Journal {
+            stage,
+            events,
+            room: 0,
+        }
+    }
+
     /// The events that it has.
     pub fn events(&self) -> &[Event]
         ensures { result.now ≡ list_of self.now }

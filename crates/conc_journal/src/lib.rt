@@ -7,10 +7,12 @@ mod begin;
 mod durable;
 mod fault;
 mod journal;
+mod opened;
 mod receipt;
 mod teller;
 
 pub use fault::{AppendFail, DiskFault, JournalFail};
 pub use journal::Journal;
+pub use opened::Opened;
 pub use receipt::Receipt;
 pub use teller::{Silent, Teller};
