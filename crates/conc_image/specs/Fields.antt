@@ -29,15 +29,15 @@ are_zero bytes = list_all (λ b. b == 0) bytes
 unfoldable pub fields_of : List ℕ → Option Fields
 fields_of bytes =
     then_some
-      (length bytes == 31 && (are_zero (take 1 (drop 2 bytes)) && are_zero (drop 23 bytes)))
-      (record {
-        kind = slice_index bytes 0;
-        outcome = slice_index bytes 1;
-        first = word_at 3 bytes;
-        second = word_at 7 bytes;
-        wide = wide_at 11 bytes;
-        length = word_at 19 bytes;
-      })
+    (length bytes == 31 && (are_zero (take 1 (drop 2 bytes)) && are_zero (drop 23 bytes)))
+    (record {
+      kind = slice_index bytes 0;
+      outcome = slice_index bytes 1;
+      first = word_at 3 bytes;
+      second = word_at 7 bytes;
+      wide = wide_at 11 bytes;
+      length = word_at 19 bytes;
+    })
 
 -- ---- fields as events
 
@@ -64,23 +64,43 @@ report_outcome n =
     else if n == 2 then Some outcome.Warning
     else then_some (n == 3) outcome.Error
 
--- the end of a request whose report has this outcome and stands there in the spool, or that was terminated
+-- the number of an outcome, if it has one
+abbrev pub outcome_number : Outcome → ℕ
+outcome_number outcome.Normal = 1
+outcome_number outcome.Warning = 2
+outcome_number outcome.Error = 3
+outcome_number outcome.Terminated = 4
+outcome_number outcome.Cancelled = 0
+
+-- a moment that the calendar has
+abbrev pub tick_of : Fields → Option Event
+tick_of f = then_some (has_a_wide_number f && nat_lt f.wide 315537897600) (event.Tick (moment_at f.wide))
+
+-- the end of a set
+abbrev pub close_of : Fields → Option Event
+close_of f = if has_first_and_outcome f then option_map (λ o. event.CloseSet (request_of f.first) o) (report_outcome f.outcome) else None
+
+-- the end of a request whose report has this outcome and stands there in the spool
+abbrev pub report_end_of : Fields → Option Event
+report_end_of f =
+    if f.second == 0 && nat_lt 0 f.length
+    then option_map (λ o. event.Ended (request_of f.first) o (Some (record { offset = f.wide; length = f.length }))) (report_outcome f.outcome)
+    else None
+
+-- the end of a request, with a report or by a termination
 abbrev pub end_of : Fields → Option Event
 end_of f =
     if f.outcome == 4 then then_some (has_first_and_outcome f) (event.Ended (request_of f.first) outcome.Terminated None)
-    else if f.second == 0 && nat_lt 0 f.length then
-      option_map (λ o. event.Ended (request_of f.first) o (Some (record { offset = f.wide; length = f.length }))) (report_outcome f.outcome)
-    else None
+    else report_end_of f
 
 -- the event of these fields
 unfoldable pub event_of : Fields → Option Event
 event_of f =
-    if f.kind == 1 then then_some (has_a_wide_number f && nat_lt f.wide 315537897600) (event.Tick (moment_at f.wide))
+    if f.kind == 1 then tick_of f
     else if f.kind == 2 then then_some (has_first_alone f) (event.Command f.first)
     else if f.kind == 3 then then_some (has_first_alone f) (event.OpenSet (request_of f.first))
     else if f.kind == 4 then then_some (has_two_numbers f) (event.Stage (request_of f.first) f.second)
-    else if f.kind == 5 then
-      (if has_first_and_outcome f then option_map (λ o. event.CloseSet (request_of f.first) o) (report_outcome f.outcome) else None)
+    else if f.kind == 5 then close_of f
     else if f.kind == 6 then then_some (has_first_alone f) (event.LetOut (request_of f.first))
     else if f.kind == 7 then then_some (has_two_numbers f) (event.Started (request_of f.first) (record { index = f.second }))
     else if f.kind == 8 then end_of f

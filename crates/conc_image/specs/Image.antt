@@ -1,5 +1,5 @@
 -- What the bytes of a journal stand for.
-use Rattle.std.specs.Prelude.{◌≡◌, ℕ, zero, suc, ◌+◌, Bool, ◌&&◌, ◌||◌, not, ◌==◌, nat_le, if◌then◌else◌, List, [], ◌∷◌, codes, length, take, drop, slice_index, Option, None, Some, IsTrue}
+use Rattle.std.specs.Prelude.{◌≡◌, ℕ, zero, suc, ◌+◌, ◌*◌, Bool, ◌&&◌, ◌||◌, not, ◌==◌, nat_le, if◌then◌else◌, List, [], ◌∷◌, ◌++◌, codes, length, take, drop, slice_index, Option, None, Some, IsTrue}
 use Rattle.std.specs.Str.{bytes_eq}
 use Rattle.conc_types.specs.declared.event.Event.{Event}
 use Rattle.conc_image.specs.Fields.{are_zero, event_in}
@@ -70,3 +70,11 @@ pub record IsJournal (digest : List ℕ) (events : List Event) (image : List ℕ
   pub header : IsTrue (has_header image)
   pub of_input : digest_in image ≡ digest
   pub found : found_in image ≡ record { events = events; broken = None }
+
+-- ---- a record that is added
+
+-- Behind the gate of the record after these events stand its bytes, and the closed gate of the one after it.
+pub record HasNext (events : List Event) (e : Event) (image : List ℕ) : Type 0 where
+  pub bytes : List ℕ
+  pub spelled : event_in bytes ≡ Some e
+  pub here : take 32 (drop (64 + 32 * length events + 1) image) ≡ bytes ++ 0 ∷ []

@@ -2,4 +2,20 @@
 //! that are found.
 #![tactic(auto)]
 
+mod bytes;
+mod events;
 mod fields;
+mod found;
+mod header;
+mod laws;
+mod record;
+#[cfg(test)]
+mod tests;
+
+pub use found::{Found, MOST_RECORDS, read_records};
+pub use header::{Header, header_of, judge_header};
+pub use laws::{
+    front_tells_all, gate_adds, gate_begins, journal_is_long_enough, journal_stays,
+    not_begun_stays, spelled_has_record, spelling_is_unique,
+};
+pub use record::{read_record, record_of};

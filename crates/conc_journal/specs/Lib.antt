@@ -1,2 +1,6 @@
 pub mod Journals
-pub mod Tellers
+pub mod Left
+pub mod Opens
+pub mod Receipts
+pub mod Records
+pub mod Stages

@@ -2,8 +2,17 @@
 //! leaves the events before it, with that event or without.
 #![tactic(auto)]
 
+mod append;
 mod begin;
+mod durable;
+mod fault;
 mod journal;
 mod opened;
 mod receipt;
 mod teller;
+
+pub use fault::{AppendFail, DiskFault, JournalFail};
+pub use journal::Journal;
+pub use opened::Opened;
+pub use receipt::Receipt;
+pub use teller::{Silent, Teller};

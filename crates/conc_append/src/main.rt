@@ -1,0 +1,118 @@
+//! Appends ticks to a journal in a file, and tells how many events the journal then has: what the journal
+//! costs on a real disk. `conc_append FILE COUNT`; with 0 it reads the journal alone.
+#![tactic(auto)]
+
+ghost use Rattle.std.specs.Prelude.{◌≤◌, IfOk, IsTrue};
+ghost use Rattle.conc_journal.specs.Journals.{IsOn, room_of, stage_of};
+ghost use Rattle.conc_journal.specs.Stages.{takes_events};
+
+use conc_disk::{Disk, open_disk};
+use conc_journal::{Journal, Opened};
+use conc_types::{Event, Moment, read_decimal};
+use std::alloc::Global;
+use std::env;
+use std::process::ExitCode;
+
+// Monday, the third of March 2025, at nine.
+const TICK: Event = Event::Tick {
+    moment: Moment {
+        seconds: 63_876_589_200,
+    },
+};
+
+const MOST_EVENTS: u64 = 1_048_576;
+
+// Why nothing was told.
+#[derive(Clone, Copy, Debug)]
+enum Fail {
+    Words,
+    File,
+    Journal,
+    Disk,
+    NoMemory,
+}
+
+// The journal of a disk, begun where it was not, with room for so many events.
+fn begun<D: Disk>(alloc: Global, disk: &mut D, count: u64) -> Result<Journal, Fail>
+    ensures on { IfOk result (λ journal. IsOn journal (D.state disk.new)) }
+    ensures takes { IfOk result (λ journal. IsTrue (takes_events (stage_of journal))) }
+    ensures room { IfOk result (λ journal. count ≤ room_of journal) }
+{
+    let Ok(opened) = Journal::open_on(alloc, disk) else {
+        return Err(Fail::Journal);
+    };
+    let Opened {
+        mut journal,
+        broken: None,
+        digest,
+        ..
+    } = opened
+    else {
+        return Err(Fail::Journal);
+    };
+    if digest.is_none() && journal.begin(disk, &[0; 32]).is_err() {
+        return Err(Fail::Disk);
+    }
+    if count > MOST_EVENTS - journal.events().len() as u64 {
+        return Err(Fail::Journal);
+    }
+    match journal.reserve(count) {
+        Ok(()) => Ok(journal),
+        Err(_) => Err(Fail::NoMemory),
+    }
+}
+
+// Appends so many ticks, and gives how many events the journal then has.
+fn append<D: Disk>(alloc: Global, disk: &mut D, count: u64) -> Result<usize, Fail> {
+    let mut journal = begun(alloc, disk, count)?;
+    let mut left = count;
+    while left > 0 {
+        if journal.append(disk, TICK).is_err() {
+            return Err(Fail::Disk);
+        }
+        left -= 1;
+    }
+    Ok(journal.events().len())
+}
+
+// The words after the program's name.
+fn words(rt: &HostRuntime) -> Result<Vec<String>, Fail> {
+    let Ok(all) = env::args(rt) else {
+        return Err(Fail::Words);
+    };
+    let mut words = Vec::new(rt.alloc());
+    for word in all.skip(1) {
+        if words.push(word).is_err() {
+            return Err(Fail::NoMemory);
+        }
+    }
+    Ok(words)
+}
+
+// Does what the words ask for.
+fn run(rt: &HostRuntime) -> Result<usize, Fail> {
+    let words = words(rt)?;
+    let [file, count] = words.as_slice() else {
+        return Err(Fail::Words);
+    };
+    let Some(count) = read_decimal(count.as_bytes()) else {
+        return Err(Fail::Words);
+    };
+    let Ok(mut disk) = open_disk(rt, file.as_str()) else {
+        return Err(Fail::File);
+    };
+    append(rt.alloc(), &mut disk, count)
+}
+
+fn main(rt: HostRuntime) -> ExitCode {
+    match run(&rt) {
+        Ok(count) => {
+            let _written = println!(rt; "{count}");
+            ExitCode::SUCCESS
+        }
+        Err(fail) => {
+            let _written = eprintln!(rt; "{fail:?}");
+            ExitCode::FAILURE
+        }
+    }
+}

@@ -1,0 +1,9 @@
+pub mod Moments
+pub mod Spelled
+pub mod Unique
+pub mod Finding
+pub mod Beginning
+pub mod Fronts
+pub mod Runs
+pub mod Appends
+pub mod Writes

@@ -1,0 +1,222 @@
+ghost use Rattle.std.specs.Prelude.{◌≡◌, ◌<◌, IsTrue, Some};
+ghost use Rattle.conc_types.specs.declared.event.Event.{Event};
+ghost use Rattle.conc_law.specs.Calendar.{moment_at};
+ghost use Rattle.conc_image.specs.Fields.{close_of, end_of, event_of, has_record, outcome_number, report_outcome, tick_of};
+
+use crate::fields::Fields;
+use conc_types::{Event, Extent, Moment, Outcome, PlaceId, RequestId};
+
+// The seconds of a moment are below this.
+const SECONDS_OF_ALL_YEARS: u64 = 315_537_897_600;
+
+// No event.
+const EMPTY: Fields = Fields {
+    kind: 0,
+    outcome: 0,
+    first: 0,
+    second: 0,
+    wide: 0,
+    length: 0,
+};
+
+// The outcome that a report can have.
+fn report_outcome(outcome: u8) -> Option<Outcome>
+    ensures { result ≡ report_outcome outcome }
+{
+    match outcome {
+        1 => Some(Outcome::Normal),
+        2 => Some(Outcome::Warning),
+        3 => Some(Outcome::Error),
+        _ => None,
+    }
+}
+
+// The moment at this number of seconds.
+fn moment_at(seconds: u64) -> Moment
+    requires { seconds < 315537897600 }
+    ensures { result ≡ moment_at seconds }
+{
+    Moment { seconds }
+}
+
+// The tick of these fields.
+fn tick_of(fields: &Fields) -> Option<Event>
+    ensures { result ≡ tick_of fields.now }
+{
+    if fields.has_a_wide_number() && fields.wide < SECONDS_OF_ALL_YEARS {
+        Some(Event::Tick {
+            moment: moment_at(fields.wide),
+        })
+    } else {
+        None
+    }
+}
+
+// The end of a request of these fields.
+fn end_of(fields: &Fields) -> Option<Event>
+    ensures { result ≡ end_of fields.now }
+{
+    let request = RequestId {
+        number: fields.first,
+    };
+    if fields.outcome == 4 {
+        return fields.has_first_and_outcome().then_some(Event::Ended {
+            request,
+            outcome: Outcome::Terminated,
+            extent: None,
+        });
+    }
+    if fields.second != 0 || fields.length == 0 {
+        return None;
+    }
+    let outcome = report_outcome(fields.outcome)?;
+    Some(Event::Ended {
+        request,
+        outcome,
+        extent: Some(Extent {
+            offset: fields.wide,
+            length: fields.length,
+        }),
+    })
+}
+
+// The end of a set of these fields.
+fn close_of(fields: &Fields) -> Option<Event>
+    ensures { result ≡ close_of fields.now }
+{
+    if !fields.has_first_and_outcome() {
+        return None;
+    }
+    let outcome = report_outcome(fields.outcome)?;
+    Some(Event::CloseSet {
+        set: RequestId {
+            number: fields.first,
+        },
+        outcome,
+    })
+}
+
+// The event of these fields.
+#[tactic(auto, unfolding(crate::specs::Fields::event_of))]
+pub(crate) fn event_of(fields: &Fields) -> Option<Event>
+    ensures { result ≡ event_of fields.now }
+{
+    let request = RequestId {
+        number: fields.first,
+    };
+    match fields.kind {
+        1 => tick_of(fields),
+        2 => fields.has_first_alone().then_some(Event::Command {
+            number: fields.first,
+        }),
+        3 => fields
+            .has_first_alone()
+            .then_some(Event::OpenSet { set: request }),
+        4 => fields.has_two_numbers().then_some(Event::Stage {
+            set: request,
+            stage: fields.second,
+        }),
+        5 => close_of(fields),
+        6 => fields
+            .has_first_alone()
+            .then_some(Event::LetOut { request }),
+        7 => fields.has_two_numbers().then_some(Event::Started {
+            request,
+            place: PlaceId {
+                index: fields.second,
+            },
+        }),
+        8 => end_of(fields),
+        9 => (fields.has_first_alone() && fields.first == 0).then_some(Event::Resume),
+        10 => fields
+            .has_first_alone()
+            .then_some(Event::Interrupt { request }),
+        _ => None,
+    }
+}
+
+// The number of an outcome. What was cancelled has none.
+fn outcome_number(outcome: Outcome) -> u8
+    ensures { result ≡ outcome_number outcome }
+{
+    match outcome {
+        Outcome::Normal => 1,
+        Outcome::Warning => 2,
+        Outcome::Error => 3,
+        Outcome::Terminated => 4,
+        Outcome::Cancelled => 0,
+    }
+}
+
+// The fields of a tick.
+fn tick_fields(moment: Moment) -> Fields
+    ensures { event_of result ≡ Some (Event.Tick moment) }
+{
+    Fields {
+        kind: 1,
+        wide: moment.seconds,
+        ..EMPTY
+    }
+}
+
+// The fields of this event.
+#[tactic(auto, unfolding(crate::specs::Fields::event_of))]
+pub(crate) fn fields_for(event: Event) -> Fields
+    requires { IsTrue (has_record event) }
+    ensures { event_of result ≡ Some event }
+{
+    match event {
+        Event::Tick { moment } => tick_fields(moment),
+        Event::Command { number } => Fields {
+            kind: 2,
+            first: number,
+            ..EMPTY
+        },
+        Event::OpenSet { set } => Fields {
+            kind: 3,
+            first: set.number,
+            ..EMPTY
+        },
+        Event::Stage { set, stage } => Fields {
+            kind: 4,
+            first: set.number,
+            second: stage,
+            ..EMPTY
+        },
+        Event::CloseSet { set, outcome } => Fields {
+            kind: 5,
+            outcome: outcome_number(outcome),
+            first: set.number,
+            ..EMPTY
+        },
+        Event::LetOut { request } => Fields {
+            kind: 6,
+            first: request.number,
+            ..EMPTY
+        },
+        Event::Started { request, place } => Fields {
+            kind: 7,
+            first: request.number,
+            second: place.index,
+            ..EMPTY
+        },
+        Event::Ended {
+            request,
+            outcome,
+            extent,
+        } => Fields {
+            kind: 8,
+            outcome: outcome_number(outcome),
+            first: request.number,
+            wide: extent.map_or(0, |extent| extent.offset),
+            length: extent.map_or(0, |extent| extent.length),
+            ..EMPTY
+        },
+        Event::Resume => Fields { kind: 9, ..EMPTY },
+        Event::Interrupt { request } => Fields {
+            kind: 10,
+            first: request.number,
+            ..EMPTY
+        },
+    }
+}

@@ -1,0 +1,47 @@
+-- The disk of a journal to which an event is added.
+use Rattle.std.proofs.Common.{◌≡◌, ◌⊎◌, ℕ, ◌+◌, ◌*◌, ◌<◌, ◌≤◌, List, [], ◌∷◌, ◌++◌, length, is_some, IfSome, subst, arith}
+use Rattle.conc_types.specs.declared.event.Event.{Event}
+use Rattle.conc_disk.specs.Disk.{DiskState, Reaches, written}
+use Rattle.conc_image.specs.Image.{IsJournal}
+use Rattle.conc_journal.specs.Journals.{FitsStage, IsOn}
+use Rattle.conc_journal.specs.declared.journal.Journal.{Journal}
+use Rattle.conc_journal.specs.declared.journal.Stage.{Stage}
+use Rattle.conc_journal.specs.declared.journal.Stage.TheVariants.{Begun}
+use Rattle.conc_disk.specs.Left.{EachImage, LeavesOnly}
+use Rattle.conc_journal.specs.Left.{AddedFrom, LeavesAdded}
+use Rattle.conc_journal.specs.Records.{IsSpelled}
+use Rattle.conc_journal.proofs.Added.{added-fits, adds-fits}
+use Rattle.conc_image.proofs.Appends.{length-journal}
+use Rattle.conc_journal.proofs.Steps.{each-from, left-from, reaches}
+
+-- a journal has these events, or these and one more
+abbrev pub HasOrAdds : List ℕ → List Event → Event → List ℕ → Type 0
+HasOrAdds digest events event image = IsJournal digest events image ⊎ IsJournal digest (events ++ event ∷ []) image
+
+-- the images of a begun journal
+pub begun-images : (journal : Journal) (digest : List ℕ) (disk : DiskState) → journal.stage ≡ Begun digest → IsOn journal disk → EachImage (IsJournal digest journal.events.items) disk
+begun-images journal digest disk is on = subst (λ (s : Stage). EachImage (FitsStage s journal.events.items) disk) is on
+
+-- it reaches the gate behind the list
+pub journal-reaches : (digest : List ℕ) (events : List Event) (at : ℕ) (disk : DiskState) → at ≡ 64 + 32 * length events → IfSome disk.seen disk.may_leave → EachImage (IsJournal digest events) disk → Reaches disk (at + 1)
+journal-reaches digest events at disk is is_left each =
+    reaches (IsJournal digest events) (at + 1) disk is_left each (λ c journal. omega (arith, length-journal digest events c journal))
+
+module _ (digest : List ℕ) (events : List Event) (event : Event) (at : ℕ) (spelled : List ℕ) (at_is : at ≡ 64 + 32 * length events) (room : length events < 1048576) (is : IsSpelled event spelled) (old new : DiskState) (was : EachImage (IsJournal digest events) old) where
+  -- while it is added
+  pub images-fit : is_some new.seen ≡ is_some old.seen → EachImage (AddedFrom old at spelled) new → EachImage (HasOrAdds digest events event) new
+  images-fit tells each =
+      each-from (AddedFrom old at spelled) (HasOrAdds digest events event) (IsJournal digest events) old new tells was each (λ before c from.
+        adds-fits digest events event spelled from.0 room is (before from.0 from.1) at c at_is from.2)
+
+  -- when it is added
+  pub images-have : is_some new.seen ≡ is_some old.seen → LeavesAdded at spelled old new → EachImage (IsJournal digest (events ++ event ∷ [])) new
+  images-have tells each =
+      each-from (λ image. (before : List ℕ) × old.may_leave before × (at < length before) × (image ≡ written at (1 ∷ []) (written (at + 1) spelled before))) (IsJournal digest (events ++ event ∷ [])) (IsJournal digest events) old new tells was each (λ before c from.
+        added-fits digest events event spelled from.0 room is (before from.0 from.1) at c at_is from.3)
+
+  -- at each moment
+  pub left-fits : LeavesOnly (AddedFrom old at spelled) old new → LeavesOnly (HasOrAdds digest events event) old new
+  left-fits left =
+      left-from (AddedFrom old at spelled) (HasOrAdds digest events event) (IsJournal digest events) old new was left (λ before c from.
+        adds-fits digest events event spelled from.0 room is (before from.0 from.1) at c at_is from.2)

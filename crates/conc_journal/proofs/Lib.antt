@@ -1,0 +1,5 @@
+mod Added
+mod Appended
+mod Begins
+mod Opening
+mod Steps

@@ -1,0 +1,111 @@
+-- What is read of a disk and found there.
+use Rattle.std.proofs.Common.{◌≡◌, ℕ, ◌≤◌, min, Bool, true, false, ◌||◌, if◌then◌else◌, List, [], IsFalse, IsTrue, IsNone, IfOk, Result, Ok, Err, refl, length, take, drop, Option, None, Some, IfSome, subst, sym, ap, ◌∙◌, arith}
+use Rattle.std.proofs.lemmas.List.{take_min}
+use Rattle.conc_types.specs.declared.event.Event.{Event}
+use Rattle.conc_disk.specs.Disk.{DiskState, LeavesWhatWasSeen, Stays}
+use Rattle.conc_image.proofs.Beginning.{header-begun}
+use Rattle.conc_image.proofs.Fronts.{digest_in-front, found_in-front, has_header-front, is_not_begun-front}
+use Rattle.conc_image.specs.Image.{digest_in, Found, found_in, has_header, IsJournal, is_not_begun}
+use Rattle.conc_journal.specs.Journals.{FitsStage, IsOn}
+use Rattle.conc_disk.specs.Left.{EachImage}
+use Rattle.conc_journal.specs.Opens.{broken_of, digest_of, events_of, IsFoundIn, may_open}
+use Rattle.conc_journal.specs.Stages.{stage_with}
+use Rattle.conc_journal.specs.declared.fault.JournalFail.{JournalFail}
+use Rattle.conc_journal.specs.declared.journal.Stage.{Stage}
+use Rattle.conc_journal.specs.declared.opened.Opened.{Opened}
+
+-- so many of the first bytes, and no more than there are
+pub front-read : (old mid : Option (List ℕ)) (n k : ℕ) (piece : List ℕ) → mid ≡ old → IfSome mid (λ bytes. n ≡ length bytes) → IfSome mid (λ bytes. piece ≡ take (length piece) (drop 0 bytes)) → length piece ≡ min n k
+    → IfSome old (λ bytes. piece ≡ take k bytes)
+front-read old mid n k piece same long there size =
+    go old (subst (λ (s : Option (List ℕ)). IfSome s (λ bytes. n ≡ length bytes)) same long) (subst (λ (s : Option (List ℕ)). IfSome s (λ bytes. piece ≡ take (length piece) (drop 0 bytes))) same there)
+  where
+    go : (seen : Option (List ℕ)) → IfSome seen (λ bytes. n ≡ length bytes) → IfSome seen (λ bytes. piece ≡ take (length piece) (drop 0 bytes)) → IfSome seen (λ bytes. piece ≡ take k bytes)
+    go None long there = tt
+    go (Some bytes) long there =
+        let fewer : length piece ≡ min k (length bytes) = omega (arith, size, long) in
+        there ∙ ap (λ (m : ℕ). take m bytes) fewer ∙ take_min k bytes
+
+pub may_open-front : (k : ℕ) (image : List ℕ) → 33554497 ≤ k → may_open (take k image) ≡ may_open image
+may_open-front k image far =
+    ap (λ (b : Bool). b || has_header (take k image)) (is_not_begun-front k image (omega arith)) ∙ ap (λ (b : Bool). is_not_begun image || b) (has_header-front k image (omega arith))
+
+-- what is found in the front of an image is found in the image
+pub front-found : (k : ℕ) (image : List ℕ) (opened : Opened) → 33554497 ≤ k → IsFoundIn (take k image) opened → IsFoundIn image opened
+front-found k image opened far found =
+    let begun = is_not_begun-front k image (omega arith) in
+    record {
+      may_open = sym (may_open-front k image far) ∙ found.may_open;
+      digest = found.digest ∙ ap (λ (b : Bool). if b then None else Some (digest_in (take k image))) begun ∙ ap (λ (d : List ℕ). if is_not_begun image then None else Some d) (digest_in-front k image (omega arith));
+      events = found.events ∙ ap (λ (b : Bool). if b then [] else (found_in (take k image)).events) begun ∙ ap (λ (f : Found). if is_not_begun image then [] else f.events) (found_in-front k image far);
+      broken = found.broken ∙ ap (λ (b : Bool). if b then None else (found_in (take k image)).broken) begun ∙ ap (λ (f : Found). if is_not_begun image then None else f.broken) (found_in-front k image far);
+    }
+
+-- where no record is broken, the image fits the stage
+pub found-fits : (image : List ℕ) (opened : Opened) → IsFoundIn image opened → opened.broken ≡ None → FitsStage (stage_with opened.digest opened.broken) opened.events.items image
+found-fits image opened found sound = go (is_not_begun image) refl opened.digest opened.broken opened.events.items found.may_open found.digest found.broken found.events sound
+  where
+    go : (b : Bool) → is_not_begun image ≡ b → (digest : Option (List ℕ)) (broken : Option ℕ) (events : List Event) → (b || has_header image) ≡ true
+        → digest ≡ (if b then None else Some (digest_in image)) → broken ≡ (if b then None else (found_in image).broken) → events ≡ (if b then [] else (found_in image).events) → broken ≡ None
+        → FitsStage (stage_with digest broken) events image
+    go true is digest broken events opens digest_is broken_is events_are sound =
+        subst (λ (d : Option (List ℕ)). FitsStage (stage_with d broken) events image) (sym digest_is) is
+    go false is digest broken events opens digest_is broken_is events_are sound =
+        let journal : IsJournal (digest_in image) (found_in image).events image =
+        record { header = opens; of_input = refl; found = ap (λ (b : Option ℕ). record { events = (found_in image).events; broken = b }) (sym broken_is ∙ sound) } in
+        subst (λ (d : Option (List ℕ)). FitsStage (stage_with d broken) events image) (sym digest_is)
+          (subst (λ (b : Option ℕ). FitsStage (stage_with (Some (digest_in image)) b) events image) (sym sound)
+            (subst (λ (l : List Event). IsJournal (digest_in image) l image) (sym events_are) journal))
+
+-- and so do all images after a sync
+pub opened-on : (k : ℕ) (old new : DiskState) (opened : Opened) (bytes : List ℕ) → 33554497 ≤ k → IfSome old.seen (λ seen. bytes ≡ take k seen) → LeavesWhatWasSeen old new → Stays old new → IsFoundIn bytes opened → opened.broken ≡ None
+    → EachImage (FitsStage (stage_with opened.digest opened.broken) opened.events.items) new
+opened-on k old new opened bytes far is_read settled stays found sound =
+    subst (λ (s : Option (List ℕ)). IfSome s (λ seen. (c : List ℕ) → new.may_leave c → FitsStage (stage_with opened.digest opened.broken) opened.events.items c)) (sym stays.seen) (go old.seen is_read settled)
+  where
+    go : (seen : Option (List ℕ)) → IfSome seen (λ seen. bytes ≡ take k seen) → IfSome seen (λ seen. (c : List ℕ) → new.may_leave c → c ≡ seen) → IfSome seen (λ seen. (c : List ℕ) → new.may_leave c → FitsStage (stage_with opened.digest opened.broken) opened.events.items c)
+    go None is_read settled = tt
+    go (Some seen) is_read settled = λ c left.
+        subst (λ (l : List ℕ). FitsStage (stage_with opened.digest opened.broken) opened.events.items l) (sym (settled c left))
+          (found-fits seen opened (front-found k seen opened far (subst (λ (l : List ℕ). IsFoundIn l opened) is_read found)) sound)
+
+-- what is found in the bytes that were read is found in what a read gives
+pub read-found : (k : ℕ) (seen : Option (List ℕ)) (opened : Opened) (bytes : List ℕ) → 33554497 ≤ k → IfSome seen (λ image. bytes ≡ take k image) → IsFoundIn bytes opened → IfSome seen (λ image. IsFoundIn image opened)
+read-found k None opened bytes far is_read found = tt
+read-found k (Some image) opened bytes far is_read found = front-found k image opened far (subst (λ (l : List ℕ). IsFoundIn l opened) is_read found)
+
+-- and what is refused is refused
+pub read-refused : (k : ℕ) (seen : Option (List ℕ)) (bytes : List ℕ) → 33554497 ≤ k → IfSome seen (λ image. bytes ≡ take k image) → IsFalse (may_open bytes) → IfSome seen (λ image. IsFalse (may_open image))
+read-refused k None bytes far is_read refused = tt
+read-refused k (Some image) bytes far is_read refused = sym (may_open-front k image far) ∙ ap (λ (l : List ℕ). may_open l) (sym is_read) ∙ refused
+
+-- what is found behind a header
+pub begun-found : (image : List ℕ) (digest : List ℕ) (opened : Opened) → IsTrue (has_header image) → digest_in image ≡ digest → opened.digest ≡ Some digest → opened.events.items ≡ (found_in image).events → opened.broken ≡ (found_in image).broken → IsFoundIn image opened
+begun-found image digest opened header is digest_is events_are broken_is =
+    let begun = header-begun image header in
+    record {
+      may_open = ap (λ (b : Bool). b || has_header image) begun ∙ header;
+      digest = digest_is ∙ ap (λ (d : List ℕ). Some d) (sym is) ∙ ap (λ (b : Bool). if b then None else Some (digest_in image)) (sym begun);
+      events = events_are ∙ ap (λ (b : Bool). if b then [] else (found_in image).events) (sym begun);
+      broken = broken_is ∙ ap (λ (b : Bool). if b then None else (found_in image).broken) (sym begun);
+    }
+
+-- ---- answers
+
+pub if-ok : {T E : Type 0} (r : Result T E) (P Q : T → Type 0) → IfOk r P → ((v : T) → P v → Q v) → IfOk r Q
+if-ok (Ok v) P Q p more = more v p
+if-ok (Err e) P Q p more = tt
+
+-- a journal that was opened with this stage and this list is on
+pub answer-on : (k : ℕ) (old new : DiskState) (bytes : List ℕ) (r : Result Opened JournalFail) → 33554497 ≤ k → IfSome old.seen (λ seen. bytes ≡ take k seen) → LeavesWhatWasSeen old new → Stays old new
+    → IfOk r (λ opened. IsFoundIn bytes opened) → IfOk r (λ opened. opened.journal.stage ≡ stage_with opened.digest opened.broken) → IfOk r (λ opened. opened.journal.events.items ≡ opened.events.items)
+    → IfOk r (λ opened. IsNone opened.broken → IsOn opened.journal new)
+answer-on k old new bytes (Ok opened) far is_read settled stays found stage list = λ sound.
+    let on = opened-on k old new opened bytes far is_read settled stays found (none opened.broken sound) in
+    subst (λ (s : Stage). EachImage (FitsStage s opened.journal.events.items) new) (sym stage)
+      (subst (λ (l : List Event). EachImage (FitsStage (stage_with opened.digest opened.broken) l) new) (sym list) on)
+  where
+    none : (o : Option ℕ) → IsNone o → o ≡ None
+    none None is = refl
+    none (Some n) is = absurd (cc)
+answer-on k old new bytes (Err e) far is_read settled stays found stage list = tt

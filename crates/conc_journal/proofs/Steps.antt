@@ -1,0 +1,149 @@
+-- How calls of a disk go on from one another.
+use Rattle.std.proofs.Common.{◌≡◌, ◌⊎◌, inl, inr, ⊎_elim, ℕ, ◌+◌, ◌<◌, ◌≤◌, List, [], ◌∷◌, length, Option, None, Some, length-append, length-take, is_some, IfSome, Result, Ok, Err, OnOk, refl, ◌∙◌, ap, subst, sym, arith}
+use Rattle.conc_disk.specs.Disk.{DiskState, Follows, HasLength, IsLater, LeavesWhatWasSeen, Reaches, Stays, Torn, written}
+use Rattle.conc_disk.specs.Left.{EachImage, LeavesOnly}
+use Rattle.conc_disk.proofs.Leaving.{leaves-twice}
+use Rattle.conc_journal.specs.Left.{AddedFrom, AddsTo, LeavesAdded, LeavesWritten, TornFrom}
+
+-- ---- where it tells
+
+-- what tells now told before, so what was known there goes on
+pub told-if : (old new : Option (List ℕ)) (P Q : Type 0) → is_some new ≡ is_some old → IfSome old (λ bytes. P) → (P → Q) → IfSome new (λ bytes. Q)
+told-if None None P Q same p f = tt
+told-if None (Some b) P Q same p f = absurd (cc)
+told-if (Some a) None P Q same p f = tt
+told-if (Some a) (Some b) P Q same p f = f p
+
+pub told-both : (old : Option (List ℕ)) (P Q R : Type 0) → IfSome old (λ bytes. P) → IfSome old (λ bytes. Q) → (P → Q → R) → IfSome old (λ bytes. R)
+told-both None P Q R p q f = tt
+told-both (Some a) P Q R p q f = f p q
+
+pub told-always : (old : Option (List ℕ)) (P : Type 0) → P → IfSome old (λ bytes. P)
+told-always None P p = tt
+told-always (Some a) P p = p
+
+-- what follows where a call did what it was to do
+pub on-ok : {E : Type 0} (r : Result (Unit {0}) E) (P Q : Type 0) → OnOk r P → (P → Q) → OnOk r Q
+on-ok (Ok x) P Q p f = f p
+on-ok (Err e) P Q p f = tt
+
+-- ---- images
+
+-- images of one kind are of each kind that follows from it
+pub each-more : (P Q : List ℕ → Type 0) (disk : DiskState) → EachImage P disk → ((c : List ℕ) → P c → Q c) → EachImage Q disk
+each-more P Q disk each more =
+    told-if disk.seen disk.seen ((c : List ℕ) → disk.may_leave c → P c) ((c : List ℕ) → disk.may_leave c → Q c) refl each (λ p c left. more c (p c left))
+
+-- the same from one state to the next, where the disk tells what the images before were like
+pub each-from : (P Q R : List ℕ → Type 0) (old new : DiskState) → is_some new.seen ≡ is_some old.seen → EachImage R old → EachImage P new → (((d : List ℕ) → old.may_leave d → R d) → (c : List ℕ) → P c → Q c) → EachImage Q new
+each-from P Q R old new tells was is more =
+    told-both new.seen ((d : List ℕ) → old.may_leave d → R d) ((c : List ℕ) → new.may_leave c → P c) ((c : List ℕ) → new.may_leave c → Q c)
+      (told-if old.seen new.seen ((d : List ℕ) → old.may_leave d → R d) ((d : List ℕ) → old.may_leave d → R d) tells was (λ r. r)) is (λ r p c left. more r c (p c left))
+
+-- a disk reaches as far as each of its images
+pub reaches : (P : List ℕ → Type 0) (n : ℕ) (disk : DiskState) → IfSome disk.seen disk.may_leave → EachImage P disk → ((c : List ℕ) → P c → n ≤ length c) → Reaches disk n
+reaches P n disk is_left each long = far disk.seen is_left each
+  where
+    far : (seen : Option (List ℕ)) → IfSome seen disk.may_leave → IfSome seen (λ bytes. (c : List ℕ) → disk.may_leave c → P c) → IfSome seen (λ bytes. n ≤ length bytes)
+    far None is_left each = tt
+    far (Some bytes) is_left each = long bytes (each bytes is_left)
+
+-- ---- what a run of calls leaves
+
+-- what is of one kind is of each kind that follows from it
+pub left-more : (P Q : List ℕ → Type 0) (old new : DiskState) → LeavesOnly P old new → ((c : List ℕ) → P c → Q c) → LeavesOnly Q old new
+left-more P Q old new left more = record {
+  faults = left.faults;
+  moment = left.moment;
+  tells = left.tells;
+  keeps = left.keeps;
+  nothing_else =
+      told-if old.seen old.seen ((t : ℕ) (c : List ℕ) → t ≤ old.moment → new.left_since t c → old.left_since t c ⊎ P c) ((t : ℕ) (c : List ℕ) → t ≤ old.moment → new.left_since t c → old.left_since t c ⊎ Q c) refl left.nothing_else (λ p t c le since. ⊎_elim (λ was. inl was) (λ is. inr (more c is)) (p t c le since));
+}
+
+-- the same, where the disk tells what the images before were like
+pub left-from : (P Q R : List ℕ → Type 0) (old new : DiskState) → EachImage R old → LeavesOnly P old new → (((d : List ℕ) → old.may_leave d → R d) → (c : List ℕ) → P c → Q c) → LeavesOnly Q old new
+left-from P Q R old new each left more = record {
+  faults = left.faults;
+  moment = left.moment;
+  tells = left.tells;
+  keeps = left.keeps;
+  nothing_else =
+      told-both old.seen ((d : List ℕ) → old.may_leave d → R d) ((t : ℕ) (c : List ℕ) → t ≤ old.moment → new.left_since t c → old.left_since t c ⊎ P c) ((t : ℕ) (c : List ℕ) → t ≤ old.moment → new.left_since t c → old.left_since t c ⊎ Q c) each left.nothing_else (λ r p t c le since. ⊎_elim (λ was. inl was) (λ is. inr (more r c is)) (p t c le since));
+}
+
+-- ---- one write, where it is known what the images before were like
+
+-- what each image is then
+pub each-torn : (R Q : List ℕ → Type 0) (at n : ℕ) (old new : DiskState) → is_some new.seen ≡ is_some old.seen → EachImage R old → Follows (Torn at n) old new → ((d c : List ℕ) → R d → Torn at n d c → Q c) → EachImage Q new
+each-torn R Q at n old new tells was follows more =
+    told-if old.seen new.seen ((d : List ℕ) → old.may_leave d → R d) ((c : List ℕ) → new.may_leave c → Q c) tells was (λ r c left. let from = follows c left in more from.0 c (r from.0 from.1) from.2)
+
+-- at each moment
+pub left-torn : (R Q : List ℕ → Type 0) (at n : ℕ) (old new : DiskState) → EachImage R old → LeavesOnly (TornFrom old at n) old new → ((d c : List ℕ) → R d → Torn at n d c → Q c) → LeavesOnly Q old new
+left-torn R Q at n old new was left more = left-from (TornFrom old at n) Q R old new was left (λ r c from. more from.0 c (r from.0 from.1) from.2)
+
+-- and when it is done
+pub each-written : (R Q : List ℕ → Type 0) (at : ℕ) (bytes : List ℕ) (old new : DiskState) → is_some new.seen ≡ is_some old.seen → EachImage R old → LeavesWritten at bytes old new → ((d c : List ℕ) → R d → c ≡ written at bytes d → Q c) → EachImage Q new
+each-written R Q at bytes old new tells was done more =
+    each-from (λ image. (before : List ℕ) × old.may_leave before × (at ≤ length before) × (image ≡ written at bytes before)) Q R old new tells was done (λ r c from. more from.0 c (r from.0 from.1) from.3)
+
+-- after a sync each image has the length that is told
+pub settled : (R : List ℕ → Type 0) (n : ℕ) (old new : DiskState) → EachImage R old → Stays old new → LeavesWhatWasSeen old new → HasLength new n → EachImage (λ c. R c × (n ≡ length c)) new
+settled R n old new was stays durable long =
+    subst (λ (s : Option (List ℕ)). IfSome s (λ bytes. (c : List ℕ) → new.may_leave c → R c × (n ≡ length c))) (sym stays.seen)
+      (go old.seen was durable (subst (λ (s : Option (List ℕ)). IfSome s (λ bytes. n ≡ length bytes)) stays.seen long))
+  where
+    go : (seen : Option (List ℕ)) → IfSome seen (λ bytes. (d : List ℕ) → old.may_leave d → R d) → IfSome seen (λ bytes. (c : List ℕ) → new.may_leave c → c ≡ bytes) → IfSome seen (λ bytes. n ≡ length bytes)
+        → IfSome seen (λ bytes. (c : List ℕ) → new.may_leave c → R c × (n ≡ length c))
+    go None was durable long = tt
+    go (Some bytes) was durable long = λ c left. (was c (stays.images c left), long ∙ ap length (sym (durable c left)))
+
+-- ---- a record that is added
+
+-- one of the images before, with these bytes from here on
+abbrev pub WrittenFrom : DiskState → ℕ → List ℕ → List ℕ → Type 0
+WrittenFrom old at bytes image = (before : List ℕ) × old.may_leave before × (at ≤ length before) × (image ≡ written at bytes before)
+
+length-written : (at : ℕ) (bytes before : List ℕ) → at ≤ length before → at ≤ length (written at bytes before)
+length-written at bytes before le = simp (length-append, length-take) (omega arith)
+
+-- after the record is written, the disk reaches its gate
+pub reaches-gate : (at : ℕ) (bytes : List ℕ) (old mid : DiskState) → IfSome mid.seen mid.may_leave → LeavesWritten (at + 1) bytes old mid → Reaches mid at
+reaches-gate at bytes old mid is_left each =
+    reaches (WrittenFrom old (at + 1) bytes) at mid is_left each (λ c from. rw from.3 (omega (arith, length-written (at + 1) bytes from.0 from.2)))
+
+-- images of the first step
+pub torn-added : (at : ℕ) (bytes : List ℕ) (old mid : DiskState) → Follows (Torn (at + 1) (length bytes)) old mid → EachImage (AddedFrom old at bytes) mid
+torn-added at bytes old mid follows =
+    told-always mid.seen ((c : List ℕ) → mid.may_leave c → AddedFrom old at bytes c) (λ c left. let from = follows c left in (from.0, from.1, inl from.2))
+
+-- images of the second step, by those before the first
+pub gate-added : (at : ℕ) (bytes : List ℕ) (old mid new : DiskState) → is_some new.seen ≡ is_some mid.seen → LeavesWritten (at + 1) bytes old mid → Follows (Torn at 1) mid new → EachImage (AddedFrom old at bytes) new
+gate-added at bytes old mid new tells each follows =
+    told-if mid.seen new.seen ((d : List ℕ) → mid.may_leave d → WrittenFrom old (at + 1) bytes d) ((c : List ℕ) → new.may_leave c → AddedFrom old at bytes c) tells each (λ was c left.
+      let from = follows c left in
+      let first = was from.0 from.1 in
+      (first.0, first.1, inr (subst (λ (d : List ℕ). Torn at 1 d c) first.3 from.2)))
+
+-- and when both are done
+pub both-added : (at : ℕ) (bytes : List ℕ) (old mid new : DiskState) → is_some new.seen ≡ is_some mid.seen → LeavesWritten (at + 1) bytes old mid → LeavesWritten at (1 ∷ []) mid new → LeavesAdded at bytes old new
+both-added at bytes old mid new tells each opened =
+    let mid_told = told-if mid.seen new.seen ((d : List ℕ) → mid.may_leave d → WrittenFrom old (at + 1) bytes d) ((d : List ℕ) → mid.may_leave d → WrittenFrom old (at + 1) bytes d) tells each (λ p. p) in
+    told-both new.seen ((d : List ℕ) → mid.may_leave d → WrittenFrom old (at + 1) bytes d) ((c : List ℕ) → new.may_leave c → WrittenFrom mid at (1 ∷ []) c)
+      ((c : List ℕ) → new.may_leave c → (before : List ℕ) × old.may_leave before × (at < length before) × (c ≡ written at (1 ∷ []) (written (at + 1) bytes before))) mid_told opened (λ was is c left.
+        let second = is c left in
+        let first = was second.0 second.1 in
+        (first.0, first.1, omega (arith, first.2), second.3 ∙ ap (λ (l : List ℕ). written at (1 ∷ []) l) first.3))
+
+-- what the first step leaves
+pub torn-left : (at : ℕ) (bytes : List ℕ) (old mid : DiskState) → LeavesOnly (TornFrom old (at + 1) (length bytes)) old mid → LeavesOnly (AddedFrom old at bytes) old mid
+torn-left at bytes old mid left = left-more (TornFrom old (at + 1) (length bytes)) (AddedFrom old at bytes) old mid left (λ c from. (from.0, from.1, inl from.2))
+
+-- and both
+pub both-left : (at : ℕ) (bytes : List ℕ) (old mid new : DiskState) → LeavesOnly (TornFrom old (at + 1) (length bytes)) old mid → LeavesWritten (at + 1) bytes old mid → LeavesOnly (TornFrom mid at 1) mid new → LeavesOnly (AddedFrom old at bytes) old new
+both-left at bytes old mid new left each gate_left =
+    leaves-twice (AddedFrom old at bytes) old mid new (torn-left at bytes old mid left)
+      (left-from (TornFrom mid at 1) (AddedFrom old at bytes) (WrittenFrom old (at + 1) bytes) mid new each gate_left (λ was c from.
+        let first = was from.0 from.1 in
+        (first.0, first.1, inr (subst (λ (d : List ℕ). Torn at 1 d c) first.3 from.2))))
