@@ -96,8 +96,8 @@ fn writes_the_format(rt: HostRuntime) -> Result<(), Fail> {
     assert_eq!(rt; disk.len(), Ok(129));
     let mut bytes = [0; 129];
     disk.read(0, &mut bytes)?;
-    assert_eq!(rt; &bytes[..128], TWO_RECORDS.as_slice());
-    assert_eq!(rt; bytes[128], 0);
+    assert_eq!(rt; bytes.get(..128), Some(TWO_RECORDS.as_slice()));
+    assert_eq!(rt; bytes.last(), Some(&0));
     Ok(())
 }
 
