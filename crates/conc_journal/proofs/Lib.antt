@@ -2,4 +2,4 @@ mod Added
 mod Appended
 mod Begins
 mod Opening
-mod Steps
+pub mod Steps

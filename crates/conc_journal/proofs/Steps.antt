@@ -2,7 +2,6 @@
 use Rattle.std.proofs.Common.{◌≡◌, ◌⊎◌, inl, inr, ⊎_elim, ℕ, ◌+◌, ◌<◌, ◌≤◌, List, [], ◌∷◌, length, Option, None, Some, length-append, length-take, is_some, IfSome, Result, Ok, Err, OnOk, refl, ◌∙◌, ap, subst, sym, arith}
 use Rattle.conc_disk.specs.Disk.{DiskState, Follows, HasLength, IsLater, LeavesWhatWasSeen, Reaches, Stays, Torn, written}
 use Rattle.conc_disk.specs.Left.{EachImage, LeavesOnly}
-use Rattle.conc_disk.proofs.Leaving.{leaves-twice}
 use Rattle.conc_journal.specs.Left.{AddedFrom, AddsTo, LeavesAdded, LeavesWritten, TornFrom}
 
 -- ---- where it tells
@@ -17,10 +16,6 @@ told-if (Some a) (Some b) P Q same p f = f p
 pub told-both : (old : Option (List ℕ)) (P Q R : Type 0) → IfSome old (λ bytes. P) → IfSome old (λ bytes. Q) → (P → Q → R) → IfSome old (λ bytes. R)
 told-both None P Q R p q f = tt
 told-both (Some a) P Q R p q f = f p q
-
-pub told-always : (old : Option (List ℕ)) (P : Type 0) → P → IfSome old (λ bytes. P)
-told-always None P p = tt
-told-always (Some a) P p = p
 
 -- what follows where a call did what it was to do
 pub on-ok : {E : Type 0} (r : Result (Unit {0}) E) (P Q : Type 0) → OnOk r P → (P → Q) → OnOk r Q
@@ -112,38 +107,3 @@ length-written at bytes before le = simp (length-append, length-take) (omega ari
 pub reaches-gate : (at : ℕ) (bytes : List ℕ) (old mid : DiskState) → IfSome mid.seen mid.may_leave → LeavesWritten (at + 1) bytes old mid → Reaches mid at
 reaches-gate at bytes old mid is_left each =
     reaches (WrittenFrom old (at + 1) bytes) at mid is_left each (λ c from. rw from.3 (omega (arith, length-written (at + 1) bytes from.0 from.2)))
-
--- images of the first step
-pub torn-added : (at : ℕ) (bytes : List ℕ) (old mid : DiskState) → Follows (Torn (at + 1) (length bytes)) old mid → EachImage (AddedFrom old at bytes) mid
-torn-added at bytes old mid follows =
-    told-always mid.seen ((c : List ℕ) → mid.may_leave c → AddedFrom old at bytes c) (λ c left. let from = follows c left in (from.0, from.1, inl from.2))
-
--- images of the second step, by those before the first
-pub gate-added : (at : ℕ) (bytes : List ℕ) (old mid new : DiskState) → is_some new.seen ≡ is_some mid.seen → LeavesWritten (at + 1) bytes old mid → Follows (Torn at 1) mid new → EachImage (AddedFrom old at bytes) new
-gate-added at bytes old mid new tells each follows =
-    told-if mid.seen new.seen ((d : List ℕ) → mid.may_leave d → WrittenFrom old (at + 1) bytes d) ((c : List ℕ) → new.may_leave c → AddedFrom old at bytes c) tells each (λ was c left.
-      let from = follows c left in
-      let first = was from.0 from.1 in
-      (first.0, first.1, inr (subst (λ (d : List ℕ). Torn at 1 d c) first.3 from.2)))
-
--- and when both are done
-pub both-added : (at : ℕ) (bytes : List ℕ) (old mid new : DiskState) → is_some new.seen ≡ is_some mid.seen → LeavesWritten (at + 1) bytes old mid → LeavesWritten at (1 ∷ []) mid new → LeavesAdded at bytes old new
-both-added at bytes old mid new tells each opened =
-    let mid_told = told-if mid.seen new.seen ((d : List ℕ) → mid.may_leave d → WrittenFrom old (at + 1) bytes d) ((d : List ℕ) → mid.may_leave d → WrittenFrom old (at + 1) bytes d) tells each (λ p. p) in
-    told-both new.seen ((d : List ℕ) → mid.may_leave d → WrittenFrom old (at + 1) bytes d) ((c : List ℕ) → new.may_leave c → WrittenFrom mid at (1 ∷ []) c)
-      ((c : List ℕ) → new.may_leave c → (before : List ℕ) × old.may_leave before × (at < length before) × (c ≡ written at (1 ∷ []) (written (at + 1) bytes before))) mid_told opened (λ was is c left.
-        let second = is c left in
-        let first = was second.0 second.1 in
-        (first.0, first.1, omega (arith, first.2), second.3 ∙ ap (λ (l : List ℕ). written at (1 ∷ []) l) first.3))
-
--- what the first step leaves
-pub torn-left : (at : ℕ) (bytes : List ℕ) (old mid : DiskState) → LeavesOnly (TornFrom old (at + 1) (length bytes)) old mid → LeavesOnly (AddedFrom old at bytes) old mid
-torn-left at bytes old mid left = left-more (TornFrom old (at + 1) (length bytes)) (AddedFrom old at bytes) old mid left (λ c from. (from.0, from.1, inl from.2))
-
--- and both
-pub both-left : (at : ℕ) (bytes : List ℕ) (old mid new : DiskState) → LeavesOnly (TornFrom old (at + 1) (length bytes)) old mid → LeavesWritten (at + 1) bytes old mid → LeavesOnly (TornFrom mid at 1) mid new → LeavesOnly (AddedFrom old at bytes) old new
-both-left at bytes old mid new left each gate_left =
-    leaves-twice (AddedFrom old at bytes) old mid new (torn-left at bytes old mid left)
-      (left-from (TornFrom mid at 1) (AddedFrom old at bytes) (WrittenFrom old (at + 1) bytes) mid new each gate_left (λ was c from.
-        let first = was from.0 from.1 in
-        (first.0, first.1, inr (subst (λ (d : List ℕ). Torn at 1 d c) first.3 from.2))))

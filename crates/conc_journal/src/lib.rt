@@ -10,6 +10,8 @@ mod journal;
 mod opened;
 mod receipt;
 mod teller;
+#[cfg(test)]
+mod tests;
 
 pub use fault::{AppendFail, DiskFault, JournalFail};
 pub use journal::Journal;

@@ -1,4 +1,4 @@
-use Rattle.conc_journal.proofs.Steps.{both-added, both-left, gate-added, reaches-gate, torn-added, torn-left}
+use Rattle.conc_journal.proofs.Steps.{reaches-gate}
 use Rattle.conc_journal.proofs.append.add_record.Goals as goal
 
 pub write_durable-requires-2 : goal.write_durable-requires-2
