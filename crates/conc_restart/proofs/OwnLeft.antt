@@ -1,13 +1,10 @@
 -- How many events of its own a request still has in a life at most, and how the events lower it.
 use Rattle.std.proofs.Common.{◌≡◌, ℕ, ◌+◌, ◌-◌, ◌<◌, ◌≤◌, Bool, true, false, if◌then◌else◌, List, ◌∷◌, length, Option, Some, refl, sym, ◌∙◌, ap, subst, inl, inr, arith}
 use Rattle.std.specs.Prelude.{unwrap_or}
-use Rattle.std.proofs.lemmas.Bool.{and_from, both_ways, cases_Bool, cond-false, cond-true, or_left}
+use Rattle.std.proofs.lemmas.Bool.{and_from, cases_Bool, cond-false, cond-true, or_left}
 use Rattle.conc_types.specs.declared.event.Event.{Event}
 use Rattle.conc_types.specs.declared.event.Event.TheVariants as event
-use Rattle.conc_types.specs.declared.event.Extent.{Extent}
 use Rattle.conc_types.specs.declared.event.Outcome.{Outcome}
-use Rattle.conc_types.specs.declared.event.PlaceId.{PlaceId}
-use Rattle.conc_types.specs.declared.event.RequestId.{RequestId}
 use Rattle.conc_types.specs.declared.facts.Facts.{Facts}
 use Rattle.conc_types.specs.declared.plan.Plan.{Plan}
 use Rattle.conc_types.specs.declared.plan.Req.{Req}

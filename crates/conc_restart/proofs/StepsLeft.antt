@@ -15,7 +15,6 @@ use Rattle.conc_law.specs.Past.{earlier_lives, last_life}
 use Rattle.conc_law.specs.Readings.{life_readings, next_reading, ticks}
 use Rattle.conc_law.specs.Remaining.{commands_left}
 use Rattle.conc_law.specs.Standing.{is_done, is_not_earlier, now}
-use Rattle.conc_law.specs.Words.{Has}
 use Rattle.conc_law.proofs.Due.{command_undone, IsUndone}
 use Rattle.conc_law.proofs.LawfulIsPast.{IsRead, tick_read}
 use Rattle.conc_law.proofs.Others.{does}
