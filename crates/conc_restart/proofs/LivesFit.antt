@@ -39,7 +39,7 @@ life_less plan readings past (event.Tick t) lawful m n =
 life_less plan readings past (event.Command k) lawful m n =
     omega (
       arith,
-      all_grow plan past k lawful,
+      all_grow plan past k,
       commands_left-less plan (Some readings) past k m,
       readings_left-kept readings past (event.Command k) refl refl,
     )

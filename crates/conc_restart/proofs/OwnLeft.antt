@@ -32,7 +32,7 @@ use Rattle.conc_law.proofs.UsesUp.{could_not_completed, could_not_live, end_less
 use Rattle.conc_restart.proofs.NextStage.{set_step-within}
 use Rattle.conc_restart.proofs.SetsLeft.{set_left, set_left-completed, set_left-most, set_left-open, set_left-open-le, set_left-unopened}
 
--- that of a set goes by its stages, that of a program is the law's
+-- a set has what its stages say, a program what the law's bound says
 unfoldable pub own_left : Plan → List Event → Req → ℕ
 own_left plan past r = if is_set r.item then set_left (length (stages_of plan r)) (facts_of plan past r) else left plan past r
 

@@ -1,5 +1,5 @@
 -- How the events lower what all requests of a plan have left in a life.
-use Rattle.std.proofs.Common.{◌≡◌, ◌⊎◌, ◌==◌, ℕ, ◌+◌, ◌*◌, ◌<◌, ◌≤◌, true, false, List, ◌∷◌, length, Option, None, Some, refl, sym, ◌∙◌, ap, inl, inr, arith}
+use Rattle.std.proofs.Common.{◌≡◌, ◌==◌, ℕ, ◌+◌, ◌*◌, ◌<◌, ◌≤◌, true, false, List, ◌∷◌, length, Option, None, Some, refl, sym, ◌∙◌, ap, inl, inr, arith}
 use Rattle.std.specs.List.{sum_by}
 use Rattle.std.proofs.lemmas.Bool.{cases_Bool}
 use Rattle.conc_types.specs.declared.event.Event.{Event}
@@ -80,36 +80,40 @@ command_keeps_let plan past r n h =
     takes_not r.number (act_of plan (event.Command n)) h in
     rw (p.0, p.1) refl
 
--- a command raises what is left of one request at most, by one
-command_one : (plan : Plan) (past : List Event) (r : Req) (n : ℕ) → Has plan.requests r → is_past plan past ≡ true
-    → own_left plan (event.Command n ∷ past) r ≤ own_left plan past r + one_if (taken_by (act_of plan (event.Command n)) == r.number.number)
-command_one plan past r n hr lawful =
-    let e = event.Command n in
-    let kept : IsKept (facts_of plan past r) (facts_of plan (e ∷ past) r) = others_kept plan past r e refl refl in
-    elim (cases_Bool (taken_by (act_of plan e) == r.number.number)) [
-      | inl hit ↦
-          let one : one_if (taken_by (act_of plan e) == r.number.number) ≡ 1 = ap one_if hit in
-          omega (arith, one, taken kept (cases_Bool (is_set r.item)))
-      | inr miss ↦ omega (arith, kept_below plan past r e kept (command_keeps_let plan past r n miss))
-    ] where
-      taken : IsKept (facts_of plan past r) (facts_of plan (event.Command n ∷ past) r) → (is_set r.item ≡ true) ⊎ (is_set r.item ≡ false)
-          → own_left plan (event.Command n ∷ past) r ≤ own_left plan past r + 1
-      taken kept (inl set) =
+-- a command raises what is left of a request by one at most
+command_most : (plan : Plan) (past : List Event) (r : Req) (n : ℕ) → own_left plan (event.Command n ∷ past) r ≤ own_left plan past r + 1
+command_most plan past r n =
+    let next = event.Command n ∷ past in
+    let kept : IsKept (facts_of plan past r) (facts_of plan next r) = others_kept plan past r (event.Command n) refl refl in
+    elim (cases_Bool (is_set r.item)) [
+      | inl set ↦
           omega (
             arith,
             own_left-set plan past r set,
-            own_left-set plan (event.Command n ∷ past) r set,
-            set_left-kept (length (stages_of plan r)) (facts_of plan past r) (facts_of plan (event.Command n ∷ past) r) kept,
+            own_left-set plan next r set,
+            set_left-kept (length (stages_of plan r)) (facts_of plan past r) (facts_of plan next r) kept,
           )
-      taken kept (inr set) =
+      | inr set ↦
           omega (
             arith,
             own_left-program plan past r set,
-            own_left-program plan (event.Command n ∷ past) r set,
-            left-unlet r (facts_of plan past r) (facts_of plan (event.Command n ∷ past) r) kept
-                (λ l. facts-let plan past r ∙ command_lets_not plan past r n (sym (facts-let plan (event.Command n ∷ past) r) ∙ l))
-                (λ l. set),
+            own_left-program plan next r set,
+            left-unlet r (facts_of plan past r) (facts_of plan next r) kept
+                (λ l. facts-let plan past r ∙ command_lets_not plan past r n (sym (facts-let plan next r) ∙ l)) (λ l. set),
           )
+    ]
+
+-- and that of one request alone
+command_one : (plan : Plan) (past : List Event) (r : Req) (n : ℕ)
+    → own_left plan (event.Command n ∷ past) r ≤ own_left plan past r + one_if (taken_by (act_of plan (event.Command n)) == r.number.number)
+command_one plan past r n = elim (cases_Bool (taken_by (act_of plan (event.Command n)) == r.number.number)) [
+  | inl hit ↦
+      let one : one_if (taken_by (act_of plan (event.Command n)) == r.number.number) ≡ 1 = ap one_if hit in
+      omega (arith, one, command_most plan past r n)
+  | inr miss ↦
+      let kept : IsKept (facts_of plan past r) (facts_of plan (event.Command n ∷ past) r) = others_kept plan past r (event.Command n) refl refl in
+      omega (arith, kept_below plan past r (event.Command n) kept (command_keeps_let plan past r n miss))
+]
 
 -- ---- all requests
 
@@ -131,10 +135,10 @@ all_less plan readings past e lawful m n d p =
     (λ r hr. each_below plan readings past r e hr lawful m n d)
 
 -- a command raises it by one at most
-pub all_grow : (plan : Plan) (past : List Event) (n : ℕ) → is_past plan past ≡ true → all_left plan (event.Command n ∷ past) ≤ all_left plan past + 1
-all_grow plan past n lawful =
+pub all_grow : (plan : Plan) (past : List Event) (n : ℕ) → all_left plan (event.Command n ∷ past) ≤ all_left plan past + 1
+all_grow plan past n =
     sum_by-one_more (own_left plan (event.Command n ∷ past)) (own_left plan past) (taken_by (act_of plan (event.Command n))) 1 plan.requests (plan-numbered plan)
-    (λ r hr. command_one plan past r n hr lawful)
+    (λ r hr. command_one plan past r n)
 
 -- five each are enough
 pub all_left-most : (plan : Plan) (past : List Event) → all_left plan past ≤ 5 * length plan.requests
