@@ -1,4 +1,4 @@
-ghost use Rattle.std.specs.Prelude.{◌≡◌, [], ◌∷◌, IfOk, List, OnErr, OnOk, Some};
+ghost use Rattle.std.specs.Prelude.{◌≡◌, [], ◌∷◌, IfOk, List, None, OnErr, OnOk, Some};
 ghost use Rattle.std.specs.Option.{option_map};
 ghost use Rattle.conc_types.specs.declared.event.Event.{Event};
 ghost use Rattle.conc_law.specs.Past.{last_life};
@@ -50,8 +50,10 @@ fn live_on(life: &mut Option<Life>, e: Event, time: Option<Moment>)
 impl<'p> Machine<'p> {
     /// The machine that stands for no events. It takes all the memory that later calls need, but for the
     /// readings.
+    #[tactic(auto, unfolding(crate::specs::Stands::readings_of))]
     pub fn new(alloc: Global, plan: &'p Plan) -> Result<Machine<'p>, NoMemory>
         ensures plan { IfOk result (λ machine. plan_of machine ≡ plan.now) }
+        ensures readings { IfOk result (λ machine. readings_of machine ≡ None) }
         ensures stands { IfOk result (λ machine. Stands machine []) }
     {
         Ok(Machine {

@@ -1,5 +1,6 @@
 mod histories;
 mod plans;
+mod restarts;
 mod side_by_side;
 
 use conc_plan::make_plan;

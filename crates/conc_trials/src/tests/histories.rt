@@ -159,7 +159,7 @@ name = "Three"
 members = ["E"]
 "#;
 
-const ONE_PROGRAM: &str = r#"tables = ["t.csv"]
+pub(super) const ONE_PROGRAM: &str = r#"tables = ["t.csv"]
 
 [[program]]
 name = "P"
@@ -377,6 +377,10 @@ impl<'a> Line<'a> {
                 outcome: self.outcome(rt),
                 extent: self.extent(rt),
             },
+            b"resume" => Event::Resume,
+            b"interrupt" => Event::Interrupt {
+                request: self.request(rt),
+            },
             _ => panic!(rt; "no event"),
         }
     }
@@ -403,7 +407,7 @@ impl<'a> Line<'a> {
     }
 }
 
-fn event(rt: &impl Abort, alloc: Global, text: &str) -> Result<Event, Fail> {
+pub(super) fn event(rt: &impl Abort, alloc: Global, text: &str) -> Result<Event, Fail> {
     Ok(Line::new(alloc, text)?.event(rt))
 }
 

@@ -1,0 +1,10 @@
+pub mod StageCounts
+pub mod NextStage
+pub mod SetsLeft
+pub mod OwnLeft
+pub mod Numbered
+pub mod RequestsLeft
+pub mod Abouts
+pub mod StepsLeft
+pub mod LivesFit
+pub mod ReadSoFar

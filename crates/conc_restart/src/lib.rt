@@ -1,0 +1,13 @@
+//! What a run needs to go on from a journal: the machine that stands for the journal's list, and the
+//! room that the events of one more life need.
+#![tactic(auto)]
+
+mod fail;
+mod laws;
+mod resuming;
+mod room;
+
+pub use fail::CheckFail;
+pub use laws::life_fits_need;
+pub use resuming::resume;
+pub use room::need;
