@@ -1,0 +1,4 @@
+pub mod EachPosition
+pub mod Rooms
+pub mod Cleared
+pub mod Reading
