@@ -18,7 +18,7 @@ use Rattle.conc_law.specs.Readings.{next_reading}
 use Rattle.conc_law.specs.Standing.{standing}
 use Rattle.conc_law.proofs.Positions.{reverse-push, slice_get-some, take-suc_at}
 use Rattle.conc_check.specs.declared.findings.Findings.{Findings}
-use Rattle.conc_check.specs.Findings.{AreFindings}
+use Rattle.conc_check.specs.Findings.{HasTaken}
 use Rattle.conc_check.specs.Positions.{AreLawfulTo, is_lawful_at, known_before}
 
 -- lawful, where the readings of the last life are known, or none are
@@ -130,7 +130,7 @@ positions_lawful plan readings history h =
 
 -- the event at an index may follow those before it where it may come by what is read of them
 pub lawful_here : (plan : Plan) (readings : List Reading) (history : List Event) (i : ℕ) (f : Findings) (e : Event) (next : Option (Option Reading))
-    → slice_get history i ≡ Some e → AreFindings plan (reverse (take i history)) f
+    → slice_get history i ≡ Some e → HasTaken plan (reverse (take i history)) f
     → next ≡ option_map (λ known. next_reading known (reverse (take i history))) (known_before readings (drop (suc i) history))
     → may_come plan f.standing next e ≡ is_lawful_at plan readings history (suc i)
 unfolding may_follow

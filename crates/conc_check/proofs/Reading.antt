@@ -9,7 +9,7 @@ use Rattle.conc_law.specs.Standing.{now, standing}
 use Rattle.conc_facts.specs.Advance.{IsAfter}
 use Rattle.conc_facts.proofs.NextStanding.{standing-next}
 use Rattle.conc_check.specs.declared.findings.Findings.{Findings}
-use Rattle.conc_check.specs.Findings.{AreFindings, earlier_after, ticks_after}
+use Rattle.conc_check.specs.Findings.{HasTaken, earlier_after, ticks_after}
 
 earlier-next : (plan : Plan) (e : Event) (past : List Event)
     → earlier_after (standing plan past).time (now (earlier_lives past)) e ≡ now (earlier_lives (e ∷ past))
@@ -23,10 +23,10 @@ ticks-next event.Resume past = refl
 ticks-next (event.Tick t) past = omega arith
 ticks-next _ past = refl
 
-pub findings-next : (plan : Plan) (old new : Findings) (e : Event) (past : List Event) → IsAfter plan old.standing new.standing e
-    → new.earlier ≡ earlier_after old.standing.time old.earlier e → new.ticks ≡ ticks_after old.ticks e → AreFindings plan past old
-    → AreFindings plan (e ∷ past) new
-findings-next plan old new e past after earlier ticks are = record {
+pub taken-next : (plan : Plan) (old new : Findings) (e : Event) (past : List Event) → IsAfter plan old.standing new.standing e
+    → new.earlier ≡ earlier_after old.standing.time old.earlier e → new.ticks ≡ ticks_after old.ticks e → HasTaken plan past old
+    → HasTaken plan (e ∷ past) new
+taken-next plan old new e past after earlier ticks are = record {
   standing = standing-next plan old.standing new.standing e past after are.standing;
   earlier =
       earlier

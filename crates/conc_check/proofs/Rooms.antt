@@ -11,11 +11,14 @@ use Rattle.conc_law.specs.Past.{last_life}
 use Rattle.conc_law.specs.Readings.{ticks}
 use Rattle.conc_law.specs.Standing.{is_done, standing}
 use Rattle.conc_check.specs.declared.findings.Findings.{Findings}
+use Rattle.conc_check.specs.declared.prepared.Prepared.{Prepared}
 use Rattle.conc_check.specs.Findings.{HasRoom}
 
-pub standing_room : (plan : Plan) (past : List Event) (f : Findings) → f.standing ≡ standing plan past → HasRoom plan f
+pub standing_room : (plan : Plan) (prepared : Prepared) (past : List Event) (f : Findings) → f.standing ≡ standing plan past
+    → length f.live ≡ length prepared.classes.sizes → HasRoom plan prepared f
 unfolding standing
-standing_room plan past f is = record {
+standing_room plan prepared past f is live = record {
+  live = live;
   facts = ap (λ s. length s.facts) is ∙ length-map plan.requests (facts_of plan past);
   done =
       ap (λ s. length s.done) is

@@ -1,18 +1,19 @@
 -- What is read of the events before a position.
-use Rattle.std.specs.Prelude.{◌≡◌, ◌+◌, ℕ, IsTrue, List, Option, is_none, length}
+use Rattle.std.specs.Prelude.{◌≡◌, ◌+◌, ℕ, List, Option, length}
 use Rattle.conc_types.specs.declared.event.Event.{Event}
 use Rattle.conc_types.specs.declared.event.Event.TheVariants as event
 use Rattle.conc_types.specs.declared.event.Moment.{Moment}
 use Rattle.conc_types.specs.declared.plan.Plan.{Plan}
-use Rattle.conc_types.specs.declared.script.Reading.{Reading}
-use Rattle.conc_law.specs.Next.{is_at_rest}
 use Rattle.conc_law.specs.Past.{earlier_lives}
-use Rattle.conc_law.specs.Readings.{next_reading, ticks}
+use Rattle.conc_law.specs.Readings.{ticks}
 use Rattle.conc_law.specs.Standing.{now, standing}
 use Rattle.conc_check.specs.declared.findings.Findings.{Findings}
+use Rattle.conc_check.specs.declared.prepared.Prepared.{Prepared}
+use Rattle.conc_check.specs.Live.{AreLive}
 
--- there is room for what is read of each request and command
-pub record HasRoom (plan : Plan) (f : Findings) : Type 0 where
+-- there is room for what is read of each request and command, and for a live request of each class
+pub record HasRoom (plan : Plan) (prepared : Prepared) (f : Findings) : Type 0 where
+  pub live : length f.live ≡ length prepared.classes.sizes
   pub facts : length f.standing.facts ≡ length plan.requests
   pub done : length f.standing.done ≡ length plan.script.commands
 
@@ -28,11 +29,12 @@ ticks_after n _ = n
 
 -- this is what these events say, the latest of which is given first: what stands, the last tick of the
 -- earlier lives, and how many ticks the last life has
-pub record AreFindings (plan : Plan) (past : List Event) (f : Findings) : Type 0 where
+pub record HasTaken (plan : Plan) (past : List Event) (f : Findings) : Type 0 where
   pub standing : f.standing ≡ standing plan past
   pub earlier : f.earlier ≡ now (earlier_lives past)
   pub ticks : f.ticks ≡ ticks past
 
--- a history is finished, whose events are given with the latest first
-abbrev pub FinishedAfter : Plan → List Reading → List Event → Type 0
-FinishedAfter plan readings past = IsTrue (is_at_rest plan (standing plan past)) × IsTrue (is_none (next_reading readings past))
+-- the same, with a live request of each class
+pub record AreFindings (plan : Plan) (prepared : Prepared) (past : List Event) (f : Findings) : Type 0 where
+  pub taken : HasTaken plan past f
+  pub live : AreLive plan prepared.classes f.standing f.live

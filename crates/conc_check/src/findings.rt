@@ -4,11 +4,14 @@ ghost use Rattle.conc_types.specs.declared.facts.Facts.{Facts};
 ghost use Rattle.conc_facts.specs.Advance.{all_after, IsAfter, one_by};
 ghost use Rattle.conc_law.specs.Standing.{no_facts as no_facts_of, standing as standing_of};
 ghost use Rattle.conc_reach.specs.Spans.{AreSpans, LeavesOthers};
-ghost use Rattle.conc_check.specs.Findings.{AreFindings, earlier_after as earlier_after_of, HasRoom, ticks_after as ticks_after_of};
+ghost use Rattle.conc_check.specs.Findings.{AreFindings, earlier_after as earlier_after_of, HasRoom, HasTaken, ticks_after as ticks_after_of};
+ghost use Rattle.conc_check.specs.Prepared.{IsPrepared};
 
+use crate::live::{note_live, room_for_live};
+use crate::prepared::Prepared;
 use conc_facts::{begin, facts_after, mark_done, named_facts, tick_of, used_after};
 use conc_reach::{Span, Spans};
-use conc_types::{Event, Facts, Moment, NoMemory, Plan, Seq, StageSet, Standing};
+use conc_types::{Event, Facts, Moment, NoMemory, Plan, RequestId, Seq, StageSet, Standing};
 use std::alloc::Global;
 
 /// What is read of the events before a position.
@@ -19,6 +22,8 @@ pub(crate) struct Findings {
     pub earlier: Option<Moment>,
     /// How many ticks the last life has.
     pub ticks: usize,
+    /// For each class a live request of it, or none where it has none.
+    pub live: Seq<Option<RequestId>>,
 }
 
 // ---- no events
@@ -110,20 +115,22 @@ fn ticks_after(ticks: usize, e: Event) -> usize
 
 impl Findings {
     /// What no events say, with room for what any events of the plan say.
-    pub fn new(alloc: Global, plan: &Plan) -> Result<Findings, NoMemory>
-        ensures { IfOk result (HasRoom plan.now) }
+    pub fn new(alloc: Global, plan: &Plan, prepared: &Prepared) -> Result<Findings, NoMemory>
+        ensures { IfOk result (HasRoom plan.now prepared.now) }
     {
         Ok(Findings {
             standing: begin(alloc, plan)?,
             earlier: None,
             ticks: 0,
+            live: room_for_live(alloc, &prepared.classes)?,
         })
     }
 
     // Forgets what was read.
-    fn clear(&mut self, _plan: &Plan)
-        requires { HasRoom _plan.now self.old }
-        ensures { AreFindings _plan.now [] self.new }
+    fn clear(&mut self, _plan: &Plan, _prepared: &Prepared)
+        requires { HasRoom _plan.now _prepared.now self.old }
+        ensures read { HasTaken _plan.now [] self.new }
+        ensures live { self.new.live ≡ self.old.live }
     {
         clear_facts(&mut self.standing.facts);
         clear_flags(&mut self.standing.done);
@@ -138,7 +145,8 @@ impl Findings {
     fn take_in(&mut self, plan: &Plan, spans: &Spans, e: Event)
         requires spans { AreSpans plan.now spans.now }
         requires few { self.old.ticks + 1 < 2 ^ 64 }
-        ensures read { (past : List Event) → AreFindings plan.now past self.old → AreFindings plan.now (e ∷ past) self.new }
+        ensures read { (past : List Event) → HasTaken plan.now past self.old → HasTaken plan.now (e ∷ past) self.new }
+        ensures live { self.new.live ≡ self.old.live }
     {
         self.earlier = earlier_after(self.standing.time, self.earlier, e);
         self.ticks = ticks_after(self.ticks, e);
@@ -146,15 +154,16 @@ impl Findings {
     }
 
     /// Reads these events, from the first one on, and nothing else. It takes no memory.
-    pub fn read(&mut self, plan: &Plan, spans: &Spans, events: &[Event])
-        requires spans { AreSpans plan.now spans.now }
-        requires room { HasRoom plan.now self.old }
-        ensures read { AreFindings plan.now (reverse events.now) self.new }
-        ensures room { HasRoom plan.now self.new }
+    pub fn read(&mut self, plan: &Plan, prepared: &Prepared, events: &[Event])
+        requires prepared { IsPrepared plan.now prepared.now }
+        requires room { HasRoom plan.now prepared.now self.old }
+        ensures read { AreFindings plan.now prepared.now (reverse events.now) self.new }
+        ensures room { HasRoom plan.now prepared.now self.new }
     {
-        self.clear(plan);
+        self.clear(plan, prepared);
         for e in events {
-            self.take_in(plan, spans, *e);
+            self.take_in(plan, &prepared.spans, *e);
         }
+        note_live(plan, &prepared.classes, &self.standing, &mut self.live);
     }
 }

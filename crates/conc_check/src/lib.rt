@@ -5,8 +5,14 @@
 mod checker;
 mod error;
 mod findings;
+mod forcing;
+mod free;
+mod judging;
 mod laws;
+mod lets;
+mod live;
 mod positions;
+mod prepared;
 mod readings;
 
 pub use checker::check;

@@ -3,7 +3,7 @@ ghost use Rattle.std.specs.List.{filter};
 ghost use Rattle.conc_types.specs.declared.event.Event.{Event};
 ghost use Rattle.conc_law.specs.Readings.{next_reading as next_reading_of};
 ghost use Rattle.conc_law.specs.Standing.{is_not_earlier as is_not_earlier_of};
-ghost use Rattle.conc_check.specs.Findings.{AreFindings};
+ghost use Rattle.conc_check.specs.Findings.{HasTaken};
 
 use crate::findings::Findings;
 use conc_decide::is_not_earlier;
@@ -32,7 +32,7 @@ pub(crate) fn next_reading(
     readings: &Readings,
     findings: &Findings,
 ) -> Option<Reading>
-    ensures { (past : List Event) → AreFindings _plan.now past findings.now → result ≡ next_reading_of readings.now.list past }
+    ensures { (past : List Event) → HasTaken _plan.now past findings.now → result ≡ next_reading_of readings.now.list past }
 {
     reading_from(readings.list.as_slice(), findings.earlier, findings.ticks)
 }

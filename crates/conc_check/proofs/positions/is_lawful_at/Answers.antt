@@ -10,5 +10,5 @@ returns c =
     (c.may_come.ensures
     ∙ lawful_here _ c.args.readings.now.list c.args.events.now c.args.i c.args.findings.now _ _
     (slice_get_read _ _ c.args.i c.index-events-i.result refl c.requires.within c.index-events-i.is)
-    c.requires.read
-    (rw (take_rest c.args.events.now (c.args.i + 1), add-one) at (c.known_next-next.ensures (reverse (take c.args.i c.args.events.now)) c.requires.read)))
+    c.requires.read.taken
+    (rw (take_rest c.args.events.now (c.args.i + 1), add-one) at (c.known_next-next.ensures (reverse (take c.args.i c.args.events.now)) c.requires.read.taken)))

@@ -8,11 +8,11 @@ pub take_in-requires-clause-few : goal.take_in-requires-clause-few
 take_in-requires-clause-few c =
     omega (
       arith,
-      c.loop-e.invariant.ticks,
+      c.loop-e.invariant.0.ticks,
       ticks-few (reverse (take c.loop-e.e-index c.args.events.now)),
       length-reverse (take c.loop-e.e-index c.args.events.now),
       length-take-le c.loop-e.e-index c.args.events.now (omega arith),
     )
 
 pub returns-clause-room : goal.returns-clause-room
-returns-clause-room c = standing_room _ _ _ c.loop-e.invariant.standing
+returns-clause-room c = standing_room _ _ _ _ c.loop-e.invariant.0.standing c.note_live.ensures.size
