@@ -14,6 +14,8 @@ mod live;
 mod positions;
 mod prepared;
 mod readings;
+#[cfg(test)]
+mod tests;
 
 pub use checker::check;
 pub use error::CheckFail;
