@@ -1,0 +1,17 @@
+-- Lists of which each element becomes the same value.
+use Rattle.std.proofs.Common.{◌≡◌, ℕ, zero, suc, ◌<◌, List, [], ◌∷◌, ◌++◌, length, map, take, drop, slice_set, refl, ap, arith}
+
+-- one element more
+pub cleared-more : {T : Type 0} (v : T) (xs : List T) (i : ℕ) → i < length xs
+    → slice_set (map (λ (x : T). v) (take i xs) ++ drop i xs) i v ≡ map (λ (x : T). v) (take (suc i) xs) ++ drop (suc i) xs
+cleared-more v [] i h = absurd (omega arith)
+cleared-more v (x ∷ xs) zero h = refl
+cleared-more v (x ∷ xs) (suc i) h = ap (λ l. v ∷ l) (cleared-more v xs i (omega arith))
+
+-- lists of one length
+pub cleared-alike : {S T U : Type 0} (v : U) (xs : List S) (ys : List T) → length xs ≡ length ys
+    → map (λ (x : S). v) xs ≡ map (λ (y : T). v) ys
+cleared-alike v [] [] h = refl
+cleared-alike v [] (y ∷ ys) h = absurd (omega arith)
+cleared-alike v (x ∷ xs) [] h = absurd (omega arith)
+cleared-alike v (x ∷ xs) (y ∷ ys) h = ap (λ l. v ∷ l) (cleared-alike v xs ys (omega arith))

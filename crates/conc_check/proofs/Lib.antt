@@ -1,0 +1,10 @@
+pub mod EachPosition
+pub mod Rooms
+pub mod Cleared
+pub mod Reading
+pub mod Noted
+pub mod FreeOnes
+pub mod Turns
+pub mod Runnable
+pub mod FirstStep
+pub mod Places

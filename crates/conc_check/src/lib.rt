@@ -1,0 +1,22 @@
+//! The judge of a history. Each event is judged by what the events before it say, read anew from the
+//! first of them for each position: nothing that one position says is kept for the next.
+#![tactic(auto)]
+
+mod checker;
+mod error;
+mod findings;
+mod forcing;
+mod free;
+mod judging;
+mod laws;
+mod lets;
+mod live;
+mod positions;
+mod prepared;
+mod readings;
+#[cfg(test)]
+mod tests;
+
+pub use checker::check;
+pub use error::CheckFail;
+pub use laws::lawful_at_each_position;
