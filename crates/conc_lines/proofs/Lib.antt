@@ -1,0 +1,5 @@
+pub mod Splits
+pub mod WholeLines
+pub mod Reading
+pub mod Dots
+pub mod Tables
