@@ -50,11 +50,11 @@ reads_none starts bytes events e = rw e (record {
   shorter = omega arith;
 })
 
-events_more : (starts line : List ℕ) (lines : List (List ℕ)) (e : Event) → event_of_line starts line ≡ Some e → events_in starts (line ∷ lines) ≡ e ∷ events_in starts lines
+pub events_more : (starts line : List ℕ) (lines : List (List ℕ)) (e : Event) → event_of_line starts line ≡ Some e → events_in starts (line ∷ lines) ≡ e ∷ events_in starts lines
 unfolding events_in
 events_more starts line lines e h = rw (none_last starts line e h, h) refl
 
-bad_more : (starts line : List ℕ) (lines : List (List ℕ)) (n : ℕ) (e : Event) → event_of_line starts line ≡ Some e → bad_from starts n (line ∷ lines) ≡ bad_from starts (n + 1) lines
+pub bad_more : (starts line : List ℕ) (lines : List (List ℕ)) (n : ℕ) (e : Event) → event_of_line starts line ≡ Some e → bad_from starts n (line ∷ lines) ≡ bad_from starts (n + 1) lines
 unfolding bad_from
 bad_more starts line lines n e h = rw (none_last starts line e h, h) refl
 

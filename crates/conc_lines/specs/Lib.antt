@@ -2,3 +2,5 @@ pub mod Numbers
 pub mod Places
 pub mod EventLines
 pub mod History
+pub mod Lines
+pub mod ReadBack
