@@ -12,3 +12,4 @@ pub mod PlacesBack
 pub mod ReadBack
 pub mod WholeTexts
 pub mod PastLines
+pub mod Written

@@ -28,7 +28,7 @@ line plan e = spaced (event_words plan e)
 abbrev lines_then : Plan → List Event → List ℕ → List (List ℕ)
 lines_then plan history rest = map (line plan) history ++ codes "--" ∷ whole_lines rest
 
-line_then : (words more : List ℕ) (tail : List ℕ) → (words ++ codes "\n" ++ more) ++ tail ≡ words ++ (10 ∷ (more ++ tail))
+pub line_then : (words more : List ℕ) (tail : List ℕ) → (words ++ codes "\n" ++ more) ++ tail ≡ words ++ (10 ∷ (more ++ tail))
 line_then words more tail = append_assoc (words ++ codes "\n") more tail ∙ append_assoc words (codes "\n") (more ++ tail)
 
 text_lines : (plan : Plan) (history : List Event) (rest : List ℕ) → list_all (has_line plan) history ≡ true
@@ -59,16 +59,16 @@ then_bad plan (e ∷ history) rest n h =
     bad_more (starts_of plan) (line plan e) (lines_then plan history rest) n e (line_back plan e p.0) ∙ then_bad plan history rest (n + 1) p.1
 
 -- how many bytes the lines of these events take
-text_length : Plan → List Event → ℕ
+pub text_length : Plan → List Event → ℕ
 text_length plan history = length (events_text plan history)
 
-length_more : (plan : Plan) (e : Event) (history : List Event) → text_length plan (e ∷ history) ≡ length (line plan e) + 1 + text_length plan history
+pub length_more : (plan : Plan) (e : Event) (history : List Event) → text_length plan (e ∷ history) ≡ length (line plan e) + 1 + text_length plan history
 unfolding text_length events_text
 length_more plan e history =
     length-append (line_of (event_words plan e)) (concat (map (λ d. line_of (event_words plan d)) history))
     ∙ ap (λ (n : ℕ). n + text_length plan history) (length-append (line plan e) (codes "\n"))
 
-length_none : (plan : Plan) → text_length plan [] ≡ 0
+pub length_none : (plan : Plan) → text_length plan [] ≡ 0
 unfolding text_length events_text
 length_none plan = refl
 
@@ -90,7 +90,7 @@ parts_of : (plan : Plan) (history : List Event) → text_of plan history ≡ eve
 unfolding text_of
 parts_of plan history = append_assoc (events_text plan history) (codes "--\n") (table_text plan (reverse history))
 
-table_at : (plan : Plan) (history : List Event) (rest : List ℕ) → drop (0 + text_length plan history + 3) (events_text plan history ++ (45 ∷ 45 ∷ 10 ∷ rest)) ≡ rest
+pub table_at : (plan : Plan) (history : List Event) (rest : List ℕ) → drop (0 + text_length plan history + 3) (events_text plan history ++ (45 ∷ 45 ∷ 10 ∷ rest)) ≡ rest
 unfolding text_length
 table_at plan history rest =
     let front = events_text plan history ++ codes "--\n" in

@@ -1,10 +1,11 @@
-ghost use Rattle.std.specs.Prelude.{◌≡◌, List, Some, IsTrue, ℕ};
+ghost use Rattle.std.specs.Prelude.{◌≡◌, ◌++◌, List, None, Some, IsTrue, codes, drop, ℕ};
 ghost use Rattle.std.specs.List.{list_all};
 ghost use Rattle.conc_types.specs.declared.event.Event.{Event};
 ghost use Rattle.conc_types.specs.declared.plan.Plan.{Plan};
 ghost use Rattle.conc_law.specs.Law.{Past};
-ghost use Rattle.conc_law.specs.Text.{event_words, spaced};
+ghost use Rattle.conc_law.specs.Text.{event_words, events_text, spaced};
 ghost use Rattle.conc_lines.specs.EventLines.{event_of_line};
+ghost use Rattle.conc_lines.specs.History.{history_in};
 ghost use Rattle.conc_lines.specs.Lines.{has_line};
 ghost use Rattle.conc_lines.specs.Places.{starts_of};
 ghost use Rattle.conc_lines.specs.ReadBack.{IsReadBack};
@@ -30,4 +31,11 @@ pub fn lawful_events_have_lines()
 pub fn texts_are_read_back()
     ensures lines { (plan : Plan) (history : List Event) → IsTrue (list_all (has_line plan) history) → IsReadBack plan history }
     ensures lawful { (plan : Plan) (history : List Event) → Past plan history → IsReadBack plan history }
+{}
+
+/// A text that is read without a bad line is the text of the events that are read, as far as the
+/// table.
+pub fn read_texts_have_one_spelling()
+    ensures { (plan : Plan) (bytes : List ℕ) → (history_in (starts_of plan) bytes).bad ≡ None →
+        bytes ≡ events_text plan (history_in (starts_of plan) bytes).events ++ codes "--\n" ++ drop (history_in (starts_of plan) bytes).next bytes }
 {}

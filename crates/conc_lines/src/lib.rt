@@ -14,6 +14,6 @@ mod words;
 pub use history::{Lines, read_history};
 pub use laws::{
     event_lines_are_read_back, event_lines_have_one_spelling, lawful_events_have_lines,
-    texts_are_read_back,
+    read_texts_have_one_spelling, texts_are_read_back,
 };
 pub use starts::starts_of;
