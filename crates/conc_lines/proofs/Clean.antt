@@ -1,9 +1,8 @@
 -- Words without a blank or an end of a line.
-use Rattle.std.proofs.Common.{◌≡◌, refl, sym, ◌∙◌, ap, ◌<◌, ◌≤◌, ◌+◌, ◌/◌, ◌%◌, ◌^◌, ℕ, zero, suc, Bool, true, false, ◌&&◌, ◌==◌, List, [], ◌∷◌, ◌++◌, length, Option, Some, None, subst, arith}
-use Rattle.std.specs.Prelude.{codes, nat_lt, is_some}
+use Rattle.std.proofs.Common.{◌≡◌, refl, ◌∙◌, ap, ◌<◌, ◌≤◌, ◌+◌, ◌%◌, ℕ, Bool, true, false, ◌==◌, List, [], ◌∷◌, ◌++◌, arith}
+use Rattle.std.specs.Prelude.{nat_lt}
 use Rattle.std.specs.Fmt.{decimal}
 use Rattle.std.specs.List.{All, list_all}
-use Rattle.std.specs.Option.{option_map_or}
 use Rattle.std.specs.Str.Parse.{AllDigits}
 use Rattle.std.proofs.lemmas.Bool.{and_from, and_parts, lt-ltb, ltb-true, ne_eqb}
 use Rattle.std.proofs.lemmas.Fmt.{decimal_is_IsNumeral}
@@ -13,7 +12,7 @@ use Rattle.conc_types.specs.declared.event.Moment.{Moment}
 use Rattle.conc_types.specs.declared.event.Outcome.{Outcome}
 use Rattle.conc_types.specs.declared.event.Outcome.TheVariants as outcome
 use Rattle.conc_law.specs.Calendar.{Civil, civil_text}
-use Rattle.conc_law.specs.Moments.{four_digits, moment_text, two_digits}
+use Rattle.conc_law.specs.Moments.{moment_text}
 use Rattle.conc_law.specs.Text.{outcome_word, spaced}
 use Rattle.conc_time.proofs.Dates.{has_civil, text_of}
 use Rattle.conc_lines.specs.EventLines.{words_of}

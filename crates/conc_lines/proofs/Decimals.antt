@@ -1,5 +1,5 @@
 -- Each number has one decimal, and it is read back.
-use Rattle.std.proofs.Common.{◌≡◌, ◌≢◌, refl, sym, ◌∙◌, ap, ◌<◌, ◌≤◌, ◌^◌, ℕ, zero, suc, Bool, true, false, not, ◌&&◌, ◌||◌, ◌==◌, List, [], ◌∷◌, length, get_or, Option, Some, arith}
+use Rattle.std.proofs.Common.{◌≡◌, refl, sym, ◌∙◌, ap, ◌<◌, ◌^◌, ℕ, zero, suc, Bool, true, false, not, ◌&&◌, ◌||◌, ◌==◌, List, [], ◌∷◌, length, get_or, Some, arith}
 use Rattle.std.specs.Prelude.{nat_le, nat_lt}
 use Rattle.std.specs.Bool.{then_some}
 use Rattle.std.specs.Char.{digit_value, is_ascii_digit}
@@ -14,7 +14,6 @@ use Rattle.std.proofs.lemmas.Str.{digit_value_digit}
 use Rattle.std.proofs.lemmas.Str.Parse.{digit_from_value, IsNumeralModel, numerals_by_value, tells_digits}
 use Rattle.conc_types.specs.declared.event.RequestId.{RequestId}
 use Rattle.conc_types.specs.Decimals.{decimal_value, is_decimal}
-use Rattle.conc_types.specs.Words.{is_empty}
 use Rattle.conc_law.specs.Text.{id_word}
 use Rattle.conc_law.proofs.Options.{and_then-some, map-some, then_some-some}
 use Rattle.conc_lines.specs.Numbers.{id_of, number_of, stage_of}

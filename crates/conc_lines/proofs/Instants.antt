@@ -1,5 +1,5 @@
 -- Each moment has one spelling.
-use Rattle.std.proofs.Common.{◌≡◌, refl, sym, ◌∙◌, ap, ◌<◌, ◌%◌, ℕ, Bool, true, List, Option, Some, arith}
+use Rattle.std.proofs.Common.{◌≡◌, ap, ◌<◌, ◌%◌, ℕ, true, List, Some, arith}
 use Rattle.std.specs.Str.{bytes_eq}
 use Rattle.std.proofs.lemmas.Bool.{and_parts}
 use Rattle.std.proofs.lemmas.Option.{cond_some}
@@ -8,7 +8,7 @@ use Rattle.conc_types.specs.declared.event.Moment.{Moment}
 use Rattle.conc_law.specs.Calendar.{Civil, civil_of, civil_text, is_civil, is_spelling, moment_at, moment_of, seconds_of, SpellsMoment}
 use Rattle.conc_law.specs.Moments.{moment_text}
 use Rattle.conc_time.proofs.Dates.{days_in}
-use Rattle.conc_time.proofs.Parts.{IsCivil, parts_of}
+use Rattle.conc_time.proofs.Parts.{parts_of}
 use Rattle.conc_time.proofs.Spellings.{spelled_once}
 
 -- a moment of the calendar is before its end

@@ -1,9 +1,9 @@
 -- Each event of a lawful history has a line.
-use Rattle.std.proofs.Common.{◌≡◌, refl, sym, ◌∙◌, ap, ◌<◌, ◌≤◌, ◌+◌, ◌-◌, ◌^◌, ℕ, zero, suc, Bool, true, false, ◌&&◌, ◌==◌, ◌⊎◌, cond, List, [], ◌∷◌, ◌++◌, length, map, reverse, subst, inl, inr, arith}
+use Rattle.std.proofs.Common.{◌≡◌, refl, sym, ◌∙◌, ap, ◌<◌, ◌≤◌, ◌+◌, ◌^◌, ℕ, zero, suc, Bool, true, false, ◌&&◌, ◌==◌, List, [], ◌∷◌, length, map, reverse, subst, inl, inr, arith}
 use Rattle.std.specs.Prelude.{if◌then◌else◌, nat_le, nat_lt, slice_get, Option, None, Some, is_none, is_some}
-use Rattle.std.specs.List.{enumerate_from, filter_map, find, list_all, list_any}
-use Rattle.std.specs.Option.{option_and_then, option_flatten, option_map, option_or}
-use Rattle.std.proofs.lemmas.Bool.{and_from, and_parts, both_ways, cases_Bool, eqb-true, le-leb, lt-ltb, ltb-true}
+use Rattle.std.specs.List.{enumerate_from, filter_map, find, list_all}
+use Rattle.std.specs.Option.{option_and_then, option_flatten, option_map}
+use Rattle.std.proofs.lemmas.Bool.{and_from, and_parts, both_ways, eqb-true, le-leb, lt-ltb, ltb-true}
 use Rattle.std.proofs.lemmas.List.{reverse-append}
 use Rattle.std.proofs.lemmas.List.Folds.{list_all-append}
 use Rattle.std.proofs.lemmas.List.FromFn.{length-enumerate_from}
@@ -18,8 +18,6 @@ use Rattle.conc_types.specs.declared.event.RequestId.{RequestId}
 use Rattle.conc_types.specs.declared.facts.Standing.{Standing}
 use Rattle.conc_types.specs.declared.plan.Plan.{Plan}
 use Rattle.conc_types.specs.declared.plan.Req.{Req}
-use Rattle.conc_types.specs.declared.script.Order.{Order}
-use Rattle.conc_types.specs.declared.script.Reading.{Reading}
 use Rattle.conc_types.specs.declared.stage.Stage.{Stage}
 use Rattle.conc_types.specs.Plans.{request}
 use Rattle.conc_types.specs.Words.{greatest, is_empty, none_or, numbered, some_and}
@@ -30,7 +28,7 @@ use Rattle.conc_law.specs.Places.{place_of}
 use Rattle.conc_law.specs.Plans.{members, precedes, stages_of}
 use Rattle.conc_law.specs.Readings.{next_reading}
 use Rattle.conc_law.specs.Stages.{after_stage, critical_stages, has_ended, link, link_place, next_stage, of_severity, outcome_at, set_outcome, set_step, severity, stage_outcome, step_from, worst}
-use Rattle.conc_law.specs.Standing.{facts_at, fitting, is_running, is_stopping, standing, used}
+use Rattle.conc_law.specs.Standing.{facts_at, is_running, is_stopping, standing, used}
 use Rattle.conc_law.specs.Words.{first_by, Has}
 use Rattle.conc_law.proofs.Comes.{came, close_comes, comes_allowed, let_comes, Lettable, open_comes, Opened, stage_comes}
 use Rattle.conc_law.proofs.Due.{command_undone, IsUndone}

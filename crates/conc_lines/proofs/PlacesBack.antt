@@ -1,16 +1,14 @@
 -- The word of each place of a plan is read back.
-use Rattle.std.proofs.Common.{◌≡◌, refl, sym, ◌∙◌, ap, ◌<◌, ◌≤◌, ◌+◌, ◌-◌, ℕ, zero, suc, Bool, true, false, ◌&&◌, cond, List, [], ◌∷◌, ◌++◌, length, append_assoc, inl, inr, arith}
-use Rattle.std.specs.Prelude.{◌==◌, codes, nat_le, nat_lt, slice_get, Option, None, Some, is_some}
-use Rattle.std.specs.Bool.{then_some}
+use Rattle.std.proofs.Common.{◌≡◌, refl, ◌∙◌, ap, ◌<◌, ◌≤◌, ◌+◌, ◌-◌, ℕ, suc, true, ◌&&◌, List, [], ◌∷◌, ◌++◌, length, append_assoc, inl, inr, arith}
+use Rattle.std.specs.Prelude.{codes, nat_le, slice_get, Option, None, Some, is_some}
 use Rattle.std.specs.Fmt.{decimal}
 use Rattle.std.specs.List.{sum_by}
-use Rattle.std.specs.Option.{option_and_then, option_map_or}
+use Rattle.std.specs.Option.{option_map_or}
 use Rattle.std.proofs.lemmas.Bool.{and_from, cases_lt, le-leb, le-ltb, lt-ltb}
 use Rattle.std.proofs.lemmas.List.Sums.{sum_by-cons}
 use Rattle.conc_types.specs.declared.event.PlaceId.{PlaceId}
 use Rattle.conc_types.specs.declared.manager.Manager.{Manager}
 use Rattle.conc_types.specs.declared.plan.Plan.{Plan}
-use Rattle.conc_types.specs.Decimals.{decimal_value}
 use Rattle.conc_types.specs.Shifts.{most_places}
 use Rattle.conc_types.specs.Words.{numbered}
 use Rattle.conc_law.specs.Places.{Place, place_from, place_of as place_of_plan}

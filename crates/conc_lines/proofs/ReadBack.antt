@@ -1,19 +1,17 @@
 -- The line of an event is read back.
-use Rattle.std.proofs.Common.{◌≡◌, refl, sym, ◌∙◌, ap, ◌<◌, ◌^◌, ℕ, Bool, true, false, ◌&&◌, List, [], ◌∷◌, arith}
+use Rattle.std.proofs.Common.{◌≡◌, refl, ◌∙◌, ap, ◌<◌, ◌^◌, ℕ, true, ◌&&◌, List, [], ◌∷◌, arith}
 use Rattle.std.specs.Prelude.{codes, nat_le, nat_lt, Option, None, Some, is_some}
 use Rattle.std.specs.Fmt.{decimal}
 use Rattle.std.specs.List.{list_all}
-use Rattle.std.specs.Option.{option_and_then, option_map}
 use Rattle.std.proofs.lemmas.Bool.{and_from, and_parts, ltb-true}
 use Rattle.conc_types.specs.declared.event.Event.{Event}
 use Rattle.conc_types.specs.declared.event.Event.TheVariants as event
 use Rattle.conc_types.specs.declared.event.Extent.{Extent}
 use Rattle.conc_types.specs.declared.event.Outcome.{Outcome}
 use Rattle.conc_types.specs.declared.event.Outcome.TheVariants as outcome
-use Rattle.conc_types.specs.declared.event.PlaceId.{PlaceId}
 use Rattle.conc_types.specs.declared.event.RequestId.{RequestId}
 use Rattle.conc_types.specs.declared.plan.Plan.{Plan}
-use Rattle.conc_law.specs.Next.{is_report_outcome, is_terminated}
+use Rattle.conc_law.specs.Next.{is_report_outcome}
 use Rattle.conc_law.specs.Places.{place_of as place_of_plan}
 use Rattle.conc_law.specs.Text.{event_words, extent_words, id_word, outcome_word, place_word, spaced}
 use Rattle.conc_time.proofs.Spellings.{spelled_once, spells_is_read}
@@ -22,8 +20,8 @@ use Rattle.conc_law.specs.Moments.{moment_text}
 use Rattle.conc_types.specs.declared.event.Moment.{Moment}
 use Rattle.conc_lines.specs.EventLines.{bare_event, event_of_line, event_of_words, long_event, report_event, short_event, words_of}
 use Rattle.conc_lines.specs.Lines.{ends_so, has_line, is_small}
-use Rattle.conc_lines.specs.Numbers.{extent_of, id_of, outcome_of, stage_of}
-use Rattle.conc_lines.specs.Places.{place_of, starts_of}
+use Rattle.conc_lines.specs.Numbers.{extent_of, outcome_of}
+use Rattle.conc_lines.specs.Places.{starts_of}
 use Rattle.conc_lines.proofs.Clean.{clean_decimal, clean_moment, clean_outcome, is_clean, words_back}
 use Rattle.conc_lines.proofs.Decimals.{decimal_back, id_back, number_back, stage_back}
 use Rattle.conc_lines.proofs.PlacesBack.{clean_place, place_back}

@@ -1,6 +1,6 @@
 -- An event line has one spelling.
-use Rattle.std.proofs.Common.{◌≡◌, refl, sym, ◌∙◌, ap, ℕ, Bool, true, false, cond, List, [], ◌∷◌}
-use Rattle.std.specs.Prelude.{codes, if◌then◌else◌, Option, None, Some}
+use Rattle.std.proofs.Common.{◌≡◌, refl, sym, ◌∙◌, ap, ℕ, true, false, cond, List, [], ◌∷◌}
+use Rattle.std.specs.Prelude.{codes, Option, None, Some}
 use Rattle.std.specs.Bool.{then_some}
 use Rattle.std.specs.Fmt.{decimal}
 use Rattle.std.specs.Option.{option_and_then, option_map}
@@ -12,12 +12,10 @@ use Rattle.conc_types.specs.declared.event.Event.TheVariants as event
 use Rattle.conc_types.specs.declared.event.Extent.{Extent}
 use Rattle.conc_types.specs.declared.event.Outcome.{Outcome}
 use Rattle.conc_types.specs.declared.event.Outcome.TheVariants as outcome
-use Rattle.conc_types.specs.declared.event.PlaceId.{PlaceId}
-use Rattle.conc_types.specs.declared.event.RequestId.{RequestId}
 use Rattle.conc_types.specs.declared.plan.Plan.{Plan}
 use Rattle.conc_types.specs.Decimals.{decimal_value}
 use Rattle.conc_law.specs.Calendar.{moment_of}
-use Rattle.conc_law.specs.Text.{event_words, extent_words, id_word, outcome_word, place_word, spaced}
+use Rattle.conc_law.specs.Text.{event_words, extent_words, id_word, outcome_word, spaced}
 use Rattle.conc_law.proofs.Options.{and_then-some, map-some, then_some-some}
 use Rattle.conc_lines.specs.EventLines.{bare_event, event_of_line, event_of_words, long_event, report_event, short_event, words_of}
 use Rattle.conc_lines.specs.Numbers.{extent_of, id_of, number_of, outcome_of, stage_of}

@@ -1,15 +1,13 @@
 -- Texts that are cut at the first of some bytes.
-use Rattle.std.proofs.Common.{◌≡◌, refl, sym, ◌∙◌, ap, ◌<◌, ◌≤◌, ◌+◌, ◌-◌, ℕ, zero, suc, Bool, true, false, cond, List, [], ◌∷◌, ◌++◌, length, get_or, take, drop, subst, rules, arith}
-use Rattle.std.specs.Prelude.{◌==◌, nat_lt, position, Option, None, Some}
+use Rattle.std.proofs.Common.{◌≡◌, refl, ◌∙◌, ap, ◌<◌, ◌≤◌, ◌-◌, ℕ, zero, suc, Bool, true, false, cond, List, [], ◌∷◌, ◌++◌, length, get_or, take, drop, rules, arith}
+use Rattle.std.specs.Prelude.{◌==◌, nat_lt, position, None, Some}
 use Rattle.std.specs.List.{All, onto_first, position_or_len, slice_split}
-use Rattle.std.specs.Option.{IfNone, IfSome, MatchOption}
 use Rattle.std.proofs.lemmas.Bool.{eqb-true, ltb-false}
-use Rattle.std.proofs.lemmas.List.{drop-drop, get_or-take, take_rest}
+use Rattle.std.proofs.lemmas.List.{drop-drop, take_rest}
 use Rattle.std.proofs.lemmas.List.Quantifiers.{position-Some}
 use Rattle.std.proofs.lemmas.List.Splits.{slice_split_at, slice_split_none}
 use Rattle.std.proofs.lemmas.List.Sums.{fails_before_first}
 use Rattle.std.proofs.Math.Numerals.{add-one}
-use denote.Ref.{Bor}
 
 past_end : (n most : ℕ) → cond (nat_lt n most) (Some n) None ≡ None → most ≤ n
 past_end n most e = elim (nat_lt n most) as (λ b. nat_lt n most ≡ b → cond b (Some n) None ≡ None → most ≤ n) [ true ↦ (λ h k. absurd cc) | false ↦ (λ h k. ltb-false n most h) ] refl e

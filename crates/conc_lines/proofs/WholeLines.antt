@@ -1,6 +1,6 @@
 -- The first line of a text.
-use Rattle.std.proofs.Common.{◌≡◌, refl, sym, ◌∙◌, ap, ◌<◌, ◌+◌, ℕ, zero, suc, Bool, true, false, List, [], ◌∷◌, ◌++◌, length, get_or, arith}
-use Rattle.std.specs.Prelude.{◌==◌, if◌then◌else◌, Option, None, Some}
+use Rattle.std.proofs.Common.{◌≡◌, refl, ap, ℕ, suc, false, List, [], ◌∷◌, ◌++◌, arith}
+use Rattle.std.specs.Prelude.{◌==◌, Option, None, Some}
 use Rattle.std.specs.List.{All}
 use Rattle.std.specs.Option.{IfNone, IfSome, MatchOption}
 use denote.Ref.{Bor}

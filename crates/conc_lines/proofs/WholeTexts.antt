@@ -1,5 +1,5 @@
 -- The events of a history are read back from its text.
-use Rattle.std.proofs.Common.{◌≡◌, refl, sym, ◌∙◌, ap, ◌<◌, ◌≤◌, ◌+◌, ◌-◌, ℕ, zero, suc, Bool, true, false, ◌&&◌, List, [], ◌∷◌, ◌++◌, length, drop, map, reverse, append_assoc, arith}
+use Rattle.std.proofs.Common.{◌≡◌, refl, sym, ◌∙◌, ap, ◌+◌, ℕ, true, List, [], ◌∷◌, ◌++◌, length, drop, map, reverse, append_assoc, arith}
 use Rattle.std.specs.Prelude.{codes, Option, None, Some, unwrap_or}
 use Rattle.std.specs.List.{concat, list_all}
 use Rattle.std.proofs.lemmas.Bool.{and_parts}
@@ -8,8 +8,7 @@ use Rattle.std.proofs.Math.Seq.{drop-append_seam}
 use Rattle.conc_types.specs.declared.event.Event.{Event}
 use Rattle.conc_types.specs.declared.plan.Plan.{Plan}
 use Rattle.conc_law.specs.Text.{event_words, events_text, line_of, spaced, table_text, text_of}
-use Rattle.conc_lines.specs.EventLines.{event_of_line}
-use Rattle.conc_lines.specs.History.{bad_from, events_in, history_in, is_last, offset_after, whole_lines}
+use Rattle.conc_lines.specs.History.{bad_from, events_in, history_in, offset_after, whole_lines}
 use Rattle.conc_lines.specs.Lines.{has_line}
 use Rattle.conc_lines.specs.Places.{starts_of}
 use Rattle.conc_lines.specs.ReadBack.{IsReadBack}

@@ -1,12 +1,11 @@
 -- A text that is read without a bad line is the text of its events, as far as the table.
-use Rattle.std.proofs.Common.{◌≡◌, refl, sym, ◌∙◌, ap, ◌+◌, ℕ, zero, suc, Bool, true, false, ◌==◌, cond, List, [], ◌∷◌, ◌++◌, length, drop, append_assoc, arith}
-use Rattle.std.specs.Prelude.{codes, if◌then◌else◌, Option, None, Some, is_some, unwrap_or}
+use Rattle.std.proofs.Common.{◌≡◌, refl, sym, ◌∙◌, ap, ◌+◌, ℕ, true, false, ◌==◌, cond, List, [], ◌∷◌, ◌++◌, length, drop, append_assoc, arith}
+use Rattle.std.specs.Prelude.{codes, Option, None, Some, unwrap_or}
 use Rattle.std.proofs.lemmas.Bool.{eqb-true}
-use Rattle.std.proofs.lemmas.List.{length-append}
 use Rattle.std.proofs.lemmas.Slice.Eq.{bytes_eq-Decides}
 use Rattle.conc_types.specs.declared.event.Event.{Event}
 use Rattle.conc_types.specs.declared.plan.Plan.{Plan}
-use Rattle.conc_law.specs.Text.{event_words, events_text, line_of, spaced}
+use Rattle.conc_law.specs.Text.{event_words, events_text, spaced}
 use Rattle.conc_lines.specs.EventLines.{event_of_line}
 use Rattle.conc_lines.specs.History.{bad_from, events_in, history_in, is_last, offset_after, onto_first, whole_lines}
 use Rattle.conc_lines.specs.Places.{starts_of}

@@ -1,6 +1,12 @@
+ghost use Rattle.std.specs.Prelude.{◌≡◌, [], ◌∷◌, IfOk};
+
 use super::*;
 use crate::event::event_of;
-use conc_types::{Event, Extent, Moment, Outcome, PlaceId, RequestId};
+use conc_types::{
+    Event, Extent, Manager, Moment, Name, NoMemory, Outcome, PlaceId, Plan, RequestId, Script, Seq,
+    Setup, is_name,
+};
+use std::alloc::Global;
 use std::process::Abort;
 use std::test::Fail;
 
@@ -176,5 +182,66 @@ fn reads_a_worked_history(rt: HostRuntime) -> Result<(), Fail> {
         events.last().copied(),
         Some(ended(1, Outcome::Normal, Some((0, 39))))
     );
+    Ok(())
+}
+
+fn none<T>(alloc: Global) -> Seq<T>
+    ensures { result ≡ [] }
+{
+    Seq::from_vec(Vec::new(alloc))
+}
+
+fn one<T: Drop>(alloc: Global, item: T) -> Result<Seq<T>, NoMemory>
+    ensures { IfOk result (λ items. items ≡ item ∷ []) }
+{
+    let mut items = Vec::new(alloc);
+    items.push(item)?;
+    Ok(Seq::from_vec(items))
+}
+
+// A manager without a rule and without a shift.
+fn manager(rt: &impl Abort, alloc: Global) -> Result<Manager, NoMemory>
+    ensures include { IfOk result (λ manager. manager.include ≡ []) }
+    ensures exclude { IfOk result (λ manager. manager.exclude ≡ []) }
+    ensures shifts { IfOk result (λ manager. manager.shifts ≡ []) }
+{
+    let name = b"a".to_vec(alloc)?;
+    assert!(rt; is_name(name.as_slice()));
+    Ok(Manager {
+        name: Name::from_vec(name),
+        include: none(alloc),
+        exclude: none(alloc),
+        shifts: none(alloc),
+    })
+}
+
+fn setup(rt: &impl Abort, alloc: Global) -> Result<Setup, NoMemory>
+    ensures tables { IfOk result (λ setup. setup.tables ≡ []) }
+    ensures programs { IfOk result (λ setup. setup.programs ≡ []) }
+{
+    Ok(Setup {
+        tables: none(alloc),
+        programs: none(alloc),
+        entries: none(alloc),
+        managers: one(alloc, manager(rt, alloc)?)?,
+        sets: none(alloc),
+    })
+}
+
+fn plan(rt: &impl Abort, alloc: Global) -> Result<Plan, NoMemory> {
+    Ok(Plan {
+        setup: setup(rt, alloc)?,
+        script: Script {
+            commands: none(alloc),
+        },
+        tables: none(alloc),
+        requests: none(alloc),
+    })
+}
+
+#[test]
+fn makes_the_table_of_places(rt: HostRuntime) -> Result<(), Fail> {
+    let starts = starts_of(rt.alloc(), &plan(&rt, rt.alloc())?)?;
+    assert_eq!(rt; starts.as_slice(), [0, 1].as_slice());
     Ok(())
 }

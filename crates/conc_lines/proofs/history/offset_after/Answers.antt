@@ -1,4 +1,4 @@
-use Rattle.std.proofs.Common.{arith, sym, ◌∙◌}
+use Rattle.std.proofs.Common.{arith, sym}
 use Rattle.conc_lines.proofs.Reading.{offset_end, offset_found, offset_later}
 use Rattle.conc_lines.proofs.history.offset_after.Goals as goal
 

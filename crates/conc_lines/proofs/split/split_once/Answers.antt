@@ -1,4 +1,4 @@
-use Rattle.std.proofs.Common.{sym, ◌∙◌}
+use Rattle.std.proofs.Common.{sym}
 use Rattle.conc_lines.proofs.Splits.{first_at, lacks_at, parts_at}
 use Rattle.conc_lines.proofs.split.split_once.Goals as goal
 

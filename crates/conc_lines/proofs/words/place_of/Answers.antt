@@ -1,6 +1,4 @@
-use Rattle.std.proofs.Common.{◌≡◌, ◌∙◌, sym, Option, None}
-use Rattle.conc_types.specs.Decimals.{decimal_value}
-use Rattle.conc_lines.specs.Places.{place_of as place_of_word}
+use Rattle.std.proofs.Common.{◌∙◌, sym}
 use Rattle.conc_lines.proofs.Dots.{no_place, place_round}
 use Rattle.conc_lines.proofs.words.place_of.Goals as goal
 
