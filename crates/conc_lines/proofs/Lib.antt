@@ -1,0 +1,15 @@
+pub mod Splits
+pub mod WholeLines
+pub mod Reading
+pub mod Dots
+pub mod Tables
+pub mod Decimals
+pub mod Instants
+pub mod PlaceNumbers
+pub mod Spelled
+pub mod Clean
+pub mod PlacesBack
+pub mod ReadBack
+pub mod WholeTexts
+pub mod PastLines
+pub mod Written

@@ -1,0 +1,6 @@
+pub mod Numbers
+pub mod Places
+pub mod EventLines
+pub mod History
+pub mod Lines
+pub mod ReadBack

@@ -1,0 +1,19 @@
+//! The reader of a history's text, and laws on it. Each function of `laws` has an empty body; its
+//! contract is the law.
+#![tactic(auto)]
+
+mod event;
+mod history;
+mod laws;
+mod split;
+mod starts;
+#[cfg(test)]
+mod tests;
+mod words;
+
+pub use history::{Lines, read_history};
+pub use laws::{
+    event_lines_are_read_back, event_lines_have_one_spelling, lawful_events_have_lines,
+    read_texts_have_one_spelling, texts_are_read_back,
+};
+pub use starts::starts_of;
