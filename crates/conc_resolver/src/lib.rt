@@ -1,7 +1,6 @@
 //! The run: it makes the history of a plan, event by event.
 #![tactic(auto)]
 
-mod choosing;
 mod running;
 
 pub use running::run_alone;

@@ -6,7 +6,7 @@ ghost use Rattle.conc_law.specs.Remaining.{remaining};
 ghost use Rattle.conc_machine.specs.Stands.{plan_of, readings_of, Stands};
 ghost use Rattle.conc_resolver.specs.SoFar.{SoFar};
 
-use crate::choosing::next_event;
+use conc_choice::next_event;
 use conc_law::{alone_finishes, choice_is_lawful, each_event_uses_up, lawful_is_past};
 use conc_machine::Machine;
 use conc_types::{Event, NoMemory, Plan, Readings};
@@ -31,6 +31,22 @@ fn take_in(run: &mut Run, e: Event) -> Result<(), NoMemory>
     Ok(())
 }
 
+// The event that comes next, if one does.
+fn next(
+    alloc: Global,
+    plan: &Plan,
+    readings: &Readings,
+    run: &Run,
+) -> Result<Option<Event>, NoMemory>
+    requires { SoFar plan.now readings.now run.now }
+    ensures { IfOk result (λ e. e ≡ next_alone plan.now readings.now.list (reverse run.now.events.items)) }
+{
+    match next_event(alloc, plan, &run.machine)? {
+        Some(next) => Ok(Some(next.event)),
+        None => Ok(None),
+    }
+}
+
 // Adds the event that comes next, and says whether there was one.
 fn step(alloc: Global, plan: &Plan, readings: &Readings, run: &mut Run) -> Result<bool, NoMemory>
     requires { SoFar plan.now readings.now run.old }
@@ -43,7 +59,7 @@ fn step(alloc: Global, plan: &Plan, readings: &Readings, run: &mut Run) -> Resul
     lawful_is_past();
     alone_finishes();
     each_event_uses_up();
-    match next_event(alloc, plan, readings, run)? {
+    match next(alloc, plan, readings, run)? {
         None => Ok(false),
         Some(e) => {
             take_in(run, e)?;

@@ -4,7 +4,7 @@ use Rattle.conc_resolver.proofs.running.step.Goals as goal
 
 pub returns-in_ok-take_in-in-Some-clause-more : goal.returns-in_ok-take_in-in-Some-clause-more
 returns-in_ok-take_in-in-Some-clause-more c =
-    let next : _ = sym c.in_ok-next_event.ensures ∙ c.in-Some.is in
+    let next : _ = sym c.in_ok-next.ensures ∙ c.in-Some.is in
     let took = c.in_ok-take_in-in-Some.ensures in
     SoFar-push c.args.plan.now c.args.readings.now c.args.run.now c.take_in.new.run c.in-Some.e c.requires next
     (c.choice_is_lawful.ensures c.args.plan.now c.args.readings.now.list c.args.run.now.events.items c.in-Some.e next)
