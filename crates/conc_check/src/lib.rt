@@ -14,8 +14,6 @@ mod live;
 mod positions;
 mod prepared;
 mod readings;
-#[cfg(test)]
-mod tests;
 
 pub use checker::check;
 pub use error::CheckFail;

@@ -1,4 +1,4 @@
-//! Trials of the machine over whole plans.
+//! Trials of the machine, of the judge and of journals over whole plans.
 #![tactic(auto)]
 
 #[cfg(test)]

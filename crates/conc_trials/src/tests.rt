@@ -1,4 +1,5 @@
 mod histories;
+mod judgements;
 mod plans;
 mod restarts;
 mod side_by_side;

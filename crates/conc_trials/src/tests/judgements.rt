@@ -1,15 +1,10 @@
 use super::*;
-use conc_plan::make_plan;
-use conc_script::{read_clock, read_script};
-use conc_setup::read_setup;
-use conc_tables::read_table;
-use conc_types::{Event, Extent, Moment, Outcome, PlaceId, Plan, RequestId, Seq};
-use std::alloc::Global;
-use std::process::Abort;
-use std::test::Fail;
+use conc_check::{CheckFail, check};
+use conc_types::{Event, Extent, Moment, Outcome, PlaceId, RequestId};
 
 // P never runs beside itself. Two places.
-const SETUP: &str = r#"tables = ["t.csv"]
+const JUDGED: Texts = Texts {
+    setup: r#"tables = ["t.csv"]
 
 [[program]]
 name = "P"
@@ -27,26 +22,15 @@ with = "P"
 [[manager]]
 name = "M"
 shift = [{ places = 2 }]
-"#;
-
-const SCRIPT: &str = "at,do,what,user,priority,start,domain,argument
-2025-03-03T09:00:00,submit,P,ann,,,,
+"#,
+    script: "2025-03-03T09:00:00,submit,P,ann,,,,
 2025-03-03T09:00:00,submit,P,ann,,,,
 2025-03-03T09:00:00,submit,Q,ann,,,,
-";
+",
+    clock: "2025-03-03T09:00:00\n2025-03-03T09:05:00 !\n",
+};
 
-const CLOCK: &str = "2025-03-03T09:00:00\n2025-03-03T09:05:00 !\n";
-
-const NINE: u64 = 63876589200;
-
-fn plan_of(rt: &impl Abort, alloc: Global) -> Result<Plan, Fail> {
-    let setup = read_setup(alloc, SETUP.as_bytes())?;
-    let script = read_script(alloc, SCRIPT.as_bytes(), &setup)?;
-    let mut tables = Vec::new(alloc);
-    tables.push(read_table(alloc, b"k,v\na,10\n", 1)?)?;
-    assert_eq!(rt; tables.len(), setup.tables.len());
-    Ok(make_plan(alloc, setup, script, Seq::from_vec(tables))?)
-}
+const NINE: u64 = 63_876_589_200;
 
 // ---- events
 
@@ -191,8 +175,8 @@ fn cases() -> [(usize, Change, Result<bool, CheckFail>); 11] {
 #[test]
 fn names_the_first_event_that_may_not_stand_there(rt: HostRuntime) -> Result<(), Fail> {
     let alloc = rt.alloc();
-    let plan = plan_of(&rt, alloc)?;
-    let readings = read_clock(alloc, CLOCK.as_bytes())?;
+    let plan = plan_of(&rt, alloc, JUDGED)?;
+    let readings = readings_of(alloc, JUDGED)?;
     for (position, change, want) in cases() {
         let events = changed(&rt, alloc, position, change)?;
         let answer = check(alloc, &plan, &readings, &events);
