@@ -4,7 +4,8 @@ ghost use Rattle.conc_journal.specs.declared.journal.Stage.TheVariants.{Begun};
 
 use super::*;
 use conc_disk::{Disk, MemDisk};
-use conc_types::{Event, Moment};
+use conc_image::has_record;
+use conc_types::{Event, Extent, Moment, Outcome, PlaceId, RequestId};
 use std::alloc::Global;
 use std::process::Abort;
 use std::sync::Wait;
@@ -166,6 +167,217 @@ fn after_a_fault_nothing_is_added(rt: HostRuntime) -> Result<(), Fail> {
         assert_eq!(rt; again.broken, None);
         // The gate was written before the last call.
         assert_eq!(rt; again.events.len(), usize::from(call == 14), "{call}");
+    }
+    Ok(())
+}
+
+// ---- nine records
+
+// A record behind an open gate, whose numbers are below 256.
+fn record(kind: u8, outcome: u8, first: u8, offset: u8, length: u8) -> [u8; 32] {
+    let mut bytes = [0; 32];
+    bytes[0] = 1;
+    bytes[1] = kind;
+    bytes[2] = outcome;
+    bytes[7] = first;
+    bytes[19] = offset;
+    bytes[23] = length;
+    bytes
+}
+
+// A program that is incompatible with itself is submitted twice, and runs at the one place.
+fn in_turn() -> [Event; 9] {
+    let one = RequestId { number: 1 };
+    let two = RequestId { number: 2 };
+    let place = PlaceId { index: 0 };
+    let end = |request, offset| Event::Ended {
+        request,
+        outcome: Outcome::Normal,
+        extent: Some(Extent { offset, length: 39 }),
+    };
+    [
+        TICK,
+        COMMAND,
+        Event::Command { number: 2 },
+        Event::LetOut { request: one },
+        Event::Started {
+            request: one,
+            place,
+        },
+        end(one, 0),
+        Event::LetOut { request: two },
+        Event::Started {
+            request: two,
+            place,
+        },
+        end(two, 39),
+    ]
+}
+
+// The journal of these events: 353 bytes.
+fn nine_records(alloc: Global) -> Result<Vec<u8>, Fail> {
+    let mut bytes = TWO_RECORDS.to_vec(alloc)?;
+    for record in [
+        record(2, 0, 2, 0, 0),
+        record(6, 0, 1, 0, 0),
+        record(7, 0, 1, 0, 0),
+        record(8, 1, 1, 0, 39),
+        record(6, 0, 2, 0, 0),
+        record(7, 0, 2, 0, 0),
+        record(8, 1, 2, 39, 39),
+    ] {
+        bytes.extend_from_slice(&record)?;
+    }
+    bytes.push(0)?;
+    Ok(bytes)
+}
+
+fn append_all<Rt: Abort>(
+    rt: &Rt,
+    journal: &mut Journal,
+    disk: &mut MemDisk,
+    events: &[Event],
+) -> Result<(), Fail>
+    requires { IsOn journal.old (⟦<MemDisk as Disk>⟧.state disk.old) }
+{
+    let Some((event, rest)) = events.split_first() else {
+        return Ok(());
+    };
+    assert!(rt; journal.takes_events() && journal.room() > 0 && has_record(event));
+    journal.append(disk, *event)?;
+    append_all(rt, journal, disk, rest)
+}
+
+#[test]
+fn nine_records_have_353_bytes(rt: HostRuntime) -> Result<(), Fail> {
+    let alloc = rt.alloc();
+    let mut disk = disk_of(alloc, b"", &[])?;
+    let mut journal = begun(&rt, alloc, &mut disk)?;
+    assert!(rt; journal.events().is_empty());
+    journal.reserve(9)?;
+    append_all(&rt, &mut journal, &mut disk, &in_turn())?;
+    assert_eq!(rt; disk.len(), Ok(353));
+    let mut bytes = [0; 353];
+    disk.read(0, &mut bytes)?;
+    assert_eq!(rt; bytes.as_slice(), nine_records(alloc)?.as_slice());
+    let opened = Journal::open_on(alloc, &mut disk)?;
+    assert_eq!(rt; opened.events.as_slice(), in_turn().as_slice());
+    Ok(())
+}
+
+// What is found: whether a journal is begun, how many events it has, and the record that is broken.
+type Told = Result<(bool, usize, Option<u64>), JournalFail>;
+
+fn told(alloc: Global, bytes: &[u8]) -> Result<Told, Fail> {
+    let mut disk = disk_of(alloc, bytes, &[])?;
+    Ok(match Journal::open_on(alloc, &mut disk) {
+        Ok(opened) => Ok((opened.digest.is_some(), opened.events.len(), opened.broken)),
+        Err(fail) => Err(fail),
+    })
+}
+
+#[test]
+fn each_length_is_told(rt: HostRuntime) -> Result<(), Fail> {
+    let alloc = rt.alloc();
+    let bytes = nine_records(alloc)?;
+    for length in 0..354 {
+        let want = match length {
+            0..2 => Ok((false, 0, None)),
+            2..65 => Err(JournalFail::NotJournal),
+            65..353 => {
+                let whole = (length - 65) / 32;
+                Ok((true, whole, Some(whole as u64 + 1)))
+            }
+            _ => Ok((true, 9, None)),
+        };
+        assert!(rt; length <= bytes.len());
+        assert_eq!(rt; told(alloc, &bytes[..length])?, want, "{length}");
+    }
+    Ok(())
+}
+
+#[test]
+fn each_gate_is_told(rt: HostRuntime) -> Result<(), Fail> {
+    let alloc = rt.alloc();
+    let bytes = nine_records(alloc)?;
+    assert_eq!(rt; bytes.len(), 353);
+    for value in 0..=255 {
+        let shut = value == 0;
+        let mut last = bytes.clone()?;
+        last[320] = value;
+        let count = if shut { 8 } else { 9 };
+        assert_eq!(rt; told(alloc, &last)?, Ok((true, count, None)), "{value}");
+        let mut header = bytes.clone()?;
+        header[0] = value;
+        let count = if shut { 0 } else { 9 };
+        assert_eq!(rt; told(alloc, &header)?, Ok((!shut, count, None)), "{value}");
+    }
+    Ok(())
+}
+
+// A record of each kind with all that its events use, and where of its bytes behind the gate nothing but 0
+// may stand.
+fn kinds() -> [([u8; 32], &'static [u8; 31]); 11] {
+    [
+        (record(1, 0, 0, 9, 0), b"x..........xxxxxxxx............"),
+        (record(2, 0, 9, 0, 0), b"x..xxxx........................"),
+        (record(3, 0, 9, 0, 0), b"x..xxxx........................"),
+        (record(4, 0, 9, 0, 0), b"x..xxxxxxxx...................."),
+        (record(5, 2, 9, 0, 0), b"xx.xxxx........................"),
+        (record(6, 0, 9, 0, 0), b"x..xxxx........................"),
+        (record(7, 0, 9, 0, 0), b"x..xxxxxxxx...................."),
+        (record(8, 3, 9, 9, 9), b"xx.xxxx....xxxxxxxxxxxx........"),
+        (record(8, 4, 9, 0, 0), b"xx.xxxx........................"),
+        (record(9, 0, 0, 0, 0), b"x.............................."),
+        (record(10, 0, 9, 0, 0), b"x..xxxx........................"),
+    ]
+}
+
+#[test]
+fn each_broken_spelling_is_told(rt: HostRuntime) -> Result<(), Fail> {
+    let alloc = rt.alloc();
+    for (good, used) in kinds() {
+        let mut bytes = nine_records(alloc)?;
+        assert_eq!(rt; bytes.len(), 353);
+        bytes[128..160].copy_from_slice(&good);
+        assert_eq!(rt; told(alloc, &bytes)?, Ok((true, 9, None)), "{good:?}");
+        for at in 0..31 {
+            if used[at] == b'.' {
+                bytes[129 + at] = 1;
+                assert_eq!(rt;
+                    told(alloc, &bytes)?,
+                    Ok((true, 2, Some(3))),
+                    "{at} of {good:?}"
+                );
+                bytes[129 + at] = 0;
+            }
+        }
+    }
+    Ok(())
+}
+
+#[test]
+fn each_value_out_of_range_is_told(rt: HostRuntime) -> Result<(), Fail> {
+    let alloc = rt.alloc();
+    for broken in [
+        record(0, 0, 0, 0, 0),
+        record(11, 0, 0, 0, 0),
+        record(200, 0, 0, 0, 0),
+        // A set closes as Normal, Warning or Error.
+        record(5, 0, 9, 0, 0),
+        record(5, 4, 9, 0, 0),
+        // An end with a report has one of these outcomes and some bytes.
+        record(8, 0, 9, 9, 9),
+        record(8, 5, 9, 9, 9),
+        record(8, 1, 9, 9, 0),
+        // One without a report has neither.
+        record(8, 4, 9, 0, 9),
+        record(8, 4, 9, 9, 0),
+    ] {
+        let mut bytes = nine_records(alloc)?;
+        assert_eq!(rt; bytes.len(), 353);
+        bytes[128..160].copy_from_slice(&broken);
+        assert_eq!(rt; told(alloc, &bytes)?, Ok((true, 2, Some(3))), "{broken:?}");
     }
     Ok(())
 }
