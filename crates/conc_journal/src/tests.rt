@@ -333,23 +333,28 @@ fn kinds() -> [([u8; 32], &'static [u8; 31]); 11] {
     ]
 }
 
+// The journal of nine events with another third record.
+fn with_third(alloc: Global, third: &[u8; 32]) -> Result<Vec<u8>, Fail> {
+    let mut bytes = TWO_RECORDS.to_vec(alloc)?;
+    bytes.extend_from_slice(third)?;
+    for byte in nine_records(alloc)?.iter().skip(160) {
+        bytes.push(*byte)?;
+    }
+    Ok(bytes)
+}
+
 #[test]
 fn each_broken_spelling_is_told(rt: HostRuntime) -> Result<(), Fail> {
     let alloc = rt.alloc();
     for (good, used) in kinds() {
-        let mut bytes = nine_records(alloc)?;
-        assert_eq!(rt; bytes.len(), 353);
-        bytes[128..160].copy_from_slice(&good);
+        let bytes = with_third(alloc, &good)?;
         assert_eq!(rt; told(alloc, &bytes)?, Ok((true, 9, None)), "{good:?}");
         for at in 0..31 {
             if used[at] == b'.' {
-                bytes[129 + at] = 1;
-                assert_eq!(rt;
-                    told(alloc, &bytes)?,
-                    Ok((true, 2, Some(3))),
-                    "{at} of {good:?}"
-                );
-                bytes[129 + at] = 0;
+                let mut stray = good;
+                stray[at + 1] = 1;
+                let bytes = with_third(alloc, &stray)?;
+                assert_eq!(rt; told(alloc, &bytes)?, Ok((true, 2, Some(3))), "{stray:?}");
             }
         }
     }
@@ -374,9 +379,7 @@ fn each_value_out_of_range_is_told(rt: HostRuntime) -> Result<(), Fail> {
         record(8, 4, 9, 0, 9),
         record(8, 4, 9, 9, 0),
     ] {
-        let mut bytes = nine_records(alloc)?;
-        assert_eq!(rt; bytes.len(), 353);
-        bytes[128..160].copy_from_slice(&broken);
+        let bytes = with_third(alloc, &broken)?;
         assert_eq!(rt; told(alloc, &bytes)?, Ok((true, 2, Some(3))), "{broken:?}");
     }
     Ok(())
