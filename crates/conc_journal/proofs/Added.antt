@@ -1,7 +1,7 @@
 -- What images of a journal are while a record is added.
 use Rattle.std.proofs.Common.{◌≡◌, ◌⊎◌, inl, inr, ℕ, ◌+◌, ◌*◌, ◌<◌, List, [], ◌∷◌, ◌++◌, length, drop, sym, subst, ◌∙◌, ap, arith}
 use Rattle.conc_types.specs.declared.event.Event.{Event}
-use Rattle.conc_disk.specs.Disk.{Torn, written}
+use Rattle.conc_disk.specs.Disk.{written}
 use Rattle.conc_image.specs.Image.{HasNext, IsJournal}
 use Rattle.conc_image.proofs.Appends.{gate-either, gate-written, record-written, written-stays}
 use Rattle.conc_journal.specs.Left.{AddsTo}
@@ -15,7 +15,7 @@ module _ (digest : List ℕ) (events : List Event) (event : Event) (spelled old 
   record-stands : IsJournal digest events (written (at + 1) spelled old) × HasNext events event (written (at + 1) spelled old)
   record-stands =
       subst (λ (s : List ℕ). IsJournal digest events (written (at + 1) s old) × HasNext events event (written (at + 1) s old)) (sym is.2)
-        (record-written digest events event is.0 old (drop (at + 1 + length (is.0 ++ 0 ∷ [])) old) journal is.1)
+      (record-written digest events event is.0 old (drop (at + 1 + length (is.0 ++ 0 ∷ [])) old) journal is.1)
 
   adds-here : (new : List ℕ) → AddsTo at spelled old new → IsJournal digest events new ⊎ IsJournal digest (events ++ event ∷ []) new
   adds-here new (inl torn) = inl (written-stays digest events old new journal torn.before)
@@ -29,4 +29,4 @@ module _ (digest : List ℕ) (events : List Event) (event : Event) (spelled old 
   pub added-fits : (here : ℕ) (new : List ℕ) → here ≡ at → new ≡ written here (1 ∷ []) (written (here + 1) spelled old) → IsJournal digest (events ++ event ∷ []) new
   added-fits here new is_here is_new =
       subst (λ (c : List ℕ). IsJournal digest (events ++ event ∷ []) c) (sym (is_new ∙ ap (λ (k : ℕ). written k (1 ∷ []) (written (k + 1) spelled old)) is_here))
-        (gate-written digest events event 1 (written (at + 1) spelled old) record-stands.0 room record-stands.1 (omega arith))
+      (gate-written digest events event 1 (written (at + 1) spelled old) record-stands.0 room record-stands.1 (omega arith))

@@ -1,5 +1,5 @@
 -- The disk of a journal to which an event is added.
-use Rattle.std.proofs.Common.{◌≡◌, ◌⊎◌, ℕ, ◌+◌, ◌*◌, ◌<◌, ◌≤◌, List, [], ◌∷◌, ◌++◌, length, is_some, IfSome, subst, arith}
+use Rattle.std.proofs.Common.{◌≡◌, ◌⊎◌, ℕ, ◌+◌, ◌*◌, ◌<◌, List, [], ◌∷◌, ◌++◌, length, is_some, IfSome, subst, arith}
 use Rattle.conc_types.specs.declared.event.Event.{Event}
 use Rattle.conc_disk.specs.Disk.{DiskState, Reaches, written}
 use Rattle.conc_image.specs.Image.{IsJournal}
@@ -31,16 +31,16 @@ module _ (digest : List ℕ) (events : List Event) (event : Event) (at : ℕ) (s
   pub images-fit : is_some new.seen ≡ is_some old.seen → EachImage (AddedFrom old at spelled) new → EachImage (HasOrAdds digest events event) new
   images-fit tells each =
       each-from (AddedFrom old at spelled) (HasOrAdds digest events event) (IsJournal digest events) old new tells was each (λ before c from.
-        adds-fits digest events event spelled from.0 room is (before from.0 from.1) at c at_is from.2)
+      adds-fits digest events event spelled from.0 room is (before from.0 from.1) at c at_is from.2)
 
   -- when it is added
   pub images-have : is_some new.seen ≡ is_some old.seen → LeavesAdded at spelled old new → EachImage (IsJournal digest (events ++ event ∷ [])) new
   images-have tells each =
       each-from (λ image. (before : List ℕ) × old.may_leave before × (at < length before) × (image ≡ written at (1 ∷ []) (written (at + 1) spelled before))) (IsJournal digest (events ++ event ∷ [])) (IsJournal digest events) old new tells was each (λ before c from.
-        added-fits digest events event spelled from.0 room is (before from.0 from.1) at c at_is from.3)
+      added-fits digest events event spelled from.0 room is (before from.0 from.1) at c at_is from.3)
 
   -- at each moment
   pub left-fits : LeavesOnly (AddedFrom old at spelled) old new → LeavesOnly (HasOrAdds digest events event) old new
   left-fits left =
       left-from (AddedFrom old at spelled) (HasOrAdds digest events event) (IsJournal digest events) old new was left (λ before c from.
-        adds-fits digest events event spelled from.0 room is (before from.0 from.1) at c at_is from.2)
+      adds-fits digest events event spelled from.0 room is (before from.0 from.1) at c at_is from.2)

@@ -8,7 +8,7 @@ use Rattle.conc_image.proofs.Fronts.{digest_in-front, found_in-front, has_header
 use Rattle.conc_image.specs.Image.{digest_in, Found, found_in, has_header, IsJournal, is_not_begun}
 use Rattle.conc_journal.specs.Journals.{FitsStage, IsOn}
 use Rattle.conc_journal.specs.Left.{EachImage}
-use Rattle.conc_journal.specs.Opens.{broken_of, digest_of, events_of, IsFoundIn, may_open}
+use Rattle.conc_journal.specs.Opens.{IsFoundIn, may_open}
 use Rattle.conc_journal.specs.Stages.{stage_with}
 use Rattle.conc_journal.specs.declared.fault.JournalFail.{JournalFail}
 use Rattle.conc_journal.specs.declared.journal.Stage.{Stage}
@@ -54,8 +54,8 @@ found-fits image opened found sound = go (is_not_begun image) refl opened.digest
         let journal : IsJournal (digest_in image) (found_in image).events image =
         record { header = opens; of_input = refl; found = ap (λ (b : Option ℕ). record { events = (found_in image).events; broken = b }) (sym broken_is ∙ sound) } in
         subst (λ (d : Option (List ℕ)). FitsStage (stage_with d broken) events image) (sym digest_is)
-          (subst (λ (b : Option ℕ). FitsStage (stage_with (Some (digest_in image)) b) events image) (sym sound)
-            (subst (λ (l : List Event). IsJournal (digest_in image) l image) (sym events_are) journal))
+        (subst (λ (b : Option ℕ). FitsStage (stage_with (Some (digest_in image)) b) events image) (sym sound)
+        (subst (λ (l : List Event). IsJournal (digest_in image) l image) (sym events_are) journal))
 
 -- and so do all images after a sync
 pub opened-on : (k : ℕ) (old new : DiskState) (opened : Opened) (bytes : List ℕ) → 33554497 ≤ k → IfSome old.seen (λ seen. bytes ≡ take k seen) → LeavesWhatWasSeen old new → Stays old new → IsFoundIn bytes opened → opened.broken ≡ None
@@ -67,7 +67,7 @@ opened-on k old new opened bytes far is_read settled stays found sound =
     go None is_read settled = tt
     go (Some seen) is_read settled = λ c left.
         subst (λ (l : List ℕ). FitsStage (stage_with opened.digest opened.broken) opened.events.items l) (sym (settled c left))
-          (found-fits seen opened (front-found k seen opened far (subst (λ (l : List ℕ). IsFoundIn l opened) is_read found)) sound)
+        (found-fits seen opened (front-found k seen opened far (subst (λ (l : List ℕ). IsFoundIn l opened) is_read found)) sound)
 
 -- what is found in the bytes that were read is found in what a read gives
 pub read-found : (k : ℕ) (seen : Option (List ℕ)) (opened : Opened) (bytes : List ℕ) → 33554497 ≤ k → IfSome seen (λ image. bytes ≡ take k image) → IsFoundIn bytes opened → IfSome seen (λ image. IsFoundIn image opened)
@@ -103,7 +103,7 @@ pub answer-on : (k : ℕ) (old new : DiskState) (bytes : List ℕ) (r : Result O
 answer-on k old new bytes (Ok opened) far is_read settled stays found stage list = λ sound.
     let on = opened-on k old new opened bytes far is_read settled stays found (none opened.broken sound) in
     subst (λ (s : Stage). EachImage (FitsStage s opened.journal.events.items) new) (sym stage)
-      (subst (λ (l : List Event). EachImage (FitsStage (stage_with opened.digest opened.broken) l) new) (sym list) on)
+    (subst (λ (l : List Event). EachImage (FitsStage (stage_with opened.digest opened.broken) l) new) (sym list) on)
   where
     none : (o : Option ℕ) → IsNone o → o ≡ None
     none None is = refl

@@ -1,7 +1,7 @@
 -- How calls of a disk go on from one another.
-use Rattle.std.proofs.Common.{◌≡◌, ◌⊎◌, inl, inr, ⊎_elim, ℕ, ◌+◌, ◌<◌, ◌≤◌, List, [], ◌∷◌, length, Option, None, Some, length-append, length-take, is_some, IfSome, Result, Ok, Err, OnOk, refl, ◌∙◌, ap, subst, sym, arith}
-use Rattle.conc_disk.specs.Disk.{DiskState, Follows, HasLength, IsLater, LeavesWhatWasSeen, Reaches, Stays, Torn, written}
-use Rattle.conc_journal.specs.Left.{AddedFrom, AddsTo, EachImage, LeavesAdded, LeavesOnly, LeavesWritten, TornFrom}
+use Rattle.std.proofs.Common.{◌≡◌, ◌⊎◌, inl, inr, ⊎_elim, ℕ, ◌+◌, ◌≤◌, List, length, Option, None, Some, length-append, length-take, is_some, IfSome, Result, Ok, Err, OnOk, refl, ◌∙◌, ap, subst, sym, arith}
+use Rattle.conc_disk.specs.Disk.{DiskState, Follows, HasLength, LeavesWhatWasSeen, Reaches, Stays, Torn, written}
+use Rattle.conc_journal.specs.Left.{EachImage, LeavesOnly, LeavesWritten, TornFrom}
 
 -- ---- where it tells
 
@@ -32,7 +32,7 @@ each-more P Q disk each more =
 pub each-from : (P Q R : List ℕ → Type 0) (old new : DiskState) → is_some new.seen ≡ is_some old.seen → EachImage R old → EachImage P new → (((d : List ℕ) → old.may_leave d → R d) → (c : List ℕ) → P c → Q c) → EachImage Q new
 each-from P Q R old new tells was is more =
     told-both new.seen ((d : List ℕ) → old.may_leave d → R d) ((c : List ℕ) → new.may_leave c → P c) ((c : List ℕ) → new.may_leave c → Q c)
-      (told-if old.seen new.seen ((d : List ℕ) → old.may_leave d → R d) ((d : List ℕ) → old.may_leave d → R d) tells was (λ r. r)) is (λ r p c left. more r c (p c left))
+    (told-if old.seen new.seen ((d : List ℕ) → old.may_leave d → R d) ((d : List ℕ) → old.may_leave d → R d) tells was (λ r. r)) is (λ r p c left. more r c (p c left))
 
 -- a disk reaches as far as each of its images
 pub reaches : (P : List ℕ → Type 0) (n : ℕ) (disk : DiskState) → IfSome disk.seen disk.may_leave → EachImage P disk → ((c : List ℕ) → P c → n ≤ length c) → Reaches disk n
@@ -104,7 +104,7 @@ each-written R Q at bytes old new tells was done more =
 pub settled : (R : List ℕ → Type 0) (n : ℕ) (old new : DiskState) → EachImage R old → Stays old new → LeavesWhatWasSeen old new → HasLength new n → EachImage (λ c. R c × (n ≡ length c)) new
 settled R n old new was stays durable long =
     subst (λ (s : Option (List ℕ)). IfSome s (λ bytes. (c : List ℕ) → new.may_leave c → R c × (n ≡ length c))) (sym stays.seen)
-      (go old.seen was durable (subst (λ (s : Option (List ℕ)). IfSome s (λ bytes. n ≡ length bytes)) stays.seen long))
+    (go old.seen was durable (subst (λ (s : Option (List ℕ)). IfSome s (λ bytes. n ≡ length bytes)) stays.seen long))
   where
     go : (seen : Option (List ℕ)) → IfSome seen (λ bytes. (d : List ℕ) → old.may_leave d → R d) → IfSome seen (λ bytes. (c : List ℕ) → new.may_leave c → c ≡ bytes) → IfSome seen (λ bytes. n ≡ length bytes)
         → IfSome seen (λ bytes. (c : List ℕ) → new.may_leave c → R c × (n ≡ length c))

@@ -15,22 +15,13 @@ pub(crate) enum Stage {
     /// No journal was begun here.
     NotBegun,
     /// A `begin` with this digest met a fault.
-    BeginFailed {
-        digest: [u8; 32],
-    },
+    BeginFailed { digest: [u8; 32] },
     /// The header with this digest and the list's records are there.
-    Begun {
-        digest: [u8; 32],
-    },
+    Begun { digest: [u8; 32] },
     /// A record is broken, and nothing may be added.
-    Broken {
-        digest: [u8; 32],
-    },
+    Broken { digest: [u8; 32] },
     /// An `append` of this event met a fault.
-    AppendFailed {
-        digest: [u8; 32],
-        event: Event,
-    },
+    AppendFailed { digest: [u8; 32], event: Event },
 }
 
 /// The list of a journal, and what is known of its disk, which it does not hold.

@@ -72,12 +72,19 @@ fn opens_what_stands_there(rt: HostRuntime) -> Result<(), Fail> {
         bytes.extend_from_slice(rest)?;
         let mut disk = disk_of(alloc, &bytes, &[])?;
         let opened = Journal::open_on(alloc, &mut disk)?;
-        assert_eq!(rt; (opened.digest.is_some(), opened.events.len(), opened.broken), want, "{front} {rest:?}");
+        assert_eq!(rt;
+            (opened.digest.is_some(), opened.events.len(), opened.broken),
+            want,
+            "{front} {rest:?}"
+        );
         assert_eq!(rt; opened.journal.events(), opened.events.as_slice());
     }
     for bytes in [b"hello\n".as_slice(), &TWO_RECORDS[..64]] {
         let mut disk = disk_of(alloc, bytes, &[])?;
-        assert_eq!(rt; Journal::open_on(alloc, &mut disk).err(), Some(JournalFail::NotJournal));
+        assert_eq!(rt;
+            Journal::open_on(alloc, &mut disk).err(),
+            Some(JournalFail::NotJournal)
+        );
     }
     Ok(())
 }
@@ -124,7 +131,12 @@ fn a_stop_leaves_the_list_with_the_event_or_without(rt: HostRuntime) -> Result<(
     journal.append(&mut disk, TICK)?;
     journal.append(&mut disk, COMMAND)?;
     // In the calls from the first number to before the second.
-    for (from, to, least, most) in [(0, 11, 0, 0), (11, 15, 0, 1), (15, 19, 1, 2), (19, 20, 2, 2)] {
+    for (from, to, least, most) in [
+        (0, 11, 0, 0),
+        (11, 15, 0, 1),
+        (15, 19, 1, 2),
+        (19, 20, 2, 2),
+    ] {
         for call in from..to {
             for choice in 0..8 {
                 let count = count_left(&rt, alloc, &disk, call, choice)?;
@@ -144,7 +156,11 @@ fn after_a_fault_nothing_is_added(rt: HostRuntime) -> Result<(), Fail> {
         let Err(AppendFail::DiskFault) = journal.append(&mut disk, TICK) else {
             panic!(rt; "{call}");
         };
-        assert_eq!(rt; journal.append(&mut disk, COMMAND).err(), Some(AppendFail::Failed), "{call}");
+        assert_eq!(rt;
+            journal.append(&mut disk, COMMAND).err(),
+            Some(AppendFail::Failed),
+            "{call}"
+        );
         assert!(rt; journal.events().is_empty());
         let again = Journal::open_on(alloc, &mut disk)?;
         assert_eq!(rt; again.broken, None);

@@ -1,4 +1,4 @@
-use Rattle.std.proofs.Common.{inl, [], ◌∷◌, List, length}
+use Rattle.std.proofs.Common.{inl, [], ◌∷◌, length}
 use Rattle.conc_image.specs.Image.{IsJournal}
 use Rattle.conc_journal.specs.Left.{EachImage, LeavesWritten}
 use Rattle.conc_journal.specs.Records.{IsHeaded, IsShut, IsUnbegun, MayBegin}
@@ -10,7 +10,7 @@ use Rattle.conc_journal.proofs.begin.write_header.Goals as goal
 pub returns-in_err-write_durable-clause-images : goal.returns-in_err-write_durable-clause-images
 returns-in_err-write_durable-clause-images g c =
     each-torn IsShut (MayBegin c.args.digest.now) 1 (length c.header_of.result) (g.D.Disk.state c.shut_gate.new.disk) (g.D.Disk.state c.write_durable.new.disk) c.write_durable.ensures.survives.tells c.in_ok-shut_gate.ensures.shut
-      c.write_durable.ensures.images (λ before image shut torn. inl (torn-behind (length c.header_of.result) before image shut torn))
+    c.write_durable.ensures.images (λ before image shut torn. inl (torn-behind (length c.header_of.result) before image shut torn))
 
 pub returns-in_err-write_durable-clause-survives : goal.returns-in_err-write_durable-clause-survives
 returns-in_err-write_durable-clause-survives g c =
@@ -19,7 +19,7 @@ returns-in_err-write_durable-clause-survives g c =
     let headed = g.D.Disk.state c.write_durable.new.disk in
     let P = MayBegin c.args.digest.now in
     left-then P old shut headed (left-more IsUnbegun P old shut c.shut_gate.ensures.survives (λ image is. inl is))
-      (left-torn IsShut P 1 (length c.header_of.result) shut headed c.in_ok-shut_gate.ensures.shut c.write_durable.ensures.survives (λ before image is torn. inl (torn-behind (length c.header_of.result) before image is torn)))
+    (left-torn IsShut P 1 (length c.header_of.result) shut headed c.in_ok-shut_gate.ensures.shut c.write_durable.ensures.survives (λ before image is torn. inl (torn-behind (length c.header_of.result) before image is torn)))
 
 -- the header stands, and its gate is torn
 pub returns-clause-images : goal.returns-clause-images
@@ -30,7 +30,7 @@ returns-clause-images g c =
     let headed = g.D.Disk.state c.write_durable.new.disk in
     let stands = each-written IsShut (IsHeaded header) 1 header shut headed c.write_durable.ensures.survives.tells c.in_ok-shut_gate.ensures.shut c.in_ok-write_durable.ensures.durable (λ before image is done. written-headed header before image is done) in
     each-torn (IsHeaded header) (MayBegin digest) 0 1 headed (g.D.Disk.state c.write_durable-2.new.disk) c.write_durable-2.ensures.survives.tells stands
-      c.write_durable-2.ensures.images (λ before image is torn. torn-gate digest header before image c.header_of.ensures.begins is torn)
+    c.write_durable-2.ensures.images (λ before image is torn. torn-gate digest header before image c.header_of.ensures.begins is torn)
 
 pub returns-clause-survives : goal.returns-clause-survives
 returns-clause-survives g c =
@@ -44,9 +44,9 @@ returns-clause-survives g c =
     let stands = each-written IsShut (IsHeaded header) 1 header shut headed c.write_durable.ensures.survives.tells c.in_ok-shut_gate.ensures.shut c.in_ok-write_durable.ensures.durable (λ before image is done. written-headed header before image is done) in
     let behind =
     left-then P old shut headed (left-more IsUnbegun P old shut c.shut_gate.ensures.survives (λ image is. inl is))
-      (left-torn IsShut P 1 (length c.header_of.result) shut headed c.in_ok-shut_gate.ensures.shut c.write_durable.ensures.survives (λ before image is torn. inl (torn-behind (length c.header_of.result) before image is torn))) in
+    (left-torn IsShut P 1 (length c.header_of.result) shut headed c.in_ok-shut_gate.ensures.shut c.write_durable.ensures.survives (λ before image is torn. inl (torn-behind (length c.header_of.result) before image is torn))) in
     left-then P old headed new behind
-      (left-torn (IsHeaded header) P 0 1 headed new stands c.write_durable-2.ensures.survives (λ before image is torn. torn-gate digest header before image c.header_of.ensures.begins is torn))
+    (left-torn (IsHeaded header) P 0 1 headed new stands c.write_durable-2.ensures.survives (λ before image is torn. torn-gate digest header before image c.header_of.ensures.begins is torn))
 
 -- and it is open
 pub returns-clause-begun : goal.returns-clause-begun
@@ -58,4 +58,4 @@ returns-clause-begun g c =
     let new = g.D.Disk.state c.write_durable-2.new.disk in
     let stands = each-written IsShut (IsHeaded header) 1 header shut headed c.write_durable.ensures.survives.tells c.in_ok-shut_gate.ensures.shut c.in_ok-write_durable.ensures.durable (λ before image is done. written-headed header before image is done) in
     on-ok c.write_durable-2.result (LeavesWritten 0 (1 ∷ []) headed new) (EachImage (IsJournal digest []) new) c.write_durable-2.ensures.durable (λ opened.
-      each-written (IsHeaded header) (IsJournal digest []) 0 (1 ∷ []) headed new c.write_durable-2.ensures.survives.tells stands opened (λ before image is done. written-gate digest header before image c.header_of.ensures.begins is done))
+    each-written (IsHeaded header) (IsJournal digest []) 0 (1 ∷ []) headed new c.write_durable-2.ensures.survives.tells stands opened (λ before image is done. written-gate digest header before image c.header_of.ensures.begins is done))

@@ -1,6 +1,5 @@
-use Rattle.std.proofs.Common.{◌≡◌, ◌+◌, ◌*◌, ◌<◌, [], ◌∷◌, ◌++◌, List, length, subst, sym, ap, ◌∙◌, rules, arith}
+use Rattle.std.proofs.Common.{◌+◌, ◌*◌, [], ◌∷◌, ◌++◌, List, subst, sym, ◌∙◌, arith}
 use Rattle.conc_types.specs.declared.event.Event.{Event}
-use Rattle.conc_image.specs.Image.{IsJournal}
 use Rattle.conc_journal.specs.Journals.{FitsStage}
 use Rattle.conc_journal.specs.Left.{EachImage, LeavesOnly}
 use Rattle.conc_journal.specs.Stages.{after_fault}
@@ -19,7 +18,7 @@ returns-in-Err-clause-on g c =
     let old = g.D.Disk.state c.args.disk.now in
     let was = begun-images c.args.self.now c.in-Begun.digest old c.in-Begun.is c.requires.on in
     images-fit c.in-Begun.digest c.args.self.now.events.items c.args.event (32 + 32 * (c.len.result + 1)) c.record_before_gate.result (omega (arith, c.len.ensures)) (omega (arith, c.args.self.now.few, c.requires.room)) c.record_before_gate.ensures old (g.D.Disk.state c.add_record.new.disk) was
-      c.add_record.ensures.survives.tells c.add_record.ensures.images
+    c.add_record.ensures.survives.tells c.add_record.ensures.images
 
 pub returns-in-Err-clause-survives : goal.returns-in-Err-clause-survives
 returns-in-Err-clause-survives g c =
@@ -28,7 +27,7 @@ returns-in-Err-clause-survives g c =
     let events = c.args.self.now.events.items in
     let was = begun-images c.args.self.now c.in-Begun.digest old c.in-Begun.is c.requires.on in
     subst (λ (s : Stage). LeavesOnly (FitsStage (after_fault c.args.event s) events) old new) (sym c.in-Begun.is)
-      (left-fits c.in-Begun.digest events c.args.event (32 + 32 * (c.len.result + 1)) c.record_before_gate.result (omega (arith, c.len.ensures)) (omega (arith, c.args.self.now.few, c.requires.room)) c.record_before_gate.ensures old new was c.add_record.ensures.survives)
+    (left-fits c.in-Begun.digest events c.args.event (32 + 32 * (c.len.result + 1)) c.record_before_gate.result (omega (arith, c.len.ensures)) (omega (arith, c.args.self.now.few, c.requires.room)) c.record_before_gate.ensures old new was c.add_record.ensures.survives)
 
 pub returns-in-Ok-clause-on : goal.returns-in-Ok-clause-on
 returns-in-Ok-clause-on g c =
@@ -37,9 +36,9 @@ returns-in-Ok-clause-on g c =
     let events = c.args.self.now.events.items in
     let was = begun-images c.args.self.now c.in-Begun.digest old c.in-Begun.is c.requires.on in
     let have = images-have c.in-Begun.digest events c.args.event (32 + 32 * (c.len.result + 1)) c.record_before_gate.result (omega (arith, c.len.ensures)) (omega (arith, c.args.self.now.few, c.requires.room)) c.record_before_gate.ensures old new was
-      c.add_record.ensures.survives.tells c.in-Ok.ensures.added in
+    c.add_record.ensures.survives.tells c.in-Ok.ensures.added in
     subst (λ (l : List Event). EachImage (FitsStage c.push.new.self.stage l) new) (sym c.push.ensures.list)
-      (subst (λ (s : Stage). EachImage (FitsStage s (events ++ c.args.event ∷ [])) new) (sym (c.push.ensures.stage ∙ c.in-Begun.is)) have)
+    (subst (λ (s : Stage). EachImage (FitsStage s (events ++ c.args.event ∷ [])) new) (sym (c.push.ensures.stage ∙ c.in-Begun.is)) have)
 
 pub returns-in-Ok-clause-survives : goal.returns-in-Ok-clause-survives
 returns-in-Ok-clause-survives g c =
@@ -48,4 +47,4 @@ returns-in-Ok-clause-survives g c =
     let events = c.args.self.now.events.items in
     let was = begun-images c.args.self.now c.in-Begun.digest old c.in-Begun.is c.requires.on in
     subst (λ (s : Stage). LeavesOnly (FitsStage (after_fault c.args.event s) events) old new) (sym c.in-Begun.is)
-      (left-fits c.in-Begun.digest events c.args.event (32 + 32 * (c.len.result + 1)) c.record_before_gate.result (omega (arith, c.len.ensures)) (omega (arith, c.args.self.now.few, c.requires.room)) c.record_before_gate.ensures old new was c.add_record.ensures.survives)
+    (left-fits c.in-Begun.digest events c.args.event (32 + 32 * (c.len.result + 1)) c.record_before_gate.result (omega (arith, c.len.ensures)) (omega (arith, c.args.self.now.few, c.requires.room)) c.record_before_gate.ensures old new was c.add_record.ensures.survives)
