@@ -1,15 +1,15 @@
 -- What stays of a journal while a record is added. With n events the gate of the next record is byte 64 + 32n.
-use Rattle.std.proofs.Common.{◌≡◌, ◌≢◌, ◌⊎◌, inl, inr, ℕ, zero, suc, ◌+◌, ◌*◌, ◌-◌, ◌<◌, ◌≤◌, ◌==◌, Bool, true, false, List, [], ◌∷◌, ◌++◌, Option, Some, None, length, get_or, take, drop, refl, sym, ap, ◌∙◌, subst, arith, IsTrue, IsFalse, min}
+use Rattle.std.proofs.Common.{◌≡◌, ◌≢◌, ◌⊎◌, inl, inr, ℕ, suc, ◌+◌, ◌*◌, ◌-◌, ◌<◌, ◌≤◌, ◌==◌, true, List, [], ◌∷◌, ◌++◌, Some, None, length, get_or, take, drop, refl, sym, ap, ◌∙◌, arith, IsTrue, IsFalse}
 use Rattle.std.specs.Prelude.{codes, cond, nat_le, not, slice_index, ◌&&◌}
 use Rattle.std.specs.Str.{bytes_eq}
 use Rattle.std.proofs.lemmas.Bool.Decides.{nat_tests}
-use Rattle.std.proofs.lemmas.Bool.{cases_eq, eqb-true, eq-eqb}
+use Rattle.std.proofs.lemmas.Bool.{cases_eq, eqb-true}
 use Rattle.std.proofs.lemmas.List.{append-nil, drop-drop, get_or-drop, get_or-take, get_or_at, length-append, length-drop, length-take, take_at, take-take}
 use Rattle.conc_types.specs.declared.event.Event.{Event}
-use Rattle.conc_image.specs.Fields.{are_zero, event_in, fields_of}
-use Rattle.conc_image.specs.Image.{digest_in, ends_here, Found, found_from, found_in, has_header, HasNext, is_closed, IsJournal, is_not_begun, most_records, whole_record, with_event}
+use Rattle.conc_image.specs.Fields.{are_zero, event_in}
+use Rattle.conc_image.specs.Image.{digest_in, found_from, found_in, has_header, HasNext, is_closed, IsJournal, whole_record, with_event}
 use Rattle.conc_image.proofs.Finding.{found_from-closed, found_from-taken, with_events}
-use Rattle.conc_image.proofs.Fronts.{digest_in-front, drop-front, has_header-front, is_closed-front, part-front}
+use Rattle.conc_image.proofs.Fronts.{digest_in-front, is_closed-front, part-front}
 use Rattle.conc_image.proofs.Writes.{drop-written, part-written, take-written}
 use Rattle.conc_image.proofs.Unique.{length-spelled}
 use Rattle.conc_image.proofs.Runs.{closed-behind, length-found_in, length-records, run, whole}

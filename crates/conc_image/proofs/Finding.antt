@@ -1,12 +1,10 @@
 -- Step by step through records.
-use Rattle.std.proofs.Common.{◌≡◌, ℕ, zero, suc, ◌+◌, ◌*◌, ◌-◌, ◌<◌, ◌≤◌, Bool, true, false, List, [], ◌∷◌, ◌++◌, Option, Some, None, length, get_or, take, drop, refl, sym, ap, ◌∙◌, subst, arith, IsTrue, IsFalse, min, add-zero}
-use Rattle.std.specs.Prelude.{cond, nat_le, not}
+use Rattle.std.proofs.Common.{◌≡◌, ℕ, zero, suc, ◌+◌, ◌-◌, ◌<◌, Bool, true, false, List, [], ◌∷◌, ◌++◌, Some, None, drop, refl, sym, ap, ◌∙◌, arith, IsTrue, IsFalse}
+use Rattle.std.specs.Prelude.{not}
 use Rattle.std.specs.Bool.{then_some}
-use Rattle.std.proofs.lemmas.Bool.Decides.{nat_tests}
-use Rattle.std.proofs.lemmas.List.{append-nil, append_assoc, drop-drop, drop-take, get_or-drop, length-drop, length-take, take-take}
+use Rattle.std.proofs.lemmas.List.{append-nil, append_assoc}
 use Rattle.conc_types.specs.declared.event.Event.{Event}
-use Rattle.conc_image.specs.Fields.{event_in}
-use Rattle.conc_image.specs.Image.{breaks_here, digest_in, ends_here, Found, found_from, found_in, found_with, has_header, is_closed, is_not_begun, whole_record, with_event}
+use Rattle.conc_image.specs.Image.{breaks_here, ends_here, Found, found_from, found_in, is_closed, whole_record, with_event}
 
 -- ---- one record
 

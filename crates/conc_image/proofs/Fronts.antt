@@ -1,11 +1,11 @@
 -- The first bytes of an image tell what it stands for.
-use Rattle.std.proofs.Common.{◌≡◌, ℕ, zero, suc, ◌+◌, ◌*◌, ◌-◌, ◌<◌, ◌≤◌, Bool, List, [], ◌∷◌, length, take, drop, None, refl, sym, ap, ◌∙◌, arith, min}
+use Rattle.std.proofs.Common.{◌≡◌, ℕ, zero, suc, ◌+◌, ◌*◌, ◌-◌, ◌<◌, ◌≤◌, List, [], ◌∷◌, length, take, drop, None, refl, ap, ◌∙◌, arith}
 use Rattle.std.specs.Prelude.{codes, cond, nat_le, not, ◌&&◌, ◌||◌}
 use Rattle.std.specs.Str.{bytes_eq}
 use Rattle.std.proofs.lemmas.Bool.Decides.{nat_tests}
 use Rattle.std.proofs.lemmas.List.{drop-take, length-take, take-take}
 use Rattle.conc_image.specs.Fields.{are_zero, event_in}
-use Rattle.conc_image.specs.Image.{breaks_here, digest_in, ends_here, Found, found_from, found_in, found_with, has_header, is_closed, is_not_begun, whole_record}
+use Rattle.conc_image.specs.Image.{breaks_here, digest_in, ends_here, found_from, found_in, found_with, has_header, is_closed, is_not_begun, whole_record}
 
 -- ---- of a list
 

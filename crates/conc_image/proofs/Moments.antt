@@ -1,13 +1,11 @@
 -- Moments by their seconds.
-use Rattle.std.proofs.Common.{◌≡◌, ◌<◌, Some, ap, arith}
+use Rattle.std.proofs.Common.{◌≡◌, Some, arith}
 use Rattle.std.proofs.lemmas.Bool.Decides.{nat_tests}
-use Rattle.conc_types.specs.declared.event.Event.{Event}
 use Rattle.conc_types.specs.declared.event.Event.TheVariants as event
 use Rattle.conc_types.specs.declared.event.Moment.{Moment}
 use Rattle.conc_law.specs.Calendar.{moment_at}
 use Rattle.conc_law.proofs.EqualEvents.{moment_same}
-use Rattle.conc_image.specs.Fields.{event_of, tick_of}
-use Rattle.conc_image.specs.declared.fields.Fields.{Fields}
+use Rattle.conc_image.specs.Fields.{event_of}
 
 -- a moment is the one at its seconds
 pub moment_at-seconds : (t : Moment) → moment_at t.seconds ≡ t

@@ -1,8 +1,8 @@
 -- Records one after the other, none of them broken.
-use Rattle.std.proofs.Common.{◌≡◌, ℕ, zero, suc, ◌+◌, ◌*◌, ◌-◌, ◌<◌, ◌≤◌, ◌⊎◌, inl, inr, Bool, true, false, List, [], ◌∷◌, ◌++◌, Option, Some, None, length, take, drop, refl, sym, ap, ◌∙◌, subst, arith, IsTrue, IsFalse}
+use Rattle.std.proofs.Common.{◌≡◌, ℕ, zero, suc, ◌+◌, ◌*◌, ◌-◌, ◌<◌, ◌≤◌, ◌⊎◌, inl, inr, Bool, true, false, List, [], ◌∷◌, Option, Some, None, length, take, drop, refl, sym, ap, ◌∙◌, arith, IsTrue, IsFalse}
 use Rattle.std.specs.Prelude.{cond, nat_le}
 use Rattle.std.proofs.lemmas.Bool.Decides.{nat_tests}
-use Rattle.std.proofs.lemmas.List.{append_cancel_left, append-nil, drop-drop, length-drop, length-take}
+use Rattle.std.proofs.lemmas.List.{drop-drop, length-drop}
 use Rattle.conc_types.specs.declared.event.Event.{Event}
 use Rattle.conc_image.specs.Fields.{event_in}
 use Rattle.conc_image.specs.Image.{breaks_here, ends_here, Found, found_from, found_in, found_with, is_closed, whole_record, with_event}

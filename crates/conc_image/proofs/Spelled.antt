@@ -1,5 +1,5 @@
 -- Fields and their bytes.
-use Rattle.std.proofs.Common.{◌≡◌, ℕ, List, ◌∷◌, [], Some, get_or, refl, ap, ◌∙◌}
+use Rattle.std.proofs.Common.{◌≡◌, ℕ, List, ◌∷◌, [], Some, get_or, ap, ◌∙◌}
 use Rattle.std.specs.Int.{from_be_bytes, w32, w64}
 use Rattle.conc_image.specs.Fields.{fields_of}
 use Rattle.conc_image.specs.declared.fields.Fields.{Fields}

@@ -1,7 +1,7 @@
 ghost use Rattle.std.specs.Prelude.{◌≡◌, ◌<◌, IsTrue, Some};
 ghost use Rattle.conc_types.specs.declared.event.Event.{Event};
 ghost use Rattle.conc_law.specs.Calendar.{moment_at};
-ghost use Rattle.conc_image.specs.Fields.{close_of, end_of, event_of, has_record, outcome_number, report_outcome, tick_of};
+ghost use Rattle.conc_image.specs.Fields.{close_of, end_of, event_of, has_record, is_report_outcome, outcome_number, report_outcome, tick_of};
 
 use crate::fields::Fields;
 use conc_types::{Event, Extent, Moment, Outcome, PlaceId, RequestId};
@@ -33,7 +33,7 @@ fn report_outcome(outcome: u8) -> Option<Outcome>
 
 // The moment at this number of seconds.
 fn moment_at(seconds: u64) -> Moment
-    requires { seconds < 315537897600 }
+    requires { seconds < SECONDS_OF_ALL_YEARS }
     ensures { result ≡ moment_at seconds }
 {
     Moment { seconds }
@@ -135,6 +135,13 @@ pub(crate) fn event_of(fields: &Fields) -> Option<Event>
     }
 }
 
+// A report can have this outcome.
+fn is_report_outcome(outcome: Outcome) -> bool
+    ensures { result ≡ is_report_outcome outcome }
+{
+    matches!(outcome, Outcome::Normal | Outcome::Warning | Outcome::Error)
+}
+
 // The number of an outcome. What was cancelled has none.
 fn outcome_number(outcome: Outcome) -> u8
     ensures { result ≡ outcome_number outcome }
@@ -145,6 +152,27 @@ fn outcome_number(outcome: Outcome) -> u8
         Outcome::Error => 3,
         Outcome::Terminated => 4,
         Outcome::Cancelled => 0,
+    }
+}
+
+/// The event can stand in a journal: a set closes with a report's outcome, and a request that ends has
+/// the extent of a report, which is not empty, or was terminated and has none.
+pub fn has_record(event: &Event) -> bool
+    ensures { result ≡ has_record event.now }
+{
+    match *event {
+        Event::CloseSet { outcome, .. } => is_report_outcome(outcome),
+        Event::Ended {
+            outcome: Outcome::Terminated,
+            extent,
+            ..
+        } => extent.is_none(),
+        Event::Ended {
+            outcome,
+            extent,
+            ..
+        } => is_report_outcome(outcome) && extent.is_some_and(|extent| extent.length > 0),
+        _ => true,
     }
 }
 

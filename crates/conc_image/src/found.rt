@@ -10,6 +10,10 @@ use std::alloc::Global;
 /// A journal has at most so many records.
 pub const MOST_RECORDS: u64 = 1_048_576;
 
+/// Of an image no more than so many bytes tell what stands in it: the header, the most records, and
+/// the gate behind them.
+pub const MOST_BYTES: u64 = 64 + 32 * MOST_RECORDS + 1;
+
 /// What stands in a journal.
 #[derive(Debug, Drop)]
 pub struct Found {
@@ -38,11 +42,12 @@ fn next_record(bytes: &[u8]) -> Option<(Event, &[u8])>
     Some((read_record(record)?, rest))
 }
 
-/// The events of an image, in order, and the record that is broken, if one is.
+/// The events of an image's records, in order, up to the first closed gate or the record that is
+/// broken. Memory is wanted once, for as many events as the image has room for.
 pub fn read_records(alloc: Global, image: &[u8]) -> Result<Found, NoMemory>
     ensures events { IfOk result (λ found. found.events.items ≡ (found_in image.now).events) }
     ensures broken { IfOk result (λ found. found.broken ≡ (found_in image.now).broken) }
-    ensures few { IfOk result (λ found. length found.events.items ≤ 1048576) }
+    ensures few { IfOk result (λ found. length found.events.items ≤ MOST_RECORDS) }
 {
     let mut rest = records(image);
     let most = MOST_RECORDS.min((rest.len() / 32) as u64);

@@ -5,6 +5,8 @@ ghost use Rattle.conc_image.specs.Fields.{event_in, has_record};
 ghost use Rattle.conc_image.specs.Headers.{BeginsJournal};
 ghost use Rattle.conc_image.specs.Image.{digest_in, found_in, has_header, HasNext, IsJournal, is_not_begun};
 
+use crate::found::MOST_BYTES;
+
 // ---- records
 
 /// What is spelled has a record.
@@ -25,7 +27,7 @@ pub fn front_tells_all()
     ensures begun { (image : List ℕ) (n : ℕ) → 2 ≤ n → is_not_begun (take n image) ≡ is_not_begun image }
     ensures header { (image : List ℕ) (n : ℕ) → 65 ≤ n → has_header (take n image) ≡ has_header image }
     ensures digest { (image : List ℕ) (n : ℕ) → 48 ≤ n → digest_in (take n image) ≡ digest_in image }
-    ensures found { (image : List ℕ) (n : ℕ) → 64 + 32 * 1048576 + 1 ≤ n → found_in (take n image) ≡ found_in image }
+    ensures found { (image : List ℕ) (n : ℕ) → MOST_BYTES ≤ n → found_in (take n image) ≡ found_in image }
 {}
 
 /// A journal with n events has at least 64 + 32n + 1 bytes, and at most 1,048,576 events.

@@ -12,7 +12,8 @@ mod record;
 #[cfg(test)]
 mod tests;
 
-pub use found::{Found, MOST_RECORDS, read_records};
+pub use events::has_record;
+pub use found::{Found, MOST_BYTES, MOST_RECORDS, read_records};
 pub use header::{Header, header_of, judge_header};
 pub use laws::{
     front_tells_all, gate_adds, gate_begins, journal_is_long_enough, journal_stays,

@@ -86,11 +86,36 @@ fn reads_and_writes_records(rt: HostRuntime) {
             },
         ),
     ] {
-        let found = read_record(bytes);
-        assert_eq!(rt; found, Some(want));
-        if let Some(event) = found {
-            assert_eq!(rt; record_of(event), *bytes, "{want:?}");
-        }
+        assert_eq!(rt; read_record(bytes), Some(want));
+        assert!(rt; has_record(&want), "{want:?}");
+        assert_eq!(rt; record_of(want), *bytes, "{want:?}");
+    }
+}
+
+#[test]
+fn tells_events_without_a_record(rt: HostRuntime) {
+    let request = RequestId { number: 1 };
+    for (outcome, length) in [
+        (Outcome::Normal, None),
+        (Outcome::Error, Some(0)),
+        (Outcome::Terminated, Some(5)),
+        (Outcome::Cancelled, None),
+        (Outcome::Cancelled, Some(5)),
+    ] {
+        let extent = length.map(|length| Extent { offset: 3, length });
+        let end = Event::Ended {
+            request,
+            outcome,
+            extent,
+        };
+        assert!(rt; !has_record(&end), "{end:?}");
+    }
+    for outcome in [Outcome::Terminated, Outcome::Cancelled] {
+        let close = Event::CloseSet {
+            set: request,
+            outcome,
+        };
+        assert!(rt; !has_record(&close), "{close:?}");
     }
 }
 

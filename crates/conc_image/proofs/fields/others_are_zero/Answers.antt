@@ -1,4 +1,4 @@
-use Rattle.std.proofs.Common.{◌≡◌, List, ℕ, drop, take, length, arith, ◌∙◌, ap, sym}
+use Rattle.std.proofs.Common.{◌≡◌, drop, take, arith}
 use Rattle.std.proofs.lemmas.Grind.{common_steps}
 use Rattle.std.proofs.lemmas.List.{length-drop, take_all}
 use Rattle.conc_image.proofs.fields.others_are_zero.Goals as goal

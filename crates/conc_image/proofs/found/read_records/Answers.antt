@@ -1,7 +1,7 @@
-use Rattle.std.proofs.Common.{◌≡◌, ◌∙◌, ◌-◌, ◌+◌, ◌++◌, ◌∷◌, sym, ap, arith, None, Some, List, []}
+use Rattle.std.proofs.Common.{◌≡◌, ◌∙◌, ◌-◌, ◌+◌, ◌++◌, ◌∷◌, sym, ap, arith, Some, []}
 use Rattle.std.specs.Bool.{then_some}
 use Rattle.std.specs.Prelude.{not}
-use Rattle.conc_image.specs.Image.{found_from, found_in, is_closed, whole_record}
+use Rattle.conc_image.specs.Image.{found_from, whole_record}
 use Rattle.conc_image.proofs.Finding.{all-found, loop-broken, loop-closed, loop-ended, loop-taken, too_many, with_events}
 use Rattle.conc_image.proofs.Runs.{length-found_in}
 use Rattle.conc_image.proofs.found.read_records.Goals as goal

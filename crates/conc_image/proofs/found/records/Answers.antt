@@ -1,5 +1,5 @@
 use Rattle.std.proofs.Common.{arith, sym}
-use Rattle.std.proofs.lemmas.List.{drop_all, take_rest, length-drop, take_all}
+use Rattle.std.proofs.lemmas.List.{drop_all, length-drop, take_all}
 use Rattle.conc_image.proofs.found.records.Goals as goal
 
 pub returns-then-image-lt64 : goal.returns-then-image-lt64
