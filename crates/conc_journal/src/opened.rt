@@ -12,7 +12,7 @@ use crate::durable::settle;
 use crate::journal::Stage;
 use crate::{Journal, JournalFail};
 use conc_disk::Disk;
-use conc_image::{Found, Header, MOST_RECORDS, judge_header, read_records};
+use conc_image::{Found, Header, MOST_BYTES, judge_header, read_records};
 use conc_outside::Failed;
 use conc_types::{Event, NoMemory};
 use std::alloc::Global;
@@ -28,10 +28,6 @@ pub struct Opened {
     /// The digest in its header, where it is begun.
     pub digest: Option<[u8; 32]>,
 }
-
-// No byte from here on tells anything: before it stand the header, the most records that there may be,
-// and a gate.
-const BYTES_THAT_TELL: u64 = 64 + 32 * MOST_RECORDS + 1;
 
 // Fills the bytes with the first ones of the disk.
 fn fill<D: Disk>(disk: &mut D, bytes: &mut Vec<u8>) -> Result<(), Failed>
@@ -54,7 +50,7 @@ fn read_front<D: Disk>(alloc: Global, disk: &mut D) -> Result<Vec<u8>, JournalFa
     ensures failed { IsErrOf result JournalFail.DiskFault → Rose (D.state disk.old).faults (D.state disk.new).faults }
     ensures judges_nothing { IsErrOf result JournalFail.NotJournal → ⊥ }
 {
-    let length = settle(disk)?.min(BYTES_THAT_TELL);
+    let length = settle(disk)?.min(MOST_BYTES);
     let mut bytes = vec![in alloc; 0; length as usize]?;
     fill(disk, &mut bytes)?;
     Ok(bytes)
