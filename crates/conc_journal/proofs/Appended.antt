@@ -1,5 +1,5 @@
 -- The disk of a journal to which an event is added.
-use Rattle.std.proofs.Common.{◌≡◌, ◌⊎◌, ℕ, ◌+◌, ◌*◌, ◌<◌, ◌≤◌, List, [], ◌∷◌, ◌++◌, length, is_some, IfSome, subst, arith}
+use Rattle.std.proofs.Common.{◌≡◌, ◌⊎◌, ℕ, ◌+◌, ◌*◌, ◌<◌, List, [], ◌∷◌, ◌++◌, length, is_some, IfSome, subst, arith}
 use Rattle.conc_types.specs.declared.event.Event.{Event}
 use Rattle.conc_disk.specs.Disk.{DiskState, Reaches, written}
 use Rattle.conc_image.specs.Image.{IsJournal}

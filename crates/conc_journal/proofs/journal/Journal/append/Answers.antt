@@ -1,6 +1,5 @@
-use Rattle.std.proofs.Common.{◌≡◌, ◌+◌, ◌*◌, ◌<◌, [], ◌∷◌, ◌++◌, List, length, subst, sym, ap, ◌∙◌, rules, arith}
+use Rattle.std.proofs.Common.{◌+◌, ◌*◌, [], ◌∷◌, ◌++◌, List, subst, sym, ◌∙◌, arith}
 use Rattle.conc_types.specs.declared.event.Event.{Event}
-use Rattle.conc_image.specs.Image.{IsJournal}
 use Rattle.conc_journal.specs.Journals.{FitsStage}
 use Rattle.conc_disk.specs.Left.{EachImage, LeavesOnly}
 use Rattle.conc_journal.specs.Stages.{after_fault}
