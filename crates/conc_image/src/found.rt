@@ -42,12 +42,11 @@ fn next_record(bytes: &[u8]) -> Option<(Event, &[u8])>
     Some((read_record(record)?, rest))
 }
 
-/// The events of an image's records, in order, up to the first closed gate or the record that is
-/// broken. Memory is wanted once, for as many events as the image has room for.
+/// The events of an image, in order, and the record that is broken, if one is.
 pub fn read_records(alloc: Global, image: &[u8]) -> Result<Found, NoMemory>
     ensures events { IfOk result (λ found. found.events.items ≡ (found_in image.now).events) }
     ensures broken { IfOk result (λ found. found.broken ≡ (found_in image.now).broken) }
-    ensures few { IfOk result (λ found. length found.events.items ≤ MOST_RECORDS) }
+    ensures few { IfOk result (λ found. length found.events.items ≤ 1048576) }
 {
     let mut rest = records(image);
     let most = MOST_RECORDS.min((rest.len() / 32) as u64);

@@ -5,7 +5,7 @@ use crate::events::{event_of, fields_for};
 use crate::fields::Fields;
 use conc_types::Event;
 
-/// The event that the 31 bytes behind a record's gate spell, if they spell one.
+/// The event that the 31 bytes behind a record's gate spell.
 #[tactic(auto, unfolding(crate::specs::Fields::event_in))]
 pub fn read_record(bytes: &[u8; 31]) -> Option<Event>
     ensures event { result ≡ event_in bytes.now }
@@ -14,7 +14,7 @@ pub fn read_record(bytes: &[u8; 31]) -> Option<Event>
     event_of(&Fields::of(bytes)?)
 }
 
-/// The 31 bytes that spell the event behind a record's gate.
+/// The 31 bytes that spell the event.
 #[tactic(auto, unfolding(crate::specs::Fields::event_in))]
 pub fn record_of(event: Event) -> [u8; 31]
     requires { IsTrue (has_record event) }
