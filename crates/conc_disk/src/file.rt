@@ -20,6 +20,8 @@ use std::rt::Files;
 #[derive(Drop)]
 pub struct FileDisk<F: FileExt + OpenFile> {
     file: F,
+    // Where it is known: nobody else writes the file.
+    length: Option<u64>,
     broken: bool,
     faults: u64,
 }
@@ -99,28 +101,6 @@ fn read_piece<F: FileExt + OpenFile>(file: &F, at: u64, into: &mut [u8]) -> Resu
     }
 }
 
-/// Writes the bytes from here on, which is within the file or its end.
-fn write_piece<F: FileExt + OpenFile>(file: &F, at: u64, bytes: &[u8]) -> Result<(), Failed> {
-    if !is_within(file, at, 0)? {
-        return Err(Failed);
-    }
-    match file.write_all_at(bytes, at) {
-        Ok(()) => Ok(()),
-        Err(_) => Err(Failed),
-    }
-}
-
-/// Takes off what is past this length.
-fn cut_to<F: OpenFile>(file: &F, len: u64) -> Result<(), Failed> {
-    if len > length_of(file)? {
-        return Err(Failed);
-    }
-    match file.set_len(len) {
-        Ok(()) => Ok(()),
-        Err(_) => Err(Failed),
-    }
-}
-
 /// Brings all that was written to the disk, and the length of the file with it.
 fn sync_whole<F: OpenFile>(file: &F) -> Result<(), Failed> {
     match file.sync_data() {
@@ -139,9 +119,58 @@ impl<F: FileExt + OpenFile> FileDisk<F> {
     {
         FileDisk {
             file,
+            length: None,
             broken: false,
             faults: 0,
         }
+    }
+
+    /// The length of the file, which is asked for where it is not known.
+    fn length(&mut self) -> Result<u64, Failed>
+        ensures broken { self.new.broken ≡ self.old.broken }
+        ensures faults { self.new.faults ≡ self.old.faults }
+    {
+        if let Some(length) = self.length {
+            return Ok(length);
+        }
+        let length = length_of(&self.file)?;
+        self.length = Some(length);
+        Ok(length)
+    }
+
+    /// Writes the bytes from here on, which is within the file or its end.
+    fn write_piece(&mut self, at: u64, bytes: &[u8]) -> Result<(), Failed>
+        ensures broken { self.new.broken ≡ self.old.broken }
+        ensures faults { self.new.faults ≡ self.old.faults }
+    {
+        let length = self.length()?;
+        if at > length {
+            return Err(Failed);
+        }
+        self.length = None;
+        if self.file.write_all_at(bytes, at).is_err() {
+            return Err(Failed);
+        }
+        self.length = at
+            .checked_add(bytes.len() as u64)
+            .map(|end| length.max(end));
+        Ok(())
+    }
+
+    /// Takes off what is past this length.
+    fn cut_to(&mut self, len: u64) -> Result<(), Failed>
+        ensures broken { self.new.broken ≡ self.old.broken }
+        ensures faults { self.new.faults ≡ self.old.faults }
+    {
+        if len > self.length()? {
+            return Err(Failed);
+        }
+        self.length = None;
+        if self.file.set_len(len).is_err() {
+            return Err(Failed);
+        }
+        self.length = Some(len);
+        Ok(())
     }
 
     /// Counts a fault.
@@ -218,7 +247,7 @@ impl<F: FileExt + OpenFile> Disk for FileDisk<F> {
         let done = if self.broken {
             Err(Failed)
         } else {
-            write_piece(&self.file, at, bytes)
+            self.write_piece(at, bytes)
         };
         match done {
             Ok(()) => Ok(()),
@@ -239,7 +268,7 @@ impl<F: FileExt + OpenFile> Disk for FileDisk<F> {
         let done = if self.broken {
             Err(Failed)
         } else {
-            cut_to(&self.file, len)
+            self.cut_to(len)
         };
         match done {
             Ok(()) => Ok(()),
