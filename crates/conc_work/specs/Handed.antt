@@ -1,0 +1,46 @@
+-- What a run is handed, and what it finds.
+use Rattle.std.specs.Prelude.{◌≡◌, ℕ, List, length, IfSome, IsTrue}
+use Rattle.conc_types.specs.declared.event.Event.{Event}
+use Rattle.conc_types.specs.declared.plan.Plan.{Plan}
+use Rattle.conc_types.specs.declared.script.Reading.{Reading}
+use Rattle.conc_types.specs.declared.script.Readings.{Readings}
+use Rattle.conc_disk.specs.Disk.{DiskState}
+use Rattle.conc_journal.specs.Opens.{broken_of, events_of, may_open}
+use Rattle.conc_work.specs.Judging.{AreGood}
+use Rattle.conc_work.specs.Survival.{IsOwn}
+
+-- its plan and readings, the digest of its input, and its two disks before and after
+pub record Handed : Type 1 where
+  pub plan : Plan
+  pub readings : List Reading
+  pub digest : List ℕ
+  pub journal_before : DiskState
+  pub journal_after : DiskState
+  pub spool_before : DiskState
+  pub spool_after : DiskState
+
+abbrev pub handed : Plan → Readings → List ℕ → DiskState → DiskState → DiskState → DiskState → Handed
+handed plan readings digest journal journal' spool spool' = record {
+  plan = plan;
+  readings = readings.list;
+  digest = digest;
+  journal_before = journal;
+  journal_after = journal';
+  spool_before = spool;
+  spool_after = spool';
+}
+
+-- the image is that of a journal of this input, or of one that is not begun
+pub record IsOwnJournal (digest : List ℕ) (image : List ℕ) : Type 0 where
+  pub opens : IsTrue (may_open image)
+  pub own : IsOwn digest image
+
+-- where both disks tell, this holds of the journal's image and of the number of the spool's bytes
+abbrev pub Finds : (List ℕ → ℕ → Type 0) → Handed → Type 0
+Finds kind h = IfSome h.journal_before.seen (λ image. IfSome h.spool_before.seen (λ texts. kind image (length texts)))
+
+-- the journal is this input's and good, and these are its events
+pub record IsFound (h : Handed) (found : List Event) : Type 0 where
+  pub own : IfSome h.journal_before.seen (IsOwnJournal h.digest)
+  pub events : IfSome h.journal_before.seen (λ image. found ≡ events_of image)
+  pub good : Finds (λ image len. AreGood h.plan len found (broken_of image)) h

@@ -1,0 +1,7 @@
+pub mod Lists
+pub mod Told
+pub mod Works
+pub mod Survival
+pub mod Handed
+pub mod Judging
+pub mod Causes

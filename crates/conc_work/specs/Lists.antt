@@ -1,0 +1,36 @@
+-- Lists of events that go on from one another.
+use Rattle.std.specs.Prelude.{◌≡◌, List, [], ◌∷◌, ◌++◌, length, IsFalse}
+use Rattle.std.specs.List.{list_any}
+use Rattle.conc_types.specs.declared.event.Event.{Event}
+use Rattle.conc_types.specs.declared.plan.Plan.{Plan}
+use Rattle.conc_types.specs.declared.script.Reading.{Reading}
+use Rattle.conc_law.specs.Alone.{Follows}
+use Rattle.conc_law.specs.Kinds.{is_resume}
+use Rattle.conc_journal.specs.Journals.{list_of, stage_of}
+use Rattle.conc_journal.specs.declared.journal.Journal.{Journal}
+use Rattle.conc_journal.specs.declared.journal.Stage.{Stage}
+use Rattle.conc_journal.specs.declared.journal.Stage.TheVariants.{NotBegun, BeginFailed, Begun, Broken, AppendFailed}
+
+-- the second list begins with the first
+abbrev pub IsPrefix : List Event → List Event → Type 0
+IsPrefix first list = (rest : List Event) × (list ≡ first ++ rest)
+
+-- the second list goes on from the first as a run without workers does: each event is the one that comes next, and
+-- none is a resume
+pub record GoesOn (plan : Plan) (readings : List Reading) (first list : List Event) : Type 0 where
+  pub added : List Event
+  pub all : list ≡ first ++ added
+  pub each : Follows plan readings (length first) list
+  pub no_resume : IsFalse (list_any is_resume added)
+
+-- the events whose append met a fault: each is the last that the disk may have
+abbrev pub failed_in : Stage → List Event
+failed_in NotBegun = []
+failed_in (BeginFailed digest) = []
+failed_in (Begun digest) = []
+failed_in (Broken digest) = []
+failed_in (AppendFailed digest event) = event ∷ []
+
+-- the longest list that the disk of a journal may have
+abbrev pub longest_of : Journal → List Event
+longest_of journal = list_of journal ++ failed_in (stage_of journal)

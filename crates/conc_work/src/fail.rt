@@ -1,0 +1,40 @@
+use thiserror::Error;
+
+/// One of the two disks of a run.
+#[derive(Clone, Copy, Debug, PartialEq, Eq)]
+pub enum Which {
+    Journal,
+    Spool,
+}
+
+/// Why a run that is under way ends before its history is finished. What it had added to the journal
+/// until then stays.
+#[derive(Clone, Copy, Debug, PartialEq, Eq, Error)]
+pub enum RunFail {
+    #[error("the journal's disk failed")]
+    JournalFault,
+    #[error("the spool's disk failed")]
+    SpoolFault,
+    #[error("no memory")]
+    NoMemory,
+}
+
+/// Why a run does not begin, or ends before its history is finished.
+#[derive(Clone, Copy, Debug, PartialEq, Eq, Error)]
+pub enum Stopped {
+    #[error("this is no journal")]
+    NotJournal,
+    /// The journal is that of another input, with this digest.
+    #[error("the journal is that of another input")]
+    OtherInput { found: [u8; 32] },
+    /// The record with this number, from 1, is broken or not lawful, or its extent ends past the spool.
+    #[error("record {number} is not lawful")]
+    Unlawful { number: u64 },
+    /// The journal has `len` records, and no room for the `need` that a life may add.
+    #[error("the journal has {len} records and needs {need} more")]
+    JournalFull { len: u64, need: u64 },
+    #[error("a disk failed")]
+    DiskFault { which: Which },
+    #[error("no memory")]
+    NoMemory,
+}

@@ -1,0 +1,9 @@
+//! What a run works on, and what is said of it: the machine, the journal and the spool that stand for one
+//! list, and their two disks.
+#![tactic(auto)]
+
+mod fail;
+mod work;
+
+pub use fail::{RunFail, Stopped, Which};
+pub use work::Work;
