@@ -1,92 +1,96 @@
-ghost use Rattle.std.specs.Prelude.{◌≡◌, ◌<◌, [], ◌∷◌, ◌++◌, IfOk, IsFalse, IsTrue, List, OnOk, reverse};
-ghost use Rattle.conc_types.specs.declared.event.Event.{Event};
-ghost use Rattle.conc_law.specs.Alone.{Alone, next_alone};
+ghost use Rattle.std.specs.Prelude.{◌≡◌, ◌<◌, IfErr, IfOk, IfSome, IsErrOf, IsNone, IsSome, List, None, OnOk, Some};
+ghost use Rattle.std.specs.Option.{ForSome, option_map};
+ghost use Rattle.conc_types.specs.declared.script.Reading.{Reading};
 ghost use Rattle.conc_law.specs.Law.{Finished};
-ghost use Rattle.conc_law.specs.Remaining.{remaining};
-ghost use Rattle.conc_machine.specs.Stands.{plan_of, readings_of, Stands};
-ghost use Rattle.conc_resolver.specs.SoFar.{SoFar};
+ghost use Rattle.conc_choice.specs.Choices.{event_of, HasItsText};
+ghost use Rattle.conc_outside.specs.Counts.{Rose};
+ghost use Rattle.conc_journal.specs.Journals.{stage_of};
+ghost use Rattle.conc_journal.specs.Receipts.{IsNextOf};
+ghost use Rattle.conc_machine.specs.Stands.{readings_of};
+ghost use Rattle.conc_resolver.specs.Runs.{disks, WentOn};
+ghost use Rattle.conc_resolver.specs.Steps.{any_disk, IsFinished, IsReady, IsTied, left_in, next_in, plan_in, readings_in};
+ghost use Rattle.conc_work.specs.Works.{AreReady, list_in};
+ghost use Rattle.conc_work.specs.declared.fail.RunFail.TheVariants as RunFail;
 
-use conc_choice::next_event;
-use conc_law::{alone_finishes, choice_is_lawful, each_event_uses_up, lawful_is_past};
-use conc_machine::Machine;
-use conc_types::{Event, NoMemory, Plan, Readings};
+use crate::keeping::keep;
+use crate::logging::log_event;
+use conc_choice::{Next, next_event};
+use conc_disk::Disk;
+use conc_journal::Receipt;
+use conc_types::{NoMemory, Plan};
+use conc_work::{RunFail, Work};
 use std::alloc::Global;
 
-// A run under way: its events, and the machine that stands for them.
-#[derive(Drop)]
-pub(crate) struct Run<'p> {
-    pub(crate) machine: Machine<'p>,
-    pub(crate) events: Vec<Event>,
-}
-
-// Adds an event.
-fn take_in(run: &mut Run, e: Event) -> Result<(), NoMemory>
-    ensures events { OnOk result (run.new.events.items ≡ run.old.events.items ++ e ∷ []) }
-    ensures plan { OnOk result (plan_of run.new.machine ≡ plan_of run.old.machine) }
-    ensures readings { OnOk result (readings_of run.new.machine ≡ readings_of run.old.machine) }
-    ensures stands { OnOk result ((past : List Event) → Stands run.old.machine past → Stands run.new.machine (e ∷ past)) }
+// The event that comes next, if one does, with its text.
+fn next(alloc: Global, plan: &Plan, work: &Work<'_>) -> Result<Option<Next>, RunFail>
+    requires plan { plan_in work.now ≡ plan.now }
+    requires tied { IsTied None work.now any_disk any_disk }
+    ensures event { IfOk result (λ next. option_map event_of next ≡ next_in work.now) }
+    ensures text { IfOk result (λ next. ForSome next (λ n. HasItsText (plan_in work.now) n.event n.text)) }
+    ensures cause { IfErr result (λ e. e ≡ RunFail.NoMemory) }
 {
-    run.events.push(e)?;
-    run.machine.apply(e);
-    Ok(())
-}
-
-// The event that comes next, if one does.
-fn next(
-    alloc: Global,
-    plan: &Plan,
-    readings: &Readings,
-    run: &Run,
-) -> Result<Option<Event>, NoMemory>
-    requires { SoFar plan.now readings.now run.now }
-    ensures { IfOk result (λ e. e ≡ next_alone plan.now readings.now.list (reverse run.now.events.items)) }
-{
-    match next_event(alloc, plan, &run.machine)? {
-        Some(next) => Ok(Some(next.event)),
-        None => Ok(None),
+    match next_event(alloc, plan, &work.machine) {
+        Ok(next) => Ok(next),
+        Err(NoMemory) => Err(RunFail::NoMemory),
     }
 }
 
-// Adds the event that comes next, and says whether there was one.
-fn step(alloc: Global, plan: &Plan, readings: &Readings, run: &mut Run) -> Result<bool, NoMemory>
-    requires { SoFar plan.now readings.now run.old }
-    ensures more { IfOk result (λ more. SoFar plan.now readings.now run.new) }
-    ensures less { IfOk result (λ more. IsTrue more →
-        remaining plan.now readings.now.list (reverse run.new.events.items) < remaining plan.now readings.now.list (reverse run.old.events.items)) }
-    ensures end { IfOk result (λ more. IsFalse more → Finished plan.now readings.now.list run.new.events.items) }
+// Adds the event that comes next, if one does, and hands out its receipt. Its text is on the spool's disk
+// before it is journaled, and it is journaled before the machine takes it in.
+fn step<D: Disk, E: Disk>(
+    alloc: Global,
+    plan: &Plan,
+    work: &mut Work<'_>,
+    journal: &mut D,
+    spool: &mut E,
+) -> Result<Option<Receipt>, RunFail>
+    requires plan { plan_in work.old ≡ plan.now }
+    requires ready { IsReady work.old (D.state journal.old) (E.state spool.old) }
+
+    ensures went_on { WentOn (plan_in work.old) (readings_in work.old) (disks (D.state journal.old) (D.state journal.new) (E.state spool.old) (E.state spool.new)) work.old work.new }
+    ensures ready { OnOk result (IsReady work.new (D.state journal.new) (E.state spool.new)) }
+    ensures receipt { IfOk result (λ told. IfSome told (IsNextOf (Some (list_in work.old)) (λ list. list ≡ list_in work.new))) }
+    ensures less { IfOk result (λ told. IsSome told → left_in work.new < left_in work.old) }
+    ensures finished { IfOk result (λ told. IsNone told → IsFinished work.new) }
+
+    // Why it adds none.
+    ensures journal_fault { IsErrOf result RunFail.JournalFault → Rose (D.state journal.old).faults (D.state journal.new).faults }
+    ensures spool_fault { IsErrOf result RunFail.SpoolFault → Rose (E.state spool.old).faults (E.state spool.new).faults }
+    ensures sound { (IsErrOf result RunFail.JournalFault → ⊥) → stage_of work.new.journal ≡ stage_of work.old.journal }
 {
-    choice_is_lawful();
-    lawful_is_past();
-    alone_finishes();
-    each_event_uses_up();
-    match next(alloc, plan, readings, run)? {
-        None => Ok(false),
-        Some(e) => {
-            take_in(run, e)?;
-            Ok(true)
+    match next(alloc, plan, work)? {
+        None => Ok(None),
+        Some(next) => {
+            keep(work, spool, &next)?;
+            Ok(Some(log_event(work, journal, next.event)?))
         }
     }
 }
 
-// A run that has made no event.
-fn begun<'p>(alloc: Global, plan: &'p Plan, readings: &Readings) -> Result<Run<'p>, NoMemory>
-    ensures { IfOk result (λ run. SoFar plan.now readings.now run) }
-{
-    let mut machine = Machine::new(alloc, plan)?;
-    machine.take_readings(alloc, readings)?;
-    Ok(Run {
-        machine,
-        events: Vec::new(alloc),
-    })
-}
+/// Goes on from the journal's list to the end of the history. Each choice is fixed: the event that is
+/// forced; else the end of the request that runs, with its report; else the start of the first let
+/// request in precedence at its first place; else the next reading. The text of a report is on the
+/// spool's disk before the end is journaled, and an event is journaled before the machine takes it in. It
+/// takes memory for reports alone; a report that finds none leaves its request without an end.
+pub fn run_alone<D: Disk, E: Disk>(
+    alloc: Global,
+    plan: &Plan,
+    work: &mut Work<'_>,
+    journal: &mut D,
+    spool: &mut E,
+) -> Result<(), RunFail>
+    requires ready { (readings : List Reading) × AreReady plan.now readings work.old (D.state journal.old) (E.state spool.old) }
 
-/// The history of a run of the plan without workers, from its beginning to its end. Each choice is
-/// fixed: the event that is forced; else the end of the request that runs; else the start of the
-/// first let request in precedence at its first place; else the next reading.
-pub fn run_alone(alloc: Global, plan: &Plan, readings: &Readings) -> Result<Vec<Event>, NoMemory>
-    ensures { IfOk result (λ events. Alone plan.now readings.now.list [] events.items) }
+    // What it makes, however it ends.
+    ensures went_on { (readings : List Reading) → readings_of work.old.machine ≡ Some readings →
+        WentOn plan.now readings (disks (D.state journal.old) (D.state journal.new) (E.state spool.old) (E.state spool.new)) work.old work.new }
+    ensures finished { OnOk result ((readings : List Reading) → readings_of work.old.machine ≡ Some readings → Finished plan.now readings (list_in work.new)) }
+
+    // Why it ends before.
+    ensures journal_fault { IsErrOf result RunFail.JournalFault → Rose (D.state journal.old).faults (D.state journal.new).faults }
+    ensures spool_fault { IsErrOf result RunFail.SpoolFault → Rose (E.state spool.old).faults (E.state spool.new).faults }
+    ensures sound { (IsErrOf result RunFail.JournalFault → ⊥) → stage_of work.new.journal ≡ stage_of work.old.journal }
 {
-    let mut run = begun(alloc, plan, readings)?;
-    while step(alloc, plan, readings, &mut run)? {}
-    Ok(run.events)
+    while step(alloc, plan, work, journal, spool)?.is_some() {}
+    Ok(())
 }

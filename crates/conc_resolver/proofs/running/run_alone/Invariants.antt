@@ -1,10 +1,12 @@
-use Rattle.std.proofs.Common.{reverse}
-use Rattle.conc_law.specs.Remaining.{remaining}
-use Rattle.conc_resolver.specs.SoFar.{SoFar}
+use Rattle.conc_resolver.specs.Runs.{disks}
+use Rattle.conc_resolver.specs.Steps.{left_in}
+use Rattle.conc_resolver.proofs.Underway.{IsUnderway}
 use Rattle.conc_resolver.proofs.running.run_alone.Given as goal
 
-abbrev pub invariant-loop-run : goal.invariant-loop-run
-invariant-loop-run l = SoFar l.plan l.readings l.run
+abbrev pub invariant-loop : goal.invariant-loop
+invariant-loop g l =
+    IsUnderway l.plan l.initial.work l.work
+    (disks (g.D.Disk.state l.initial.journal) (g.D.Disk.state l.journal) (g.E.Disk.state l.initial.spool) (g.E.Disk.state l.spool))
 
-abbrev pub decreases-loop-run : goal.decreases-loop-run
-decreases-loop-run l = remaining l.plan l.readings.list (reverse l.run.events.items)
+abbrev pub decreases-loop : goal.decreases-loop
+decreases-loop g l = left_in l.work

@@ -1,12 +1,64 @@
-use Rattle.std.proofs.Common.{◌∙◌, sym, reverse}
-use Rattle.conc_resolver.proofs.Steps.{SoFar-push}
+use Rattle.std.proofs.Common.{◌≡◌, Some, sym, ◌∙◌, ap}
+use Rattle.std.specs.Option.{option_map}
+use Rattle.conc_choice.specs.Choices.{event_of}
+use Rattle.conc_law.proofs.Finishes.{next_alone-none}
+use Rattle.conc_work.specs.Works.{list_in}
+use Rattle.conc_resolver.specs.Steps.{next_in, plan_in, readings_in}
+use Rattle.conc_resolver.proofs.Coming.{lawful-past, may-log}
+use Rattle.conc_resolver.proofs.Stepping.{less-logged, ready-logged, went-logged, went-unkept, went-unlogged}
 use Rattle.conc_resolver.proofs.running.step.Goals as goal
 
-pub returns-in_ok-take_in-in-Some-clause-more : goal.returns-in_ok-take_in-in-Some-clause-more
-returns-in_ok-take_in-in-Some-clause-more c =
-    let next : _ = sym c.in_ok-next.ensures ∙ c.in-Some.is in
-    let took = c.in_ok-take_in-in-Some.ensures in
-    SoFar-push c.args.plan.now c.args.readings.now c.args.run.now c.take_in.new.run c.in-Some.e c.requires next
-    (c.choice_is_lawful.ensures c.args.plan.now c.args.readings.now.list c.args.run.now.events.items c.in-Some.e next)
-    took.events took.plan took.readings
-    (took.stands (reverse c.args.run.now.events.items) c.requires.stands)
+pub keep-requires-clause-may : goal.keep-requires-clause-may
+keep-requires-clause-may g c =
+    let next : next_in c.args.work.now ≡ Some c.in-Some.next.event = sym c.in_ok-next.ensures.event ∙ ap (option_map event_of) c.in-Some.is in
+    may-log c.args.work.now c.in-Some.next.event c.in-Some.next.text (g.D.Disk.state c.args.journal.now) (g.E.Disk.state c.args.spool.now) c.requires.ready next (c.in_ok-next.ensures.text c.in-Some.next c.in-Some.is)
+
+pub returns-in_err-keep-in-Some-clause-went_on : goal.returns-in_err-keep-in-Some-clause-went_on
+returns-in_err-keep-in-Some-clause-went_on g c =
+    went-unkept c.args.work.now c.keep.new.work (g.D.Disk.state c.args.journal.now) (g.E.Disk.state c.args.spool.now) (g.E.Disk.state c.keep.new.spool) c.requires.ready c.keep.ensures.machine c.keep.ensures.journal
+    c.in_err-keep-in-Some.ensures.not_kept c.in_err-keep-in-Some.ensures.as_before
+
+pub returns-in_err-log_event-in-Some-clause-went_on : goal.returns-in_err-log_event-in-Some-clause-went_on
+returns-in_err-log_event-in-Some-clause-went_on g c =
+    let next : next_in c.args.work.now ≡ Some c.in-Some.next.event = sym c.in_ok-next.ensures.event ∙ ap (option_map event_of) c.in-Some.is in
+    let kept = c.in_ok-keep-in-Some.ensures in
+    let logged = c.log_event.ensures in
+    went-unlogged c.args.work.now c.keep.new.work (g.D.Disk.state c.args.journal.now) (g.E.Disk.state c.args.spool.now) (g.E.Disk.state c.keep.new.spool) c.requires.ready c.keep.ensures.machine c.keep.ensures.journal
+    c.log_event.new.work c.in-Some.next.event (g.D.Disk.state c.log_event.new.journal) next c.keep.ensures.may kept.kept kept.told logged.survives logged.plan logged.readings logged.spool
+    c.in_err-log_event-in-Some.ensures.not_logged c.in_err-log_event-in-Some.ensures.as_before c.in_err-log_event-in-Some.ensures.failed
+
+pub returns-in-None-clause-finished : goal.returns-in-None-clause-finished
+returns-in-None-clause-finished g c = λ _.
+    let work = c.args.work.now in
+    let past = lawful-past (plan_in work) work.machine (readings_in work) (list_in work) c.requires.ready.tied.readings_are c.requires.ready.tied.lawful in
+    next_alone-none (plan_in work) (readings_in work) (list_in work) past (sym c.in_ok-next.ensures.event ∙ ap (option_map event_of) c.in-None.is)
+
+pub returns-in_ok-log_event-in-Some-clause-went_on : goal.returns-in_ok-log_event-in-Some-clause-went_on
+returns-in_ok-log_event-in-Some-clause-went_on g c =
+    let next : next_in c.args.work.now ≡ Some c.in-Some.next.event = sym c.in_ok-next.ensures.event ∙ ap (option_map event_of) c.in-Some.is in
+    let kept = c.in_ok-keep-in-Some.ensures in
+    let logged = c.log_event.ensures in
+    let done = c.in_ok-log_event-in-Some.ensures in
+    went-logged c.args.work.now c.keep.new.work (g.D.Disk.state c.args.journal.now) (g.E.Disk.state c.args.spool.now) (g.E.Disk.state c.keep.new.spool) c.requires.ready c.keep.ensures.machine c.keep.ensures.journal
+    c.log_event.new.work c.in-Some.next.event (g.D.Disk.state c.log_event.new.journal) next c.keep.ensures.may kept.kept kept.told logged.survives logged.plan logged.readings logged.spool
+    done.logged done.added done.stage
+
+pub returns-in_ok-log_event-in-Some-clause-ready : goal.returns-in_ok-log_event-in-Some-clause-ready
+returns-in_ok-log_event-in-Some-clause-ready g c =
+    let next : next_in c.args.work.now ≡ Some c.in-Some.next.event = sym c.in_ok-next.ensures.event ∙ ap (option_map event_of) c.in-Some.is in
+    let kept = c.in_ok-keep-in-Some.ensures in
+    let logged = c.log_event.ensures in
+    let done = c.in_ok-log_event-in-Some.ensures in
+    ready-logged c.args.work.now c.keep.new.work (g.D.Disk.state c.args.journal.now) (g.E.Disk.state c.args.spool.now) (g.E.Disk.state c.keep.new.spool) c.requires.ready c.keep.ensures.machine c.keep.ensures.journal
+    c.log_event.new.work c.in-Some.next.event (g.D.Disk.state c.log_event.new.journal) next c.keep.ensures.may kept.kept kept.told logged.survives logged.plan logged.readings logged.spool
+    done.logged done.added done.stage done.room
+
+pub returns-in_ok-log_event-in-Some-clause-less : goal.returns-in_ok-log_event-in-Some-clause-less
+returns-in_ok-log_event-in-Some-clause-less g c = λ _.
+    let next : next_in c.args.work.now ≡ Some c.in-Some.next.event = sym c.in_ok-next.ensures.event ∙ ap (option_map event_of) c.in-Some.is in
+    let kept = c.in_ok-keep-in-Some.ensures in
+    let logged = c.log_event.ensures in
+    let done = c.in_ok-log_event-in-Some.ensures in
+    less-logged c.args.work.now c.keep.new.work (g.D.Disk.state c.args.journal.now) (g.E.Disk.state c.args.spool.now) (g.E.Disk.state c.keep.new.spool) c.requires.ready c.keep.ensures.machine c.keep.ensures.journal
+    c.log_event.new.work c.in-Some.next.event (g.D.Disk.state c.log_event.new.journal) next c.keep.ensures.may kept.kept kept.told logged.survives logged.plan logged.readings logged.spool
+    done.logged done.added done.stage

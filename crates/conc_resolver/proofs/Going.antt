@@ -1,0 +1,177 @@
+-- What a run makes of its work, event by event.
+use Rattle.std.proofs.Common.{◌≡◌, ◌⊎◌, inl, inr, ℕ, zero, suc, ◌<◌, ◌≤◌, Bool, false, ◌||◌, List, [], ◌∷◌, ◌++◌, length, reverse, take, Option, None, Some, refl, sym, ◌∙◌, ap, subst, arith, append_assoc, append-nil}
+use Rattle.std.specs.Prelude.{IfSome, IsSomeAnd, MatchOption, slice_get}
+use Rattle.std.proofs.lemmas.Bool.{cases_lt}
+use Rattle.std.proofs.lemmas.List.{take-append-le}
+use Rattle.std.proofs.lemmas.List.Folds.{list_any-append}
+use Rattle.std.proofs.lemmas.Option.{same_Some}
+use Rattle.conc_types.specs.declared.event.Event.{Event}
+use Rattle.conc_types.specs.declared.plan.Plan.{Plan}
+use Rattle.conc_types.specs.declared.script.Reading.{Reading}
+use Rattle.conc_law.specs.Alone.{Follows, next_alone}
+use Rattle.conc_law.specs.Kinds.{is_resume}
+use Rattle.conc_law.specs.Law.{Lawful}
+use Rattle.conc_law.specs.Standing.{used}
+use Rattle.conc_law.proofs.AloneLawful.{next_alone-follows}
+use Rattle.conc_disk.specs.Disk.{DiskState, SeenFollows}
+use Rattle.conc_disk.specs.Left.{EachImage, LeavesOnly}
+use Rattle.conc_disk.proofs.Leaving.{if_some-any, leaves-none, leaves-twice, leaves-wider}
+use Rattle.conc_journal.specs.Journals.{list_of, stage_of}
+use Rattle.conc_journal.specs.Stages.{has_faulted, stage_digest}
+use Rattle.conc_journal.specs.declared.journal.Stage.TheVariants.{Begun}
+use Rattle.conc_spool.specs.Spools.{Agrees, KeepsBelow, used_of}
+use Rattle.conc_choice.proofs.Pushes.{Follows-push}
+use Rattle.conc_work.specs.Lists.{GoesOn, IsPrefix, longest_of}
+use Rattle.conc_work.specs.Survival.{Survives}
+use Rattle.conc_work.specs.Told.{AreTold}
+use Rattle.conc_work.specs.Works.{AreReady, AreTied, list_in, longest_in}
+use Rattle.conc_work.specs.declared.work.Work.{Work}
+use Rattle.conc_resolver.specs.Runs.{disks, WentOn}
+use Rattle.conc_resolver.specs.Steps.{SurvivesFor, TellsOn}
+use Rattle.conc_resolver.proofs.Extents.{used-more}
+use Rattle.conc_resolver.proofs.Logs.{prefix-self, sound-begun, sound-whole, survives-wider}
+use Rattle.conc_resolver.proofs.Texts.{agrees-on}
+
+-- where no append met a fault, the disk has at most the list
+pub sound-longest : (work : Work) → has_faulted (stage_of work.journal) ≡ false → longest_in work ≡ list_in work
+sound-longest work sound = ap (λ l. list_in work ++ l) (sound-whole (stage_of work.journal) sound) ∙ append-nil (list_in work)
+
+-- ---- no event
+
+module _ (plan : Plan) (readings : List Reading) (old new : Work) (journal spool spool' : DiskState) (lawful : Lawful plan readings (list_in old)) (sound : has_faulted (stage_of old.journal) ≡ false)
+    (same : new.journal ≡ old.journal) where
+  longest : longest_in new ≡ list_in old
+  longest = ap (λ j. longest_of j) same ∙ sound-longest old sound
+
+  pub went-none : AreTied plan readings None new journal spool' → TellsOn plan (used_of old.spool) (list_in old) (list_in old) spool spool' → WentOn plan readings (disks journal journal spool spool') old new
+  went-none tied tells = record {
+    kept = None;
+    tied = tied;
+    list = record {
+      added = [];
+      all = longest ∙ sym (append-nil (list_in old));
+      each = λ i from below. absurd (omega (arith, from, below, ap length longest));
+      no_resume = refl;
+    };
+    lawful = subst (λ (l : List Event). Lawful plan readings l) (sym longest) lawful;
+    acknowledged = inl (longest ∙ sym (ap (λ j. list_of j) same));
+    told = λ from. subst (λ (l : List Event). EachImage (AreTold plan from (list_in old)) spool → EachImage (AreTold plan from l) spool') (sym longest) (tells.told from);
+    digest = ap (λ j. stage_digest (stage_of j)) same;
+    journal = λ digest begun. leaves-none (Survives digest (list_in old) (longest_in new)) journal;
+    spool = tells.left;
+    spool_now = tells.now;
+  }
+
+-- ---- one event
+
+module _ (plan : Plan) (readings : List Reading) (old new : Work) (e : Event) (kept : Option Event) (journal journal' spool spool' : DiskState) (next : next_alone plan readings (reverse (list_in old)) ≡ Some e)
+    (longest : longest_in new ≡ list_in old ++ e ∷ []) where
+  pub went-one : AreTied plan readings kept new journal' spool' → Lawful plan readings (list_in old ++ e ∷ [])
+      → (longest_in new ≡ list_in new) ⊎ ((e : Event) × (longest_in new ≡ list_in new ++ e ∷ []))
+      → TellsOn plan (used_of old.spool) (list_in old) (list_in old ++ e ∷ []) spool spool'
+      → stage_digest (stage_of new.journal) ≡ stage_digest (stage_of old.journal)
+      → SurvivesFor old.journal (list_in old) (list_in old ++ e ∷ []) journal journal'
+      → WentOn plan readings (disks journal journal' spool spool') old new
+  went-one tied lawful acknowledged tells digest left = record {
+    kept = kept;
+    tied = tied;
+    list = record {
+      added = e ∷ [];
+      all = longest;
+      each = subst (λ (l : List Event). Follows plan readings (length (list_in old)) l) (sym longest)
+          (Follows-push plan readings (length (list_in old)) (list_in old) e (λ i from below. absurd (omega (arith, from, below))) next);
+      no_resume = ap (λ b. b || false) (next_alone-follows plan readings (reverse (list_in old)) e next).0;
+    };
+    lawful = subst (λ (l : List Event). Lawful plan readings l) (sym longest) lawful;
+    acknowledged = acknowledged;
+    told = λ from. subst (λ (l : List Event). EachImage (AreTold plan from (list_in old)) spool → EachImage (AreTold plan from l) spool') (sym longest) (tells.told from);
+    digest = digest;
+    journal = λ d begun. subst (λ (l : List Event). LeavesOnly (Survives d (list_in old) l) journal journal') (sym longest) (left d begun);
+    spool = tells.left;
+    spool_now = tells.now;
+  }
+
+-- ---- what follows twice
+
+get-front : (list added : List Event) (i : ℕ) → i < length list → slice_get (list ++ added) i ≡ slice_get list i
+get-front [] added i below = absurd (omega arith)
+get-front (e ∷ list) added zero below = refl
+get-front (e ∷ list) added (suc i) below = get-front list added i (omega arith)
+
+goes-twice : (plan : Plan) (readings : List Reading) (a b c : List Event) → GoesOn plan readings a b → GoesOn plan readings b c → GoesOn plan readings a c
+goes-twice plan readings a b c first second = record {
+  added = first.added ++ second.added;
+  all = second.all ∙ ap (λ l. l ++ second.added) first.all ∙ append_assoc a first.added second.added;
+  each = λ i from below. elim (cases_lt i (length b)) [
+    | inl lt ↦
+        ap (λ l. slice_get l i) second.all ∙ get-front b second.added i lt ∙ first.each i from lt
+        ∙ ap (λ l. next_alone plan readings (reverse l)) (sym (ap (take i) second.all ∙ take-append-le i b second.added (omega arith)))
+    | inr ge ↦ second.each i ge below
+  ];
+  no_resume = list_any-append is_resume first.added second.added ∙ either first.no_resume second.no_resume;
+}
+  where
+    either : {p q : Bool} → p ≡ false → q ≡ false → (p || q) ≡ false
+    either p q = grind (arith, p, q)
+
+-- the bytes below the first end stay
+follows-twice : (m n : ℕ) (old mid new : DiskState) → m ≤ n → SeenFollows (Agrees m) old mid → SeenFollows (Agrees n) mid new → SeenFollows (Agrees m) old new
+follows-twice m n old mid new le first second = go old.seen mid.seen new.seen first second where
+  go : (o s t : Option (List ℕ)) → MatchOption o (s ≡ None) (λ a. IsSomeAnd s (λ b. Agrees m a b)) → MatchOption s (t ≡ None) (λ b. IsSomeAnd t (λ c. Agrees n b c)) → MatchOption o (t ≡ None) (λ a. IsSomeAnd t (λ c. Agrees m a c))
+  go None None t first second = second
+  go None (Some b) t first second = absurd (cc first)
+  go (Some a) None t first second = absurd first
+  go (Some a) (Some b) None first second = absurd second
+  go (Some a) (Some b) (Some c) first second = agrees-on m n a b c le first second
+
+keeps-below : (m n : ℕ) (old mid : DiskState) → m ≤ n → SeenFollows (Agrees m) old mid → IfSome mid.seen (λ bytes. (image : List ℕ) → KeepsBelow n mid image → KeepsBelow m old image)
+keeps-below m n old mid le follows = go old.seen mid.seen follows where
+  go : (o s : Option (List ℕ)) → MatchOption o (s ≡ None) (λ a. IsSomeAnd s (λ b. Agrees m a b)) → IfSome s (λ bytes. (image : List ℕ) → IfSome s (λ b. Agrees n b image) → IfSome o (λ a. Agrees m a image))
+  go o None follows = tt
+  go None (Some b) follows = λ image keeps. tt
+  go (Some a) (Some b) follows = λ image keeps. agrees-on m n a b image le follows keeps
+
+-- ---- a run that goes on from a sound work
+
+module _ (plan : Plan) (readings : List Reading) (old mid new : Work) (journal journal' journal'' spool spool' spool'' : DiskState) (ready : AreReady plan readings mid journal' spool')
+    (begins : used_of old.spool ≡ used (reverse (list_in old))) where
+  whole : longest_in mid ≡ list_in mid
+  whole = sound-longest mid ready.sound
+
+  module _ (first : WentOn plan readings (disks journal journal' spool spool') old mid) (second : WentOn plan readings (disks journal' journal'' spool' spool'') mid new) where
+    goes : GoesOn plan readings (list_in old) (list_in mid)
+    goes = subst (λ (l : List Event). GoesOn plan readings (list_in old) l) whole first.list
+
+    -- so the texts of the first part are as many or fewer
+    fewer : used_of old.spool ≤ used_of mid.spool
+    fewer = omega (arith, begins, ready.tied.used_is, used-more (list_in old) goes.added, ap (λ l. used (reverse l)) goes.all)
+
+    still-begun : (digest : List ℕ) → stage_of old.journal ≡ Begun digest → stage_of mid.journal ≡ Begun digest
+    still-begun digest begun =
+        let is = sound-begun (stage_of mid.journal) ready.tied.takes ready.sound in
+        let same : Some is.0 ≡ Some digest = sym (ap stage_digest is.1) ∙ first.digest ∙ ap stage_digest begun in
+        is.1 ∙ ap (λ d. Begun d) (same_Some is.0 digest same)
+
+    pub went-twice : WentOn plan readings (disks journal journal'' spool spool'') old new
+    went-twice = record {
+      kept = second.kept;
+      tied = second.tied;
+      list = goes-twice plan readings (list_in old) (list_in mid) (longest_in new) goes second.list;
+      lawful = second.lawful;
+      acknowledged = second.acknowledged;
+      told = λ from told. second.told from (subst (λ (l : List Event). EachImage (AreTold plan from l) spool') whole (first.told from told));
+      digest = second.digest ∙ first.digest;
+      journal = λ digest begun.
+          let kind = Survives digest (list_in old) (longest_in new) in
+          let before : IsPrefix (list_in old) (list_in mid) = (goes.added, goes.all) in
+          let behind : IsPrefix (longest_in mid) (longest_in new) = (second.list.added, second.list.all ∙ ap (λ l. l ++ second.list.added) (sym whole)) in
+          leaves-twice kind journal journal' journal''
+          (leaves-wider (Survives digest (list_in old) (longest_in mid)) kind journal journal' (first.journal digest begun)
+          (if_some-any journal.seen (λ bytes image. survives-wider digest (list_in old) (longest_in mid) (list_in old) (longest_in new) image (prefix-self (list_in old)) behind)))
+          (leaves-wider (Survives digest (list_in mid) (longest_in new)) kind journal' journal'' (second.journal digest (still-begun digest begun))
+          (if_some-any journal'.seen (λ bytes image. survives-wider digest (list_in mid) (longest_in new) (list_in old) (longest_in new) image before (prefix-self (longest_in new)))));
+      spool =
+          leaves-twice (KeepsBelow (used_of old.spool) spool) spool spool' spool'' first.spool
+          (leaves-wider (KeepsBelow (used_of mid.spool) spool') (KeepsBelow (used_of old.spool) spool) spool' spool'' second.spool (keeps-below (used_of old.spool) (used_of mid.spool) spool spool' fewer first.spool_now));
+      spool_now = follows-twice (used_of old.spool) (used_of mid.spool) spool spool' spool'' fewer first.spool_now second.spool_now;
+    }

@@ -1,0 +1,137 @@
+-- One step of a run: its text is kept, and then its event is logged.
+use Rattle.std.proofs.Common.{◌≡◌, inl, inr, ◌+◌, ◌<◌, false, List, [], ◌∷◌, ◌++◌, reverse, Option, None, Some, refl, sym, ◌∙◌, ap, subst, arith}
+use Rattle.std.specs.Prelude.{unwrap_or}
+use Rattle.conc_types.specs.declared.event.Event.{Event}
+use Rattle.conc_types.specs.declared.plan.Plan.{Plan}
+use Rattle.conc_types.specs.declared.script.Reading.{Reading}
+use Rattle.conc_law.specs.Kinds.{is_resume}
+use Rattle.conc_law.specs.Law.{Lawful}
+use Rattle.conc_law.specs.Remaining.{remaining}
+use Rattle.conc_law.proofs.AloneLawful.{next_alone-follows}
+use Rattle.conc_law.proofs.Positions.{reverse-push}
+use Rattle.conc_law.proofs.Remaining.{remaining_less}
+use Rattle.conc_disk.specs.Disk.{DiskState}
+use Rattle.conc_journal.specs.Journals.{list_of, room_of, stage_of}
+use Rattle.conc_journal.specs.Journals.{IsOn as JournalIsOn}
+use Rattle.conc_journal.specs.Stages.{after_fault, has_faulted, stage_digest}
+use Rattle.conc_journal.specs.declared.journal.Journal.{Journal}
+use Rattle.conc_machine.specs.Stands.{plan_of, readings_of}
+use Rattle.conc_machine.specs.declared.machine.Machine.{Machine}
+use Rattle.conc_spool.specs.Spools.{used_of}
+use Rattle.conc_spool.specs.Spools.{IsOn as SpoolIsOn}
+use Rattle.conc_spool.specs.declared.spool.Spool.{Spool}
+use Rattle.conc_work.specs.Lists.{failed_in}
+use Rattle.conc_work.specs.Works.{AreTied, HasRoom, list_in, longest_in}
+use Rattle.conc_work.specs.declared.work.Work.{Work}
+use Rattle.conc_resolver.specs.Runs.{disks, WentOn}
+use Rattle.conc_resolver.specs.Steps.{any_disk, IsReady, IsTied, left_in, MayLog, next_in, plan_in, readings_in, SurvivesFor, TellsOn}
+use Rattle.conc_resolver.proofs.Coming.{has-room, lawful-past}
+use Rattle.conc_resolver.proofs.Going.{sound-longest, went-none, went-one}
+use Rattle.conc_resolver.proofs.Logs.{faulted-digest, faulted-longest}
+
+-- what is tied by its own plan and readings is tied by those that are the same
+tied-by : (plan : Plan) (readings : List Reading) (kept : Option Event) (work : Work) (journal journal' spool spool' : DiskState) → plan_in work ≡ plan → readings_in work ≡ readings
+    → JournalIsOn work.journal journal' → SpoolIsOn work.spool spool' → IsTied kept work journal spool → AreTied plan readings kept work journal' spool'
+tied-by plan readings kept work journal journal' spool spool' same known journal_on spool_on tied = record {
+  plan_is = same;
+  readings_are = tied.readings_are ∙ ap (λ (l : List Reading). Some l) known;
+  stands = tied.stands;
+  lawful =
+      subst (λ (p : Plan). Lawful p readings (list_in work)) same
+      (subst (λ (l : List Reading). Lawful (plan_in work) l (list_in work)) known tied.lawful);
+  takes = tied.takes;
+  used_is = tied.used_is;
+  journal_on = journal_on;
+  spool_on = spool_on;
+}
+
+module _ (old mid : Work) (journal spool spool' : DiskState) (ready : IsReady old journal spool) (machine : mid.machine ≡ old.machine) (same : mid.journal ≡ old.journal) where
+  mid-on : JournalIsOn mid.journal journal
+  mid-on = subst (λ (j : Journal). JournalIsOn j journal) (sym same) ready.tied.journal_on
+
+  mid-plan : plan_in mid ≡ plan_in old
+  mid-plan = ap (λ (m : Machine). plan_of m) machine
+
+  mid-readings : readings_in mid ≡ readings_in old
+  mid-readings = ap (λ (m : Machine). unwrap_or (readings_of m) []) machine
+
+  -- the text met a fault
+  pub went-unkept : IsTied None mid any_disk spool' → TellsOn (plan_in old) (used_of old.spool) (list_in old) (list_in old) spool spool'
+      → WentOn (plan_in old) (readings_in old) (disks journal journal spool spool') old mid
+  went-unkept tied tells =
+      went-none (plan_in old) (readings_in old) old mid journal spool spool' ready.tied.lawful ready.sound same
+      (tied-by (plan_in old) (readings_in old) None mid any_disk journal spool' spool' mid-plan mid-readings mid-on tied.spool_on tied) tells
+
+  module _ (new : Work) (e : Event) (journal' : DiskState) (next : next_in old ≡ Some e) (may : MayLog mid e) (keeps : IsTied (Some e) mid any_disk spool')
+      (tells : TellsOn (plan_in old) (used_of old.spool) (list_in old) (list_in old ++ e ∷ []) spool spool')
+      (survives : SurvivesFor mid.journal (list_in mid) (list_in mid ++ e ∷ []) journal journal')
+      (plan : plan_in new ≡ plan_in mid) (readings : readings_in new ≡ readings_in mid) (text : new.spool ≡ mid.spool) where
+    new-on : SpoolIsOn new.spool spool'
+    new-on = subst (λ (s : Spool). SpoolIsOn s spool') (sym text) keeps.spool_on
+
+    new-plan : plan_in new ≡ plan_in old
+    new-plan = plan ∙ mid-plan
+
+    new-readings : readings_in new ≡ readings_in old
+    new-readings = readings ∙ mid-readings
+
+    old-survives : SurvivesFor old.journal (list_in old) (list_in old ++ e ∷ []) journal journal'
+    old-survives = subst (λ (j : Journal). SurvivesFor j (list_of j) (list_of j ++ e ∷ []) journal journal') same survives
+
+    lawful : Lawful (plan_in old) (readings_in old) (list_in old ++ e ∷ [])
+    lawful =
+        subst (λ (j : Journal). Lawful (plan_in old) (readings_in old) (list_of j ++ e ∷ [])) same
+        (subst (λ (m : Machine). Lawful (plan_of m) (unwrap_or (readings_of m) []) (list_in mid ++ e ∷ [])) machine may.lawful)
+
+    -- the journal met a fault
+    pub went-unlogged : IsTied (Some e) new journal' any_disk → list_in new ≡ list_in mid → stage_of new.journal ≡ after_fault e (stage_of mid.journal)
+        → WentOn (plan_in old) (readings_in old) (disks journal journal' spool spool') old new
+    went-unlogged tied stays failed =
+        let behind : failed_in (stage_of new.journal) ≡ e ∷ [] = ap failed_in failed ∙ faulted-longest e (stage_of mid.journal) keeps.takes may.sound in
+        let longest : longest_in new ≡ list_in new ++ e ∷ [] = ap (λ l. list_in new ++ l) behind in
+        went-one (plan_in old) (readings_in old) old new e (Some e) journal journal' spool spool' next
+        (longest ∙ ap (λ l. l ++ e ∷ []) (stays ∙ ap (λ j. list_of j) same))
+        (tied-by (plan_in old) (readings_in old) (Some e) new journal' journal' any_disk spool' new-plan new-readings tied.journal_on new-on tied)
+        lawful (inr (e, longest)) tells
+        (ap stage_digest failed ∙ faulted-digest e (stage_of mid.journal) ∙ ap (λ j. stage_digest (stage_of j)) same)
+        old-survives
+
+    module _ (tied : IsTied None new journal' any_disk) (added : list_in new ≡ list_in mid ++ e ∷ []) (stage : stage_of new.journal ≡ stage_of mid.journal) where
+      added-to : list_in new ≡ list_in old ++ e ∷ []
+      added-to = added ∙ ap (λ j. list_of j ++ e ∷ []) same
+
+      new-sound : has_faulted (stage_of new.journal) ≡ false
+      new-sound = ap has_faulted stage ∙ may.sound
+
+      pub went-logged : WentOn (plan_in old) (readings_in old) (disks journal journal' spool spool') old new
+      went-logged =
+          went-one (plan_in old) (readings_in old) old new e None journal journal' spool spool' next
+          (sound-longest new new-sound ∙ added-to)
+          (tied-by (plan_in old) (readings_in old) None new journal' journal' any_disk spool' new-plan new-readings tied.journal_on new-on tied)
+          lawful (inl (sound-longest new new-sound)) tells
+          (ap stage_digest stage ∙ ap (λ j. stage_digest (stage_of j)) same)
+          old-survives
+
+      none : is_resume e ≡ false
+      none = (next_alone-follows (plan_in old) (readings_in old) (reverse (list_in old)) e next).0
+
+      pub ready-logged : room_of new.journal + 1 ≡ room_of mid.journal → IsReady new journal' spool'
+      ready-logged room = record {
+        tied = tied-by (plan_in new) (readings_in new) None new journal' journal' any_disk spool' refl refl tied.journal_on new-on tied;
+        room =
+            subst (λ (p : Plan). HasRoom p (readings_in new) new) (sym new-plan)
+            (subst (λ (l : List Reading). HasRoom (plan_in old) l new) (sym new-readings)
+            (has-room (plan_in old) (readings_in old) old e ready.tied.readings_are none ready.room new added-to (room ∙ ap (λ j. room_of j) same)));
+        sound = new-sound;
+      }
+
+      pub less-logged : left_in new < left_in old
+      less-logged =
+          let past = lawful-past (plan_in old) old.machine (readings_in old) (list_in old) ready.tied.readings_are ready.tied.lawful in
+          let less = remaining_less (plan_in old) (readings_in old) (reverse (list_in old)) e past (next_alone-follows (plan_in old) (readings_in old) (reverse (list_in old)) e next).1 none in
+          let same : left_in new ≡ remaining (plan_in old) (readings_in old) (e ∷ reverse (list_in old)) =
+          ap (λ (p : Plan). remaining p (readings_in new) (reverse (list_in new))) new-plan
+          ∙ ap (λ (l : List Reading). remaining (plan_in old) l (reverse (list_in new))) new-readings
+          ∙ ap (λ (l : List Event). remaining (plan_in old) (readings_in old) (reverse l)) added-to
+          ∙ ap (λ (l : List Event). remaining (plan_in old) (readings_in old) l) (reverse-push (list_in old) e) in
+          omega (arith, less, same)

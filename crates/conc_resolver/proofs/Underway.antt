@@ -1,0 +1,64 @@
+-- A run that is under way.
+use Rattle.std.proofs.Common.{◌≡◌, ℕ, ◌≤◌, List, [], Option, Some, sym, ◌∙◌, ap, subst, arith}
+use Rattle.std.specs.Prelude.{unwrap_or}
+use Rattle.conc_types.specs.declared.plan.Plan.{Plan}
+use Rattle.conc_types.specs.declared.script.Reading.{Reading}
+use Rattle.conc_disk.specs.Disk.{DiskState}
+use Rattle.conc_journal.specs.Journals.{stage_of}
+use Rattle.conc_journal.specs.declared.journal.Stage.TheVariants.{Begun}
+use Rattle.conc_machine.specs.Stands.{readings_of}
+use Rattle.conc_work.specs.Works.{AreReady}
+use Rattle.conc_work.specs.declared.work.Work.{Work}
+use Rattle.conc_resolver.specs.Runs.{Disks, disks, WentOn}
+use Rattle.conc_resolver.specs.Steps.{IsReady, plan_in, readings_in}
+use Rattle.conc_resolver.proofs.Going.{went-twice}
+use Rattle.conc_resolver.proofs.Logs.{sound-begun}
+
+-- from a first work on, which was ready, a run has gone on to one that is ready
+pub record IsUnderway (plan : Plan) (first work : Work) (d : Disks) : Type 0 where
+  pub plan_is : plan_in work ≡ plan
+  pub began : IsReady first d.journal_before d.spool_before
+  pub ready : IsReady work d.journal_after d.spool_after
+  pub went : WentOn (plan_in first) (readings_in first) d first work
+  pub stage : stage_of work.journal ≡ stage_of first.journal
+  pub faults : d.journal_before.faults ≤ d.journal_after.faults
+
+module _ (plan : Plan) (first mid new : Work) (journal journal' journal'' spool spool' spool'' : DiskState) (under : IsUnderway plan first mid (disks journal journal' spool spool')) where
+  same-readings : readings_in mid ≡ readings_in first
+  same-readings = ap (λ (o : Option (List Reading)). unwrap_or o []) under.went.tied.readings_are
+
+  first-plan : plan_in first ≡ plan
+  first-plan = sym under.went.tied.plan_is ∙ under.plan_is
+
+  module _ (more : WentOn (plan_in mid) (readings_in mid) (disks journal' journal'' spool' spool'') mid new) where
+    further : WentOn (plan_in first) (readings_in first) (disks journal journal'' spool spool'') first new
+    further =
+        went-twice (plan_in first) (readings_in first) first mid new journal journal' journal'' spool spool' spool''
+        (subst (λ (p : Plan). AreReady p (readings_in first) mid journal' spool') under.went.tied.plan_is
+        (subst (λ (l : List Reading). AreReady (plan_in mid) l mid journal' spool') same-readings under.ready))
+        under.began.tied.used_is under.went
+        (subst (λ (p : Plan). WentOn p (readings_in first) (disks journal' journal'' spool' spool'') mid new) under.went.tied.plan_is
+        (subst (λ (l : List Reading). WentOn (plan_in mid) l (disks journal' journal'' spool' spool'') mid new) same-readings more))
+
+    begun : (digest : List ℕ) × (stage_of mid.journal ≡ Begun digest)
+    begun = sound-begun (stage_of mid.journal) under.ready.tied.takes under.ready.sound
+
+    pub underway-more : IsReady new journal'' spool'' → stage_of new.journal ≡ stage_of mid.journal → IsUnderway plan first new (disks journal journal'' spool spool'')
+    underway-more ready stage = record {
+      plan_is = further.tied.plan_is ∙ first-plan;
+      began = under.began;
+      ready = ready;
+      went = further;
+      stage = stage ∙ under.stage;
+      faults = omega (arith, under.faults, (more.journal begun.0 begun.1).faults);
+    }
+
+    -- for the readings that are known
+    module _ (readings : List Reading) (known : readings_of first.machine ≡ Some readings) where
+      first-readings : readings_in first ≡ readings
+      first-readings = ap (λ (o : Option (List Reading)). unwrap_or o []) known
+
+      pub all-went : WentOn plan readings (disks journal journal'' spool spool'') first new
+      all-went =
+          subst (λ (p : Plan). WentOn p readings (disks journal journal'' spool spool'') first new) first-plan
+          (subst (λ (l : List Reading). WentOn (plan_in first) l (disks journal journal'' spool spool'') first new) first-readings further)

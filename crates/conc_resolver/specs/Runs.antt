@@ -1,0 +1,48 @@
+-- What a run leaves, and why it ends.
+use Rattle.std.specs.Prelude.{◌≡◌, ◌⊎◌, ℕ, ◌∷◌, [], ◌++◌, List, Option}
+use Rattle.conc_types.specs.declared.event.Event.{Event}
+use Rattle.conc_types.specs.declared.plan.Plan.{Plan}
+use Rattle.conc_types.specs.declared.script.Reading.{Reading}
+use Rattle.conc_law.specs.Law.{Lawful}
+use Rattle.conc_disk.specs.Disk.{DiskState, SeenFollows}
+use Rattle.conc_disk.specs.Left.{EachImage, LeavesOnly}
+use Rattle.conc_journal.specs.Journals.{stage_of}
+use Rattle.conc_journal.specs.Stages.{stage_digest}
+use Rattle.conc_journal.specs.declared.journal.Stage.TheVariants.{Begun}
+use Rattle.conc_spool.specs.Spools.{Agrees, KeepsBelow, used_of}
+use Rattle.conc_work.specs.Lists.{GoesOn}
+use Rattle.conc_work.specs.Survival.{Survives}
+use Rattle.conc_work.specs.Told.{AreTold}
+use Rattle.conc_work.specs.Works.{AreTied, list_in, longest_in}
+use Rattle.conc_work.specs.declared.work.Work.{Work}
+
+-- the two disks of a run, before and after
+pub record Disks : Type 1 where
+  pub journal_before : DiskState
+  pub journal_after : DiskState
+  pub spool_before : DiskState
+  pub spool_after : DiskState
+
+abbrev pub disks : DiskState → DiskState → DiskState → DiskState → Disks
+disks journal journal' spool spool' = record {
+  journal_before = journal;
+  journal_after = journal';
+  spool_before = spool;
+  spool_after = spool';
+}
+
+-- What a run made of its work, however it ended. The list went on as a run without workers goes on, also by the event whose
+-- append met a fault, if one did. The ends that the spool told before it tells still, and those that were added too. At
+-- each moment the journal's disk had a list between the one before and the longest after, and the spool's bytes of earlier
+-- ends stayed.
+pub record WentOn (plan : Plan) (readings : List Reading) (d : Disks) (old new : Work) : Type 0 where
+  pub kept : Option Event
+  pub tied : AreTied plan readings kept new d.journal_after d.spool_after
+  pub list : GoesOn plan readings (list_in old) (longest_in new)
+  pub lawful : Lawful plan readings (longest_in new)
+  pub acknowledged : (longest_in new ≡ list_in new) ⊎ ((e : Event) × (longest_in new ≡ list_in new ++ e ∷ []))
+  pub told : (from : ℕ) → EachImage (AreTold plan from (list_in old)) d.spool_before → EachImage (AreTold plan from (longest_in new)) d.spool_after
+  pub digest : stage_digest (stage_of new.journal) ≡ stage_digest (stage_of old.journal)
+  pub journal : (digest : List ℕ) → stage_of old.journal ≡ Begun digest → LeavesOnly (Survives digest (list_in old) (longest_in new)) d.journal_before d.journal_after
+  pub spool : LeavesOnly (KeepsBelow (used_of old.spool) d.spool_before) d.spool_before d.spool_after
+  pub spool_now : SeenFollows (Agrees (used_of old.spool)) d.spool_before d.spool_after

@@ -1,0 +1,51 @@
+ghost use Rattle.std.specs.Prelude.{◌≡◌, ◌+◌, ◌∷◌, ◌++◌, [], ℕ, List, IfErr, IfOk, None, OnErr, OnOk, Some};
+ghost use Rattle.conc_journal.specs.Journals.{room_of, stage_of};
+ghost use Rattle.conc_journal.specs.Receipts.{IsNextOf};
+ghost use Rattle.conc_journal.specs.Stages.{after_fault};
+ghost use Rattle.conc_outside.specs.Counts.{Rose};
+ghost use Rattle.conc_resolver.specs.Steps.{any_disk, IsTied, MayLog, plan_in, readings_in, SurvivesFor};
+ghost use Rattle.conc_work.specs.Works.{list_in};
+ghost use Rattle.conc_work.specs.declared.fail.RunFail.TheVariants as RunFail;
+
+use conc_disk::Disk;
+use conc_journal::Receipt;
+use conc_types::Event;
+use conc_work::{RunFail, Work};
+
+/// Adds an event to the journal, and then takes it into the machine. After a fault the machine has not
+/// taken it, and the journal's disk has it or not.
+pub(crate) fn log_event<D: Disk>(
+    work: &mut Work<'_>,
+    journal: &mut D,
+    event: Event,
+) -> Result<Receipt, RunFail>
+    requires tied { IsTied (Some event) work.old (D.state journal.old) any_disk }
+    requires may { MayLog work.old event }
+
+    ensures logged { OnOk result (IsTied None work.new (D.state journal.new) any_disk) }
+    ensures added { OnOk result (list_in work.new ≡ list_in work.old ++ event ∷ []) }
+    ensures receipt { IfOk result (IsNextOf (Some (list_in work.old)) (λ list. list ≡ list_in work.new)) }
+    ensures stage { OnOk result (stage_of work.new.journal ≡ stage_of work.old.journal) }
+    ensures room { OnOk result (room_of work.new.journal + 1 ≡ room_of work.old.journal) }
+
+    // A fault.
+    ensures not_logged { OnErr result (IsTied (Some event) work.new (D.state journal.new) any_disk) }
+    ensures as_before { OnErr result (list_in work.new ≡ list_in work.old) }
+    ensures failed { OnErr result (stage_of work.new.journal ≡ after_fault event (stage_of work.old.journal)) }
+    ensures fault { OnErr result (Rose (D.state journal.old).faults (D.state journal.new).faults) }
+    ensures cause { IfErr result (λ e. e ≡ RunFail.JournalFault) }
+
+    // A stop at any moment, and what stays.
+    ensures survives { SurvivesFor work.old.journal (list_in work.old) (list_in work.old ++ event ∷ []) (D.state journal.old) (D.state journal.new) }
+    ensures plan { plan_in work.new ≡ plan_in work.old }
+    ensures readings { readings_in work.new ≡ readings_in work.old }
+    ensures spool { work.new.spool ≡ work.old.spool }
+{
+    match work.journal.append(journal, event) {
+        Ok(receipt) => {
+            work.machine.apply(event);
+            Ok(receipt)
+        }
+        Err(_) => Err(RunFail::JournalFault),
+    }
+}
