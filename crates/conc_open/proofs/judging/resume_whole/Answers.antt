@@ -1,0 +1,18 @@
+use Rattle.std.proofs.Common.{subst, sym, Option, ℕ}
+use Rattle.conc_restart.specs.FirstBad.{IsRefused}
+use Rattle.conc_open.proofs.Bad.{bad-broken, bad-only}
+use Rattle.conc_work.specs.Judging.{IsBadRecord}
+use Rattle.conc_open.proofs.judging.resume_whole.Goals as goal
+
+pub returns-in-Err-Unlawful-clause-refused : goal.returns-in-Err-Unlawful-clause-refused
+returns-in-Err-Unlawful-clause-refused c = λ len far.
+    let plan = c.args.plan.now in
+    let events = c.args.events.now in
+    let arm = c.in-Err-Unlawful in
+    subst (IsBadRecord plan len events c.args.broken) (sym arm.position-is)
+    (bad-only plan len events c.args.broken arm.position (subst (IsRefused plan events) arm.field-0-is arm.ensures.unlawful) far)
+
+pub returns-in-Some-clause-refused : goal.returns-in-Some-clause-refused
+returns-in-Some-clause-refused c = λ len far.
+    subst (λ (b : Option ℕ). IsBadRecord c.args.plan.now len c.args.events.now b c.in-Some.number) (sym c.in-Some.is)
+    (bad-broken c.args.plan.now len c.args.events.now c.in-Some.number c.in-Ok.ensures.past far)

@@ -1,0 +1,4 @@
+pub mod Extents
+pub mod Hindered
+pub mod Examined
+pub mod Opening
