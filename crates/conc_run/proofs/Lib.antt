@@ -1,0 +1,6 @@
+pub mod Lists
+pub mod Survived
+pub mod Texts
+pub mod Opened
+pub mod Ran
+pub mod Stops

@@ -1,0 +1,84 @@
+-- Lists that begin with the events found.
+use Rattle.std.proofs.Common.{◌≡◌, ◌⊎◌, inl, inr, ℕ, zero, suc, ◌≤◌, List, [], ◌∷◌, ◌++◌, length, length-append, reverse, Option, None, Some, refl, sym, ◌∙◌, ap, subst, append_assoc, arith}
+use Rattle.std.specs.Prelude.{slice_get}
+use Rattle.std.proofs.lemmas.List.{append-nil, reverse-append}
+use Rattle.std.proofs.lemmas.List.Sums.{sum_by-append}
+use Rattle.conc_types.specs.declared.event.Event.{Event}
+use Rattle.conc_types.specs.declared.event.Event.TheVariants as event
+use Rattle.conc_types.specs.declared.event.Extent.{Extent}
+use Rattle.conc_types.specs.declared.event.Outcome.{Outcome}
+use Rattle.conc_types.specs.declared.event.RequestId.{RequestId}
+use Rattle.conc_types.specs.declared.plan.Plan.{Plan}
+use Rattle.conc_law.specs.Alone.{opening}
+use Rattle.conc_law.specs.Kinds.{extent_length}
+use Rattle.conc_law.specs.Standing.{used}
+use Rattle.conc_law.proofs.Positions.{reverse-push}
+use Rattle.conc_work.specs.Lists.{IsPrefix}
+use Rattle.conc_work.specs.Told.{AreTold}
+use Rattle.conc_work.specs.Works.{with_kept}
+
+-- ---- beginnings
+
+pub prefix-itself : (l : List Event) → IsPrefix l l
+prefix-itself l = ([], sym (append-nil l))
+
+pub prefix-twice : (a b c : List Event) → IsPrefix a b → IsPrefix b c → IsPrefix a c
+prefix-twice a b c first second = (first.0 ++ second.0, second.1 ∙ ap (λ (l : List Event). l ++ second.0) first.1 ∙ append_assoc a first.0 second.0)
+
+-- a life begins with the events found
+pub prefix-opening : (found : List Event) → IsPrefix found (opening found)
+prefix-opening [] = ([], refl)
+prefix-opening (e ∷ es) = (event.Resume ∷ [], refl)
+
+-- without its last event a list begins with what it began with, if that was shorter
+prefix-less : (front list : List Event) (e r : Event) (rest : List Event) → list ++ e ∷ [] ≡ front ++ r ∷ rest → IsPrefix front list
+prefix-less [] list e r rest is = (list, refl)
+prefix-less (x ∷ xs) [] e r rest is = absurd (omega (arith, ap length is, length-append xs (r ∷ rest)))
+prefix-less (x ∷ xs) (y ∷ ys) e r rest is =
+    let behind : ys ++ e ∷ [] ≡ xs ++ r ∷ rest = cc in
+    let less = prefix-less xs ys e r rest behind in
+    let same : y ≡ x = cc in
+    (less.0, ap (λ (l : List Event). y ∷ l) less.1 ∙ ap (λ (z : Event). z ∷ (xs ++ less.0)) same)
+
+-- what was acknowledged begins with the events found
+pub prefix-kept : (found kept last : List Event) → IsPrefix (opening found) last → (last ≡ kept) ⊎ ((e : Event) × (last ≡ kept ++ e ∷ [])) → IsPrefix found kept
+prefix-kept found kept last begins (inl same) = subst (λ (l : List Event). IsPrefix found l) same (prefix-twice found (opening found) last (prefix-opening found) begins)
+prefix-kept [] kept last begins (inr more) = (kept, refl)
+prefix-kept (x ∷ xs) kept last begins (inr more) =
+    prefix-less (x ∷ xs) kept more.0 event.Resume begins.0 (sym more.1 ∙ begins.1 ∙ append_assoc (x ∷ xs) (event.Resume ∷ []) begins.0)
+
+-- the opening is the list found, or has the resume behind it
+pub opening-adds : (found : List Event) → (opening found ≡ found) ⊎ ((e : Event) × (opening found ≡ found ++ e ∷ []))
+opening-adds [] = inl refl
+opening-adds (e ∷ es) = inr (event.Resume, refl)
+
+pub prefix-with_kept : (kept : Option Event) (list : List Event) → IsPrefix list (with_kept kept list)
+prefix-with_kept None list = prefix-itself list
+prefix-with_kept (Some e) list = (e ∷ [], refl)
+
+-- ---- the bytes of their texts
+
+-- no fewer than those of a beginning
+pub used-prefix : (front list : List Event) → IsPrefix front list → used (reverse front) ≤ used (reverse list)
+unfolding used
+used-prefix front list begins =
+    omega (arith, ap (λ (l : List Event). used (reverse l)) begins.1, ap used (reverse-append front begins.0), sum_by-append extent_length (reverse begins.0) (reverse front))
+
+-- a resume has none
+pub used-opening : (found : List Event) → used (reverse (opening found)) ≡ used (reverse found)
+unfolding used
+used-opening [] = refl
+used-opening (e ∷ es) = ap used (reverse-push (e ∷ es) event.Resume)
+
+-- ---- the texts
+
+-- a resume has none
+end-found : (found : List Event) (i : ℕ) (id : RequestId) (o : Outcome) (x : Extent) → slice_get (found ++ event.Resume ∷ []) i ≡ Some (event.Ended id o (Some x)) → slice_get found i ≡ Some (event.Ended id o (Some x))
+end-found [] zero id o x is = cc
+end-found [] (suc i) id o x is = is
+end-found (e ∷ es) zero id o x is = is
+end-found (e ∷ es) (suc i) id o x is = end-found es i id o x is
+
+pub told-opening : (plan : Plan) (from : ℕ) (found : List Event) (bytes : List ℕ) → AreTold plan from found bytes → AreTold plan from (opening found) bytes
+told-opening plan from [] bytes told = told
+told-opening plan from (e ∷ es) bytes told = λ i id o x le is. told i id o x le (end-found (e ∷ es) i id o x is)

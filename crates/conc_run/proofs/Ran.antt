@@ -1,0 +1,93 @@
+-- What is left where a life was begun and the run went on.
+use Rattle.std.proofs.Common.{◌≡◌, inr, ℕ, ◌≤◌, List, ◌++◌, reverse, Some, IfSome, sym, ◌∙◌, ap, subst, arith}
+use Rattle.std.proofs.lemmas.Option.{IfSome_then}
+use Rattle.conc_types.specs.declared.event.Event.{Event}
+use Rattle.conc_disk.specs.Disk.{DiskState, SeenFollows, Stays}
+use Rattle.conc_disk.specs.Left.{EachImage, LeavesOnly}
+use Rattle.conc_journal.specs.Journals.{FitsStage, stage_of}
+use Rattle.conc_journal.specs.Stages.{stage_digest}
+use Rattle.conc_journal.specs.declared.journal.Stage.{Stage}
+use Rattle.conc_law.specs.Alone.{Alone, opening}
+use Rattle.conc_law.specs.Law.{Finished, Lawful, Past}
+use Rattle.conc_law.specs.Standing.{used}
+use Rattle.conc_open.specs.Opening.{HasSurvived, IsBegun}
+use Rattle.conc_resolver.specs.Runs.{disks, WentOn}
+use Rattle.conc_spool.specs.Spools.{Agrees, used_of}
+use Rattle.conc_work.specs.Handed.{Handed}
+use Rattle.conc_work.specs.Lists.{GoesOn, IsPrefix}
+use Rattle.conc_work.specs.Survival.{Survives}
+use Rattle.conc_work.specs.Told.{AreTold}
+use Rattle.conc_work.specs.Works.{list_in, longest_in, with_kept}
+use Rattle.conc_work.specs.declared.work.Work.{Work}
+use Rattle.conc_run.specs.Whole.{HasLeft, IsFinished}
+use Rattle.conc_run.proofs.Lists.{prefix-kept, prefix-opening, prefix-twice, prefix-with_kept, told-opening, used-opening, used-prefix}
+use Rattle.conc_run.proofs.Survived.{begun-longest, fits-survives, journal-left}
+use Rattle.conc_run.proofs.Texts.{Keeps, spool-left, spool-now}
+
+-- the same plan, readings, digest and disks before, with the disks as they are when the life is begun
+abbrev pub until : Handed → DiskState → DiskState → Handed
+until h journal spool = record h { journal_after = journal; spool_after = spool }
+
+module _ (h : Handed) (journal spool : DiskState) (old new : Work) (begun : IsBegun (until h journal spool) old) (went : WentOn h.plan h.readings (disks journal h.journal_after spool h.spool_after) old new) where
+  -- the run goes on from the opening
+  goes-on : GoesOn h.plan h.readings (opening begun.found) (longest_in new)
+  goes-on = subst (λ (l : List Event). GoesOn h.plan h.readings l (longest_in new)) begun.list went.list
+
+  begins : IsPrefix (opening begun.found) (longest_in new)
+  begins = (goes-on.added, goes-on.all)
+
+  -- what is told of the events found is told of the longest list
+  told-longest : (from : ℕ) → IfSome h.spool_before.seen (AreTold h.plan from begun.found) → EachImage (AreTold h.plan from (longest_in new)) h.spool_after
+  told-longest from told =
+      went.told from (IfSome_then spool.seen (begun.told from told) (λ bytes each image left.
+      subst (λ (l : List Event). AreTold h.plan from l image) (sym begun.list) (told-opening h.plan from begun.found image (each image left))))
+
+  -- the bytes of the texts of the events found
+  used-found : used_of old.spool ≡ used (reverse begun.found)
+  used-found = begun.ready.tied.used_is ∙ ap (λ (l : List Event). used (reverse l)) begun.list ∙ used-opening begun.found
+
+  used-grows : used_of old.spool ≤ used_of new.spool
+  used-grows =
+      let kept = prefix-kept begun.found (list_in new) (longest_in new) begins went.acknowledged in
+      let with = prefix-twice begun.found (list_in new) (with_kept went.kept (list_in new)) kept (prefix-with_kept went.kept (list_in new)) in
+      omega (arith, used-found, used-prefix begun.found (with_kept went.kept (list_in new)) with, went.tied.used_is)
+
+  own-digest : stage_digest (stage_of new.journal) ≡ Some h.digest
+  own-digest = went.digest ∙ ap (λ (s : Stage). stage_digest s) begun.stage
+
+  pub left-run : HasSurvived (until h journal spool) → ((list : List Event) → Lawful h.plan h.readings list → Past h.plan list) → Stays h.spool_before spool → LeavesOnly h.spool_before.may_leave h.spool_before spool
+      → HasLeft h begun.found (list_in new) (longest_in new)
+  left-run survived to_past stays survives = record {
+    events = begun.is_found.events;
+    goes_on = inr goes-on;
+    past = λ past. to_past (longest_in new) went.lawful;
+    acknowledged = went.acknowledged;
+    journal = journal-left h.digest survived.found begun.found (longest_in new) h.journal_before journal h.journal_after survived.events begun.is_found.events begins survived.journal
+        (subst (λ (l : List Event). LeavesOnly (Survives h.digest l (longest_in new)) journal h.journal_after) begun.list (went.journal h.digest begun.stage));
+    journal_now = IfSome_then h.journal_after.seen went.tied.journal_on (λ bytes each image left. inr (fits-survives (stage_of new.journal) h.digest (list_in new) image went.tied.takes own-digest (each image left)));
+    spool = subst (λ (n : ℕ). LeavesOnly (Keeps h.spool_before n) h.spool_before h.spool_after) used-found (spool-left (used_of old.spool) h.spool_before spool h.spool_after stays survives went.spool);
+    spool_now = IfSome_then h.spool_after.seen (spool-now (used (reverse begun.found)) (used_of new.spool) h.spool_before spool h.spool_after (omega (arith, used-found, used-grows)) stays (subst (λ (n : ℕ). SeenFollows (Agrees n) spool h.spool_after) used-found went.spool_now) went.tied.spool_on) (λ bytes each image left. inr (each image left));
+    told = λ from told. IfSome_then h.spool_after.seen (told-longest from told) (λ bytes each image left. inr (each image left));
+  }
+
+  -- no append met a fault
+  pub longest-kept : stage_of new.journal ≡ stage_of old.journal → longest_in new ≡ list_in new
+  longest-kept same = begun-longest (stage_of new.journal) h.digest (list_in new) (same ∙ begun.stage)
+
+  alone : stage_of new.journal ≡ stage_of old.journal → Finished h.plan h.readings (list_in new) → Alone h.plan h.readings begun.found (list_in new)
+  alone same finished =
+      let going = subst (λ (l : List Event). GoesOn h.plan h.readings (opening begun.found) l) (longest-kept same) goes-on in
+      record { begins = (going.added, going.all); each = going.each; finished = finished }
+
+  pub finished-run : ((list : List Event) → Lawful h.plan h.readings list → Past h.plan list) → ((before after : List Event) → Past h.plan (before ++ after) → Past h.plan before) → stage_of new.journal ≡ stage_of old.journal
+      → Finished h.plan h.readings (list_in new) → IsFinished h (list_in new)
+  finished-run to_past front same finished = record {
+    found = begun.found;
+    is_found = record { own = begun.is_found.own; events = begun.is_found.events; good = begun.is_found.good };
+    past =
+        let opened = prefix-opening begun.found in
+        front begun.found opened.0 (subst (λ (l : List Event). Past h.plan l) (begun.list ∙ opened.1) (to_past (list_in old) begun.ready.tied.lawful));
+    alone = alone same finished;
+    journal = subst (λ (s : Stage). EachImage (FitsStage s (list_in new)) h.journal_after) (same ∙ begun.stage) went.tied.journal_on;
+    told = λ from told. subst (λ (l : List Event). EachImage (AreTold h.plan from l) h.spool_after) (longest-kept same) (told-longest from told);
+  }

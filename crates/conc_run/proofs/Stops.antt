@@ -1,0 +1,32 @@
+-- What is told where a run ends before its history is finished.
+use Rattle.std.proofs.Common.{◌≡◌, inl, inr, ℕ, ◌≤◌, true, false, IsTrue, refl, sym, ◌∙◌, ap, subst, arith}
+use Rattle.conc_outside.specs.Counts.{Rose}
+use Rattle.conc_work.specs.Causes.{Faulted, HasCause, is_refusal}
+use Rattle.conc_work.specs.Handed.{Handed}
+use Rattle.conc_work.specs.declared.fail.RunFail.{RunFail}
+use Rattle.conc_work.specs.declared.fail.RunFail.TheVariants as run_fail
+use Rattle.conc_work.specs.declared.fail.Stopped.{Stopped}
+use Rattle.conc_work.specs.declared.fail.Stopped.TheVariants as stopped
+use Rattle.conc_work.specs.declared.fail.Which.TheVariants as which
+use Rattle.conc_run.specs.Whole.{IsUntouched}
+
+-- a count that rose after it did not fall rose
+pub rose-since : (before mid after : ℕ) → before ≤ mid → Rose mid after → Rose before after
+rose-since before mid after le (inl less) = inl (omega arith)
+rose-since before mid after le (inr most) = inr most
+
+-- each failure of a run has its cause
+pub stop-cause : (h : Handed) (fail : RunFail) (stop : Stopped)
+    → (fail ≡ run_fail.JournalFault → stop ≡ stopped.DiskFault which.Journal) → (fail ≡ run_fail.SpoolFault → stop ≡ stopped.DiskFault which.Spool) → (fail ≡ run_fail.NoMemory → stop ≡ stopped.NoMemory)
+    → (fail ≡ run_fail.JournalFault → Faulted h which.Journal) → (fail ≡ run_fail.SpoolFault → Faulted h which.Spool) → HasCause h stop
+stop-cause h run_fail.JournalFault stop journal spool memory at_journal at_spool = subst (λ (s : Stopped). HasCause h s) (sym (journal refl)) (at_journal refl)
+stop-cause h run_fail.SpoolFault stop journal spool memory at_journal at_spool = subst (λ (s : Stopped). HasCause h s) (sym (spool refl)) (at_spool refl)
+stop-cause h run_fail.NoMemory stop journal spool memory at_journal at_spool = subst (λ (s : Stopped). HasCause h s) (sym (memory refl)) tt
+
+-- and is no refusal
+pub stop-late : (h : Handed) (fail : RunFail) (stop : Stopped)
+    → (fail ≡ run_fail.JournalFault → stop ≡ stopped.DiskFault which.Journal) → (fail ≡ run_fail.SpoolFault → stop ≡ stopped.DiskFault which.Spool) → (fail ≡ run_fail.NoMemory → stop ≡ stopped.NoMemory)
+    → IsTrue (is_refusal stop) → IsUntouched h
+stop-late h run_fail.JournalFault stop journal spool memory refusal = let two : false ≡ true = sym (ap (λ (s : Stopped). is_refusal s) (journal refl)) ∙ refusal in absurd (cc)
+stop-late h run_fail.SpoolFault stop journal spool memory refusal = let two : false ≡ true = sym (ap (λ (s : Stopped). is_refusal s) (spool refl)) ∙ refusal in absurd (cc)
+stop-late h run_fail.NoMemory stop journal spool memory refusal = let two : false ≡ true = sym (ap (λ (s : Stopped). is_refusal s) (memory refl)) ∙ refusal in absurd (cc)

@@ -1,0 +1,67 @@
+ghost use Rattle.std.specs.Prelude.{◌≡◌, IfErr, IfOk, IsFalse, IsTrue, List};
+ghost use Rattle.conc_types.specs.declared.event.Event.{Event};
+ghost use Rattle.conc_work.specs.Causes.{HasCause, is_journal_fault, is_refusal};
+ghost use Rattle.conc_work.specs.Handed.{handed};
+ghost use Rattle.conc_work.specs.Works.{list_in};
+ghost use Rattle.conc_run.specs.Whole.{HasLeft, IsFinished, IsUntouched};
+ghost use Rattle.conc_work.specs.declared.fail.RunFail.TheVariants as run_fail;
+ghost use Rattle.conc_work.specs.declared.fail.Stopped.TheVariants as stopped;
+ghost use Rattle.conc_work.specs.declared.fail.Which.TheVariants as which;
+
+use conc_disk::Disk;
+use conc_law::{lawful_is_past, prefix_is_past};
+use conc_open::open;
+use conc_resolver::run_alone;
+use conc_types::{Plan, Readings};
+use conc_work::{RunFail, Stopped, Which, Work};
+use std::alloc::Global;
+
+// The stop that tells why a run ended.
+fn stopped_by(fail: RunFail) -> Stopped
+    ensures journal { fail ≡ run_fail.JournalFault → result ≡ stopped.DiskFault which.Journal }
+    ensures spool { fail ≡ run_fail.SpoolFault → result ≡ stopped.DiskFault which.Spool }
+    ensures memory { fail ≡ run_fail.NoMemory → result ≡ stopped.NoMemory }
+{
+    match fail {
+        RunFail::JournalFault => Stopped::DiskFault {
+            which: Which::Journal,
+        },
+        RunFail::SpoolFault => Stopped::DiskFault {
+            which: Which::Spool,
+        },
+        RunFail::NoMemory => Stopped::NoMemory,
+    }
+}
+
+/// Runs a plan with these readings, whose input has this digest, over a journal and a spool, without
+/// workers, from what stands there to the end of the history. All refusals come before anything is
+/// written. After a fault of a disk, and where a report finds no memory, what was journaled stays, and
+/// the next run goes on from it.
+pub fn run_plan<'p, D: Disk, E: Disk>(
+    alloc: Global,
+    plan: &'p Plan,
+    readings: &Readings,
+    digest: &[u8; 32],
+    journal: &mut D,
+    spool: &mut E,
+) -> Result<Work<'p>, Stopped>
+    ensures finished { IfOk result (λ work. IsFinished (handed plan.now readings.now digest.now (D.state journal.old) (D.state journal.new) (E.state spool.old) (E.state spool.new)) (list_in work)) }
+
+    // Each cause.
+    ensures cause { IfErr result (HasCause (handed plan.now readings.now digest.now (D.state journal.old) (D.state journal.new) (E.state spool.old) (E.state spool.new))) }
+    ensures untouched { IfErr result (λ e. IsTrue (is_refusal e) → IsUntouched (handed plan.now readings.now digest.now (D.state journal.old) (D.state journal.new) (E.state spool.old) (E.state spool.new))) }
+
+    // A stop at any moment, and what is left at the end.
+    ensures left { (found : List Event) × (kept : List Event) × (last : List Event)
+        × HasLeft (handed plan.now readings.now digest.now (D.state journal.old) (D.state journal.new) (E.state spool.old) (E.state spool.new)) found kept last
+        × IfOk result (λ work. (kept ≡ list_in work) × (last ≡ kept))
+        × IfErr result (λ e. IsFalse (is_journal_fault e) → last ≡ kept) }
+{
+    lawful_is_past();
+    prefix_is_past();
+    let mut work = open(alloc, plan, readings, digest, journal, spool)?;
+    match run_alone(alloc, plan, &mut work, journal, spool) {
+        Ok(()) => Ok(work),
+        Err(fail) => Err(stopped_by(fail)),
+    }
+}
