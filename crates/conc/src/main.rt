@@ -1,9 +1,10 @@
-//! The program: it hands the real shelf, sink and clock to the one call, tells a fault on standard error,
-//! and ends with the exit's number.
+//! The program: it hands the real shelf, sink, clock and disks to the one call, tells a fault on standard
+//! error, and ends with the exit's number.
 #![tactic(auto)]
 
 use conc_clock::{SystemClock, SystemZone};
 use conc_outside::{FileShelf, WriterSink};
+use conc_paths::PathDisk;
 use conc_top::{Exit, conc, exit_text};
 use conc_types::NoMemory;
 use std::env;
@@ -37,7 +38,8 @@ fn tell(rt: &HostRuntime, exit: &Exit) {
     }
 }
 
-// Does what the words ask for, with the clock of the system in its zone.
+// Does what the words ask for, with the clock of the system in its zone, and with the journal and the
+// spool of the working folder, which are opened at their first use.
 fn run<Rt: Threads + Wait + Sync>(
     rt: &Rt,
     host: &HostRuntime,
@@ -47,7 +49,18 @@ fn run<Rt: Threads + Wait + Sync>(
     let mut clock = SystemClock::new(host, &zone)?;
     let mut shelf = FileShelf::new(host);
     let mut out = WriterSink::new(host.stdout());
-    Ok(conc(rt, host.alloc(), words, &mut shelf, &mut out, &mut clock))
+    let mut journal = PathDisk::new(host, "conc.journal");
+    let mut spool = PathDisk::new(host, "conc.spool");
+    Ok(conc(
+        rt,
+        host.alloc(),
+        words,
+        &mut shelf,
+        &mut out,
+        &mut journal,
+        &mut spool,
+        &mut clock,
+    ))
 }
 
 fn main(rt: HostRuntime) -> ExitCode {

@@ -1,26 +1,28 @@
 -- What was read, against what a call accepts or stops at.
-use Rattle.std.proofs.Common.{◌≡◌, ℕ, List, Option, Some, length, take, sym, ◌∙◌, ap, subst, inl, inr}
+use Rattle.std.proofs.Common.{◌≡◌, ℕ, List, Option, Some, length, take, sym, ◌∙◌, ap, subst, inl, inr, refl}
 use Rattle.std.specs.Prelude.{slice_get}
-use Rattle.std.specs.List.{sum_by}
+use Rattle.std.specs.List.{sum_by, zip}
 use Rattle.std.proofs.lemmas.Slice.Zip.{AllZip-long}
-use Rattle.conc_types.specs.declared.plan.Plan.{Plan}
 use Rattle.conc_types.specs.declared.refusal.FileKind.TheVariants as kind
 use Rattle.conc_types.specs.declared.refusal.ReadFail.{ReadFail}
 use Rattle.conc_types.specs.declared.refusal.ReadFail.TheVariants as fail
-use Rattle.conc_types.specs.declared.refusal.Refusal.{Refusal}
 use Rattle.conc_types.specs.declared.script.Script.{Script}
 use Rattle.conc_types.specs.declared.setup.Setup.{Setup}
 use Rattle.conc_types.specs.declared.table.Table.{Table}
+use Rattle.conc_digest.specs.Inputs.{input_digest}
 use Rattle.conc_outside.specs.Files.{Files, Gives, IsLater, ShelfState}
 use Rattle.conc_plan.specs.Faults.{IsFailure, plan_fault}
 use Rattle.conc_tables.specs.Tables.{SpellsTable}
+use Rattle.conc_top.specs.declared.accepting.Accepted.{Accepted}
 use Rattle.conc_top.specs.declared.exit.Exit.{Exit}
 use Rattle.conc_top.specs.declared.names.Names.{Names}
 use Rattle.conc_top.specs.declared.reading.Inputs.{Inputs}
+use Rattle.conc_top.specs.Accepting.{IsAccepted}
 use Rattle.conc_top.specs.Exits.{StopsAt}
-use Rattle.conc_top.specs.Given.{Accepts, HasAll, HasTables, Sources, Told, told_by}
+use Rattle.conc_top.specs.Given.{HasAll, HasTables, Sources, Told, told_by}
 use Rattle.conc_top.specs.Reading.{HasInputs}
-use Rattle.conc_top.specs.Refusals.{fault_of_table, IsRefused, name_of}
+use Rattle.conc_top.specs.Refusals.{fault_of_table}
+use Rattle.conc_top.specs.Ways.{exit_without_plan}
 use Rattle.conc_top.specs.Stops.{Ends, IsTableStop, StopsInTables}
 use Rattle.conc_top.proofs.Stopping.{ends-wider, IsLater-refl, stops-at}
 
@@ -36,33 +38,44 @@ tables-of told before names inputs has named tables same files read =
     let at : named ≡ has.files.before.before.setup.tables = same ∙ ap (λ (s : Setup). s.tables) has.setup in
     record { before = has.files; given = subst (λ t. HasTables t has.files.before.before.setup.tables tables) files (subst (λ l. HasTables before l tables) at read) }
 
--- all was read, and this is the plan
-pub accepts : (told : Told) (before : Option Files) (names : Names) (inputs : Inputs) (has : HasInputs told names inputs) (named : List (List ℕ)) (tables : List Table) (plan : Plan)
-    → named ≡ inputs.setup.tables → before ≡ told.files → HasTables before named tables
-    → plan.setup ≡ inputs.setup → plan.script ≡ inputs.script → plan.tables ≡ tables → Accepts told names plan inputs.readings
-unfolding tables-of
-accepts told before names inputs has named tables plan same files read setup script these = record {
-  files = tables-of told before names inputs has named plan.tables same files (subst (HasTables before named) (sym these) read);
-  setup = setup ∙ has.setup;
-  script = script ∙ has.script;
-  same_readings = has.readings;
-}
+-- all was read, and this is the plan and the digest
+pub accepted : (told : Told) (before : Option Files) (names : Names) (a : Accepted) (inputs : Inputs) (has : HasInputs told names inputs) (named : List (List ℕ)) (tables : List Table)
+    → named ≡ inputs.setup.tables → before ≡ told.files → (read : HasTables before named tables)
+    → a.digest ≡ input_digest has.files.before.before.bytes has.files.before.bytes (zip named read.contents)
+    → a.plan.setup ≡ inputs.setup → a.plan.script ≡ inputs.script → a.plan.tables ≡ tables → a.readings ≡ inputs.readings → IsAccepted told names a
+accepted told before names a inputs has named tables same files read digest setup script these readings =
+    let P : Option Files → List (List ℕ) → List Table → Type 0 = λ all l t.
+    (given : HasTables all l t) × (a.digest ≡ input_digest has.files.before.before.bytes has.files.before.bytes (zip l given.contents)) in
+    let at : named ≡ has.files.before.before.setup.tables = same ∙ ap (λ (s : Setup). s.tables) has.setup in
+    let there : P told.files has.files.before.before.setup.tables a.plan.tables
+    = subst (λ all. P all has.files.before.before.setup.tables a.plan.tables) files
+      (subst (λ l. P before l a.plan.tables) at (subst (λ t. P before named t) (sym these) (read, digest))) in
+    record {
+      accepts = record {
+        files = record { before = has.files; given = there.0 };
+        setup = setup ∙ has.setup;
+        script = script ∙ has.script;
+        same_readings = readings ∙ has.readings;
+      };
+      digest = there.1;
+    }
 
--- all was read, and the plan is refused
-pub plan-refused : (told : Told) (before : Option Files) (names : Names) (inputs : Inputs) (has : HasInputs told names inputs) (named : List (List ℕ)) (tables : List Table) (refusal : Refusal) (name : List ℕ)
-    → named ≡ inputs.setup.tables → before ≡ told.files → HasTables before named tables
-    → (made : List Table) → made ≡ tables → (e : ReadFail) → e ≡ fail.Refused refusal → IsFailure (plan_fault inputs.setup inputs.script.commands made) e
-    → name ≡ name_of names refusal.file → IsRefused told names refusal name
+-- all was read, and gives no plan
+pub without-plan : (old new : Sources) (before : Option Files) (names : Names) (inputs : Inputs) (has : HasInputs (told_by old new) names inputs) (named : List (List ℕ)) (tables : List Table)
+    → named ≡ inputs.setup.tables → before ≡ old.shelf.files → HasTables before named tables
+    → (made : List Table) → made ≡ tables → (e : ReadFail) → IsFailure (plan_fault inputs.setup inputs.script.commands made) e
+    → StopsAt old new names (exit_without_plan names e)
 unfolding tables-of
-plan-refused told before names inputs has named tables refusal name same files read made these e is failed at =
+without-plan old new before names inputs has named tables same files read made these fail.NoMemory failed = tt
+without-plan old new before names inputs has named tables same files read made these (fail.Refused refusal) failed =
     let fault : plan_fault inputs.setup inputs.script.commands tables ≡ Some (refusal.file, (refusal.line, refusal.kind))
-    = ap (plan_fault inputs.setup inputs.script.commands) (sym these) ∙ subst (IsFailure (plan_fault inputs.setup inputs.script.commands made)) is failed in
+    = ap (plan_fault inputs.setup inputs.script.commands) (sym these) ∙ failed in
     inr (record {
       tables = tables;
-      files = tables-of told before names inputs has named tables same files read;
+      files = tables-of (told_by old new) before names inputs has named tables same files read;
       fault = ap (λ (s : Setup). plan_fault s has.files.before.script.commands tables) (sym has.setup)
           ∙ ap (λ (s : Script). plan_fault inputs.setup s.commands tables) (sym has.script) ∙ fault;
-      named = at;
+      named = refl;
     })
 
 at-table : (old new : Sources) (mid : ShelfState) (names : Names) (inputs : Inputs) (has : HasInputs (told_by old new) names inputs) (named : List (List ℕ)) (end : Exit)

@@ -1,47 +1,91 @@
 -- What a whole call means, from what its parts mean.
-use Rattle.std.proofs.Common.{◌≡◌, ℕ, List, None, Some, inl, inr}
-use Rattle.conc_types.specs.declared.plan.Plan.{Plan}
+use Rattle.std.proofs.Common.{◌≡◌, ℕ, List, None, Option, Some, refl, subst, inl, le_refl}
 use Rattle.conc_types.specs.declared.script.Readings.{Readings}
+use Rattle.conc_disk.specs.Disk.{DiskState, Stays}
+use Rattle.conc_disk.specs.Left.{LeavesOnly}
 use Rattle.conc_history.specs.Listing.{listing}
+use Rattle.conc_work.specs.Handed.{handed}
+use Rattle.conc_top.specs.declared.accepting.Accepted.{Accepted}
 use Rattle.conc_top.specs.declared.exit.Exit.{Exit}
 use Rattle.conc_top.specs.declared.exit.Exit.TheVariants as exit
 use Rattle.conc_top.specs.declared.names.Names.{Names}
-use Rattle.conc_top.specs.Exits.{Call, IsAsked, Means, StopsAt, told_in, WroteNothing}
-use Rattle.conc_top.specs.Given.{Accepts}
-use Rattle.conc_top.specs.Printing.{IsHistory, Prints, sunk}
+use Rattle.conc_top.specs.Accepting.{IsAccepted, IsNotGiven}
+use Rattle.conc_top.specs.Exits.{Call, Disks, disks, IsPlan, LeftAlone, Means, sunk_in, told_in, WithoutRun, WroteNothing}
+use Rattle.conc_top.specs.Given.{Accepts, digest_of}
+use Rattle.conc_top.specs.Printing.{Prints}
+use Rattle.conc_top.specs.Runs.{RunEnds}
 use Rattle.conc_top.specs.Words.{names_of}
 
--- a reading that ended means its exit
-pub stopped-means : (call : Call) (names : Names) (end : Exit) → names_of call.words ≡ Some names → StopsAt call.before call.after names end → WroteNothing call → Means call end
-stopped-means call names (exit.Refused refusal name) words stops nothing = record { names = names; words = words; stops = stops; nothing = nothing }
-stopped-means call names (exit.Absent name) words stops nothing = record { names = names; words = words; stops = stops; nothing = nothing }
-stopped-means call names (exit.ReadFault name) words stops nothing = record { names = names; words = words; stops = stops; nothing = nothing }
-stopped-means call names exit.ClockFault words stops nothing = record { names = names; words = words; stops = stops; nothing = nothing }
-stopped-means call names exit.NoMemory words stops nothing = inl nothing
-stopped-means call names exit.Done words stops nothing = absurd stops
-stopped-means call names exit.Usage words stops nothing = absurd stops
-stopped-means call names exit.WriteFault words stops nothing = absurd stops
+-- words that name no files, and a reading that ended, mean their exits
+pub not-given-means : (call : Call) (end : Exit) → IsNotGiven call.words call.before call.after end → WroteNothing call → WithoutRun call end
+not-given-means call exit.Usage is nothing = record { words = is; nothing = nothing }
+not-given-means call exit.NoMemory is nothing = nothing
+not-given-means call (exit.Refused refusal name) is nothing = record { names = is.names; words = is.named; stops = is.stops; nothing = nothing }
+not-given-means call (exit.Absent name) is nothing = record { names = is.names; words = is.named; stops = is.stops; nothing = nothing }
+not-given-means call (exit.ReadFault name) is nothing = record { names = is.names; words = is.named; stops = is.stops; nothing = nothing }
+not-given-means call exit.ClockFault is nothing = record { names = is.names; words = is.named; stops = is.stops; nothing = nothing }
+not-given-means call exit.Done is nothing = absurd is.stops
+not-given-means call exit.WriteFault is nothing = absurd is.stops
+not-given-means call (exit.DiskFault which) is nothing = absurd is.stops
+not-given-means call exit.NotJournal is nothing = absurd is.stops
+not-given-means call (exit.OtherInput found given) is nothing = absurd is.stops
+not-given-means call (exit.JournalFull len needed) is nothing = absurd is.stops
+not-given-means call (exit.Unlawful number) is nothing = absurd is.stops
 
--- a text that is asked for and was printed, or not, means its exit
-printed-means : (call : Call) (Is : List ℕ → Type 0) (end : Exit) → ((text : List ℕ) → Is text → IsAsked call text)
-    → Prints Is (sunk call.taken_before call.taken_after call.faults_before call.faults_after) end → Means call end
-printed-means call Is exit.Done asks h = record { text = h.0; asked = asks h.0 h.1; printed = h.2 }
-printed-means call Is exit.WriteFault asks h = (record { text = h.0; asked = asks h.0 h.1; part = h.2.0 }, h.2.1)
-printed-means call Is exit.NoMemory asks h = inl h
-printed-means call Is exit.Usage asks h = absurd h.2
-printed-means call Is exit.ClockFault asks h = absurd h.2
-printed-means call Is (exit.Refused refusal name) asks h = absurd h.2
-printed-means call Is (exit.Absent name) asks h = absurd h.2
-printed-means call Is (exit.ReadFault name) asks h = absurd h.2
+-- a listing that was printed, or not, means its exit
+pub listing-means : (call : Call) (asked : IsPlan call) (end : Exit) → Prints (listing asked.plan) (sunk_in call) end → WithoutRun call end
+listing-means call asked exit.Done h = record { asked = asked; printed = h }
+listing-means call asked exit.WriteFault h = record { asked = asked; part = h.0; fault = h.1 }
+listing-means call asked exit.NoMemory h = h
+listing-means call asked exit.Usage h = absurd h
+listing-means call asked exit.ClockFault h = absurd h
+listing-means call asked (exit.Refused refusal name) h = absurd h
+listing-means call asked (exit.Absent name) h = absurd h
+listing-means call asked (exit.ReadFault name) h = absurd h
+listing-means call asked (exit.DiskFault which) h = absurd h
+listing-means call asked exit.NotJournal h = absurd h
+listing-means call asked (exit.OtherInput found given) h = absurd h
+listing-means call asked (exit.JournalFull len needed) h = absurd h
+listing-means call asked (exit.Unlawful number) h = absurd h
 
-pub run-means : (call : Call) (names : Names) (plan : Plan) (readings : Readings) (end : Exit) → names_of call.words ≡ Some names
-    → Accepts (told_in call) names plan (Some readings)
-    → Prints (IsHistory plan readings) (sunk call.taken_before call.taken_after call.faults_before call.faults_after) end → Means call end
-run-means call names plan readings end words accepted = printed-means call (IsHistory plan readings) end
-    (λ text h. inl (record { names = names; words = words; plan = plan; readings = readings; accepted = accepted; history = h.0; ran = h.1 }, h.2))
+stays-as : (disk : DiskState) → Stays disk disk
+stays-as disk = record { seen = refl; images = λ c left. left }
 
-pub listing-means : (call : Call) (names : Names) (plan : Plan) (end : Exit) → names_of call.words ≡ Some names
-    → Accepts (told_in call) names plan None
-    → Prints (λ text. text ≡ listing plan) (sunk call.taken_before call.taken_after call.faults_before call.faults_after) end → Means call end
-listing-means call names plan end words accepted = printed-means call (λ text. text ≡ listing plan) end
-    (λ text h. inr (record { names = names; words = words; plan = plan; accepted = accepted }, h))
+leaves-as : (told : Option (List ℕ)) (disk : DiskState) → disk.seen ≡ told → LeavesOnly disk.may_leave disk disk
+leaves-as None disk is = record {
+  faults = le_refl disk.faults;
+  moment = le_refl disk.moment;
+  tells = refl;
+  keeps = λ t c before left. left;
+  nothing_else = rw is tt;
+}
+leaves-as (Some bytes) disk is = record {
+  faults = le_refl disk.faults;
+  moment = le_refl disk.moment;
+  tells = refl;
+  keeps = λ t c before left. left;
+  nothing_else = rw is (λ t c before left. inl left);
+}
+
+-- disks that no call touched
+pub left-alone : (journal spool : DiskState) → LeftAlone (disks journal journal spool spool)
+left-alone journal spool = record {
+  journal = stays-as journal;
+  journal_survives = leaves-as journal.seen journal refl;
+  spool = stays-as spool;
+  spool_survives = leaves-as spool.seen spool refl;
+}
+
+-- a run whose files are accepted means what its end says
+pub run-means : (call : Call) (d : Disks) (names : Names) (a : Accepted) (readings : Readings) (end : Exit) → names_of call.words ≡ Some names
+    → a.readings ≡ Some readings → IsAccepted (told_in call) names a
+    → RunEnds (handed a.plan readings a.digest d.journal_before d.journal_after d.spool_before d.spool_after) (sunk_in call) end → Means call d end
+run-means call d names a readings end named known accepted ends =
+    let P : Option Readings → Type 0 = λ r. (accepts : Accepts (told_in call) names a.plan r) × (a.digest ≡ digest_of accepts.files) in
+    let at : P (Some readings) = subst P known (accepted.accepts, accepted.digest) in
+    inl (
+      record { names = names; words = named; plan = a.plan; readings = readings; accepted = at.0 },
+      subst
+      (λ digest. RunEnds (handed a.plan readings digest d.journal_before d.journal_after d.spool_before d.spool_after) (sunk_in call) end)
+      at.1 ends,
+    )

@@ -23,9 +23,13 @@ use Rattle.conc_top.specs.declared.stop.Stop.{Stop}
 use Rattle.conc_top.specs.declared.stop.Stop.TheVariants as stop
 use Rattle.conc_top.specs.Exits.{IsThere, StopsAt}
 use Rattle.conc_top.specs.Given.{HasScript, HasTables, IsNext, ReadsFrom, Sources, sources, Told, told_by}
+use Rattle.conc_top.specs.Reading.{HasTablesIn}
 use Rattle.conc_top.specs.Refusals.{fault_of_table, HasFault, IsFileRefused}
 use Rattle.conc_top.specs.Stops.{Ends, IsExitAt, StopsAtClock, StopsInTables, StopsUnshown}
 use Rattle.conc_top.specs.Ways.{exit_at}
+use Rattle.conc_digest.specs.Taken.{HasTaken}
+use Rattle.conc_digest.specs.declared.input.InputDigest.{InputDigest}
+use Rattle.conc_top.proofs.Digesting.{TookTables, took-more, took-none}
 use Rattle.conc_top.specs.Words.{is_system}
 
 -- a count that rose late rose in all
@@ -89,6 +93,11 @@ unshown old new names name before named asked exit.NoMemory h = tt
 unshown old new names name before named asked exit.Done h = absurd h
 unshown old new names name before named asked exit.Usage h = absurd h
 unshown old new names name before named asked exit.WriteFault h = absurd h
+unshown old new names name before named asked exit.NotJournal h = absurd h
+unshown old new names name before named asked (exit.DiskFault which) h = absurd h
+unshown old new names name before named asked (exit.OtherInput found given) h = absurd h
+unshown old new names name before named asked (exit.JournalFull len needed) h = absurd h
+unshown old new names name before named asked (exit.Unlawful number) h = absurd h
 unshown old new names name before named asked (exit.Refused refusal file) h = absurd h
 unshown old new names name before named asked (exit.Absent file) h = absurd h
 unshown old new names name before named asked (exit.ReadFault file) h = absurd h
@@ -110,15 +119,21 @@ failed-there (Some files) name h = λ lacking. let same : fail.Failed ≡ fail.A
 sum_by-one : (bytes : List ℕ) → sum_by length (bytes ∷ []) ≡ length bytes
 sum_by-one bytes = grind arith
 
+-- the tables were read, have so many bytes together, and the digest took them in
+abbrev pub AreRead : Option Files → List (List ℕ) → List Table → ℕ → InputDigest → InputDigest → Type 0
+AreRead told names tables total old new =
+    (h : HasTables told names tables) × (sum_by length h.contents ≡ total) × TookTables old new names h.contents
+
 -- no table was read
-pub tables-none : (told : Option Files) (tables : List Table) → tables ≡ [] → (h : HasTables told [] tables) × (sum_by length h.contents ≡ 0)
-tables-none told tables none = rw none (record { contents = []; given = tt; spell = tt; fit = lit≤ tt }, refl)
+pub tables-none : (told : Option Files) (tables : List Table) (digest : InputDigest) → tables ≡ [] → AreRead told [] tables 0 digest digest
+tables-none told tables digest none = rw none (record { contents = []; given = tt; spell = tt; fit = lit≤ tt }, refl, took-none digest)
 
 -- one more table was read
-pub tables-more : (told : Option Files) (names : List (List ℕ)) (i : ℕ) (name bytes : List ℕ) (tables : List Table) (table : Table) (has : HasTables told (take i names) tables) (total : ℕ)
-    → i < length names → name ≡ get_or names i name → Gives told name bytes → SpellsTable bytes table → sum_by length has.contents ≡ total → total + length bytes ≤ 134217728
-    → (h : HasTables told (take (i + 1) names) (tables ++ table ∷ [])) × (sum_by length h.contents ≡ total + length bytes)
-tables-more told names i name bytes tables table has total below here given spells so_far fits =
+pub tables-more : (told : Option Files) (names : List (List ℕ)) (i : ℕ) (name bytes : List ℕ) (tables : List Table) (table : Table) (total : ℕ) (old mid new : InputDigest)
+    → i < length names → name ≡ get_or names i name → Gives told name bytes → SpellsTable bytes table → total + length bytes ≤ 134217728
+    → ((setup script : List ℕ) (before : List (List ℕ × List ℕ)) → HasTaken mid setup script before → HasTaken new setup script (before ++ (name, bytes) ∷ []))
+    → AreRead told (take i names) tables total old mid → AreRead told (take (i + 1) names) (tables ++ table ∷ []) (total + length bytes) old new
+tables-more told names i name bytes tables table total old mid new below here given spells fits adds (has, so_far, taken) =
     let sum : sum_by length (has.contents ++ bytes ∷ []) ≡ total + length bytes = omega (arith, sum_by-append length has.contents (bytes ∷ []), sum_by-one bytes, so_far) in (
       record {
         contents = has.contents ++ bytes ∷ [];
@@ -127,7 +142,14 @@ tables-more told names i name bytes tables table has total below here given spel
         fit = omega (arith, sum, fits);
       },
       sum,
+      took-more old mid new told names i name bytes tables has below here taken adds,
     )
+
+-- all were read
+pub all-read : (told : Option Files) (names some : List (List ℕ)) (tables : List Table) (total : ℕ) (old new : InputDigest) → some ≡ names
+    → AreRead told some tables total old new → HasTablesIn told names old new tables
+all-read told names some tables total old new all read =
+    subst (λ l. HasTablesIn told l old new tables) all (record { given = read.0; digest = read.2 })
 
 -- the table that was next ends the reading
 pub tables-stop : (old mid new : ShelfState) (names : List (List ℕ)) (i number : ℕ) (name : List ℕ) (tables : List Table) (has : HasTables old.files (take i names) tables) (total : ℕ) (s : Stop) (end : Exit)

@@ -1,24 +1,22 @@
 -- What each exit means.
-use Rattle.std.specs.Prelude.{◌≡◌, ◌⊎◌, ℕ, List, [], Option, None, Some, IfSome, IsTrue}
+use Rattle.std.specs.Prelude.{◌≡◌, ◌⊎◌, ℕ, List, Option, None, Some, IfSome, IsTrue}
 use Rattle.conc_clock.specs.Clocks.{ClockState}
-use Rattle.conc_types.specs.declared.event.Event.{Event}
 use Rattle.conc_types.specs.declared.plan.Plan.{Plan}
 use Rattle.conc_types.specs.declared.refusal.FileKind.{FileKind}
 use Rattle.conc_types.specs.declared.script.Readings.{Readings}
 use Rattle.conc_history.specs.Listing.{listing}
-use Rattle.conc_law.specs.Alone.{Alone}
-use Rattle.conc_law.specs.Ends.{AreReported}
-use Rattle.conc_law.specs.Law.{Finished, Lawful}
-use Rattle.conc_law.specs.Overlap.{NoOverlap}
-use Rattle.conc_law.specs.Text.{text_of}
+use Rattle.conc_disk.specs.Disk.{DiskState, Stays}
+use Rattle.conc_disk.specs.Left.{LeavesOnly}
 use Rattle.conc_outside.specs.Counts.{Rose}
 use Rattle.conc_outside.specs.Files.{file_named, Files, Lacks}
 use Rattle.conc_outside.specs.Taken.{Took, TookPrefix}
+use Rattle.conc_work.specs.Handed.{handed, Handed}
 use Rattle.conc_top.specs.declared.exit.Exit.{Exit}
 use Rattle.conc_top.specs.declared.exit.Exit.TheVariants as exit
 use Rattle.conc_top.specs.declared.names.Names.{Names}
-use Rattle.conc_top.specs.Given.{Accepts, HasScript, IsNext, Sources, Told, told_by}
+use Rattle.conc_top.specs.Given.{Accepts, digest_of, HasScript, IsNext, Sources, Told, told_by}
 use Rattle.conc_top.specs.Refusals.{IsRefused}
+use Rattle.conc_top.specs.Runs.{RunEnds, Sunk, sunk}
 use Rattle.conc_top.specs.Words.{is_system, names_of}
 
 -- ---- reading the files
@@ -75,46 +73,38 @@ pub record Call : Type 0 where
   pub faults_before : ℕ
   pub faults_after : ℕ
 
+-- and its two disks
+pub record Disks : Type 1 where
+  pub journal_before : DiskState
+  pub journal_after : DiskState
+  pub spool_before : DiskState
+  pub spool_after : DiskState
+
+abbrev pub disks : DiskState → DiskState → DiskState → DiskState → Disks
+disks journal journal' spool spool' = record {
+  journal_before = journal;
+  journal_after = journal';
+  spool_before = spool;
+  spool_after = spool';
+}
+
 abbrev pub told_in : Call → Told
 told_in call = told_by call.before call.after
+
+abbrev pub sunk_in : Call → Sunk
+sunk_in call = sunk call.taken_before call.taken_after call.faults_before call.faults_after
 
 abbrev pub WroteNothing : Call → Type 0
 WroteNothing call = call.taken_after ≡ call.taken_before
 
--- the history is that of the run without workers: it is lawful and finished, running intervals of requests that exclude each other do not overlap, and each end tells what its report says
-pub record Ran (plan : Plan) (readings : Readings) (history : List Event) : Type 0 where
-  pub alone : Alone plan readings.list [] history
-  pub lawful : Lawful plan readings.list history
-  pub finished : Finished plan readings.list history
-  pub apart : NoOverlap plan history
-  pub reported : AreReported plan 0 history
+-- what is read of the disks stays, and a stop leaves nothing that it did not leave before
+pub record LeftAlone (d : Disks) : Type 0 where
+  pub journal : Stays d.journal_before d.journal_after
+  pub journal_survives : LeavesOnly d.journal_before.may_leave d.journal_before d.journal_after
+  pub spool : Stays d.spool_before d.spool_after
+  pub spool_survives : LeavesOnly d.spool_before.may_leave d.spool_before d.spool_after
 
--- the run that the words ask for, which has a clock: its files are accepted, and this is its history
-pub record IsRun (call : Call) : Type 0 where
-  pub names : Names
-  pub words : names_of call.words ≡ Some names
-  pub plan : Plan
-  pub readings : Readings
-  pub accepted : Accepts (told_in call) names plan (Some readings)
-  pub history : List Event
-  pub ran : Ran plan readings history
-
--- the plan whose listing the words ask for, which has no clock: its files are accepted
-pub record IsPlan (call : Call) : Type 0 where
-  pub names : Names
-  pub words : names_of call.words ≡ Some names
-  pub plan : Plan
-  pub accepted : Accepts (told_in call) names plan None
-
--- the text that the words ask for: that of the history of a run, or the listing of a plan
-abbrev pub IsAsked : Call → List ℕ → Type 0
-IsAsked call text = ((run : IsRun call) × (text ≡ text_of run.plan run.history)) ⊎ ((asked : IsPlan call) × (text ≡ listing asked.plan))
-
--- the text was written
-pub record IsDone (call : Call) : Type 0 where
-  pub text : List ℕ
-  pub asked : IsAsked call text
-  pub printed : Took call.taken_before call.taken_after text
+-- ---- exits of any command
 
 -- the words are no command line
 pub record IsUsage (call : Call) : Type 0 where
@@ -128,19 +118,55 @@ pub record IsStopped (call : Call) (end : Exit) : Type 0 where
   pub stops : StopsAt call.before call.after names end
   pub nothing : WroteNothing call
 
--- a prefix of the text was written
-pub record IsPart (call : Call) : Type 0 where
-  pub text : List ℕ
-  pub asked : IsAsked call text
-  pub part : TookPrefix call.taken_before call.taken_after text
+-- ---- the listing of a plan
 
--- what each exit means. Want of memory is the one that needs no cause; what was written then is a part of the text, or nothing
-abbrev pub Means : Call → Exit → Type 0
-Means call exit.Done = IsDone call
-Means call exit.Usage = IsUsage call
-Means call (exit.Refused refusal name) = IsStopped call (exit.Refused refusal name)
-Means call (exit.Absent name) = IsStopped call (exit.Absent name)
-Means call (exit.ReadFault name) = IsStopped call (exit.ReadFault name)
-Means call exit.ClockFault = IsStopped call exit.ClockFault
-Means call exit.WriteFault = IsPart call × Rose call.faults_before call.faults_after
-Means call exit.NoMemory = WroteNothing call ⊎ IsPart call
+-- the plan whose listing the words ask for, which has no clock: its files are accepted
+pub record IsPlan (call : Call) : Type 0 where
+  pub names : Names
+  pub words : names_of call.words ≡ Some names
+  pub plan : Plan
+  pub accepted : Accepts (told_in call) names plan None
+
+-- the listing was written
+pub record IsListed (call : Call) : Type 0 where
+  pub asked : IsPlan call
+  pub printed : Took call.taken_before call.taken_after (listing asked.plan)
+
+-- a prefix of it was written, and the sink met a fault
+pub record IsPartListed (call : Call) : Type 0 where
+  pub asked : IsPlan call
+  pub part : TookPrefix call.taken_before call.taken_after (listing asked.plan)
+  pub fault : Rose call.faults_before call.faults_after
+
+-- what each exit means where no run is asked for, or none begins. Want of memory is the one that needs no cause
+abbrev pub WithoutRun : Call → Exit → Type 0
+WithoutRun call exit.Done = IsListed call
+WithoutRun call exit.Usage = IsUsage call
+WithoutRun call (exit.Refused refusal name) = IsStopped call (exit.Refused refusal name)
+WithoutRun call (exit.Absent name) = IsStopped call (exit.Absent name)
+WithoutRun call (exit.ReadFault name) = IsStopped call (exit.ReadFault name)
+WithoutRun call exit.ClockFault = IsStopped call exit.ClockFault
+WithoutRun call exit.WriteFault = IsPartListed call
+WithoutRun call exit.NoMemory = WroteNothing call
+WithoutRun call _ = ⊥
+
+-- ---- a run
+
+-- the run that the words ask for, which has a clock: its files are accepted
+pub record IsRun (call : Call) : Type 0 where
+  pub names : Names
+  pub words : names_of call.words ≡ Some names
+  pub plan : Plan
+  pub readings : Readings
+  pub accepted : Accepts (told_in call) names plan (Some readings)
+
+-- what it is handed
+abbrev pub handed_in : (call : Call) → Disks → IsRun call → Handed
+handed_in call d run =
+    handed run.plan run.readings (digest_of run.accepted.files) d.journal_before d.journal_after d.spool_before d.spool_after
+
+-- ---- any call
+
+-- what an exit means: a run with accepted files ended so; or no run was asked for or began, and the disks were left alone
+abbrev pub Means : Call → Disks → Exit → Type 0
+Means call d end = ((run : IsRun call) × RunEnds (handed_in call d run) (sunk_in call) end) ⊎ (WithoutRun call end × LeftAlone d)

@@ -1,6 +1,6 @@
 -- The files that were read, each of them there and accepted, and the file to be read next.
 use Rattle.std.specs.Prelude.{◌≡◌, ℕ, ◌≤◌, Bool, false, true, List, [], ◌∷◌, length, Ok, Option, None, Some, slice_get, take}
-use Rattle.std.specs.List.{AllZip, sum_by}
+use Rattle.std.specs.List.{AllZip, sum_by, zip}
 use Rattle.conc_clock.specs.Clocks.{ClockState, Gives as Shows}
 use Rattle.conc_types.specs.declared.event.Moment.{Moment}
 use Rattle.conc_types.specs.declared.plan.Plan.{Plan}
@@ -11,6 +11,7 @@ use Rattle.conc_types.specs.declared.script.Readings.{Readings}
 use Rattle.conc_types.specs.declared.script.Script.{Script}
 use Rattle.conc_types.specs.declared.setup.Setup.{Setup}
 use Rattle.conc_types.specs.declared.table.Table.{Table}
+use Rattle.conc_digest.specs.Inputs.{input_digest}
 use Rattle.conc_outside.specs.Files.{Files, Gives, ShelfState}
 use Rattle.conc_setup.specs.Setups.{setup_in}
 use Rattle.conc_script.specs.Clock.{SpellsClock}
@@ -101,6 +102,11 @@ IsNext told names (kind.Table number) name = IsNextTable told names number name
 pub record HasAll (told : Told) (names : Names) (tables : List Table) : Type 0 where
   pub before : HasClock told names
   pub given : HasTables told.files before.before.before.setup.tables tables
+
+-- the digest of the bytes of the setup and the script, and of the tables under their names
+abbrev pub digest_of : {told : Told} {names : Names} {tables : List Table} → HasAll told names tables → List ℕ
+digest_of all =
+    input_digest all.before.before.before.bytes all.before.before.bytes (zip all.before.before.before.setup.tables all.given.contents)
 
 -- they give this plan and, where there is a clock, these readings
 pub record Accepts (told : Told) (names : Names) (plan : Plan) (readings : Option Readings) : Type 0 where

@@ -7,4 +7,6 @@ pub mod Exits
 pub mod Ways
 pub mod Stops
 pub mod Reading
+pub mod Accepting
+pub mod Runs
 pub mod Printing

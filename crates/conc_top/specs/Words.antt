@@ -106,6 +106,11 @@ names_among_two (setup ∷ script ∷ []) =
     then_some (is_file setup && is_file script) (record { setup = setup; script = script; clock = None })
 names_among_two _ = None
 
+-- the words ask for a run
+abbrev pub asks_for_a_run : List (List ℕ) → Bool
+asks_for_a_run [] = false
+asks_for_a_run (command ∷ words) = is (codes "run") command
+
 -- the files that a command is given: `run SETUP SCRIPT CLOCK`, with `--threads 0`, and `--watch 0` or without it, anywhere
 -- behind `run`; and `plan SETUP SCRIPT`, which has no options and no clock
 unfoldable pub names_of : List (List ℕ) → Option Names

@@ -1,4 +1,5 @@
 use conc_types::{Name, Refusal};
+use conc_work::Which;
 
 /// How a command ended.
 #[derive(Drop)]
@@ -15,10 +16,21 @@ pub enum Exit {
     ReadFault { name: Name },
     /// The output could not be written.
     WriteFault,
+    /// One of the two disks failed.
+    DiskFault { which: Which },
     /// The clock of the system gave no moment.
     ClockFault,
+    /// What stands on the journal's disk is no journal.
+    NotJournal,
+    /// The journal was begun for files with another digest.
+    OtherInput { found: [u8; 32], given: [u8; 32] },
+    /// The journal has `len` records, and no room for the `need` that the run may add.
+    JournalFull { len: u64, need: u64 },
     /// There was no memory.
     NoMemory,
+    /// The journal's record with this number, from 1, is broken or not lawful, or its extent ends past
+    /// the spool.
+    Unlawful { number: u64 },
 }
 
 impl Exit {
@@ -36,8 +48,13 @@ impl Exit {
             Exit::Absent { .. } => 4,
             Exit::ReadFault { .. } => 5,
             Exit::WriteFault => 6,
+            Exit::DiskFault { .. } => 7,
             Exit::ClockFault => 8,
+            Exit::NotJournal => 9,
+            Exit::OtherInput { .. } => 10,
+            Exit::JournalFull { .. } => 11,
             Exit::NoMemory => 12,
+            Exit::Unlawful { .. } => 13,
         }
     }
 }

@@ -45,38 +45,38 @@ fn stop_of(fail: ReadFail) -> Stop
     }
 }
 
-// The setup under this name.
+// The setup under this name, and its bytes.
 pub(crate) fn judge_setup<F: Shelf>(
     alloc: Global,
     shelf: &mut F,
     name: &Name,
-) -> Result<Setup, Stop>
+) -> Result<(Setup, Vec<u8>), Stop>
     ensures later { IsLater (F.state shelf.old) (F.state shelf.new) }
-    ensures ok { IfOk result (λ setup. (bytes : List ℕ) × Gives (F.state shelf.old).files name.now bytes × (setup_in bytes ≡ Ok setup)) }
+    ensures ok { IfOk result (λ p. Gives (F.state shelf.old).files name.now p.1.items × (setup_in p.1.items ≡ Ok p.0)) }
     ensures err { IfErr result (Ends (F.state shelf.old) (F.state shelf.new) (λ bytes fault. fault_in bytes ≡ Some fault) kind.Setup name.now) }
 {
     let bytes = read(alloc, shelf, name)?;
     match read_setup(alloc, &bytes) {
-        Ok(setup) => Ok(setup),
+        Ok(setup) => Ok((setup, bytes)),
         Err(fail) => Err(stop_of(fail)),
     }
 }
 
-// The script under this name, which fits the setup.
+// The script under this name, which fits the setup, and its bytes.
 pub(crate) fn judge_script<F: Shelf>(
     alloc: Global,
     shelf: &mut F,
     name: &Name,
     setup: &Setup,
-) -> Result<Script, Stop>
+) -> Result<(Script, Vec<u8>), Stop>
     ensures later { IsLater (F.state shelf.old) (F.state shelf.new) }
-    ensures ok { IfOk result (λ script. (bytes : List ℕ) × Gives (F.state shelf.old).files name.now bytes × SpellsScript setup.now bytes script) }
-    ensures fits { IfOk result (λ script. IsTrue (are_commands setup.now script.commands)) }
+    ensures ok { IfOk result (λ p. Gives (F.state shelf.old).files name.now p.1.items × SpellsScript setup.now p.1.items p.0) }
+    ensures fits { IfOk result (λ p. IsTrue (are_commands setup.now p.0.commands)) }
     ensures err { IfErr result (Ends (F.state shelf.old) (F.state shelf.new) (λ bytes fault. script_fault setup.now bytes ≡ Some fault) kind.Script name.now) }
 {
     let bytes = read(alloc, shelf, name)?;
     match read_script(alloc, &bytes, setup) {
-        Ok(script) => Ok(script),
+        Ok(script) => Ok((script, bytes)),
         Err(fail) => Err(stop_of(fail)),
     }
 }
@@ -98,24 +98,23 @@ pub(crate) fn judge_clock<F: Shelf>(
     }
 }
 
-// The table with this number under this name, and the bytes of all tables up to it, where those
-// before it have `before` bytes.
+// The table with this number under this name, and its bytes, where the tables before it have `before`
+// bytes.
 pub(crate) fn judge_table<F: Shelf>(
     alloc: Global,
     shelf: &mut F,
     name: &Name,
     number: u32,
     before: usize,
-) -> Result<(Table, usize), Stop>
+) -> Result<(Table, Vec<u8>), Stop>
     requires { before ≤ 134217728 }
     ensures later { IsLater (F.state shelf.old) (F.state shelf.new) }
-    ensures ok { IfOk result (λ p. (bytes : List ℕ) × Gives (F.state shelf.old).files name.now bytes × SpellsTable bytes p.0 × (p.1 ≡ before + length bytes)) }
-    ensures fit { IfOk result (λ p. p.1 ≤ 134217728) }
+    ensures ok { IfOk result (λ p. Gives (F.state shelf.old).files name.now p.1.items × SpellsTable p.1.items p.0) }
+    ensures fit { IfOk result (λ p. before + length p.1.items ≤ 134217728) }
     ensures err { IfErr result (Ends (F.state shelf.old) (F.state shelf.new) (λ bytes fault. fault_of_table before bytes ≡ Some fault) (kind.Table number) name.now) }
 {
     let bytes = read(alloc, shelf, name)?;
-    let total = before + bytes.len();
-    if total > MOST_BYTES {
+    if before + bytes.len() > MOST_BYTES {
         return Err(Stop::Refused(Refusal {
             file: FileKind::Table(number),
             line: 0,
@@ -123,7 +122,7 @@ pub(crate) fn judge_table<F: Shelf>(
         }));
     }
     match read_table(alloc, &bytes, number) {
-        Ok(table) => Ok((table, total)),
+        Ok(table) => Ok((table, bytes)),
         Err(fail) => Err(stop_of(fail)),
     }
 }

@@ -1,4 +1,5 @@
-//! The commands of the program, over a shelf of files, a sink and a clock.
+//! The commands of the program, over a shelf of files, a sink, a clock, and the disks of a journal and a
+//! spool.
 #![tactic(auto)]
 
 mod accepting;
@@ -9,14 +10,11 @@ mod line;
 mod names;
 mod printing;
 mod reading;
-#[cfg(test)]
-mod rows;
 mod stop;
-#[cfg(test)]
-mod tests;
 mod top;
 mod words;
 
+pub use conc_work::Which;
 pub use exit::Exit;
 pub use line::exit_text;
-pub use top::conc;
+pub use top::{conc, run_plain};

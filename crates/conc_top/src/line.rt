@@ -1,9 +1,11 @@
 ghost use Rattle.std.specs.Prelude.{◌≡◌, ◌++◌, IfOk, OnOk, codes};
 ghost use Rattle.std.specs.Fmt.{decimal};
+ghost use Rattle.hex.specs.Hex.{encode_lower};
 ghost use Rattle.conc_top.specs.Lines.{line_of};
 
 use crate::Exit;
 use conc_types::{Name, NoMemory, Refusal, put_decimal};
+use conc_work::Which;
 use std::alloc::Global;
 
 fn put(out: &mut Vec<u8>, piece: &[u8]) -> Result<(), NoMemory>
@@ -34,7 +36,42 @@ fn put_refusal(out: &mut Vec<u8>, refusal: Refusal, name: &Name) -> Result<(), N
     put(out, b"\n")
 }
 
-fn put_line(out: &mut Vec<u8>, exit: &Exit) -> Result<(), NoMemory>
+// A line of a word and a number.
+fn put_number(out: &mut Vec<u8>, word: &[u8], number: u64) -> Result<(), NoMemory>
+    ensures { OnOk result (out.new.items ≡ out.old.items ++ (word.now ++ decimal number ++ codes "\n")) }
+{
+    put(out, word)?;
+    put_decimal(out, number)?;
+    put(out, b"\n")
+}
+
+// The two digests, each in 64 digits.
+fn put_digests(
+    alloc: Global,
+    out: &mut Vec<u8>,
+    found: &[u8; 32],
+    given: &[u8; 32],
+) -> Result<(), NoMemory>
+    ensures { OnOk result (out.new.items ≡ out.old.items ++ (codes "other input: " ++ encode_lower found.now ++ codes " " ++ encode_lower given.now ++ codes "\n")) }
+{
+    put(out, b"other input: ")?;
+    put(out, hex::encode(alloc, *found)?.as_bytes())?;
+    put(out, b" ")?;
+    put(out, hex::encode(alloc, *given)?.as_bytes())?;
+    put(out, b"\n")
+}
+
+fn put_full(out: &mut Vec<u8>, len: u64, need: u64) -> Result<(), NoMemory>
+    ensures { OnOk result (out.new.items ≡ out.old.items ++ (codes "journal full: " ++ decimal len ++ codes " " ++ decimal need ++ codes "\n")) }
+{
+    put(out, b"journal full: ")?;
+    put_decimal(out, len)?;
+    put(out, b" ")?;
+    put_decimal(out, need)?;
+    put(out, b"\n")
+}
+
+fn put_line(alloc: Global, out: &mut Vec<u8>, exit: &Exit) -> Result<(), NoMemory>
     ensures { OnOk result (out.new.items ≡ out.old.items ++ line_of exit.now) }
 {
     match exit {
@@ -44,8 +81,18 @@ fn put_line(out: &mut Vec<u8>, exit: &Exit) -> Result<(), NoMemory>
         Exit::Absent { name } => put_name(out, b"absent: ", name),
         Exit::ReadFault { name } => put_name(out, b"read fault: ", name),
         Exit::WriteFault => put(out, b"write fault\n"),
+        Exit::DiskFault {
+            which: Which::Journal,
+        } => put(out, b"disk fault: journal\n"),
+        Exit::DiskFault {
+            which: Which::Spool,
+        } => put(out, b"disk fault: spool\n"),
         Exit::ClockFault => put(out, b"clock fault\n"),
+        Exit::NotJournal => put(out, b"not a journal\n"),
+        Exit::OtherInput { found, given } => put_digests(alloc, out, found, given),
+        Exit::JournalFull { len, need } => put_full(out, *len, *need),
         Exit::NoMemory => put(out, b"no memory\n"),
+        Exit::Unlawful { number } => put_number(out, b"unlawful record: ", *number),
     }
 }
 
@@ -54,6 +101,6 @@ pub fn exit_text(alloc: Global, exit: &Exit) -> Result<Vec<u8>, NoMemory>
     ensures { IfOk result (λ text. text.items ≡ line_of exit.now) }
 {
     let mut text = Vec::new(alloc);
-    put_line(&mut text, exit)?;
+    put_line(alloc, &mut text, exit)?;
     Ok(text)
 }

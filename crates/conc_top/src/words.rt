@@ -3,7 +3,7 @@ ghost use Rattle.std.specs.Option.{option_and_then, option_map};
 ghost use Rattle.std.specs.String.{string_bytes};
 ghost use Rattle.conc_types.specs.Texts.{is_name as is_name_of};
 ghost use Rattle.conc_top.specs.Saying.{shown};
-ghost use Rattle.conc_top.specs.Words.{behind as behind_of, is, takes_next as takes_next_of, with_option as with_option_of, is_file as is_file_of, is_positional as is_positional_of, is_zero as is_zero_of, is_zero_once as is_zero_once_of, is_zero_or_absent as is_zero_or_absent_of, names_among as names_among_of, names_among_two as names_among_two_of, names_of, names_said as names_said_of, nothing_said, said as said_of, said_by as said_by_of, with_file as with_file_of, with_threads as with_threads_of, with_watch as with_watch_of};
+ghost use Rattle.conc_top.specs.Words.{asks_for_a_run as asks_for_a_run_of, behind as behind_of, is, takes_next as takes_next_of, with_option as with_option_of, is_file as is_file_of, is_positional as is_positional_of, is_zero as is_zero_of, is_zero_once as is_zero_once_of, is_zero_or_absent as is_zero_or_absent_of, names_among as names_among_of, names_among_two as names_among_two_of, names_of, names_said as names_said_of, nothing_said, said as said_of, said_by as said_by_of, with_file as with_file_of, with_threads as with_threads_of, with_watch as with_watch_of};
 
 use crate::names::Names;
 use conc_types::{Name, NoMemory, is_name, read_decimal};
@@ -199,6 +199,16 @@ fn is_run(word: &[u8]) -> bool
     ensures { result ≡ is (codes "run") word.now }
 {
     word == b"run".as_slice()
+}
+
+/// Whether the words ask for a run.
+pub(crate) fn asks_for_a_run(words: &[String]) -> bool
+    ensures { result ≡ asks_for_a_run_of (map string_bytes words.now) }
+{
+    match words.first() {
+        Some(command) => is_run(command.as_bytes()),
+        None => false,
+    }
 }
 
 fn is_plan(word: &[u8]) -> bool

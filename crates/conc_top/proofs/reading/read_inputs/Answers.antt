@@ -2,6 +2,7 @@ use Rattle.std.proofs.Common.{◌∙◌, None, Some, refl, subst, sym}
 use Rattle.conc_types.specs.declared.refusal.FileKind.TheVariants as kind
 use Rattle.conc_outside.specs.Files.{Gives}
 use Rattle.conc_top.specs.Given.{ReadsClock, sources, told_by}
+use Rattle.conc_top.proofs.Digesting.{taken-of}
 use Rattle.conc_top.proofs.Stopping.{clock-end, IsLater-trans, reads-clock, stops-at}
 use Rattle.conc_top.proofs.reading.read_inputs.Goals as goal
 
@@ -10,7 +11,7 @@ returns-in-Err-judge_script-clause-err g c =
     let clock = g.C.Clock.state c.args.clock.now in
     stops-at (sources (g.F.Shelf.state c.args.shelf.now) clock) (sources (g.F.Shelf.state c.judge_script.new.shelf) clock)
     (g.F.Shelf.state c.judge_setup.new.shelf) c.args.names.now kind.Script c.args.names.now.script (
-      record { bytes = c.in-Ok.ensures.ok.0; given = c.in-Ok.ensures.ok.1; setup = c.in-Ok.setup; spells = c.in-Ok.ensures.ok.2 },
+      record { bytes = c.in-Ok.read.1.items; given = c.in-Ok.ensures.ok.0; setup = c.in-Ok.read.0; spells = c.in-Ok.ensures.ok.1 },
       refl,
     )
     c.in-Err-judge_script.stop c.exit_at-in-Err-judge_script.result c.judge_setup.ensures.later c.in-Err-judge_script.ensures.err
@@ -22,11 +23,11 @@ returns-in_default-clause-ok g c =
     let told = told_by (sources (g.F.Shelf.state c.args.shelf.now) clock) (sources (g.F.Shelf.state c.judge_script.new.shelf) clock) in record {
       files = record {
         before = record {
-          before = record { bytes = c.in-Ok.ensures.ok.0; given = c.in-Ok.ensures.ok.1; setup = c.in-Ok.setup; spells = c.in-Ok.ensures.ok.2 };
-          bytes = c.in-Ok-judge_script.ensures.ok.0;
-          given = subst (λ t. Gives t c.args.names.now.script c.in-Ok-judge_script.ensures.ok.0) c.judge_setup.ensures.later.files c.in-Ok-judge_script.ensures.ok.1;
-          script = c.in-Ok-judge_script.script;
-          spells = c.in-Ok-judge_script.ensures.ok.2;
+          before = record { bytes = c.in-Ok.read.1.items; given = c.in-Ok.ensures.ok.0; setup = c.in-Ok.read.0; spells = c.in-Ok.ensures.ok.1 };
+          bytes = c.in-Ok-judge_script.read.1.items;
+          given = subst (λ t. Gives t c.args.names.now.script c.in-Ok-judge_script.read.1.items) c.judge_setup.ensures.later.files c.in-Ok-judge_script.ensures.ok.0;
+          script = c.in-Ok-judge_script.read.0;
+          spells = c.in-Ok-judge_script.ensures.ok.1;
         };
         readings = None;
         given = subst (λ named. ReadsClock told named None) (sym c.in_default.is) refl;
@@ -34,6 +35,7 @@ returns-in_default-clause-ok g c =
       setup = refl;
       script = refl;
       readings = refl;
+      digest = taken-of c.new-digest.result c.in-Ok.read.1.items c.in-Ok-judge_script.read.1.items c.deref.result.now c.deref-2.result.now c.deref.ensures.value c.deref-2.ensures.value c.new-digest.ensures;
     }
 
 pub returns-in-Ok-read_readings-clause-ok : goal.returns-in-Ok-read_readings-clause-ok
@@ -43,11 +45,11 @@ returns-in-Ok-read_readings-clause-ok g c =
     let new = sources (state c.read_readings.new.shelf) (g.C.Clock.state c.read_readings.new.clock) in record {
       files = record {
         before = record {
-          before = record { bytes = c.in-Ok.ensures.ok.0; given = c.in-Ok.ensures.ok.1; setup = c.in-Ok.setup; spells = c.in-Ok.ensures.ok.2 };
-          bytes = c.in-Ok-judge_script.ensures.ok.0;
-          given = subst (λ t. Gives t c.args.names.now.script c.in-Ok-judge_script.ensures.ok.0) c.judge_setup.ensures.later.files c.in-Ok-judge_script.ensures.ok.1;
-          script = c.in-Ok-judge_script.script;
-          spells = c.in-Ok-judge_script.ensures.ok.2;
+          before = record { bytes = c.in-Ok.read.1.items; given = c.in-Ok.ensures.ok.0; setup = c.in-Ok.read.0; spells = c.in-Ok.ensures.ok.1 };
+          bytes = c.in-Ok-judge_script.read.1.items;
+          given = subst (λ t. Gives t c.args.names.now.script c.in-Ok-judge_script.read.1.items) c.judge_setup.ensures.later.files c.in-Ok-judge_script.ensures.ok.0;
+          script = c.in-Ok-judge_script.read.0;
+          spells = c.in-Ok-judge_script.ensures.ok.1;
         };
         readings = Some c.in-Ok-read_readings.readings;
         given = subst (λ named. ReadsClock (told_by old new) named (Some c.in-Ok-read_readings.readings)) (sym c.in-Some.is)
@@ -57,6 +59,7 @@ returns-in-Ok-read_readings-clause-ok g c =
       setup = refl;
       script = refl;
       readings = refl;
+      digest = taken-of c.new-digest.result c.in-Ok.read.1.items c.in-Ok-judge_script.read.1.items c.deref.result.now c.deref-2.result.now c.deref.ensures.value c.deref-2.ensures.value c.new-digest.ensures;
     }
 
 pub returns-in-Err-read_readings-clause-err : goal.returns-in-Err-read_readings-clause-err
@@ -66,11 +69,11 @@ returns-in-Err-read_readings-clause-err g c =
     let new = sources (state c.read_readings.new.shelf) (g.C.Clock.state c.read_readings.new.clock) in
     clock-end old new (state c.judge_script.new.shelf) c.args.names.now c.in-Some.name c.in-Err-read_readings.exit (
     record {
-      before = record { bytes = c.in-Ok.ensures.ok.0; given = c.in-Ok.ensures.ok.1; setup = c.in-Ok.setup; spells = c.in-Ok.ensures.ok.2 };
-      bytes = c.in-Ok-judge_script.ensures.ok.0;
-      given = subst (λ t. Gives t c.args.names.now.script c.in-Ok-judge_script.ensures.ok.0) c.judge_setup.ensures.later.files c.in-Ok-judge_script.ensures.ok.1;
-      script = c.in-Ok-judge_script.script;
-      spells = c.in-Ok-judge_script.ensures.ok.2;
+      before = record { bytes = c.in-Ok.read.1.items; given = c.in-Ok.ensures.ok.0; setup = c.in-Ok.read.0; spells = c.in-Ok.ensures.ok.1 };
+      bytes = c.in-Ok-judge_script.read.1.items;
+      given = subst (λ t. Gives t c.args.names.now.script c.in-Ok-judge_script.read.1.items) c.judge_setup.ensures.later.files c.in-Ok-judge_script.ensures.ok.0;
+      script = c.in-Ok-judge_script.read.0;
+      spells = c.in-Ok-judge_script.ensures.ok.1;
     }
     )
     c.in-Some.is

@@ -1,7 +1,6 @@
-use Rattle.std.proofs.Common.{◌≡◌, ◌≤◌, length, take}
-use Rattle.std.specs.List.{sum_by}
+use Rattle.std.proofs.Common.{◌≡◌, ◌≤◌, take}
 use Rattle.conc_outside.specs.Files.{IsLater}
-use Rattle.conc_top.specs.Given.{HasTables}
+use Rattle.conc_top.proofs.Stopping.{AreRead}
 use Rattle.conc_top.proofs.reading.read_tables.Given as goal
 
 abbrev pub invariant-loop-name : goal.invariant-loop-name
@@ -11,5 +10,5 @@ invariant-loop-name g l =
       number : l.number ≡ l.name-index;
       later : IsLater (state l.fn.shelf) (state l.shelf);
       fit : l.total ≤ 134217728;
-      read : (has : HasTables (state l.fn.shelf).files (take l.name-index l.names) l.tables.items) × (sum_by length has.contents ≡ l.total);
+      read : AreRead (state l.fn.shelf).files (take l.name-index l.names) l.tables.items l.total l.fn.digest l.digest;
     }

@@ -1,5 +1,4 @@
-use crate::tests::{Given, RUN, call, script_of, with_script};
-use crate::*;
+use super::{Given, RUN, call, script_of, with_script};
 use std::test::Fail;
 
 // A run of a setup over a script's records and the one table, and the text that it prints.

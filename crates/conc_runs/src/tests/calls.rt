@@ -1,176 +1,16 @@
-ghost use Rattle.std.specs.Prelude.{◌≡◌, map};
-ghost use Rattle.std.specs.List.{list_any};
-ghost use Rattle.std.specs.Str.{bytes_eq};
-ghost use Rattle.conc_types.specs.Words.{are_distinct as are_distinct_of};
-
-use super::*;
+use super::{
+    CLOCK, Given, HEADER, RUN, SETUP, STAGED, TABLE, call, disk_of, listed, script_of, shelf_of,
+    with_script, words_of,
+};
 use conc_clock::MemClock;
-use conc_outside::{MemShelf, MemSink};
-use conc_types::{Moment, Name, is_name};
+use conc_outside::MemSink;
+use conc_top::{Exit, conc, exit_text};
+use conc_types::Moment;
 use std::alloc::Global;
 use std::process::Abort;
 use std::sync::Wait;
 use std::test::Fail;
 use std::thread::Threads;
-
-const SETUP: &str =
-    "tables = [\"t.csv\"]\n[[program]]\nname = \"P\"\ntable = \"t.csv\"\ngroup = \"k\"\nsum = \"v\"\n[[incompatible]]\nprogram = \"P\"\nwith = \"P\"\n[[manager]]\nname = \"M\"\n";
-
-// A set of two stages, and a program that excludes it.
-const STAGED: &str = r#"tables = ["t.csv"]
-
-[[program]]
-name = "Q"
-table = "t.csv"
-group = "k"
-sum = "v"
-
-[[program]]
-name = "R"
-table = "t.csv"
-group = "k"
-sum = "v"
-
-[[program]]
-name = "X"
-table = "t.csv"
-group = "k"
-sum = "v"
-
-[[incompatible]]
-program = "X"
-with = "S"
-scope = "program"
-
-[[manager]]
-name = "M"
-
-[[set]]
-name = "S"
-
-[[set.stage]]
-name = "One"
-members = ["Q"]
-on_success = "Two"
-
-[[set.stage]]
-name = "Two"
-members = ["R"]
-"#;
-
-const HEADER: &str = "at,do,what,user,priority,start,domain,argument\n";
-
-const CLOCK: &str = "2025-03-03T09:00:00\n";
-
-const TABLE: &str = "k,v\na,10\nb,20\na,5\n";
-
-pub(crate) const RUN: &str = "run a.toml a.csv a.clock --threads 0";
-
-fn name(rt: &impl Abort, alloc: Global, text: &str) -> Result<Name, Fail> {
-    let bytes = text.as_bytes().to_vec(alloc)?;
-    assert!(rt; is_name(&bytes), "{text}");
-    Ok(Name::from_vec(bytes))
-}
-
-fn is_named(name: &Name, files: &[(Name, Vec<u8>)]) -> bool
-    ensures { result ≡ list_any (bytes_eq name.now) (map (λ f. f.0) files.now) }
-{
-    match files.split_first() {
-        None => false,
-        Some((file, rest)) => name.as_bytes() == file.0.as_bytes() || is_named(name, rest),
-    }
-}
-
-fn are_distinct(files: &[(Name, Vec<u8>)]) -> bool
-    ensures { result ≡ are_distinct_of bytes_eq (map (λ f. f.0) files.now) }
-{
-    match files.split_first() {
-        None => true,
-        Some((file, rest)) => !is_named(&file.0, rest) && are_distinct(rest),
-    }
-}
-
-// The four files of a call.
-#[derive(Clone, Copy)]
-pub(crate) struct Given<'a> {
-    pub(crate) setup: &'a str,
-    pub(crate) script: &'a str,
-    pub(crate) clock: &'a str,
-    pub(crate) table: &'a str,
-}
-
-pub(crate) fn with_script(script: &str) -> Given<'_> {
-    Given {
-        setup: SETUP,
-        script,
-        clock: CLOCK,
-        table: TABLE,
-    }
-}
-
-fn listed(alloc: Global, number: Option<u64>) -> Result<Vec<u64>, Fail> {
-    let mut numbers = Vec::new(alloc);
-    if let Some(number) = number {
-        numbers.push(number)?;
-    }
-    Ok(numbers)
-}
-
-// The four files in a shelf, the clock's under this name, where the read with this number fails.
-fn shelf_of(
-    rt: &impl Abort,
-    alloc: Global,
-    given: Given<'_>,
-    clock: &str,
-    fails: Option<u64>,
-) -> Result<MemShelf, Fail> {
-    let files = vec![in alloc;
-        (
-            name(rt, alloc, "a.toml")?,
-            given.setup.as_bytes().to_vec(alloc)?
-        ),
-        (
-            name(rt, alloc, "a.csv")?,
-            given.script.as_bytes().to_vec(alloc)?
-        ),
-        (
-            name(rt, alloc, clock)?,
-            given.clock.as_bytes().to_vec(alloc)?
-        ),
-        (
-            name(rt, alloc, "t.csv")?,
-            given.table.as_bytes().to_vec(alloc)?
-        ),
-    ]?;
-    assert!(rt; are_distinct(&files));
-    Ok(MemShelf::new(files, listed(alloc, fails)?))
-}
-
-fn words_of(alloc: Global, words: &str) -> Result<Vec<String>, Fail> {
-    let mut list = Vec::new(alloc);
-    for word in words.split(' ') {
-        list.push(format!(in alloc; "{word}")?)?;
-    }
-    Ok(list)
-}
-
-// The exit and the output of a call with these words, over the four files and a clock without a
-// moment, where the read and the write with these numbers fail.
-pub(crate) fn call<Rt: Abort + Threads + Wait + Sync>(
-    rt: &Rt,
-    alloc: Global,
-    words: &str,
-    given: Given<'_>,
-    fails: Option<u64>,
-    stuck: Option<u64>,
-) -> Result<(Exit, MemSink), Fail> {
-    let mut shelf = shelf_of(rt, alloc, given, "a.clock", fails)?;
-    let mut out = MemSink::new(alloc, listed(alloc, stuck)?);
-    let list = words_of(alloc, words)?;
-    let mut clock = MemClock::new(Vec::new(alloc));
-    let exit = conc(rt, alloc, &list, &mut shelf, &mut out, &mut clock);
-    Ok((exit, out))
-}
 
 // The clock's word, the name of the clock's file, whether the clock has its one moment, and what the run ends with: its status, its output, and the line that tells its exit.
 type Asked = (
@@ -232,7 +72,18 @@ fn the_clock_of_the_system_is_asked_by_its_word(rt: HostRuntime) -> Result<(), F
             })?;
         }
         let mut clock = MemClock::new(moments);
-        let exit = conc(&rt, alloc, &list, &mut shelf, &mut out, &mut clock);
+        let mut journal = disk_of(alloc, &[], None)?;
+        let mut spool = disk_of(alloc, &[], None)?;
+        let exit = conc(
+            &rt,
+            alloc,
+            &list,
+            &mut shelf,
+            &mut out,
+            &mut journal,
+            &mut spool,
+            &mut clock,
+        );
         assert_eq!(rt; exit.number(), number, "at {word:?}");
         assert_eq!(rt; out.bytes(), text.as_bytes(), "at {word:?}");
         assert_eq!(rt; exit_text(alloc, &exit)?.as_slice(), line.as_bytes());
@@ -270,10 +121,6 @@ static HISTORIES: [(&str, &str, &str); 6] = [
         "tick 2025-03-03T09:00:00\ndo 1\ntick 2025-03-03T09:05:00\nlet 1\nstart 1 1.1\nend 1 Normal 0 39\n--\n1 Completed Normal P\n",
     ),
 ];
-
-pub(crate) fn script_of(alloc: Global, records: &str) -> Result<String, Fail> {
-    Ok(format!(in alloc; "{HEADER}{records}")?)
-}
 
 #[test]
 fn runs_print_their_histories(rt: HostRuntime) -> Result<(), Fail> {

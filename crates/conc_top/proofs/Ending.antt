@@ -1,0 +1,48 @@
+-- How a run ends, from what its parts say.
+use Rattle.std.proofs.Common.{◌≡◌, ℕ, List, None, Option, Some, refl, subst}
+use Rattle.std.specs.Prelude.{IfSome}
+use Rattle.conc_types.specs.declared.event.Event.{Event}
+use Rattle.conc_law.specs.Text.{text_of}
+use Rattle.conc_work.specs.Handed.{Handed}
+use Rattle.conc_work.specs.declared.fail.Stopped.{Stopped}
+use Rattle.conc_work.specs.declared.fail.Stopped.TheVariants as stopped
+use Rattle.conc_top.specs.declared.exit.Exit.{Exit}
+use Rattle.conc_top.specs.declared.exit.Exit.TheVariants as exit
+use Rattle.conc_top.specs.Printing.{Wrote}
+use Rattle.conc_top.specs.Runs.{IsCutShort, IsHistory, RunEnds, Sunk, TookNothing}
+use Rattle.conc_top.specs.Ways.{exit_for}
+
+-- what a read gives is of this kind where each image is
+pub read-of : (kind : List ℕ → Type 0) (seen : Option (List ℕ)) (may_leave : List ℕ → Type 0) → IfSome seen (λ bytes. (image : List ℕ) → may_leave image → kind image)
+    → IfSome seen may_leave → IfSome seen kind
+read-of kind None may_leave each left = tt
+read-of kind (Some bytes) may_leave each left = each bytes left
+
+-- a run that was cut short, and wrote nothing
+pub cut-ends : (h : Handed) (sink : Sunk) (s : Stopped) → IsCutShort h s → TookNothing sink → RunEnds h sink (exit_for h.digest s)
+cut-ends h sink stopped.NotJournal cut nothing = (cut, nothing)
+cut-ends h sink (stopped.OtherInput found) cut nothing = (cut, refl, nothing)
+cut-ends h sink (stopped.Unlawful number) cut nothing = (cut, nothing)
+cut-ends h sink (stopped.JournalFull len needed) cut nothing = (cut, nothing)
+cut-ends h sink (stopped.DiskFault which) cut nothing = (cut, nothing)
+cut-ends h sink stopped.NoMemory cut nothing = (cut, nothing)
+
+written : (h : Handed) (sink : Sunk) (history : List Event) (end : Exit) → IsHistory h history → Wrote (text_of h.plan history) sink end → RunEnds h sink end
+written h sink history exit.Done was took = (history, was, took)
+written h sink history exit.WriteFault was part = (history, was, part.0, part.1)
+written h sink history exit.Usage was none = absurd none
+written h sink history exit.NoMemory was none = absurd none
+written h sink history exit.ClockFault was none = absurd none
+written h sink history (exit.Refused refusal name) was none = absurd none
+written h sink history (exit.Absent name) was none = absurd none
+written h sink history (exit.ReadFault name) was none = absurd none
+written h sink history (exit.DiskFault which) was none = absurd none
+written h sink history exit.NotJournal was none = absurd none
+written h sink history (exit.OtherInput found given) was none = absurd none
+written h sink history (exit.JournalFull len needed) was none = absurd none
+written h sink history (exit.Unlawful number) was none = absurd none
+
+-- a history that was finished, and whose text was written
+pub history-ends : (h : Handed) (sink : Sunk) (history : List Event) (text : List ℕ) (end : Exit) → text ≡ text_of h.plan history
+    → IsHistory h history → Wrote text sink end → RunEnds h sink end
+history-ends h sink history text end is was wrote = written h sink history end was (subst (λ t. Wrote t sink end) is wrote)

@@ -1,0 +1,73 @@
+-- How a run ends whose files are accepted.
+use Rattle.std.specs.Prelude.{◌≡◌, ℕ, List, length, Option, IfSome, IsFalse, IsTrue}
+use Rattle.conc_types.specs.declared.event.Event.{Event}
+use Rattle.conc_law.specs.Alone.{opening}
+use Rattle.conc_law.specs.Ends.{AreReported}
+use Rattle.conc_law.specs.Law.{Finished, Lawful}
+use Rattle.conc_law.specs.Overlap.{NoOverlap}
+use Rattle.conc_law.specs.Text.{text_of}
+use Rattle.conc_image.specs.Image.{IsJournal}
+use Rattle.conc_outside.specs.Counts.{Rose}
+use Rattle.conc_outside.specs.Taken.{Took, TookPrefix}
+use Rattle.conc_run.specs.Whole.{HasLeft, IsFinished, IsUntouched}
+use Rattle.conc_work.specs.Causes.{HasCause, is_journal_fault, is_refusal}
+use Rattle.conc_work.specs.Handed.{Handed}
+use Rattle.conc_work.specs.declared.fail.Stopped.{Stopped}
+use Rattle.conc_work.specs.declared.fail.Stopped.TheVariants as stopped
+use Rattle.conc_top.specs.declared.exit.Exit.{Exit}
+use Rattle.conc_top.specs.declared.exit.Exit.TheVariants as exit
+
+-- what a sink had taken, and its count of faults, before and after
+pub record Sunk : Type 0 where
+  pub taken_before : Option (List ℕ)
+  pub taken_after : Option (List ℕ)
+  pub faults_before : ℕ
+  pub faults_after : ℕ
+
+abbrev pub sunk : Option (List ℕ) → Option (List ℕ) → ℕ → ℕ → Sunk
+sunk taken taken' faults faults' = record {
+  taken_before = taken;
+  taken_after = taken';
+  faults_before = faults;
+  faults_after = faults';
+}
+
+abbrev pub TookNothing : Sunk → Type 0
+TookNothing sink = sink.taken_after ≡ sink.taken_before
+
+-- This is the history of the run. From what was found it goes on as the run without workers does. It is lawful and
+-- finished, running intervals of requests that exclude each other do not overlap, and each end that was added tells what its
+-- report says. The journal has it, as a read and as a stop now would leave it.
+pub record IsHistory (h : Handed) (history : List Event) : Type 0 where
+  pub finished : IsFinished h history
+  pub lawful : Lawful h.plan h.readings history
+  pub complete : Finished h.plan h.readings history
+  pub apart : NoOverlap h.plan history
+  pub reported : AreReported h.plan (length (opening finished.found)) history
+  pub read : IfSome h.journal_after.seen (IsJournal h.digest history)
+  pub left : (found : List Event) × HasLeft h found history history
+
+-- The run did not begin, or ended before its history was finished. Where it was refused nothing was written; and but for a fault of
+-- the journal's disk that disk has the list that was acknowledged.
+pub record IsCutShort (h : Handed) (s : Stopped) : Type 0 where
+  pub cause : HasCause h s
+  pub untouched : IsTrue (is_refusal s) → IsUntouched h
+  pub found : List Event
+  pub kept : List Event
+  pub last : List Event
+  pub left : HasLeft h found kept last
+  pub whole : IsFalse (is_journal_fault s) → last ≡ kept
+
+-- what each exit says of the run and of the output
+abbrev pub RunEnds : Handed → Sunk → Exit → Type 0
+RunEnds h sink exit.Done = (history : List Event) × IsHistory h history × Took sink.taken_before sink.taken_after (text_of h.plan history)
+RunEnds h sink exit.WriteFault =
+    (history : List Event) × IsHistory h history × TookPrefix sink.taken_before sink.taken_after (text_of h.plan history)
+    × Rose sink.faults_before sink.faults_after
+RunEnds h sink exit.NoMemory = IsCutShort h stopped.NoMemory × TookNothing sink
+RunEnds h sink (exit.DiskFault which) = IsCutShort h (stopped.DiskFault which) × TookNothing sink
+RunEnds h sink exit.NotJournal = IsCutShort h stopped.NotJournal × TookNothing sink
+RunEnds h sink (exit.OtherInput found given) = IsCutShort h (stopped.OtherInput found) × (given ≡ h.digest) × TookNothing sink
+RunEnds h sink (exit.JournalFull len needed) = IsCutShort h (stopped.JournalFull len needed) × TookNothing sink
+RunEnds h sink (exit.Unlawful number) = IsCutShort h (stopped.Unlawful number) × TookNothing sink
+RunEnds h sink _ = ⊥
