@@ -2,7 +2,6 @@
 use Rattle.std.specs.Prelude.{◌≡◌, ◌⊎◌, ℕ, List, IfSome}
 use Rattle.conc_types.specs.declared.event.Event.{Event}
 use Rattle.conc_law.specs.Alone.{opening}
-use Rattle.conc_disk.specs.Disk.{Stays}
 use Rattle.conc_disk.specs.Left.{EachImage, LeavesOnly}
 use Rattle.conc_journal.specs.Journals.{stage_of}
 use Rattle.conc_journal.specs.Opens.{events_of}
@@ -22,13 +21,6 @@ pub record IsBegun (h : Handed) (work : Work) : Type 0 where
   pub ready : AreReady h.plan h.readings work h.journal_after h.spool_after
   pub stage : stage_of work.journal ≡ Begun h.digest
   pub told : (from : ℕ) → IfSome h.spool_before.seen (AreTold h.plan from found) → EachImage (AreTold h.plan from found) h.spool_after
-
--- nothing was written
-pub record IsUntouched (h : Handed) : Type 0 where
-  pub journal : Stays h.journal_before h.journal_after
-  pub journal_survives : LeavesOnly h.journal_before.may_leave h.journal_before h.journal_after
-  pub spool : Stays h.spool_before h.spool_after
-  pub spool_survives : LeavesOnly h.spool_before.may_leave h.spool_before h.spool_after
 
 -- A stop at some moment left of the journal what it might have left before, or a journal with the events found, with the
 -- resume or without.

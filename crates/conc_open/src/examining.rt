@@ -8,11 +8,10 @@ ghost use Rattle.conc_machine.specs.Stands.{plan_of, readings_of, Stands};
 ghost use Rattle.conc_restart.specs.Need.{need as need_of};
 ghost use Rattle.conc_spool.specs.Spools.{used_of};
 ghost use Rattle.conc_work.specs.Causes.{HasCause};
-ghost use Rattle.conc_work.specs.Handed.{handed, IsOwnJournal};
+ghost use Rattle.conc_work.specs.Handed.{handed, IsOwnJournal, IsUntouched};
 ghost use Rattle.conc_open.specs.Examined.{IsExamined, IsReady, MayStart};
 ghost use Rattle.conc_open.specs.Extents.{counted};
 ghost use Rattle.conc_open.specs.Hindered.{IsCrowded, IsHindered, IsUnopened};
-ghost use Rattle.conc_open.specs.Opening.{IsUntouched};
 
 use crate::extents::count_bytes;
 use crate::judging::{refuse_short, resume_whole};

@@ -2,8 +2,8 @@ ghost use Rattle.std.specs.Prelude.{IfErr, IfOk, IsFalse};
 ghost use Rattle.conc_disk.specs.Disk.{Stays};
 ghost use Rattle.conc_disk.specs.Left.{LeavesOnly};
 ghost use Rattle.conc_work.specs.Causes.{HasCause, is_journal_fault};
-ghost use Rattle.conc_work.specs.Handed.{handed};
-ghost use Rattle.conc_open.specs.Opening.{HasSurvived, IsBegun, IsUntouched};
+ghost use Rattle.conc_work.specs.Handed.{handed, IsUntouched};
+ghost use Rattle.conc_open.specs.Opening.{HasSurvived, IsBegun};
 
 use crate::examining::{Examined, examine};
 use crate::starting::start;

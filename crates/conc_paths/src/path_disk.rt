@@ -1,4 +1,4 @@
-ghost use Rattle.std.specs.Prelude.{◌≡◌, ◌≤◌, ◌+◌, length, take, is_err, IfOk, IfSome, IsErr, IsSomeAnd, OnErr, OnOk};
+ghost use Rattle.std.specs.Prelude.{◌≡◌, ◌≤◌, ◌+◌, length, take, is_err, None, IfOk, IfSome, IsErr, IsSomeAnd, OnErr, OnOk};
 ghost use Rattle.std.specs.Option.{option_map};
 ghost use Rattle.std.specs.Fn.{FnOnceReturnsAtMut};
 ghost use Rattle.conc_outside.specs.Counts.{Rose};
@@ -31,7 +31,9 @@ where
 {
     /// A disk over the file at this path. It opens nothing and takes no memory.
     pub fn new(rt: &'a R, path: &'a str) -> Self
-        ensures { (⟦<PathDisk<'a, R> as Disk>⟧.state result).faults ≡ 0 }
+        ensures faults { (⟦<PathDisk<'a, R> as Disk>⟧.state result).faults ≡ 0 }
+        ensures path { result.path.now ≡ path.now }
+        ensures closed { result.disk ≡ None }
     {
         PathDisk {
             rt,

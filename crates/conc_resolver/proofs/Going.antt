@@ -26,7 +26,8 @@ use Rattle.conc_work.specs.Survival.{Survives}
 use Rattle.conc_work.specs.Told.{AreTold}
 use Rattle.conc_work.specs.Works.{AreReady, AreTied, list_in, longest_in}
 use Rattle.conc_work.specs.declared.work.Work.{Work}
-use Rattle.conc_resolver.specs.Runs.{disks, WentOn}
+use Rattle.conc_work.specs.Disks.{disks}
+use Rattle.conc_resolver.specs.Runs.{WentOn}
 use Rattle.conc_resolver.specs.Steps.{SurvivesFor, TellsOn}
 use Rattle.conc_resolver.proofs.Extents.{used-more}
 use Rattle.conc_resolver.proofs.Logs.{prefix-self, sound-begun, sound-whole, survives-wider}

@@ -23,7 +23,8 @@ use Rattle.conc_spool.specs.declared.spool.Spool.{Spool}
 use Rattle.conc_work.specs.Lists.{failed_in}
 use Rattle.conc_work.specs.Works.{AreTied, HasRoom, list_in, longest_in}
 use Rattle.conc_work.specs.declared.work.Work.{Work}
-use Rattle.conc_resolver.specs.Runs.{disks, WentOn}
+use Rattle.conc_work.specs.Disks.{disks}
+use Rattle.conc_resolver.specs.Runs.{WentOn}
 use Rattle.conc_resolver.specs.Steps.{any_disk, IsReady, IsTied, left_in, MayLog, next_in, plan_in, readings_in, SurvivesFor, TellsOn}
 use Rattle.conc_resolver.proofs.Coming.{has-room, lawful-past}
 use Rattle.conc_resolver.proofs.Going.{sound-longest, went-none, went-one}

@@ -4,32 +4,18 @@ use Rattle.conc_types.specs.declared.event.Event.{Event}
 use Rattle.conc_types.specs.declared.plan.Plan.{Plan}
 use Rattle.conc_types.specs.declared.script.Reading.{Reading}
 use Rattle.conc_law.specs.Law.{Lawful}
-use Rattle.conc_disk.specs.Disk.{DiskState, SeenFollows}
+use Rattle.conc_disk.specs.Disk.{SeenFollows}
 use Rattle.conc_disk.specs.Left.{EachImage, LeavesOnly}
 use Rattle.conc_journal.specs.Journals.{stage_of}
 use Rattle.conc_journal.specs.Stages.{stage_digest}
 use Rattle.conc_journal.specs.declared.journal.Stage.TheVariants.{Begun}
 use Rattle.conc_spool.specs.Spools.{Agrees, KeepsBelow, used_of}
+use Rattle.conc_work.specs.Disks.{Disks}
 use Rattle.conc_work.specs.Lists.{GoesOn}
 use Rattle.conc_work.specs.Survival.{Survives}
 use Rattle.conc_work.specs.Told.{AreTold}
 use Rattle.conc_work.specs.Works.{AreTied, list_in, longest_in}
 use Rattle.conc_work.specs.declared.work.Work.{Work}
-
--- the two disks of a run, before and after
-pub record Disks : Type 1 where
-  pub journal_before : DiskState
-  pub journal_after : DiskState
-  pub spool_before : DiskState
-  pub spool_after : DiskState
-
-abbrev pub disks : DiskState → DiskState → DiskState → DiskState → Disks
-disks journal journal' spool spool' = record {
-  journal_before = journal;
-  journal_after = journal';
-  spool_before = spool;
-  spool_after = spool';
-}
 
 -- What a run made of its work, however it ended. The list went on as a run without workers goes on, also by the event whose
 -- append met a fault, if one did. The ends that the spool told before it tells still, and those that were added too. At

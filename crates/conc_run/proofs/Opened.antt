@@ -10,20 +10,16 @@ use Rattle.conc_law.specs.Alone.{opening}
 use Rattle.conc_law.specs.Law.{Lawful, Past}
 use Rattle.conc_law.proofs.AloneHistory.{opening-lawful}
 use Rattle.conc_open.specs.Opening.{HasSurvived}
-use Rattle.conc_open.specs.Opening.{IsUntouched as OpensUntouched}
 use Rattle.conc_work.specs.Causes.{is_journal_fault}
-use Rattle.conc_work.specs.Handed.{Handed}
+use Rattle.conc_work.specs.Handed.{Handed, IsUntouched}
 use Rattle.conc_work.specs.Works.{list_in}
 use Rattle.conc_work.specs.declared.fail.Stopped.{Stopped}
 use Rattle.conc_work.specs.declared.work.Work.{Work}
-use Rattle.conc_run.specs.Whole.{HasBetween, HasLeft, IsUntouched, KeepsTexts}
+use Rattle.conc_run.specs.Whole.{HasBetween, HasLeft, KeepsTexts}
 use Rattle.conc_run.proofs.Lists.{opening-adds, prefix-itself, prefix-opening}
 
-pub untouched : (h : Handed) → OpensUntouched h → IsUntouched h
-untouched h is = record { journal = is.journal; journal_survives = is.journal_survives; spool = is.spool; spool_survives = is.spool_survives }
-
 -- nothing was written
-pub left-untouched : (h : Handed) (s : HasSurvived h) → OpensUntouched h → HasLeft h s.found s.found s.found
+pub left-untouched : (h : Handed) (s : HasSurvived h) → IsUntouched h → HasLeft h s.found s.found s.found
 left-untouched h s is = record {
   events = s.events;
   goes_on = inl (prefix-opening s.found);
@@ -52,7 +48,7 @@ left-opening h s to_past stays survives = record {
 }
 
 -- the beginning of a life was stopped
-pub left-stopped : (h : Handed) (e : Stopped) (r : Result Work Stopped) → IsErrAnd r (λ v. v ≡ e) → HasSurvived h → (IsFalse (is_journal_fault e) → OpensUntouched h) → ((list : List Event) → Lawful h.plan h.readings list → Past h.plan list)
+pub left-stopped : (h : Handed) (e : Stopped) (r : Result Work Stopped) → IsErrAnd r (λ v. v ≡ e) → HasSurvived h → (IsFalse (is_journal_fault e) → IsUntouched h) → ((list : List Event) → Lawful h.plan h.readings list → Past h.plan list)
     → Stays h.spool_before h.spool_after → LeavesOnly h.spool_before.may_leave h.spool_before h.spool_after
     → (found : List Event) × (kept : List Event) × (last : List Event) × HasLeft h found kept last × IfOk r (λ work. (kept ≡ list_in work) × (last ≡ kept)) × IfErr r (λ v. IsFalse (is_journal_fault v) → last ≡ kept)
 left-stopped h e (Ok work) is s quiet to_past stays survives = absurd is

@@ -11,7 +11,8 @@ use Rattle.conc_law.specs.Alone.{Alone, opening}
 use Rattle.conc_law.specs.Law.{Finished, Lawful, Past}
 use Rattle.conc_law.specs.Standing.{used}
 use Rattle.conc_open.specs.Opening.{HasSurvived, IsBegun}
-use Rattle.conc_resolver.specs.Runs.{disks, WentOn}
+use Rattle.conc_work.specs.Disks.{disks}
+use Rattle.conc_resolver.specs.Runs.{WentOn}
 use Rattle.conc_spool.specs.Spools.{Agrees, used_of}
 use Rattle.conc_work.specs.Handed.{Handed}
 use Rattle.conc_work.specs.Lists.{GoesOn, IsPrefix}

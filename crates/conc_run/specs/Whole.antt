@@ -4,7 +4,6 @@ use Rattle.conc_types.specs.declared.event.Event.{Event}
 use Rattle.conc_law.specs.Alone.{Alone, opening}
 use Rattle.conc_law.specs.Law.{Past}
 use Rattle.conc_law.specs.Standing.{used}
-use Rattle.conc_disk.specs.Disk.{Stays}
 use Rattle.conc_disk.specs.Left.{EachImage, LeavesOnly}
 use Rattle.conc_image.specs.Image.{IsJournal}
 use Rattle.conc_journal.specs.Opens.{events_of}
@@ -55,10 +54,3 @@ pub record HasLeft (h : Handed) (found kept last : List Event) : Type 0 where
   pub spool_now : EachImage (KeepsNow h found kept) h.spool_after
   pub told : (from : ℕ) → IfSome h.spool_before.seen (AreTold h.plan from found)
       → EachImage (λ image. ((kept ≡ found) × h.spool_before.may_leave image) ⊎ AreTold h.plan from last image) h.spool_after
-
--- nothing was written
-pub record IsUntouched (h : Handed) : Type 0 where
-  pub journal : Stays h.journal_before h.journal_after
-  pub journal_survives : LeavesOnly h.journal_before.may_leave h.journal_before h.journal_after
-  pub spool : Stays h.spool_before h.spool_after
-  pub spool_survives : LeavesOnly h.spool_before.may_leave h.spool_before h.spool_after

@@ -1,9 +1,9 @@
 ghost use Rattle.std.specs.Prelude.{◌≡◌, IfErr, IfOk, IsFalse, IsTrue, List};
 ghost use Rattle.conc_types.specs.declared.event.Event.{Event};
 ghost use Rattle.conc_work.specs.Causes.{HasCause, is_journal_fault, is_refusal};
-ghost use Rattle.conc_work.specs.Handed.{handed};
+ghost use Rattle.conc_work.specs.Handed.{handed, IsUntouched};
 ghost use Rattle.conc_work.specs.Works.{list_in};
-ghost use Rattle.conc_run.specs.Whole.{HasLeft, IsFinished, IsUntouched};
+ghost use Rattle.conc_run.specs.Whole.{HasLeft, IsFinished};
 ghost use Rattle.conc_work.specs.declared.fail.RunFail.TheVariants as run_fail;
 ghost use Rattle.conc_work.specs.declared.fail.Stopped.TheVariants as stopped;
 ghost use Rattle.conc_work.specs.declared.fail.Which.TheVariants as which;

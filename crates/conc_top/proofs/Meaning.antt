@@ -10,7 +10,8 @@ use Rattle.conc_top.specs.declared.exit.Exit.{Exit}
 use Rattle.conc_top.specs.declared.exit.Exit.TheVariants as exit
 use Rattle.conc_top.specs.declared.names.Names.{Names}
 use Rattle.conc_top.specs.Accepting.{IsAccepted, IsNotGiven}
-use Rattle.conc_top.specs.Exits.{Call, Disks, disks, IsPlan, LeftAlone, Means, sunk_in, told_in, WithoutRun, WroteNothing}
+use Rattle.conc_work.specs.Disks.{Disks, disks, AreUntouched}
+use Rattle.conc_top.specs.Exits.{Call, IsPlan, Means, sunk_in, told_in, WithoutRun, WroteNothing}
 use Rattle.conc_top.specs.Given.{Accepts, digest_of}
 use Rattle.conc_top.specs.Printing.{Prints}
 use Rattle.conc_top.specs.Runs.{RunEnds}
@@ -68,8 +69,8 @@ leaves-as (Some bytes) disk is = record {
 }
 
 -- disks that no call touched
-pub left-alone : (journal spool : DiskState) → LeftAlone (disks journal journal spool spool)
-left-alone journal spool = record {
+pub untouched : (journal spool : DiskState) → AreUntouched (disks journal journal spool spool)
+untouched journal spool = record {
   journal = stays-as journal;
   journal_survives = leaves-as journal.seen journal refl;
   spool = stays-as spool;

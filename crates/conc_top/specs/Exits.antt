@@ -5,11 +5,10 @@ use Rattle.conc_types.specs.declared.plan.Plan.{Plan}
 use Rattle.conc_types.specs.declared.refusal.FileKind.{FileKind}
 use Rattle.conc_types.specs.declared.script.Readings.{Readings}
 use Rattle.conc_history.specs.Listing.{listing}
-use Rattle.conc_disk.specs.Disk.{DiskState, Stays}
-use Rattle.conc_disk.specs.Left.{LeavesOnly}
 use Rattle.conc_outside.specs.Counts.{Rose}
 use Rattle.conc_outside.specs.Files.{file_named, Files, Lacks}
 use Rattle.conc_outside.specs.Taken.{Took, TookPrefix}
+use Rattle.conc_work.specs.Disks.{AreUntouched, Disks}
 use Rattle.conc_work.specs.Handed.{handed, Handed}
 use Rattle.conc_top.specs.declared.exit.Exit.{Exit}
 use Rattle.conc_top.specs.declared.exit.Exit.TheVariants as exit
@@ -73,21 +72,6 @@ pub record Call : Type 0 where
   pub faults_before : ℕ
   pub faults_after : ℕ
 
--- and its two disks
-pub record Disks : Type 1 where
-  pub journal_before : DiskState
-  pub journal_after : DiskState
-  pub spool_before : DiskState
-  pub spool_after : DiskState
-
-abbrev pub disks : DiskState → DiskState → DiskState → DiskState → Disks
-disks journal journal' spool spool' = record {
-  journal_before = journal;
-  journal_after = journal';
-  spool_before = spool;
-  spool_after = spool';
-}
-
 abbrev pub told_in : Call → Told
 told_in call = told_by call.before call.after
 
@@ -96,13 +80,6 @@ sunk_in call = sunk call.taken_before call.taken_after call.faults_before call.f
 
 abbrev pub WroteNothing : Call → Type 0
 WroteNothing call = call.taken_after ≡ call.taken_before
-
--- what is read of the disks stays, and a stop leaves nothing that it did not leave before
-pub record LeftAlone (d : Disks) : Type 0 where
-  pub journal : Stays d.journal_before d.journal_after
-  pub journal_survives : LeavesOnly d.journal_before.may_leave d.journal_before d.journal_after
-  pub spool : Stays d.spool_before d.spool_after
-  pub spool_survives : LeavesOnly d.spool_before.may_leave d.spool_before d.spool_after
 
 -- ---- exits of any command
 
@@ -169,4 +146,4 @@ handed_in call d run =
 
 -- what an exit means: a run with accepted files ended so; or no run was asked for or began, and the disks were left alone
 abbrev pub Means : Call → Disks → Exit → Type 0
-Means call d end = ((run : IsRun call) × RunEnds (handed_in call d run) (sunk_in call) end) ⊎ (WithoutRun call end × LeftAlone d)
+Means call d end = ((run : IsRun call) × RunEnds (handed_in call d run) (sunk_in call) end) ⊎ (WithoutRun call end × AreUntouched d)

@@ -9,9 +9,9 @@ use Rattle.conc_law.specs.Text.{text_of}
 use Rattle.conc_image.specs.Image.{IsJournal}
 use Rattle.conc_outside.specs.Counts.{Rose}
 use Rattle.conc_outside.specs.Taken.{Took, TookPrefix}
-use Rattle.conc_run.specs.Whole.{HasLeft, IsFinished, IsUntouched}
+use Rattle.conc_run.specs.Whole.{HasLeft, IsFinished}
 use Rattle.conc_work.specs.Causes.{HasCause, is_journal_fault, is_refusal}
-use Rattle.conc_work.specs.Handed.{Handed}
+use Rattle.conc_work.specs.Handed.{Handed, IsUntouched}
 use Rattle.conc_work.specs.declared.fail.Stopped.{Stopped}
 use Rattle.conc_work.specs.declared.fail.Stopped.TheVariants as stopped
 use Rattle.conc_top.specs.declared.exit.Exit.{Exit}

@@ -1,6 +1,7 @@
 ghost use Rattle.std.specs.Prelude.{IfErr, IfOk, IsFalse, IsTrue, map};
 ghost use Rattle.std.specs.String.{string_bytes};
-ghost use Rattle.conc_top.specs.Exits.{disks, Means, WithoutRun};
+ghost use Rattle.conc_work.specs.Disks.{disks};
+ghost use Rattle.conc_top.specs.Exits.{Means, WithoutRun};
 ghost use Rattle.conc_top.specs.Accepting.{IsGiven, IsNotGiven};
 ghost use Rattle.conc_top.specs.Given.{sources};
 ghost use Rattle.conc_top.specs.Words.{asks_for_a_run as asks_for_a_run_of};

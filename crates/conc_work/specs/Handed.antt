@@ -6,6 +6,7 @@ use Rattle.conc_types.specs.declared.script.Reading.{Reading}
 use Rattle.conc_types.specs.declared.script.Readings.{Readings}
 use Rattle.conc_disk.specs.Disk.{DiskState}
 use Rattle.conc_journal.specs.Opens.{broken_of, events_of, may_open}
+use Rattle.conc_work.specs.Disks.{AreUntouched, disks}
 use Rattle.conc_work.specs.Judging.{AreGood}
 use Rattle.conc_work.specs.Survival.{IsOwn}
 
@@ -29,6 +30,10 @@ handed plan readings digest journal journal' spool spool' = record {
   spool_before = spool;
   spool_after = spool';
 }
+
+-- nothing was written
+abbrev pub IsUntouched : Handed → Type 0
+IsUntouched h = AreUntouched (disks h.journal_before h.journal_after h.spool_before h.spool_after)
 
 -- the image is that of a journal of this input, or of one that is not begun
 pub record IsOwnJournal (digest : List ℕ) (image : List ℕ) : Type 0 where

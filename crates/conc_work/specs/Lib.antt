@@ -2,6 +2,7 @@ pub mod Lists
 pub mod Told
 pub mod Works
 pub mod Survival
+pub mod Disks
 pub mod Handed
 pub mod Judging
 pub mod Causes

@@ -24,7 +24,7 @@ list_in work = list_of work.journal
 abbrev pub longest_in : Work → List Event
 longest_in work = longest_of work.journal
 
--- the list, with an end behind it whose text is in the spool and which is not in the journal yet, if there is one
+-- the list, with an event behind it that is not in the journal yet, if there is one; its text, if it has one, is in the spool
 abbrev pub with_kept : Option Event → List Event → List Event
 with_kept None list = list
 with_kept (Some e) list = list ++ e ∷ []

@@ -27,6 +27,7 @@ static RESUME: [u8; 32] = [
 
 // What a run over disks with these bytes ends with: its status, its output, the line that tells its exit, and
 // what its disks have then.
+#[derive(Drop)]
 struct Ended {
     number: u8,
     text: Vec<u8>,

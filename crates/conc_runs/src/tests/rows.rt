@@ -1,4 +1,5 @@
 use super::{Given, RUN, call, script_of, with_script};
+use conc_top::exit_text;
 use std::test::Fail;
 
 // A run of a setup over a script's records and the one table, and the text that it prints.

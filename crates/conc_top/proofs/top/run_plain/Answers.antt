@@ -1,8 +1,8 @@
 use Rattle.std.proofs.Common.{map, refl, inr, sym}
 use Rattle.std.specs.String.{string_bytes}
-use Rattle.conc_top.specs.Exits.{disks}
+use Rattle.conc_work.specs.Disks.{disks}
 use Rattle.conc_top.specs.Given.{sources, told_by}
-use Rattle.conc_top.proofs.Meaning.{left-alone, not-given-means, run-means}
+use Rattle.conc_top.proofs.Meaning.{untouched, not-given-means, run-means}
 use Rattle.conc_top.proofs.Naming.{run-has-readings}
 use Rattle.conc_top.proofs.top.run_plain.Goals as goal
 
@@ -20,7 +20,7 @@ returns-in-Err g c =
         faults_after = g.O.Sink.faults c.args.out.now;
       })
       c.in-Err.exit c.in-Err.ensures.err refl,
-      left-alone (g.D.Disk.state c.args.journal.now) (g.E.Disk.state c.args.spool.now),
+      untouched (g.D.Disk.state c.args.journal.now) (g.E.Disk.state c.args.spool.now),
     )
 
 pub unreachable-requires : goal.unreachable-requires

@@ -1,0 +1,322 @@
+"""What the runs of examples/survive left, read from the bytes of their files as docs/FORMATS.md tells.
+
+survive.py judge FOLDER OUT            the journal in FOLDER holds the events that a run printed into the file OUT, and
+                                       the spool reaches to the end of their reports
+survive.py stop PROGRAM EXAMPLE ROOM   ends runs of an example at 30 moments, each in a folder of ROOM, and judges what
+                                       they left and what the next run makes of it
+
+It ends with status 1 at the first difference.
+"""
+
+import csv
+import io
+import math
+import shutil
+import struct
+import subprocess
+import sys
+import time
+from collections import namedtuple
+from datetime import datetime, timedelta
+from pathlib import Path
+
+STOPS = 30
+# In seconds: a shorter run is made longer, so that the moments fall within it, and all runs together take no longer.
+LONG_ENOUGH = 0.5
+AT_MOST = 90.0
+MOST_SUBMISSIONS = 1200
+LAST_READING = "2025-04-02T10:00:00\n"
+
+HEADER = 64
+MAGIC = b"conc journal 1\n"
+# gate, kind, outcome, 0, first, second, wide, length, 0
+RECORD = struct.Struct(">BBBBIIQI8s")
+OUTCOMES = ("", "Normal", "Warning", "Error", "Terminated")
+# Each kind of event, and the fields that its record fills.
+KINDS = {
+    1: ("tick", {"wide"}),
+    2: ("do", {"first"}),
+    3: ("open", {"first"}),
+    4: ("stage", {"first", "second"}),
+    5: ("close", {"outcome", "first"}),
+    6: ("let", {"first"}),
+    7: ("start", {"first", "second"}),
+    8: ("end", {"outcome", "first", "wide", "length"}),
+    9: ("resume", set()),
+    10: ("interrupt", {"first"}),
+}
+
+Event = namedtuple("Event", "word outcome first second wide length")
+Kept = namedtuple("Kept", "digest events spool")
+Whole = namedtuple("Whole", "kept text lines places duration")
+
+
+class Difference(Exception):
+    """Something is not as it has to be."""
+
+
+def demand(holds, what):
+    if not holds:
+        raise Difference(what)
+
+
+# ---- the files
+
+
+def event_of(record, number):
+    """The event that the 32 bytes of a record spell."""
+    _, kind, outcome, zero, first, second, wide, length, rest = RECORD.unpack(record)
+    event = Event(KINDS.get(kind, ("", set()))[0], outcome, first, second, wide, length)
+    filled = KINDS.get(kind, ("", set()))[1]
+    unfilled = [field for field in Event._fields[1:] if field not in filled and getattr(event, field)]
+    ends_badly = event.word == "end" and ((outcome == 4) != (length == 0) or (outcome == 4 and wide))
+    outcomes = {"end": range(1, 5), "close": range(1, 4)}.get(event.word, range(1))
+    spelled = event.word and not (unfilled or ends_badly or zero or rest.strip(b"\0")) and outcome in outcomes
+    demand(spelled, f"record {number} of the journal spells no event")
+    return event
+
+
+def read_journal(data):
+    """The digest and the events of a journal; no digest where it is not begun."""
+    if len(data) <= 1 or data[0] == 0:
+        return None, []
+    demand(len(data) > HEADER and data[1:16] == MAGIC and not data[48:HEADER].strip(b"\0"), "the file is no journal")
+    events = []
+    at = HEADER
+    while data[at]:
+        number = len(events) + 1
+        demand(len(data) > at + RECORD.size, f"record {number} of the journal is cut off")
+        events.append(event_of(data[at : at + RECORD.size], number))
+        at += RECORD.size
+    return data[16:48], events
+
+
+def bytes_of(file):
+    """The bytes of a file; none where there is no file."""
+    return file.read_bytes() if file.exists() else b""
+
+
+def read_kept(folder):
+    """What the two files in a folder hold."""
+    return Kept(*read_journal(bytes_of(folder / "conc.journal")), bytes_of(folder / "conc.spool"))
+
+
+def reports_of(kept):
+    """The event of each report and its text, in the order of the events."""
+    reports = []
+    used = 0
+    for event in kept.events:
+        if event.word == "end" and event.length:
+            demand(event.wide == used, f"the report of request {event.first} begins at {event.wide} and not at {used}")
+            used += event.length
+            reports.append((event, kept.spool[event.wide : used]))
+    demand(len(kept.spool) >= used, f"the spool has {len(kept.spool)} bytes of {used}")
+    return reports
+
+
+# ---- the printed history
+
+
+def event_lines(text):
+    """The lines of a printed history up to the line --."""
+    lines = text.split("\n")
+    demand("--" in lines, "the printed history has no line --")
+    return lines[: lines.index("--")]
+
+
+def line_of(event, places):
+    """The line of an event. The journal counts places through all managers, and places tells how each is printed."""
+    outcome = OUTCOMES[event.outcome]
+    if event.word == "tick":
+        return f"tick {(datetime(1, 1, 1) + timedelta(seconds=event.wide)).isoformat()}"
+    if event.word == "stage":
+        return f"stage {event.first} {event.second}"
+    if event.word == "close":
+        return f"close {event.first} {outcome}"
+    if event.word == "start":
+        return f"start {event.first} {places[event.second]}"
+    if event.word == "end":
+        return f"end {event.first} {outcome}" + (f" {event.wide} {event.length}" if event.length else "")
+    return event.word if event.word == "resume" else f"{event.word} {event.first}"
+
+
+def judge_lines(kept, lines, places):
+    """Demands that the journal holds just the events of these lines; places learns how each place is printed."""
+    held = len(kept.events)
+    demand(held == len(lines), f"the journal holds {held} events, and {len(lines)} are printed")
+    for number, (event, line) in enumerate(zip(kept.events, lines), start=1):
+        if event.word == "start":
+            places.setdefault(event.second, line.rpartition(" ")[2])
+        wanted = line_of(event, places)
+        demand(line == wanted, f"line {number} is printed as {line}, and the journal has {wanted}")
+    demand(len(set(places.values())) == len(places), "two places are printed alike")
+
+
+def judge(folder, out):
+    kept = read_kept(folder)
+    judge_lines(kept, event_lines(out.read_text()), {})
+    reports_of(kept)
+
+
+# ---- runs that are ended
+
+
+def words_of(program):
+    return [program, "run", "a.toml", "a.csv", "a.clock", "--threads", "0"]
+
+
+def run(words, folder):
+    """Runs the program to its end, and gives what it prints."""
+    done = subprocess.run(words, cwd=folder, stdin=subprocess.DEVNULL, capture_output=True, timeout=120)
+    first_line = done.stderr.decode(errors="replace").partition("\n")[0]
+    demand(done.returncode == 0, f"{words[1]} ended with status {done.returncode}: {first_line}")
+    return done.stdout.decode()
+
+
+def stop(words, folder, delay):
+    """Starts the program and kills it after this delay. Gives how long it took where it was faster."""
+    began = time.monotonic()
+    nothing = subprocess.DEVNULL
+    program = subprocess.Popen(words, cwd=folder, stdin=nothing, stdout=nothing, stderr=nothing)
+    try:
+        program.wait(delay)
+        return time.monotonic() - began
+    except subprocess.TimeoutExpired:
+        program.kill()
+        program.wait()
+        return math.inf
+
+
+def fresh(example, folder, changed):
+    """A folder with the files of the example, and these texts in the place of some of them."""
+    folder.mkdir()
+    for file in example.iterdir():
+        if file.suffix in (".toml", ".clock", ".csv"):
+            shutil.copy(file, folder)
+    for name, text in changed.items():
+        (folder / name).write_bytes(text.encode())
+    return folder
+
+
+def longer(example, count):
+    """So many submissions more at the end of the script, each as an earlier one, and a last reading for them."""
+    header, *commands = csv.reader((example / "a.csv").read_text().splitlines())
+    submits = [command for command in commands if command[1] == "submit"]
+    added = (submits[number % len(submits)] for number in range(count))
+    script = io.StringIO(newline="")
+    writer = csv.writer(script, lineterminator="\n")
+    writer.writerows([header, *commands])
+    writer.writerows([commands[-1][0], *submit[1:5], "", *submit[6:]] for submit in added)
+    return {"a.csv": script.getvalue(), "a.clock": (example / "a.clock").read_text() + LAST_READING}
+
+
+def run_whole(program, folder):
+    """Runs the example in a fresh folder to its end, without a stop."""
+    began = time.monotonic()
+    text = run(words_of(program), folder)
+    duration = time.monotonic() - began
+    kept, lines, places = read_kept(folder), event_lines(text), {}
+    judge_lines(kept, lines, places)
+    return Whole(kept, text, lines, places, duration)
+
+
+def made_by(program, folder):
+    """What makes the report of each request: its program and its argument, which a member has of its set."""
+    with open(folder / "a.csv", newline="") as script:
+        arguments = iter([command[7] for command in csv.reader(script) if command[1] == "submit"])
+    makers = {}
+    for line in run([program, "plan", "a.toml", "a.csv"], folder).splitlines():
+        request = line.split("\t")
+        if request[3] == "0":
+            argument = next(arguments)
+        makers[int(request[0])] = (request[7], argument)
+    return makers
+
+
+def judge_reports(kept, makers, known):
+    """Demands that reports with the same maker are the same; known holds each that was seen, with its outcome."""
+    for event, text in reports_of(kept):
+        made = (OUTCOMES[event.outcome], text)
+        earlier = known.setdefault(makers[event.first], made)
+        demand(earlier == made, f"the report of request {event.first} is another one")
+
+
+def running_in(events):
+    """The requests that were running after these events."""
+    running = set()
+    for event in events:
+        if event.word == "start":
+            running.add(event.first)
+        elif event.word == "end":
+            running.discard(event.first)
+    return sorted(running)
+
+
+def judge_left(left, whole):
+    """Demands that a run which was ended left the first events of the whole run, and their reports."""
+    demand(left.digest in (None, whole.kept.digest), "the digest is another one")
+    demand(left.events == whole.kept.events[: len(left.events)], "the events are not those of the whole run")
+    used = sum(len(text) for _, text in reports_of(left))
+    demand(left.spool[:used] == whole.kept.spool[:used], "the spool has not the reports of the events")
+
+
+def judge_next(left, kept, text, whole):
+    """Demands that the next run went on from what was left."""
+    lines, count = event_lines(text), len(left.events)
+    judge_lines(kept, lines, whole.places)
+    if count == 0:
+        demand(text == whole.text, "the next run did not begin anew")
+        return
+    demand(lines[:count] == whole.lines[:count], "the history does not begin with the events that were left")
+    begin = ["resume", *(f"interrupt {request}" for request in running_in(left.events))]
+    demand(lines[count : count + len(begin)] == begin, f"behind event {count} does not stand {', '.join(begin)}")
+    demand(lines.count("resume") == 1, "there is more than one resume")
+
+
+def stop_and_go_on(program, folder, delay, whole):
+    """Ends a run after this delay, and runs again. Gives what was left, what is kept then, and the run's own end."""
+    took = stop(words_of(program), folder, delay)
+    left = read_kept(folder)
+    judge_left(left, whole)
+    text = run(words_of(program), folder)
+    kept = read_kept(folder)
+    judge_next(left, kept, text, whole)
+    return left, kept, took
+
+
+def stop_all(program, example, room):
+    changed = {}
+    whole = run_whole(program, fresh(example, room / "short", changed))
+    demand(whole.text == (example / "expected.txt").read_text(), "the history is not as in expected.txt")
+    if whole.duration < LONG_ENOUGH:
+        changed = longer(example, min(MOST_SUBMISSIONS, int(60 * LONG_ENOUGH / whole.duration)))
+        whole = run_whole(program, fresh(example, room / "long", changed))
+    makers, known = made_by(program, fresh(example, room / "plan", changed)), {}
+    judge_reports(whole.kept, makers, known)
+    stops = max(1, min(STOPS, int(AT_MOST / whole.duration)))
+    duration, counts = whole.duration, [0, 0, 0]
+    for number in range(stops):
+        folder = fresh(example, room / str(number), changed)
+        left, kept, took = stop_and_go_on(program, folder, duration * (number + 0.5) / stops, whole)
+        judge_reports(kept, makers, known)
+        duration = min(duration, took)
+        counts[(len(left.events) > 0) + (len(left.events) == len(whole.lines))] += 1
+        shutil.rmtree(folder)
+    demand(counts[1] > 0, f"none of the {stops} stops fell between the first event and the last")
+    moments = f"{stops} moments of {whole.duration:.2f} s and {len(whole.lines)} events"
+    fell = f"{counts[0]} before the first event, {counts[1]} between, {counts[2]} behind the last"
+    print(f"month_end, ended at {moments}: {fell}; each next run goes on from what was left")
+
+
+def main(words):
+    try:
+        if words[0] == "judge":
+            judge(Path(words[1]), Path(words[2]))
+        else:
+            stop_all(words[1], Path(words[2]), Path(words[3]))
+    except (Difference, OSError, subprocess.TimeoutExpired) as difference:
+        sys.exit(f"survive: {difference}")
+
+
+if __name__ == "__main__":
+    main(sys.argv[1:])
