@@ -165,11 +165,7 @@ pub(crate) fn script_of(alloc: Global, records: &str) -> Result<String, Fail> {
 
 // A disk in memory with these bytes, whose call with this number fails.
 pub(crate) fn disk_of(alloc: Global, bytes: &[u8], fails: Option<u64>) -> Result<MemDisk, Fail> {
-    Ok(MemDisk::new(
-        alloc,
-        bytes.to_vec(alloc)?,
-        listed(alloc, fails)?,
-    ))
+    Ok(MemDisk::new(alloc, bytes.to_vec(alloc)?, listed(alloc, fails)?))
 }
 
 // What a read of a disk gives.

@@ -49,7 +49,7 @@ accepted told before names a inputs has named tables same files read digest setu
     let at : named ≡ has.files.before.before.setup.tables = same ∙ ap (λ (s : Setup). s.tables) has.setup in
     let there : P told.files has.files.before.before.setup.tables a.plan.tables
     = subst (λ all. P all has.files.before.before.setup.tables a.plan.tables) files
-      (subst (λ l. P before l a.plan.tables) at (subst (λ t. P before named t) (sym these) (read, digest))) in
+    (subst (λ l. P before l a.plan.tables) at (subst (λ t. P before named t) (sym these) (read, digest))) in
     record {
       accepts = record {
         files = record { before = has.files; given = there.0 };

@@ -87,6 +87,6 @@ run-means call d names a readings end named known accepted ends =
     inl (
       record { names = names; words = named; plan = a.plan; readings = readings; accepted = at.0 },
       subst
-      (λ digest. RunEnds (handed a.plan readings digest d.journal_before d.journal_after d.spool_before d.spool_after) (sunk_in call) end)
-      at.1 ends,
+          (λ digest. RunEnds (handed a.plan readings digest d.journal_before d.journal_after d.spool_before d.spool_after) (sunk_in call) end)
+          at.1 ends,
     )

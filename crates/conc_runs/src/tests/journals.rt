@@ -8,17 +8,19 @@ use std::thread::Threads;
 
 const REPORT: &str = "key,count,sum\na,2,15\nb,1,20\ntotal,3,35\n";
 
-const TWICE: &str = "at,do,what,user,priority,start,domain,argument\n2025-03-03T09:00:00,submit,P,ann,,,,\n2025-03-03T09:00:00,submit,P,ann,,,,\n";
+const TWICE: &str =
+    "at,do,what,user,priority,start,domain,argument\n2025-03-03T09:00:00,submit,P,ann,,,,\n2025-03-03T09:00:00,submit,P,ann,,,,\n";
 
 const ONCE: &str =
     "at,do,what,user,priority,start,domain,argument\n2025-03-03T09:00:00,submit,P,ann,,,,\n";
 
-const BOTH_ENDED: &str = "tick 2025-03-03T09:00:00\ndo 1\ndo 2\nlet 1\nstart 1 1.1\nend 1 Normal 0 39\nlet 2\nstart 2 1.1\nend 2 Normal 39 39\n";
+const BOTH_ENDED: &str =
+    "tick 2025-03-03T09:00:00\ndo 1\ndo 2\nlet 1\nstart 1 1.1\nend 1 Normal 0 39\nlet 2\nstart 2 1.1\nend 2 Normal 39 39\n";
 
 // The record of a tick at 2025-03-03T09:00:00, and that of a resume.
 static TICK: [u8; 32] = [
-    1, 1, 0, 0, 0, 0, 0, 0, 0, 0, 0, 0, 0, 0, 0, 0x0e, 0xdf, 0x57, 0x66, 0x90, 0, 0, 0, 0, 0, 0, 0, 0,
-    0, 0, 0, 0,
+    1, 1, 0, 0, 0, 0, 0, 0, 0, 0, 0, 0, 0, 0, 0, 0x0e, 0xdf, 0x57, 0x66, 0x90, 0, 0, 0, 0, 0, 0, 0,
+    0, 0, 0, 0, 0,
 ];
 
 static RESUME: [u8; 32] = [
@@ -84,16 +86,25 @@ fn a_run_keeps_its_journal_and_its_texts(rt: HostRuntime) -> Result<(), Fail> {
     let ended = run_over(&rt, alloc, with_script(TWICE), &[], &[])?;
     let table = "1 Completed Normal P\n2 Completed Normal P\n";
     assert_eq!(rt; ended.number, 0);
-    assert_eq!(rt; ended.text.as_slice(), text_of(alloc, BOTH_ENDED, "", table)?.as_bytes());
+    assert_eq!(rt;
+        ended.text.as_slice(),
+        text_of(alloc, BOTH_ENDED, "", table)?.as_bytes()
+    );
     assert_eq!(rt; ended.journal.len(), 64 + 9 * 32 + 1);
     assert_eq!(rt; ended.journal.get(64..96), Some(TICK.as_slice()));
-    assert_eq!(rt; ended.spool.as_slice(), format!(in alloc; "{REPORT}{REPORT}")?.as_bytes());
+    assert_eq!(rt;
+        ended.spool.as_slice(),
+        format!(in alloc; "{REPORT}{REPORT}")?.as_bytes()
+    );
 
     // The next run begins a life and has nothing to do in it.
     let more = "resume\ntick 2025-03-03T09:00:00\n";
     let again = run_over(&rt, alloc, with_script(TWICE), &ended.journal, &ended.spool)?;
     assert_eq!(rt; again.number, 0);
-    assert_eq!(rt; again.text.as_slice(), text_of(alloc, BOTH_ENDED, more, table)?.as_bytes());
+    assert_eq!(rt;
+        again.text.as_slice(),
+        text_of(alloc, BOTH_ENDED, more, table)?.as_bytes()
+    );
     assert_eq!(rt; again.journal.len(), 64 + 11 * 32 + 1);
     assert_eq!(rt; again.spool.as_slice(), ended.spool.as_slice());
     Ok(())
@@ -129,7 +140,10 @@ fn what_ran_at_a_stop_is_interrupted_by_the_next_run(rt: HostRuntime) -> Result<
         let ended = run_over(&rt, alloc, given, &left, &whole.spool)?;
         let found = "tick 2025-03-03T09:00:00\ndo 1\nlet 1\nstart 1 1.1\n";
         assert_eq!(rt; ended.number, 0, "{setup}");
-        assert_eq!(rt; ended.text.as_slice(), text_of(alloc, found, more, table)?.as_bytes());
+        assert_eq!(rt;
+            ended.text.as_slice(),
+            text_of(alloc, found, more, table)?.as_bytes()
+        );
         assert_eq!(rt; ended.spool.as_slice(), REPORT.as_bytes());
     }
     Ok(())
@@ -142,11 +156,15 @@ fn a_record_whose_gate_is_closed_is_not_there(rt: HostRuntime) -> Result<(), Fai
     let mut closed = with_byte(alloc, &whole.journal, 64 + 8 * 32, 0)?;
     closed.extend_from_slice(b"any bytes")?;
     let ended = run_over(&rt, alloc, with_script(TWICE), &closed, &whole.spool)?;
-    let found = "tick 2025-03-03T09:00:00\ndo 1\ndo 2\nlet 1\nstart 1 1.1\nend 1 Normal 0 39\nlet 2\nstart 2 1.1\n";
+    let found =
+        "tick 2025-03-03T09:00:00\ndo 1\ndo 2\nlet 1\nstart 1 1.1\nend 1 Normal 0 39\nlet 2\nstart 2 1.1\n";
     let more = "resume\ninterrupt 2\ntick 2025-03-03T09:00:00\n";
     let table = "1 Completed Normal P\n2 Completed Error P\n";
     assert_eq!(rt; ended.number, 0);
-    assert_eq!(rt; ended.text.as_slice(), text_of(alloc, found, more, table)?.as_bytes());
+    assert_eq!(rt;
+        ended.text.as_slice(),
+        text_of(alloc, found, more, table)?.as_bytes()
+    );
     Ok(())
 }
 
@@ -203,7 +221,8 @@ fn a_journal_that_is_not_this_runs_is_refused(rt: HostRuntime) -> Result<(), Fai
 }
 
 // The digests of the files of `TWICE`, and of those with the comment, by another program.
-const OTHER_INPUT: &str = "other input: e1ffbcbffe04d826f9ac2c566deaffa81e94a86e20f0fdb68277a2f5781859ad bf827e172a9c4bb7781c5a7e6f7af23aa35d22469aef24e361812108178b8799\n";
+const OTHER_INPUT: &str =
+    "other input: e1ffbcbffe04d826f9ac2c566deaffa81e94a86e20f0fdb68277a2f5781859ad bf827e172a9c4bb7781c5a7e6f7af23aa35d22469aef24e361812108178b8799\n";
 
 #[test]
 fn a_journal_without_room_for_a_life_is_refused(rt: HostRuntime) -> Result<(), Fail> {
@@ -224,8 +243,19 @@ fn a_journal_without_room_for_a_life_is_refused(rt: HostRuntime) -> Result<(), F
     let mut journal = disk_of(alloc, &full, None)?;
     let mut spool = disk_of(alloc, &[], None)?;
     let (exit, out) = call_on(&rt, alloc, RUN, given, &mut journal, &mut spool)?;
-    assert!(rt; matches!(exit, Exit::JournalFull { len: 1_048_570, need: 13 }));
-    assert_eq!(rt; exit_text(alloc, &exit)?.as_slice(), b"journal full: 1048570 13\n".as_slice());
+    assert!(rt;
+        matches!(
+            exit,
+            Exit::JournalFull {
+                len: 1_048_570,
+                need: 13
+            }
+        )
+    );
+    assert_eq!(rt;
+        exit_text(alloc, &exit)?.as_slice(),
+        b"journal full: 1048570 13\n".as_slice()
+    );
     assert_eq!(rt; out.bytes(), b"".as_slice());
     Ok(())
 }
@@ -239,10 +269,27 @@ fn after_a_fault_of_a_disk_the_next_run_goes_on(rt: HostRuntime) -> Result<(), F
     for call in 0..CALLS {
         let mut journal = disk_of(alloc, &[], Some(call))?;
         let mut spool = disk_of(alloc, &[], None)?;
-        let (exit, out) = call_on(&rt, alloc, RUN, with_script(TWICE), &mut journal, &mut spool)?;
-        assert_eq!(rt; exit_text(alloc, &exit)?.as_slice(), b"disk fault: journal\n".as_slice());
+        let (exit, out) = call_on(
+            &rt,
+            alloc,
+            RUN,
+            with_script(TWICE),
+            &mut journal,
+            &mut spool,
+        )?;
+        assert_eq!(rt;
+            exit_text(alloc, &exit)?.as_slice(),
+            b"disk fault: journal\n".as_slice()
+        );
         assert_eq!(rt; out.bytes(), b"".as_slice());
-        let (exit, _) = call_on(&rt, alloc, RUN, with_script(TWICE), &mut journal, &mut spool)?;
+        let (exit, _) = call_on(
+            &rt,
+            alloc,
+            RUN,
+            with_script(TWICE),
+            &mut journal,
+            &mut spool,
+        )?;
         assert_eq!(rt; exit.number(), 0, "after call {call}");
     }
     Ok(())

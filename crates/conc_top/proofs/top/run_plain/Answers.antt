@@ -1,4 +1,4 @@
-use Rattle.std.proofs.Common.{map, refl, inr, sym}
+use Rattle.std.proofs.Common.{map, refl, inr}
 use Rattle.std.specs.String.{string_bytes}
 use Rattle.conc_work.specs.Disks.{disks}
 use Rattle.conc_top.specs.Given.{sources, told_by}
@@ -10,16 +10,16 @@ pub returns-in-Err : goal.returns-in-Err
 returns-in-Err g c =
     inr (
       not-given-means
-      (record {
-        words = map string_bytes c.args.words.now;
-        before = sources (g.F.Shelf.state c.args.shelf.now) (g.C.Clock.state c.args.clock.now);
-        after = sources (g.F.Shelf.state c.judge.new.shelf) (g.C.Clock.state c.judge.new.clock);
-        taken_before = g.O.Sink.taken c.args.out.now;
-        taken_after = g.O.Sink.taken c.args.out.now;
-        faults_before = g.O.Sink.faults c.args.out.now;
-        faults_after = g.O.Sink.faults c.args.out.now;
-      })
-      c.in-Err.exit c.in-Err.ensures.err refl,
+          (record {
+            words = map string_bytes c.args.words.now;
+            before = sources (g.F.Shelf.state c.args.shelf.now) (g.C.Clock.state c.args.clock.now);
+            after = sources (g.F.Shelf.state c.judge.new.shelf) (g.C.Clock.state c.judge.new.clock);
+            taken_before = g.O.Sink.taken c.args.out.now;
+            taken_after = g.O.Sink.taken c.args.out.now;
+            faults_before = g.O.Sink.faults c.args.out.now;
+            faults_after = g.O.Sink.faults c.args.out.now;
+          })
+          c.in-Err.exit c.in-Err.ensures.err refl,
       untouched (g.D.Disk.state c.args.journal.now) (g.E.Disk.state c.args.spool.now),
     )
 
