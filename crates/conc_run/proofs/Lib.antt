@@ -4,3 +4,4 @@ pub mod Texts
 pub mod Opened
 pub mod Ran
 pub mod Stops
+pub mod Next

@@ -1,7 +1,9 @@
 //! A whole run over a journal and a spool: what stands there is opened and judged, and the run goes on from
-//! it to the end of the history.
+//! it to the end of the history. The functions of `laws` have empty bodies; their contracts are laws.
 #![tactic(auto)]
 
+mod laws;
 mod whole;
 
+pub use laws::{what_a_stop_leaves_is_good, what_is_good_is_not_refused};
 pub use whole::run_plan;
