@@ -8,4 +8,5 @@ mod text;
 mod words;
 
 pub use listing::put_plan;
+pub use table::put_status_table;
 pub use text::put_history;

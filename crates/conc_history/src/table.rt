@@ -1,10 +1,12 @@
-ghost use Rattle.std.specs.Prelude.{◌≡◌, ◌++◌, ◌∷◌, [], OnOk};
-ghost use Rattle.conc_law.specs.Text.{id_word, phase_word, spaced, status_word};
+ghost use Rattle.std.specs.Prelude.{◌≡◌, ◌++◌, ◌∷◌, [], IfOk, OnOk, reverse};
+ghost use Rattle.conc_law.specs.Text.{id_word, phase_word, spaced, status_word, table_text};
 ghost use Rattle.conc_history.specs.Table.{line_at, line_with, table_at};
 
 use crate::words::{item_name, phase_bytes, put_bytes, status_bytes};
 use conc_decide::status;
-use conc_types::{NoMemory, Phase, Plan, Req, RequestId, Standing, Status, put_decimal};
+use conc_replay::standing_after;
+use conc_types::{Event, NoMemory, Phase, Plan, Req, RequestId, Standing, Status, put_decimal};
+use std::alloc::Global;
 
 // The line of a request as far as the status.
 fn put_status(out: &mut Vec<u8>, r: RequestId, phase: Phase, status: Status) -> Result<(), NoMemory>
@@ -57,4 +59,16 @@ pub(crate) fn put_table(out: &mut Vec<u8>, plan: &Plan, standing: &Standing) -> 
         put_request_line(out, plan, standing, r)?;
     }
     Ok(())
+}
+
+/// The table of the requests as they stand after the events: a line for each submitted request with
+/// its number, phase, status and name. It is the part behind the line `--` of the text of the history.
+#[tactic(auto, unfolding(conc_law::specs::Text::table_text, conc_law::specs::Text::request_line, crate::specs::Table::table_at, crate::specs::Table::line_at))]
+pub fn put_status_table(alloc: Global, plan: &Plan, events: &[Event]) -> Result<Vec<u8>, NoMemory>
+    ensures { IfOk result (λ text. text.items ≡ table_text plan.now (reverse events.now)) }
+{
+    let standing = standing_after(alloc, plan, events)?;
+    let mut text = Vec::new(alloc);
+    put_table(&mut text, plan, &standing)?;
+    Ok(text)
 }

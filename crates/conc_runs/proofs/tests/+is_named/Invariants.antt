@@ -1,5 +1,5 @@
 use Rattle.std.proofs.Common.{length}
-use Rattle.conc_top.proofs.tests.+is_named.Given as goal
+use Rattle.conc_runs.proofs.tests.+is_named.Given as goal
 
 abbrev pub decreases-is_named : goal.decreases-is_named
 decreases-is_named l = length l.files.now
