@@ -1,5 +1,5 @@
 -- What is on a journal's disk while a life is begun there.
-use Rattle.std.proofs.Common.{◌≡◌, ◌==◌, inl, inr, ℕ, ◌<◌, true, false, List, [], ◌∷◌, ◌++◌, length, refl, sym, ◌∙◌, ap, subst, arith}
+use Rattle.std.proofs.Common.{Result, Ok, Err, OnOk, OnErr, ◌≡◌, ◌==◌, inl, inr, ℕ, ◌<◌, true, false, List, [], ◌∷◌, ◌++◌, length, refl, sym, ◌∙◌, ap, subst, arith}
 use Rattle.conc_types.specs.declared.event.Event.{Event}
 use Rattle.conc_types.specs.declared.event.Event.TheVariants as event
 use Rattle.conc_disk.specs.Disk.{DiskState}
@@ -10,11 +10,11 @@ use Rattle.conc_journal.specs.Stages.{after_fault, has_faulted, takes_events}
 use Rattle.conc_journal.specs.declared.fault.AppendFail.{AppendFail}
 use Rattle.conc_journal.specs.declared.fault.AppendFail.TheVariants as append_fail
 use Rattle.conc_journal.specs.declared.journal.Stage.{Stage}
-use Rattle.conc_journal.specs.declared.journal.Stage.TheVariants.{AppendFailed, Begun}
+use Rattle.conc_journal.specs.declared.journal.Stage.TheVariants.{AppendFailed, Begun, BeginFailed}
 use Rattle.conc_law.specs.Alone.{opening}
 use Rattle.conc_work.specs.Survival.{Survives}
 use Rattle.conc_open.specs.Examined.{MayStart}
-use Rattle.conc_open.proofs.Surviving.{each-wider, journal-survives, left-wider, opening-prefix, same-prefix}
+use Rattle.conc_open.proofs.Surviving.{each-wider, journal-survives, left-wider, opening-prefix, same-prefix, unbegun-survives}
 
 -- ---- the stage
 
@@ -23,6 +23,11 @@ is-begun digest stage (inl none) h = let no : false ≡ true = sym (ap takes_eve
 is-begun digest stage (inr begun) h = begun
 
 -- ---- images
+
+-- while the header is written
+pub header-survives : (digest image : List ℕ) → FitsStage (BeginFailed digest) [] image → Survives digest [] [] image
+header-survives digest image (inl none) = unbegun-survives digest image none
+header-survives digest image (inr journal) = journal-survives digest [] [] [] image (same-prefix []) (same-prefix []) journal
 
 -- of a journal with no event or with some
 pub begun-survives : (digest : List ℕ) (list : List Event) (image : List ℕ) → IsJournal digest list image → Survives digest list (opening list) image
@@ -39,6 +44,23 @@ resume-survives digest list image is (inr journal) = opened-survives digest list
 pub opening-more : (list : List Event) → 0 < length list → opening list ≡ list ++ event.Resume ∷ []
 opening-more [] some = absurd (omega arith)
 opening-more (e ∷ es) some = refl
+
+-- ---- the header that is written
+
+pub header-left : (digest : List ℕ) (list : List Event) (old new : DiskState) → list ≡ [] → LeavesOnly (FitsStage (BeginFailed digest) []) old new → LeavesOnly (Survives digest list (opening list)) old new
+header-left digest list old new none left =
+    subst (λ (l : List Event). LeavesOnly (Survives digest l (opening l)) old new) (sym none)
+    (left-wider (FitsStage (BeginFailed digest) []) (Survives digest [] []) old new (λ c fits. header-survives digest c fits) left)
+
+pub header-now : {E : Type 0} (r : Result (Unit {0}) E) (digest : List ℕ) (list list' : List Event) (stage : Stage) (disk : DiskState) → OnOk r (stage ≡ Begun digest) → OnErr r (stage ≡ BeginFailed digest) → list' ≡ list → list' ≡ []
+    → EachImage (FitsStage stage list') disk → EachImage (Survives digest list (opening list)) disk
+header-now r digest list list' stage disk begun failed same none on =
+    subst (λ (l : List Event). EachImage (Survives digest l (opening l)) disk) (sym none ∙ same)
+    (each-wider (FitsStage stage []) (Survives digest [] []) disk (survives r begun failed) (subst (λ (l : List Event). EachImage (FitsStage stage l) disk) none on))
+  where
+    survives : {E : Type 0} (r : Result (Unit {0}) E) → OnOk r (stage ≡ Begun digest) → OnErr r (stage ≡ BeginFailed digest) → (c : List ℕ) → FitsStage stage [] c → Survives digest [] [] c
+    survives (Ok x) is other c fits = begun-survives digest [] c (subst (λ (s : Stage). FitsStage s [] c) is fits)
+    survives (Err e) other is c fits = header-survives digest c (subst (λ (s : Stage). FitsStage s [] c) is fits)
 
 -- ---- the resume that is added
 

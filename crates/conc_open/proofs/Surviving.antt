@@ -1,12 +1,12 @@
 -- What a stop may leave while a life begins.
-use Rattle.std.proofs.Common.{◌≡◌, ◌⊎◌, inl, inr, ℕ, Bool, ◌||◌, if◌then◌else◌, List, [], ◌∷◌, Option, None, Some, IfSome, refl, sym, ◌∙◌, ap, subst, append-nil}
+use Rattle.std.proofs.Common.{IsTrue, ◌≡◌, ◌⊎◌, inl, inr, ℕ, Bool, ◌||◌, if◌then◌else◌, List, [], ◌∷◌, Option, None, Some, IfSome, refl, sym, ◌∙◌, ap, subst, append-nil}
 use Rattle.std.proofs.lemmas.Option.{IfSome_then}
 use Rattle.conc_types.specs.declared.event.Event.{Event}
 use Rattle.conc_types.specs.declared.event.Event.TheVariants as event
 use Rattle.conc_disk.specs.Disk.{DiskState, Stays}
 use Rattle.conc_disk.specs.Left.{EachImage, LeavesOnly}
 use Rattle.conc_disk.proofs.Leaving.{if_some-any, leaves-twice, leaves-wider}
-use Rattle.conc_image.specs.Image.{digest_in, Found, found_in, has_header, IsJournal}
+use Rattle.conc_image.specs.Image.{digest_in, Found, found_in, has_header, IsJournal, is_not_begun}
 use Rattle.conc_image.proofs.Beginning.{header-begun}
 use Rattle.conc_journal.specs.Opens.{events_of}
 use Rattle.conc_law.specs.Alone.{opening}
@@ -16,6 +16,16 @@ use Rattle.conc_work.specs.Survival.{Survives}
 use Rattle.conc_open.specs.Opening.{HasSurvived}
 
 -- ---- images
+
+-- where no journal was begun
+pub unbegun-survives : (digest image : List ℕ) → IsTrue (is_not_begun image) → Survives digest [] [] image
+unbegun-survives digest image none = record {
+  opens = ap (λ (b : Bool). b || has_header image) none;
+  own = inl (ap (λ (b : Bool). if b then None else Some (digest_in image)) none);
+  whole = ap (λ (b : Bool). if b then None else (found_in image).broken) none;
+  begins = (events_of image, refl);
+  within = ([], sym (append-nil (events_of image) ∙ ap (λ (b : Bool). if b then [] else (found_in image).events) none));
+}
 
 -- a journal
 pub journal-survives : (digest : List ℕ) (first list last : List Event) (image : List ℕ) → IsPrefix first list → IsPrefix list last → IsJournal digest list image → Survives digest first last image

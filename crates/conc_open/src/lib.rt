@@ -6,5 +6,7 @@ mod extents;
 mod judging;
 mod opening;
 mod starting;
+#[cfg(test)]
+mod tests;
 
 pub use opening::open;

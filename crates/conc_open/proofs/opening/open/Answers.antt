@@ -18,3 +18,8 @@ pub returns-clause-survives : goal.returns-clause-survives
 returns-clause-survives g c =
     let h = handed c.args.plan.now c.args.readings.now c.args.digest.now (g.D.Disk.state c.args.journal.now) (g.D.Disk.state c.start.new.disk) (g.E.Disk.state c.args.spool.now) (g.E.Disk.state c.examine.new.spool) in
     begun-survives h c.in_ok-machine.field-0.journal.events.items (g.D.Disk.state c.examine.new.journal) c.in_ok-machine.ensures.examined.found.events c.examine.ensures.untouched.journal_survives c.start.ensures.survives c.start.ensures.now
+
+pub returns-in-Ok-clause-survives : goal.returns-in-Ok-clause-survives
+returns-in-Ok-clause-survives g c =
+    let h = handed c.args.plan.now c.args.readings.now c.args.digest.now (g.D.Disk.state c.args.journal.now) (g.D.Disk.state c.start.new.disk) (g.E.Disk.state c.args.spool.now) (g.E.Disk.state c.examine.new.spool) in
+    begun-survives h c.in_ok-machine.field-0.journal.events.items (g.D.Disk.state c.examine.new.journal) c.in_ok-machine.ensures.examined.found.events c.examine.ensures.untouched.journal_survives c.start.ensures.survives c.start.ensures.now
