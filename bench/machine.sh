@@ -2,8 +2,9 @@
 # bench/machine.sh FOLDER.. [-- PEER]
 # For each FOLDER with the files a.toml, a.csv, a.clock and the tables that a.toml names: the time of a run
 # without workers in memory, as LLVM builds it, outside the gate, reading of files and making of the plan
-# apart. A program that calls the readers, make_plan and run_alone is written into a copy of the repository,
-# proved and built there; it makes the run REPEATS times (20 if REPEATS is not set), and the time of REPEATS
+# apart, and without journal and spool. A program that calls the readers and make_plan, and goes from event to
+# event by the machine and next_event, is written into a copy of the repository, proved and built there; it
+# makes the run REPEATS times (20 if REPEATS is not set), and the time of REPEATS
 # runs less that of none, divided by REPEATS, is the time of one. It prints the median of five such
 # figures in milliseconds, the greatest memory in KB, and the number of events.
 # PEER is a program of the reader's own: called as PEER FOLDER, it prints the milliseconds of its loop as the
@@ -21,17 +22,18 @@ binary=$work/copy/crates/bench_machine/out/bench_machine
 if [ ! -x "$binary" ]; then
   mkdir -p "$work/copy/crates/bench_machine/src"
   cp -r "$here/crates" "$here/crates.txt" "$here/HANDLES" "$work/copy/" 2>/dev/null || true
-  echo 'bench_machine: conc_outside conc_plan conc_resolver conc_script conc_setup conc_tables conc_types' >> "$work/copy/crates.txt"
+  echo 'bench_machine: conc_choice conc_machine conc_outside conc_plan conc_script conc_setup conc_tables conc_types' >> "$work/copy/crates.txt"
   cat > "$work/copy/crates/bench_machine/src/main.rt" <<'R'
 //! Runs a plan without workers, in memory, so many times: REPEATS, in the folder with its files.
 #![tactic(auto)]
 
+use conc_choice::next_event;
+use conc_machine::Machine;
 use conc_plan::make_plan;
-use conc_resolver::run_alone;
 use conc_script::{read_clock, read_script};
 use conc_setup::read_setup;
 use conc_tables::read_table;
-use conc_types::{Plan, Readings, Seq, Setup, Table};
+use conc_types::{Event, Plan, Readings, Seq, Setup, Table};
 use std::alloc::Global;
 use std::env;
 use std::fs;
@@ -72,10 +74,24 @@ fn inputs(rt: &HostRuntime) -> Option<(Plan, Readings)> {
     Some((plan, readings))
 }
 
+fn history(alloc: Global, plan: &Plan, readings: &Readings) -> Option<Vec<Event>> {
+    let mut events = Vec::new(alloc);
+    let mut machine = Machine::new(alloc, plan).ok()?;
+    machine.take_readings(alloc, readings).ok()?;
+    for _ in 0..u32::MAX {
+        let Some(next) = next_event(alloc, plan, &machine).ok()? else {
+            return Some(events);
+        };
+        machine.apply(next.event);
+        events.push(next.event).ok()?;
+    }
+    None
+}
+
 fn run(alloc: Global, plan: &Plan, readings: &Readings, repeats: u32) -> Option<usize> {
     let mut events = 0;
     for _ in 0..repeats {
-        events = run_alone(alloc, plan, readings).ok()?.len();
+        events = history(alloc, plan, readings)?.len();
     }
     Some(events)
 }
@@ -99,6 +115,15 @@ fn main(rt: HostRuntime) -> ExitCode {
     let _written = write!(rt.stdout(), "{events}\n");
     ExitCode::from(0)
 }
+R
+  mkdir -p "$work/copy/crates/bench_machine/proofs/history"
+  cat > "$work/copy/crates/bench_machine/proofs/history/Invariants.antt" <<'R'
+use Rattle.std.proofs.Common.{◌≡◌}
+use Rattle.conc_machine.specs.Stands.{plan_of}
+use Rattle.bench_machine.proofs.history.Given as goal
+
+abbrev pub invariant-loop : goal.invariant-loop
+invariant-loop l = plan_of l.machine ≡ l.plan
 R
   (cd "$work/copy/crates/bench_machine" && rt run > "$work/build.log" 2>&1) || true
 fi
