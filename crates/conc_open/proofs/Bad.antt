@@ -12,6 +12,7 @@ use Rattle.conc_law.proofs.Positions.{slice_get-some}
 use Rattle.conc_restart.specs.FirstBad.{IsFirstBad}
 use Rattle.conc_work.specs.Judging.{EndsPast, EndWithin, IsBadRecord}
 use Rattle.conc_open.specs.Extents.{counted, IsFirstPast}
+use Rattle.conc_open.specs.Listing.{IsBadEvent}
 use Rattle.conc_open.proofs.Counting.{counted-is, end-within, ends-at, front, front-all, front-more, front-rises, front-within, past-front, past-take, used-few}
 
 -- an event whose extent makes the sum rise past a length is an end whose extent ends there
@@ -88,3 +89,13 @@ bad-broken plan len events number past all = record {
       let front_past = past-take plan (number - 1) events past in
       end-within plan len (take (number - 1) events) front_past (omega (arith, counted-is plan events past, front-within (number - 1) events));
 }
+
+-- ---- of a list alone
+
+-- the first that may not follow is bad
+pub event-first : (plan : Plan) (events : List Event) (broken : Option ℕ) (number : ℕ) → IsFirstBad plan events number → IsBadEvent plan events broken number
+event-first plan events broken number first = record { bad = inr first; past = first.before }
+
+-- and where all may follow, a broken record is
+pub event-broken : (plan : Plan) (events : List Event) (broken : Option ℕ) (number : ℕ) → broken ≡ Some number → Past plan events → IsBadEvent plan events broken number
+event-broken plan events broken number is past = record { bad = inl is; past = past-take plan (number - 1) events past }

@@ -2,7 +2,8 @@
 use Rattle.std.proofs.Common.{◌≡◌, inl, inr, ℕ, List, length, Option, None, IfSome, sym, ◌∙◌, subst, arith, le_refl}
 use Rattle.std.proofs.lemmas.Option.{IfSome_then}
 use Rattle.conc_types.specs.declared.event.Event.{Event}
-use Rattle.conc_disk.specs.Disk.{HasLength, Reaches}
+use Rattle.conc_disk.specs.Disk.{DiskState, HasLength, Reaches}
+use Rattle.conc_types.specs.declared.plan.Plan.{Plan}
 use Rattle.conc_law.specs.Law.{Past}
 use Rattle.conc_journal.specs.Opens.{broken_of, IsFoundIn}
 use Rattle.conc_journal.specs.declared.opened.Opened.{Opened}
@@ -11,8 +12,9 @@ use Rattle.conc_work.specs.Handed.{Handed, IsFound, IsOwnJournal}
 use Rattle.conc_work.specs.Judging.{IsBadRecord}
 use Rattle.conc_work.specs.declared.fail.Stopped.{Stopped}
 use Rattle.conc_work.specs.declared.fail.Stopped.TheVariants as stopped
+use Rattle.conc_work.specs.declared.fail.Which.TheVariants as which
 use Rattle.conc_open.specs.Extents.{counted}
-use Rattle.conc_open.specs.Hindered.{IsCrowded, IsHindered, IsRefused}
+use Rattle.conc_open.specs.Hindered.{IsCrowded, IsHindered, IsRefused, IsUntold}
 use Rattle.conc_open.proofs.Counting.{counted-is, end-within}
 
 -- what was found in the journal of this input
@@ -51,10 +53,25 @@ found-refused h opened len (stopped.JournalFull n needed) has is bad = absurd is
 found-refused h opened len (stopped.DiskFault which) has is bad = absurd is
 
 -- a record is bad, where the spool is too short
-pub found-short : (h : Handed) (opened : Opened) (len : ℕ) (e : Stopped) → HasFound h opened → HasLength h.spool_before len → IsRefused h.plan len opened.events.items opened.broken e → HasCause h e
-found-short h opened len e has long is =
-    found-refused h opened len e has is
-    (IfSome_then h.spool_before.seen long (λ texts same. subst (λ (n : ℕ). IsRefused h.plan n opened.events.items opened.broken e) same is))
+pub short-untold : (plan : Plan) (events : List Event) (broken : Option ℕ) (old new : DiskState) (len : ℕ) (e : Stopped) → HasLength old len → IsRefused plan len events broken e → IsUntold plan events broken old new e
+short-untold plan events broken old new len (stopped.Unlawful number) long is =
+    IfSome_then old.seen long (λ texts same. subst (λ (n : ℕ). IsBadRecord plan n events broken number) same is)
+short-untold plan events broken old new len stopped.NoMemory long is = tt
+short-untold plan events broken old new len stopped.NotJournal long is = absurd is
+short-untold plan events broken old new len (stopped.OtherInput found) long is = absurd is
+short-untold plan events broken old new len (stopped.JournalFull n needed) long is = absurd is
+short-untold plan events broken old new len (stopped.DiskFault which) long is = absurd is
+
+-- or it could not be read
+pub found-untold : (h : Handed) (opened : Opened) (events : List Event) (e : Stopped) → HasFound h opened → events ≡ opened.events.items → IsUntold h.plan events opened.broken h.spool_before h.spool_after e → HasCause h e
+found-untold h opened events (stopped.Unlawful number) has same is =
+    found-bad h opened number has (subst (λ (l : List Event). IfSome h.spool_before.seen (λ texts. IsBadRecord h.plan (length texts) l opened.broken number)) same is)
+found-untold h opened events (stopped.DiskFault which.Spool) has same is = is
+found-untold h opened events stopped.NoMemory has same is = tt
+found-untold h opened events stopped.NotJournal has same is = absurd is
+found-untold h opened events (stopped.OtherInput found) has same is = absurd is
+found-untold h opened events (stopped.JournalFull n needed) has same is = absurd is
+found-untold h opened events (stopped.DiskFault which.Journal) has same is = absurd is
 
 found-crowded : (h : Handed) (opened : Opened) (e : Stopped) → IsFound h opened.events.items → IsCrowded h.plan h.readings opened.events.items e → HasCause h e
 found-crowded h opened (stopped.JournalFull len needed) found is = record { found = opened.events.items; is_found = found; len_is = is.0; needed_is = is.1; full = is.2 }

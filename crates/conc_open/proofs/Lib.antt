@@ -6,3 +6,6 @@ pub mod Surviving
 pub mod Resuming
 pub mod Preparing
 pub mod Beginning
+pub mod Listed
+pub mod Told
+pub mod Ends

@@ -29,6 +29,13 @@ IsRefused plan len events broken (stopped.Unlawful number) = IsBadRecord plan le
 IsRefused plan len events broken stopped.NoMemory = ⊤
 IsRefused plan len events broken _ = ⊥
 
+-- for this spool a record is bad, or its disk failed, or there is no memory
+abbrev pub IsUntold : Plan → List Event → Option ℕ → DiskState → DiskState → Stopped → Type 0
+IsUntold plan events broken old new (stopped.Unlawful number) = IfSome old.seen (λ texts. IsBadRecord plan (length texts) events broken number)
+IsUntold plan events broken old new (stopped.DiskFault which.Spool) = Rose old.faults new.faults
+IsUntold plan events broken old new stopped.NoMemory = ⊤
+IsUntold plan events broken old new _ = ⊥
+
 -- there is no room for one more life, or no memory
 abbrev pub IsCrowded : Plan → List Reading → List Event → Stopped → Type 0
 IsCrowded plan readings events (stopped.JournalFull len needed) =

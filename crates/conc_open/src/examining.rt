@@ -1,28 +1,25 @@
 ghost use Rattle.std.specs.Prelude.{◌≡◌, IfErr, IfOk, IfSome, None, OnOk, reverse, Some};
-ghost use Rattle.conc_disk.specs.Disk.{Stays};
-ghost use Rattle.conc_disk.specs.Left.{LeavesOnly};
-ghost use Rattle.conc_journal.specs.Journals.{IsOn, list_of, room_of, stage_of};
-ghost use Rattle.conc_journal.specs.Opens.{IsFoundIn};
+ghost use Rattle.conc_journal.specs.Journals.{list_of, room_of, stage_of};
 ghost use Rattle.conc_law.specs.Alone.{opening};
 ghost use Rattle.conc_machine.specs.Stands.{plan_of, readings_of, Stands};
 ghost use Rattle.conc_restart.specs.Need.{need as need_of};
 ghost use Rattle.conc_spool.specs.Spools.{used_of};
 ghost use Rattle.conc_work.specs.Causes.{HasCause};
-ghost use Rattle.conc_work.specs.Handed.{handed, IsOwnJournal, IsUntouched};
-ghost use Rattle.conc_open.specs.Examined.{IsExamined, IsReady, MayStart};
+ghost use Rattle.conc_work.specs.Handed.{handed, IsUntouched};
+ghost use Rattle.conc_open.specs.Examined.{IsExamined, IsReady};
 ghost use Rattle.conc_open.specs.Extents.{counted};
-ghost use Rattle.conc_open.specs.Hindered.{IsCrowded, IsHindered, IsUnopened};
+ghost use Rattle.conc_open.specs.Hindered.{IsCrowded, IsHindered};
 
-use crate::extents::count_bytes;
-use crate::judging::{refuse_short, resume_whole};
+use crate::judging::resume_whole;
+use crate::reading::{open_own, open_texts};
 use conc_disk::Disk;
 use conc_image::MOST_RECORDS;
-use conc_journal::{Journal, JournalFail, Opened};
+use conc_journal::{Journal, Opened};
 use conc_machine::Machine;
 use conc_restart::need;
-use conc_spool::{Spool, SpoolFail};
+use conc_spool::Spool;
 use conc_types::{Event, NoMemory, Plan, Readings};
-use conc_work::{Stopped, Which};
+use conc_work::Stopped;
 use std::alloc::Global;
 
 /// What a run has in hand before it writes. The machine stands for the events found with the resume of
@@ -32,34 +29,6 @@ pub(crate) struct Examined<'p> {
     pub(crate) machine: Machine<'p>,
     pub(crate) journal: Journal,
     pub(crate) spool: Spool,
-}
-
-// What is found on the disk of a journal, where it is this input's.
-fn open_own<D: Disk>(alloc: Global, digest: &[u8; 32], disk: &mut D) -> Result<Opened, Stopped>
-    ensures found { IfOk result (λ opened. IfSome (D.state disk.old).seen (λ image. IsFoundIn image opened)) }
-    ensures own { OnOk result (IfSome (D.state disk.old).seen (IsOwnJournal digest.now)) }
-    ensures on { IfOk result (λ opened. opened.broken ≡ None → IsOn opened.journal (D.state disk.new)) }
-    ensures stage { IfOk result (λ opened. opened.broken ≡ None → MayStart digest.now (stage_of opened.journal)) }
-    ensures list { IfOk result (λ opened. list_of opened.journal ≡ opened.events.items) }
-    ensures room { IfOk result (λ opened. room_of opened.journal ≡ 0) }
-    ensures cause { IfErr result (IsUnopened digest.now (D.state disk.old) (D.state disk.new)) }
-    ensures stays { Stays (D.state disk.old) (D.state disk.new) }
-    ensures survives { LeavesOnly (D.state disk.old).may_leave (D.state disk.old) (D.state disk.new) }
-{
-    let opened = match Journal::open_on(alloc, disk) {
-        Ok(opened) => opened,
-        Err(JournalFail::NotJournal) => return Err(Stopped::NotJournal),
-        Err(JournalFail::DiskFault) => {
-            return Err(Stopped::DiskFault {
-                which: Which::Journal,
-            });
-        }
-        Err(JournalFail::NoMemory) => return Err(Stopped::NoMemory),
-    };
-    match opened.digest {
-        Some(found) if found != *digest => Err(Stopped::OtherInput { found }),
-        _ => Ok(opened),
-    }
 }
 
 // Takes room for one more life, where the journal can have as much.
@@ -150,11 +119,6 @@ pub(crate) fn examine<'p, D: Disk, E: Disk>(
     ensures untouched { IsUntouched (handed plan.now readings.now digest.now (D.state journal.old) (D.state journal.new) (E.state spool.old) (E.state spool.new)) }
 {
     let opened = open_own(alloc, digest, journal)?;
-    match Spool::open_on(spool, count_bytes(&opened.events)) {
-        Ok(texts) => prepare(alloc, plan, readings, opened, texts),
-        Err(SpoolFail::Short { len }) => Err(refuse_short(alloc, plan, &opened.events, len)),
-        Err(SpoolFail::DiskFault) => Err(Stopped::DiskFault {
-            which: Which::Spool,
-        }),
-    }
+    let texts = open_texts(alloc, plan, &opened.events, spool)?;
+    prepare(alloc, plan, readings, opened, texts)
 }

@@ -4,6 +4,7 @@ ghost use Rattle.conc_law.specs.Standing.{used};
 ghost use Rattle.conc_machine.specs.Stands.{plan_of, Stands};
 ghost use Rattle.conc_open.specs.Extents.{counted};
 ghost use Rattle.conc_open.specs.Hindered.{IsRefused};
+ghost use Rattle.conc_open.specs.Listing.{IsUnlisted};
 
 use crate::extents::first_past;
 use conc_machine::Machine;
@@ -40,6 +41,7 @@ pub(crate) fn resume_whole<'p>(
     ensures stands { IfOk result (λ machine. Stands machine (reverse events.now)) }
     ensures past { OnOk result (Past plan.now events.now) }
     ensures whole { OnOk result (broken ≡ None) }
+    ensures unlisted { IfErr result (IsUnlisted plan.now events.now broken) }
     ensures refused { (len : ℕ) → counted events.now ≤ len → IfErr result (IsRefused plan.now len events.now broken) }
 {
     let machine = match resume(alloc, plan, events) {

@@ -1,12 +1,18 @@
-//! What stands on the disks of a run, opened and judged, and the beginning of a life.
+//! What stands on the disks of a run, opened and judged: the beginning of a life, the list of its journal, and
+//! the text of a report.
 #![tactic(auto)]
 
 mod examining;
 mod extents;
 mod judging;
+mod listing;
 mod opening;
+mod reading;
 mod starting;
 #[cfg(test)]
 mod tests;
+mod text;
 
+pub use listing::read_list;
 pub use opening::open;
+pub use text::{TextFail, read_text};

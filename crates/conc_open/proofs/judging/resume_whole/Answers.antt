@@ -1,8 +1,18 @@
 use Rattle.std.proofs.Common.{subst, sym, Option, ℕ}
 use Rattle.conc_restart.specs.FirstBad.{IsRefused}
-use Rattle.conc_open.proofs.Bad.{bad-broken, bad-only}
+use Rattle.conc_open.specs.Listing.{IsBadEvent}
+use Rattle.conc_open.proofs.Bad.{bad-broken, bad-only, event-broken, event-first}
 use Rattle.conc_work.specs.Judging.{IsBadRecord}
 use Rattle.conc_open.proofs.judging.resume_whole.Goals as goal
+
+pub returns-in-Err-Unlawful-clause-unlisted : goal.returns-in-Err-Unlawful-clause-unlisted
+returns-in-Err-Unlawful-clause-unlisted c =
+    let arm = c.in-Err-Unlawful in
+    subst (IsBadEvent c.args.plan.now c.args.events.now c.args.broken) (sym arm.position-is)
+    (event-first c.args.plan.now c.args.events.now c.args.broken arm.position (subst (IsRefused c.args.plan.now c.args.events.now) arm.field-0-is arm.ensures.unlawful))
+
+pub returns-in-Some-clause-unlisted : goal.returns-in-Some-clause-unlisted
+returns-in-Some-clause-unlisted c = event-broken c.args.plan.now c.args.events.now c.args.broken c.in-Some.number c.in-Some.is c.in-Ok.ensures.past
 
 pub returns-in-Err-Unlawful-clause-refused : goal.returns-in-Err-Unlawful-clause-refused
 returns-in-Err-Unlawful-clause-refused c = λ len far.
