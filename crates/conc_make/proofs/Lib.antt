@@ -1,2 +1,10 @@
 pub mod Sequences
 pub mod Lines
+pub mod ReadBack
+pub mod Tried
+pub mod TheSetup
+pub mod TheTable
+pub mod TheClock
+pub mod TheItems
+pub mod TheScript
+pub mod Accepted

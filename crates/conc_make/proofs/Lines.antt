@@ -2,7 +2,7 @@
 use Rattle.std.proofs.Common.{◌≡◌, ◌∙◌, List, ℕ, [], ◌∷◌, ◌++◌, append_assoc, ap, arith, codes, sym}
 use Rattle.conc_make.specs.Files.{line, moment_word}
 
-row-parts : (key value : List ℕ) → line ((107 ∷ key) ∷ value ∷ []) ≡ 107 ∷ (key ++ 44 ∷ (value ++ 10 ∷ []))
+pub row-parts : (key value : List ℕ) → line ((107 ∷ key) ∷ value ∷ []) ≡ 107 ∷ (key ++ 44 ∷ (value ++ 10 ∷ []))
 row-parts key value = grind (arith, append_assoc)
 
 -- a row of the table
@@ -15,7 +15,7 @@ row-line key value start one two three is_one is_two is_three =
     let all : three ≡ start ++ 107 ∷ (key ++ 44 ∷ (value ++ 10 ∷ [])) = grind (arith, append_assoc, is_one, is_two, is_three) in
     all ∙ ap (λ l. start ++ l) (sym (row-parts key value))
 
-submission-parts : (moment word item user priority domain : List ℕ)
+pub submission-parts : (moment word item user priority domain : List ℕ)
     → line (moment ∷ word ∷ item ∷ (117 ∷ user) ∷ priority ∷ [] ∷ (100 ∷ domain) ∷ [] ∷ [])
     ≡ moment ++ 44 ∷ (word ++ 44 ∷ (item ++ 44 ∷ 117 ∷ (user ++ 44 ∷ (priority ++ 44 ∷ 44 ∷ 100 ∷ (domain ++ 44 ∷ 10 ∷ [])))))
 submission-parts moment word item user priority domain = grind (arith, append_assoc)

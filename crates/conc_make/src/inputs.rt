@@ -1,4 +1,5 @@
 ghost use Rattle.std.specs.Prelude.{◌≡◌, ◌≤◌, IfOk};
+ghost use Rattle.conc_make.specs.Accepted.{AreAccepted};
 ghost use Rattle.conc_make.specs.Files.{clock_text, script_text, setup_text, table_text};
 
 use crate::draws::Draws;
@@ -23,7 +24,8 @@ pub struct Inputs {
 /// alone, three incompatibilities, a manager of four places, and a set of two stages. The table's 64
 /// rows are drawn first, and then, submission by submission, the program or set, the user, the
 /// priority and the domain. Each submission, and the clock's one reading, is at the first moment of
-/// 2025. `NoMemory` tells that there was no memory.
+/// 2025. The readers accept all four files, and a plan of them has no fault. `NoMemory` tells that
+/// there was no memory.
 #[tactic(auto, unfolding(crate::specs::Files::script_text, crate::specs::Files::clock_text))]
 pub fn make(alloc: Global, seed: u64, size: u32) -> Result<Inputs, NoMemory>
     requires some { 1 ≤ size }
@@ -32,6 +34,7 @@ pub fn make(alloc: Global, seed: u64, size: u32) -> Result<Inputs, NoMemory>
     ensures script { IfOk result (λ inputs. inputs.script.items ≡ script_text seed size) }
     ensures clock { IfOk result (λ inputs. inputs.clock.items ≡ clock_text) }
     ensures table { IfOk result (λ inputs. inputs.table.items ≡ table_text seed) }
+    ensures accepted { IfOk result (λ inputs. AreAccepted inputs.setup.items inputs.script.items inputs.clock.items inputs.table.items) }
 {
     let mut draws = Draws { number: seed };
     let mut table = Vec::new(alloc);
