@@ -8,8 +8,8 @@ use Rattle.conc_work.specs.declared.fail.Stopped.{Stopped}
 use Rattle.conc_work.specs.declared.fail.Stopped.TheVariants as stopped
 use Rattle.conc_top.specs.declared.exit.Exit.{Exit}
 use Rattle.conc_top.specs.declared.exit.Exit.TheVariants as exit
-use Rattle.conc_top.specs.Printing.{Wrote}
-use Rattle.conc_top.specs.Runs.{IsCutShort, IsHistory, RunEnds, Sunk, TookNothing}
+use Rattle.conc_top.specs.Printing.{Sunk, TookNothing, Wrote}
+use Rattle.conc_top.specs.Runs.{IsCutShort, IsHistory, RunEnds}
 use Rattle.conc_top.specs.Ways.{exit_for}
 
 -- what a read gives is of this kind where each image is
@@ -41,6 +41,8 @@ written h sink history exit.NotJournal was none = absurd none
 written h sink history (exit.OtherInput found given) was none = absurd none
 written h sink history (exit.JournalFull len needed) was none = absurd none
 written h sink history (exit.Unlawful number) was none = absurd none
+written h sink history (exit.NotLawful line) was none = absurd none
+written h sink history (exit.NotEnded number) was none = absurd none
 
 -- a history that was finished, and whose text was written
 pub history-ends : (h : Handed) (sink : Sunk) (history : List Event) (text : List ℕ) (end : Exit) → text ≡ text_of h.plan history

@@ -1,53 +1,31 @@
 -- What a whole call means, from what its parts mean.
-use Rattle.std.proofs.Common.{◌≡◌, ℕ, List, None, Option, Some, refl, subst, inl, le_refl}
-use Rattle.conc_types.specs.declared.script.Readings.{Readings}
+use Rattle.std.proofs.Common.{◌≡◌, ◌≤◌, ◌∙◌, ℕ, List, None, Option, Some, ap, refl, subst, sym, inl, inr, le_refl, arith}
+use Rattle.conc_types.specs.declared.plan.Plan.{Plan}
+use Rattle.conc_types.specs.declared.script.Reading.{Reading}
 use Rattle.conc_disk.specs.Disk.{DiskState, Stays}
 use Rattle.conc_disk.specs.Left.{LeavesOnly}
-use Rattle.conc_history.specs.Listing.{listing}
-use Rattle.conc_work.specs.Handed.{handed}
-use Rattle.conc_top.specs.declared.accepting.Accepted.{Accepted}
+use Rattle.conc_inputs.specs.Fails.{IsThere, IsUnread, StopsAt}
+use Rattle.conc_inputs.specs.Given.{Names}
+use Rattle.conc_inputs.specs.declared.fail.InputFail.{InputFail}
+use Rattle.conc_inputs.specs.declared.fail.InputFail.TheVariants as input
+use Rattle.conc_outside.specs.Counts.{Rose}
+use Rattle.conc_outside.specs.Files.{Gives, IsLater, Lacks, ShelfState}
+use Rattle.conc_verdict.specs.declared.verdict.Verdict.{Verdict}
+use Rattle.conc_verdict.specs.declared.verdict.Verdict.TheVariants as verdict
+use Rattle.conc_work.specs.Disks.{AreUntouched, Disks, disks}
 use Rattle.conc_top.specs.declared.exit.Exit.{Exit}
 use Rattle.conc_top.specs.declared.exit.Exit.TheVariants as exit
-use Rattle.conc_top.specs.declared.names.Names.{Names}
-use Rattle.conc_top.specs.Accepting.{IsAccepted, IsNotGiven}
-use Rattle.conc_work.specs.Disks.{Disks, disks, AreUntouched}
-use Rattle.conc_top.specs.Exits.{Call, IsPlan, Means, sunk_in, told_in, WithoutRun, WroteNothing}
-use Rattle.conc_top.specs.Given.{Accepts, digest_of}
-use Rattle.conc_top.specs.Printing.{Prints}
-use Rattle.conc_top.specs.Runs.{RunEnds}
-use Rattle.conc_top.specs.Words.{names_of}
+use Rattle.conc_top.specs.Answers.{Around, IsUnplanned}
+use Rattle.conc_top.specs.Checks.{CheckEnds, IsJudged, IsVerdictText}
+use Rattle.conc_top.specs.Meaning.{Means}
+use Rattle.conc_top.specs.Printing.{Sunk, TookNothing}
+use Rattle.conc_top.specs.Shows.{IsUntouched}
+use Rattle.conc_top.specs.Ways.{exit_for_input}
+use Rattle.conc_words.specs.Words.{command_of}
+use Rattle.conc_words.specs.declared.command.Command.{Command}
+use Rattle.conc_words.specs.declared.command.Command.TheVariants as command
 
--- words that name no files, and a reading that ended, mean their exits
-pub not-given-means : (call : Call) (end : Exit) → IsNotGiven call.words call.before call.after end → WroteNothing call → WithoutRun call end
-not-given-means call exit.Usage is nothing = record { words = is; nothing = nothing }
-not-given-means call exit.NoMemory is nothing = nothing
-not-given-means call (exit.Refused refusal name) is nothing = record { names = is.names; words = is.named; stops = is.stops; nothing = nothing }
-not-given-means call (exit.Absent name) is nothing = record { names = is.names; words = is.named; stops = is.stops; nothing = nothing }
-not-given-means call (exit.ReadFault name) is nothing = record { names = is.names; words = is.named; stops = is.stops; nothing = nothing }
-not-given-means call exit.ClockFault is nothing = record { names = is.names; words = is.named; stops = is.stops; nothing = nothing }
-not-given-means call exit.Done is nothing = absurd is.stops
-not-given-means call exit.WriteFault is nothing = absurd is.stops
-not-given-means call (exit.DiskFault which) is nothing = absurd is.stops
-not-given-means call exit.NotJournal is nothing = absurd is.stops
-not-given-means call (exit.OtherInput found given) is nothing = absurd is.stops
-not-given-means call (exit.JournalFull len needed) is nothing = absurd is.stops
-not-given-means call (exit.Unlawful number) is nothing = absurd is.stops
-
--- a listing that was printed, or not, means its exit
-pub listing-means : (call : Call) (asked : IsPlan call) (end : Exit) → Prints (listing asked.plan) (sunk_in call) end → WithoutRun call end
-listing-means call asked exit.Done h = record { asked = asked; printed = h }
-listing-means call asked exit.WriteFault h = record { asked = asked; part = h.0; fault = h.1 }
-listing-means call asked exit.NoMemory h = h
-listing-means call asked exit.Usage h = absurd h
-listing-means call asked exit.ClockFault h = absurd h
-listing-means call asked (exit.Refused refusal name) h = absurd h
-listing-means call asked (exit.Absent name) h = absurd h
-listing-means call asked (exit.ReadFault name) h = absurd h
-listing-means call asked (exit.DiskFault which) h = absurd h
-listing-means call asked exit.NotJournal h = absurd h
-listing-means call asked (exit.OtherInput found given) h = absurd h
-listing-means call asked (exit.JournalFull len needed) h = absurd h
-listing-means call asked (exit.Unlawful number) h = absurd h
+-- ---- disks that no call touched
 
 stays-as : (disk : DiskState) → Stays disk disk
 stays-as disk = record { seen = refl; images = λ c left. left }
@@ -68,7 +46,6 @@ leaves-as (Some bytes) disk is = record {
   nothing_else = rw is (λ t c before left. inl left);
 }
 
--- disks that no call touched
 pub untouched : (journal spool : DiskState) → AreUntouched (disks journal journal spool spool)
 untouched journal spool = record {
   journal = stays-as journal;
@@ -77,16 +54,88 @@ untouched journal spool = record {
   spool_survives = leaves-as spool.seen spool refl;
 }
 
--- a run whose files are accepted means what its end says
-pub run-means : (call : Call) (d : Disks) (names : Names) (a : Accepted) (readings : Readings) (end : Exit) → names_of call.words ≡ Some names
-    → a.readings ≡ Some readings → IsAccepted (told_in call) names a
-    → RunEnds (handed a.plan readings a.digest d.journal_before d.journal_after d.spool_before d.spool_after) (sunk_in call) end → Means call d end
-run-means call d names a readings end named known accepted ends =
-    let P : Option Readings → Type 0 = λ r. (accepts : Accepts (told_in call) names a.plan r) × (a.digest ≡ digest_of accepts.files) in
-    let at : P (Some readings) = subst P known (accepted.accepts, accepted.digest) in
-    inl (
-      record { names = names; words = named; plan = a.plan; readings = readings; accepted = at.0 },
-      subst
-          (λ digest. RunEnds (handed a.plan readings digest d.journal_before d.journal_after d.spool_before d.spool_after) (sunk_in call) end)
-          at.1 ends,
-    )
+pub untouched-beside : (old new spool : DiskState) → IsUntouched old new → AreUntouched (disks old new spool spool)
+untouched-beside old new spool journal = record {
+  journal = journal.stays;
+  journal_survives = journal.survives;
+  spool = stays-as spool;
+  spool_survives = leaves-as spool.seen spool refl;
+}
+
+-- ---- exits
+
+-- files that give no plan
+pub unplanned : (names : Names) (a : Around) (fail : InputFail) → StopsAt a.before a.after names fail → TookNothing a.sink
+    → IsUnplanned names a (exit_for_input fail)
+unplanned names a (input.Refused refusal name) stops nothing = (stops, nothing)
+unplanned names a (input.Absent name) stops nothing = (stops, nothing)
+unplanned names a (input.ReadFault name) stops nothing = (stops, nothing)
+unplanned names a input.ClockFault stops nothing = (stops, nothing)
+unplanned names a input.NoMemory stops nothing = nothing
+
+judged-earlier : (plan : Plan) (readings : List Reading) (name : List ℕ) (old mid new : ShelfState) (found : Verdict) → IsLater old mid
+    → IsJudged (record { plan = plan; readings = readings; name = name; before = mid; after = new }) found
+    → IsJudged (record { plan = plan; readings = readings; name = name; before = old; after = new }) found
+judged-earlier plan readings name old mid new found later h =
+    record { bytes = h.bytes; given = subst (λ files. Gives files name h.bytes) later.files h.given; found_is = h.found_is }
+
+text-earlier : (plan : Plan) (readings : List Reading) (name : List ℕ) (old mid new : ShelfState) (text : List ℕ) → IsLater old mid
+    → IsVerdictText (record { plan = plan; readings = readings; name = name; before = mid; after = new }) text
+    → IsVerdictText (record { plan = plan; readings = readings; name = name; before = old; after = new }) text
+text-earlier plan readings name old mid new text later h = record {
+  events = h.events;
+  finished = h.finished;
+  judged = judged-earlier plan readings name old mid new (verdict.Lawful h.events h.finished) later h.judged;
+  text_is = h.text_is;
+}
+
+-- a count that rose late rose in all
+rose-wider : (a b c : ℕ) → a ≤ b → Rose b c → Rose a c
+rose-wider a b c h (inl rose) = inl (omega (arith, h, rose))
+rose-wider a b c h (inr end) = inr end
+
+unread-earlier : (old mid new : ShelfState) (name : List ℕ) (fail : InputFail) → IsLater old mid → IsUnread mid new name fail → IsUnread old new name fail
+unread-earlier old mid new name (input.Absent which) later h =
+    (h.0, subst (λ files. Lacks files name) later.files h.1, rose-wider old.absences mid.absences new.absences later.absences h.2)
+unread-earlier old mid new name (input.ReadFault which) later h =
+    (h.0, subst (λ files. IsThere files name) later.files h.1, rose-wider old.faults mid.faults new.faults later.faults h.2)
+unread-earlier old mid new name input.NoMemory later h = h
+unread-earlier old mid new name input.ClockFault later h = absurd h
+unread-earlier old mid new name (input.Refused refusal which) later h = absurd h
+
+-- a check, also as seen from before the other files were read
+pub check-earlier : (plan : Plan) (readings : List Reading) (name : List ℕ) (old mid new : ShelfState) (sink : Sunk) (end : Exit) → IsLater old mid
+    → CheckEnds (record { plan = plan; readings = readings; name = name; before = mid; after = new }) sink end
+    → CheckEnds (record { plan = plan; readings = readings; name = name; before = old; after = new }) sink end
+check-earlier plan readings name old mid new sink (exit.NotLawful line) later h =
+    (judged-earlier plan readings name old mid new (verdict.NotLawful line) later h.0, h.1)
+check-earlier plan readings name old mid new sink (exit.Absent which) later h = (unread-earlier old mid new name (input.Absent which) later h.0, h.1)
+check-earlier plan readings name old mid new sink (exit.ReadFault which) later h = (unread-earlier old mid new name (input.ReadFault which) later h.0, h.1)
+check-earlier plan readings name old mid new sink exit.Done later h = (h.0, text-earlier plan readings name old mid new h.0 later h.1, h.2)
+check-earlier plan readings name old mid new sink exit.WriteFault later h = (h.0, text-earlier plan readings name old mid new h.0 later h.1, h.2, h.3)
+check-earlier plan readings name old mid new sink exit.NoMemory later h = h
+check-earlier plan readings name old mid new sink exit.Usage later h = absurd h
+check-earlier plan readings name old mid new sink exit.ClockFault later h = absurd h
+check-earlier plan readings name old mid new sink (exit.Refused refusal which) later h = absurd h
+check-earlier plan readings name old mid new sink (exit.DiskFault which) later h = absurd h
+check-earlier plan readings name old mid new sink exit.NotJournal later h = absurd h
+check-earlier plan readings name old mid new sink (exit.OtherInput found given) later h = absurd h
+check-earlier plan readings name old mid new sink (exit.JournalFull len needed) later h = absurd h
+check-earlier plan readings name old mid new sink (exit.Unlawful number) later h = absurd h
+check-earlier plan readings name old mid new sink (exit.NotEnded number) later h = absurd h
+
+-- ---- any command
+
+-- no memory to read the words
+pub no-memory : (asked : Option Command) (a : Around) (d : Disks) → TookNothing a.sink → AreUntouched d → Means asked a d exit.NoMemory
+no-memory None a d nothing left = (nothing, left)
+no-memory (Some (command.Run setup script clock)) a d nothing left = inr (nothing, left)
+no-memory (Some (command.Plan setup script)) a d nothing left = (inr nothing, left)
+no-memory (Some (command.Check setup script clock history)) a d nothing left = (inr nothing, left)
+no-memory (Some (command.Status setup script)) a d nothing left = (inr nothing, left)
+no-memory (Some (command.Output setup script request)) a d nothing left = (inr nothing, left)
+no-memory (Some (command.Make seed size)) a d nothing left = (nothing, left)
+
+-- the command that was read, by what it was found to be
+pub asked-is : (read : Option Command) (found is : Command) (words : List (List ℕ)) → read ≡ command_of words → read ≡ Some found → found ≡ is → Some is ≡ command_of words
+asked-is read found is words of some same = ap (λ c. Some c) (sym same) ∙ (sym some ∙ of)

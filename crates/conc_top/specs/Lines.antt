@@ -20,6 +20,8 @@ number_of (exit.OtherInput found given) = 10
 number_of (exit.JournalFull len needed) = 11
 number_of exit.NoMemory = 12
 number_of (exit.Unlawful number) = 13
+number_of (exit.NotLawful line) = 14
+number_of (exit.NotEnded number) = 15
 
 -- the line that tells an exit; none where the command is done
 abbrev pub line_of : Exit → List ℕ
@@ -40,3 +42,5 @@ line_of (exit.JournalFull len needed) =
     codes "journal full: " ++ decimal len ++ codes " " ++ decimal needed ++ codes "\n"
 line_of exit.NoMemory = codes "no memory\n"
 line_of (exit.Unlawful number) = codes "unlawful record: " ++ decimal number ++ codes "\n"
+line_of (exit.NotLawful line) = codes "not lawful: " ++ decimal line ++ codes "\n"
+line_of (exit.NotEnded number) = codes "not ended: " ++ decimal number ++ codes "\n"

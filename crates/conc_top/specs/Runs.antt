@@ -1,5 +1,5 @@
 -- How a run ends whose files are accepted.
-use Rattle.std.specs.Prelude.{◌≡◌, ℕ, List, length, Option, IfSome, IsFalse, IsTrue}
+use Rattle.std.specs.Prelude.{◌≡◌, ℕ, List, length, IfSome, IsFalse, IsTrue}
 use Rattle.conc_types.specs.declared.event.Event.{Event}
 use Rattle.conc_law.specs.Alone.{opening}
 use Rattle.conc_law.specs.Ends.{AreReported}
@@ -16,24 +16,7 @@ use Rattle.conc_work.specs.declared.fail.Stopped.{Stopped}
 use Rattle.conc_work.specs.declared.fail.Stopped.TheVariants as stopped
 use Rattle.conc_top.specs.declared.exit.Exit.{Exit}
 use Rattle.conc_top.specs.declared.exit.Exit.TheVariants as exit
-
--- what a sink had taken, and its count of faults, before and after
-pub record Sunk : Type 0 where
-  pub taken_before : Option (List ℕ)
-  pub taken_after : Option (List ℕ)
-  pub faults_before : ℕ
-  pub faults_after : ℕ
-
-abbrev pub sunk : Option (List ℕ) → Option (List ℕ) → ℕ → ℕ → Sunk
-sunk taken taken' faults faults' = record {
-  taken_before = taken;
-  taken_after = taken';
-  faults_before = faults;
-  faults_after = faults';
-}
-
-abbrev pub TookNothing : Sunk → Type 0
-TookNothing sink = sink.taken_after ≡ sink.taken_before
+use Rattle.conc_top.specs.Printing.{Sunk, TookNothing}
 
 -- This is the history of the run. From what was found it goes on as the run without workers does. It is lawful and
 -- finished, running intervals of requests that exclude each other do not overlap, and each end that was added tells what its

@@ -1,3 +1,4 @@
+use conc_inputs::InputFail;
 use conc_types::{Name, Refusal};
 use conc_work::Which;
 
@@ -31,6 +32,11 @@ pub enum Exit {
     /// The journal's record with this number, from 1, is broken or not lawful, or its extent ends past
     /// the spool.
     Unlawful { number: u64 },
+    /// The line with this number, from 1, of the text of a history is no event line, its event is not
+    /// lawful, or it differs from the table.
+    NotLawful { line: u64 },
+    /// The request with this number has not ended with a report.
+    NotEnded { number: u32 },
 }
 
 impl Exit {
@@ -55,6 +61,25 @@ impl Exit {
             Exit::JournalFull { .. } => 11,
             Exit::NoMemory => 12,
             Exit::Unlawful { .. } => 13,
+            Exit::NotLawful { .. } => 14,
+            Exit::NotEnded { .. } => 15,
+        }
+    }
+}
+
+impl From<InputFail> for Exit {
+    ghost use Rattle.std.specs.Prelude.{◌≡◌};
+    ghost use Rattle.conc_top.specs.Ways.{exit_for_input};
+
+    ghost from_gives = { λ fail exit. exit ≡ exit_for_input fail };
+
+    fn from(fail: InputFail) -> Self {
+        match fail {
+            InputFail::Refused { refusal, name } => Exit::Refused { refusal, name },
+            InputFail::Absent { name } => Exit::Absent { name },
+            InputFail::ReadFault { name } => Exit::ReadFault { name },
+            InputFail::ClockFault => Exit::ClockFault,
+            InputFail::NoMemory => Exit::NoMemory,
         }
     }
 }

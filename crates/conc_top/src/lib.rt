@@ -2,19 +2,17 @@
 //! spool.
 #![tactic(auto)]
 
-mod accepting;
-mod clocks;
+mod checking;
+mod commands;
 mod exit;
-mod given;
 mod line;
-mod names;
 mod printing;
-mod reading;
-mod stop;
+mod running;
+mod showing;
 mod top;
-mod words;
 
+pub use commands::{check_history, make_and_run, run_plain, show_output, show_plan, show_status};
 pub use conc_work::Which;
 pub use exit::Exit;
 pub use line::exit_text;
-pub use top::{conc, run_plain};
+pub use top::conc;

@@ -8,7 +8,7 @@ use conc_types::{Name, NoMemory, Refusal, put_decimal};
 use conc_work::Which;
 use std::alloc::Global;
 
-fn put(out: &mut Vec<u8>, piece: &[u8]) -> Result<(), NoMemory>
+pub(crate) fn put(out: &mut Vec<u8>, piece: &[u8]) -> Result<(), NoMemory>
     ensures { OnOk result (out.new.items ≡ out.old.items ++ piece.now) }
 {
     out.extend_from_slice(piece)?;
@@ -93,6 +93,8 @@ fn put_line(alloc: Global, out: &mut Vec<u8>, exit: &Exit) -> Result<(), NoMemor
         Exit::JournalFull { len, need } => put_full(out, *len, *need),
         Exit::NoMemory => put(out, b"no memory\n"),
         Exit::Unlawful { number } => put_number(out, b"unlawful record: ", *number),
+        Exit::NotLawful { line } => put_number(out, b"not lawful: ", *line),
+        Exit::NotEnded { number } => put_number(out, b"not ended: ", u64::from(*number)),
     }
 }
 

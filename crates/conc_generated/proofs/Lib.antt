@@ -1,0 +1,4 @@
+pub mod Joined
+pub mod Values
+pub mod Accepting
+pub mod EmptyDisks

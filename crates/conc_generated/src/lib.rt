@@ -1,0 +1,11 @@
+//! Generated inputs, run in memory without workers, and the summary of what they come to.
+#![tactic(auto)]
+
+mod counting;
+mod generating;
+mod running;
+mod summarizing;
+#[cfg(test)]
+mod tests;
+
+pub use summarizing::summarize;

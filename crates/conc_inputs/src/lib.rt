@@ -1,0 +1,15 @@
+//! What a command is given: a setup, a script, a clock and tables, which are read from a shelf in this
+//! order, each of them judged before the next one is read, and the plan that they give.
+#![tactic(auto)]
+
+mod accepting;
+mod clocks;
+mod fail;
+mod given;
+mod reading;
+mod single;
+mod stop;
+
+pub use accepting::{Accepted, accept, accept_timed};
+pub use fail::InputFail;
+pub use single::read_file;

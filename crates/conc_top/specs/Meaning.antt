@@ -1,0 +1,55 @@
+-- What each exit means.
+use Rattle.std.specs.Prelude.{Option, None, Some}
+use Rattle.conc_disk.specs.Disk.{DiskState}
+use Rattle.conc_inputs.specs.Given.{named}
+use Rattle.conc_words.specs.declared.command.Command.{Command}
+use Rattle.conc_words.specs.declared.command.Command.TheVariants as command
+use Rattle.conc_work.specs.Disks.{AreUntouched, Disks}
+use Rattle.conc_top.specs.declared.exit.Exit.{Exit}
+use Rattle.conc_top.specs.declared.exit.Exit.TheVariants as exit
+use Rattle.conc_top.specs.Answers.{AnswersCheck, AnswersMake, AnswersOutput, AnswersPlan, AnswersRun, AnswersStatus, Around}
+use Rattle.conc_top.specs.Printing.{Sunk, TookNothing}
+
+-- words that are no command line are Usage, unless there is no memory to read them; nothing is written
+abbrev pub IsNoCommand : Sunk → Exit → Type 0
+IsNoCommand sink exit.Usage = TookNothing sink
+IsNoCommand sink exit.NoMemory = TookNothing sink
+IsNoCommand sink _ = ⊥
+
+-- what an exit means for the command that the words ask for. No command but a run writes to the disks
+abbrev pub Means : Option Command → Around → Disks → Exit → Type 0
+Means None a d end = IsNoCommand a.sink end × AreUntouched d
+Means (Some (command.Run setup script clock)) a d end = AnswersRun (named setup script (Some clock)) a d end
+Means (Some (command.Plan setup script)) a d end = AnswersPlan (named setup script None) a end × AreUntouched d
+Means (Some (command.Check setup script clock history)) a d end =
+    AnswersCheck (named setup script (Some clock)) history a end × AreUntouched d
+Means (Some (command.Status setup script)) a d end =
+    AnswersStatus (named setup script None) a d.journal_before d.journal_after end × AreUntouched d
+Means (Some (command.Output setup script request)) a d end = AnswersOutput (named setup script None) request a d end × AreUntouched d
+Means (Some (command.Make seed size)) a d end = AnswersMake seed size a.sink end × AreUntouched d
+
+-- ---- one command: words that ask for anything else are Usage
+
+abbrev pub MeansRun : Option Command → Around → Disks → Exit → Type 0
+MeansRun (Some (command.Run setup script clock)) a d end = AnswersRun (named setup script (Some clock)) a d end
+MeansRun _ a d end = IsNoCommand a.sink end × AreUntouched d
+
+abbrev pub MeansPlan : Option Command → Around → Exit → Type 0
+MeansPlan (Some (command.Plan setup script)) a end = AnswersPlan (named setup script None) a end
+MeansPlan _ a end = IsNoCommand a.sink end
+
+abbrev pub MeansCheck : Option Command → Around → Exit → Type 0
+MeansCheck (Some (command.Check setup script clock history)) a end = AnswersCheck (named setup script (Some clock)) history a end
+MeansCheck _ a end = IsNoCommand a.sink end
+
+abbrev pub MeansStatus : Option Command → Around → DiskState → DiskState → Exit → Type 0
+MeansStatus (Some (command.Status setup script)) a old new end = AnswersStatus (named setup script None) a old new end
+MeansStatus _ a old new end = IsNoCommand a.sink end
+
+abbrev pub MeansOutput : Option Command → Around → Disks → Exit → Type 0
+MeansOutput (Some (command.Output setup script request)) a d end = AnswersOutput (named setup script None) request a d end
+MeansOutput _ a d end = IsNoCommand a.sink end
+
+abbrev pub MeansMake : Option Command → Sunk → Exit → Type 0
+MeansMake (Some (command.Make seed size)) sink end = AnswersMake seed size sink end
+MeansMake _ sink end = IsNoCommand sink end

@@ -1,0 +1,49 @@
+-- What is shown of a journal and a spool.
+use Rattle.std.specs.Prelude.{◌≡◌, ℕ, List, reverse}
+use Rattle.conc_types.specs.declared.event.Event.{Event}
+use Rattle.conc_types.specs.declared.event.RequestId.{RequestId}
+use Rattle.conc_types.specs.declared.plan.Plan.{Plan}
+use Rattle.conc_disk.specs.Disk.{DiskState, Stays}
+use Rattle.conc_disk.specs.Left.{LeavesOnly}
+use Rattle.conc_law.specs.Text.{table_text}
+use Rattle.conc_open.specs.Listing.{HasListCause, IsListed}
+use Rattle.conc_open.specs.Texts.{HasReadCause, HasText, HasTextCause}
+use Rattle.conc_open.specs.declared.text.TextFail.TheVariants as text_fail
+use Rattle.conc_work.specs.Disks.{Disks}
+use Rattle.conc_work.specs.declared.fail.Stopped.TheVariants as stopped
+use Rattle.conc_top.specs.declared.exit.Exit.{Exit}
+use Rattle.conc_top.specs.declared.exit.Exit.TheVariants as exit
+use Rattle.conc_top.specs.Printing.{Prints, Sunk, TookNothing}
+
+-- nothing was written to the disk: what is read of it stays, and a stop leaves nothing that it did not leave before
+pub record IsUntouched (before after : DiskState) : Type 0 where
+  pub stays : Stays before after
+  pub survives : LeavesOnly before.may_leave before after
+
+-- ---- how requests stand
+
+-- the table of the requests of the plan as they stand after the events of the journal
+pub record IsStatusText (plan : Plan) (digest : List ℕ) (journal : DiskState) (text : List ℕ) : Type 0 where
+  pub events : List Event
+  pub listed : IsListed plan digest journal events
+  pub text_is : text ≡ table_text plan (reverse events)
+
+abbrev pub StatusEnds : Plan → List ℕ → DiskState → DiskState → Sunk → Exit → Type 0
+StatusEnds plan digest old new sink exit.NotJournal = HasListCause plan digest old new stopped.NotJournal × TookNothing sink
+StatusEnds plan digest old new sink (exit.OtherInput found given) =
+    HasListCause plan digest old new (stopped.OtherInput found) × (given ≡ digest) × TookNothing sink
+StatusEnds plan digest old new sink (exit.Unlawful number) = HasListCause plan digest old new (stopped.Unlawful number) × TookNothing sink
+StatusEnds plan digest old new sink (exit.DiskFault which) = HasListCause plan digest old new (stopped.DiskFault which) × TookNothing sink
+StatusEnds plan digest old new sink end = Prints (IsStatusText plan digest old) sink end
+
+-- ---- a report
+
+abbrev pub OutputEnds : Plan → List ℕ → RequestId → Disks → Sunk → Exit → Type 0
+OutputEnds plan digest id d sink exit.NotJournal = HasReadCause plan digest d stopped.NotJournal × TookNothing sink
+OutputEnds plan digest id d sink (exit.OtherInput found given) =
+    HasReadCause plan digest d (stopped.OtherInput found) × (given ≡ digest) × TookNothing sink
+OutputEnds plan digest id d sink (exit.Unlawful number) = HasReadCause plan digest d (stopped.Unlawful number) × TookNothing sink
+OutputEnds plan digest id d sink (exit.DiskFault which) = HasReadCause plan digest d (stopped.DiskFault which) × TookNothing sink
+OutputEnds plan digest id d sink (exit.NotEnded number) =
+    HasTextCause plan digest id d text_fail.NotEnded × (number ≡ id.number) × TookNothing sink
+OutputEnds plan digest id d sink end = Prints (HasText plan digest id d.journal_before d.spool_before) sink end

@@ -1,0 +1,3 @@
+pub mod SaidWords
+pub mod Counts
+pub mod Bounds
