@@ -1,4 +1,4 @@
-ghost use Rattle.std.specs.Prelude.{◌≡◌, ◌≤◌, IfErr, IfOk, Ok};
+ghost use Rattle.std.specs.Prelude.{◌≡◌, ◌≤◌, ◌∷◌, [], IfErr, IfOk, Ok};
 ghost use Rattle.conc_types.specs.declared.refusal.ReadFail.TheVariants.{NoMemory as out_of_memory};
 ghost use Rattle.conc_generated.specs.Generated.{AreGenerated};
 
@@ -8,7 +8,7 @@ use conc_plan::make_plan;
 use conc_script::{read_clock, read_script};
 use conc_setup::read_setup;
 use conc_tables::read_table;
-use conc_types::{NoMemory, Plan, ReadFail, Readings, Seq};
+use conc_types::{NoMemory, Plan, ReadFail, Readings, Seq, Table};
 use std::alloc::Global;
 
 /// The name of the table in the setup.
@@ -34,6 +34,14 @@ fn accepted<T: Drop>(read: Result<T, ReadFail>) -> Result<T, NoMemory>
     }
 }
 
+fn one_table(alloc: Global, table: Table) -> Result<Seq<Table>, NoMemory>
+    ensures { IfOk result (λ tables. tables ≡ table ∷ []) }
+{
+    let mut tables = Vec::with_capacity(alloc, 1)?;
+    tables.push(table)?;
+    Ok(Seq::from_vec(tables))
+}
+
 fn digest_of(inputs: &Inputs) -> [u8; 32] {
     let mut digest = InputDigest::new(&inputs.setup, &inputs.script);
     digest.add_table(TABLE_NAME, &inputs.table);
@@ -52,9 +60,8 @@ pub(crate) fn generate(alloc: Global, seed: u64, size: u32) -> Result<Generated,
     let script = accepted(read_script(alloc, &inputs.script, &setup))?;
     let readings = accepted(read_clock(alloc, &inputs.clock))?;
     let table = accepted(read_table(alloc, &inputs.table, 0))?;
-    let mut tables = Vec::with_capacity(alloc, 1)?;
-    tables.push(table)?;
-    let plan = accepted(make_plan(alloc, setup, script, Seq::from_vec(tables)))?;
+    let tables = one_table(alloc, table)?;
+    let plan = accepted(make_plan(alloc, setup, script, tables))?;
     let digest = digest_of(&inputs);
     Ok(Generated {
         plan,

@@ -2,8 +2,8 @@ use super::*;
 use std::alloc::Global;
 use std::test::Fail;
 
-// Lines, and whether their words, with a blank between two of them, are a command.
-static LINES: [(&str, bool); 92] = [
+// Lines that begin with `run`, and whether their words, with a blank between two of them, are a command.
+static RUNS: [(&str, bool); 51] = [
     ("run a.toml a.csv a.clock --threads 0", true),
     ("run --threads 0 a.toml a.csv a.clock", true),
     ("run a.toml --threads=0 a.csv --watch=0 a.clock", true),
@@ -65,6 +65,10 @@ static LINES: [(&str, bool); 92] = [
     ("run a.toml -a.csv a.clock --threads 0", false),
     ("run a.toml a.csv \u{7f} --threads 0", false),
     ("run a\tb a.csv a.clock --threads 0", false),
+];
+
+// Other lines.
+static OTHERS: [(&str, bool); 41] = [
     // Another command, or none.
     ("--threads 0 run a.toml a.csv a.clock", false),
     ("Run a.toml a.csv a.clock --threads 0", false),
@@ -117,12 +121,23 @@ fn words_of(alloc: Global, line: &str) -> Result<Vec<String>, Fail> {
     Ok(words)
 }
 
+fn is_command(alloc: Global, line: &str) -> Result<bool, Fail> {
+    let words = words_of(alloc, line)?;
+    Ok(read_command(alloc, words.as_slice())?.is_some())
+}
+
 #[test]
-fn reads_commands_and_nothing_else(rt: HostRuntime) -> Result<(), Fail> {
-    for (line, is_command) in LINES {
-        let words = words_of(rt.alloc(), line)?;
-        let command = read_command(rt.alloc(), words.as_slice())?;
-        assert_eq!(rt; command.is_some(), is_command);
+fn options_of_a_run_stand_anywhere_behind_it(rt: HostRuntime) -> Result<(), Fail> {
+    for (line, wanted) in RUNS {
+        assert_eq!(rt; is_command(rt.alloc(), line)?, wanted, "at {line:?}");
+    }
+    Ok(())
+}
+
+#[test]
+fn other_commands_have_no_options(rt: HostRuntime) -> Result<(), Fail> {
+    for (line, wanted) in OTHERS {
+        assert_eq!(rt; is_command(rt.alloc(), line)?, wanted, "at {line:?}");
     }
     assert!(rt; read_command(rt.alloc(), &[])?.is_none());
     Ok(())

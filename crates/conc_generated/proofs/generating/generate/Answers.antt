@@ -15,17 +15,15 @@ pub make_plan-requires-clause-tables : goal.make_plan-requires-clause-tables
 make_plan-requires-clause-tables c =
     let setup = c.in_ok-setup.setup in
     let read = read-as (λ (b : List ℕ) (s : Setup). setup_in b ≡ Ok s) _ _ _ setup (c.deref.ensures.value ∙ c.in_ok-inputs.ensures.setup) c.in_ok-setup.ensures c.read_setup.ensures.value in
-    let tables : c.from_vec.result ≡ c.in_ok-table.table ∷ [] = cc (c.from_vec.ensures, c.in_ok-push.ensures.items, c.in_ok-tables.ensures.items) in
-    ap length tables ∙ sym (has-one_table setup read)
+    ap length c.in_ok-tables.ensures ∙ sym (has-one_table setup read)
 
 pub accepted-requires-5 : goal.accepted-requires-5
 accepted-requires-5 c =
     let setup = c.in_ok-setup.setup in
     let script = c.in_ok-script.script in
     let table = c.in_ok-table.table in
-    let tables : c.from_vec.result ≡ table ∷ [] = cc (c.from_vec.ensures, c.in_ok-push.ensures.items, c.in_ok-tables.ensures.items) in
     plan-fails _ _
-    (ap (plan_fault setup script.commands) tables
+    (ap (plan_fault setup script.commands) c.in_ok-tables.ensures
     ∙ plan-faultless _ _ _ _ setup script table c.in_ok-inputs.ensures.accepted
     (read-as (λ (b : List ℕ) (s : Setup). setup_in b ≡ Ok s) _ _ _ setup c.deref.ensures.value c.in_ok-setup.ensures c.read_setup.ensures.value)
     (read-as (SpellsScript setup) _ _ _ script c.deref-2.ensures.value c.in_ok-script.ensures c.read_script.ensures.ok)
@@ -39,7 +37,6 @@ returns c =
     let readings = c.in_ok-readings.readings in
     let table = c.in_ok-table.table in
     let plan = c.in_ok-plan.plan in
-    let tables : c.from_vec.result ≡ table ∷ [] = cc (c.from_vec.ensures, c.in_ok-push.ensures.items, c.in_ok-tables.ensures.items) in
     generated-by c.args.seed c.args.size plan readings setup script table
     (read-as (λ (b : List ℕ) (s : Setup). setup_in b ≡ Ok s) _ _ _ setup (c.deref.ensures.value ∙ c.in_ok-inputs.ensures.setup) c.in_ok-setup.ensures c.read_setup.ensures.value)
     (read-as (SpellsScript setup) _ _ _ script (c.deref-2.ensures.value ∙ c.in_ok-inputs.ensures.script) c.in_ok-script.ensures c.read_script.ensures.ok)
@@ -47,4 +44,4 @@ returns c =
     (read-as SpellsTable _ _ _ table (c.deref-4.ensures.value ∙ c.in_ok-inputs.ensures.table) c.in_ok-table.ensures c.read_table.ensures.ok)
     (IfOk-at_ok (λ (p : Plan). p.setup ≡ setup) c.in_ok-plan.ensures c.make_plan.ensures.setup)
     (IfOk-at_ok (λ (p : Plan). p.script ≡ script) c.in_ok-plan.ensures c.make_plan.ensures.script)
-    (IfOk-at_ok (λ (p : Plan). p.tables ≡ c.from_vec.result) c.in_ok-plan.ensures c.make_plan.ensures.tables ∙ tables)
+    (IfOk-at_ok (λ (p : Plan). p.tables ≡ c.in_ok-tables.tables) c.in_ok-plan.ensures c.make_plan.ensures.tables ∙ c.in_ok-tables.ensures)
