@@ -46,7 +46,7 @@ numbered-none n = either-way None (n == 0)
 no-bad : (plan : Plan) (len n : ℕ) (events : List Event) (broken : Option ℕ) → events ≡ [] → broken ≡ None → IsBadRecord plan len events broken n → ⊥
 no-bad plan len n events broken none whole is =
     elim is.bad [
-      inl at ↦ cc (whole, at)
+      | inl at ↦ cc (whole, at)
       | inr (inl first) ↦ cc (numbered-none n, ap (λ (es : List Event). numbered es n) none, first.there)
       | inr (inr past) ↦ cc (numbered-none n, ap (λ (es : List Event). numbered es n) none, past.there)
     ]

@@ -51,11 +51,11 @@ parts-one : (columns columns' : List (List ℕ)) (rows rows' : List (List (List 
     → table_of columns rows d e f ≡ table_of columns' rows' d' e' f'
 parts-one columns columns' rows rows' is is' =
     let P : List (List ℕ) → Type 0 = λ c. (d : IsTrue (are_distinct bytes_eq columns)) (d' : IsTrue (are_distinct bytes_eq c))
-      (e : IsTrue (list_all (has_length (length columns)) rows)) (e' : IsTrue (list_all (has_length (length c)) rows'))
-      (f : length rows ≤ 1114112) (f' : length rows' ≤ 1114112) → table_of columns rows d e f ≡ table_of c rows' d' e' f' in
+    (e : IsTrue (list_all (has_length (length columns)) rows)) (e' : IsTrue (list_all (has_length (length c)) rows'))
+    (f : length rows ≤ 1114112) (f' : length rows' ≤ 1114112) → table_of columns rows d e f ≡ table_of c rows' d' e' f' in
     let Q : List (List (List ℕ)) → Type 0 = λ r. (d : IsTrue (are_distinct bytes_eq columns)) (d' : IsTrue (are_distinct bytes_eq columns))
-      (e : IsTrue (list_all (has_length (length columns)) rows)) (e' : IsTrue (list_all (has_length (length columns)) r))
-      (f : length rows ≤ 1114112) (f' : length r ≤ 1114112) → table_of columns rows d e f ≡ table_of columns r d' e' f' in
+    (e : IsTrue (list_all (has_length (length columns)) rows)) (e' : IsTrue (list_all (has_length (length columns)) r))
+    (f : length rows ≤ 1114112) (f' : length r ≤ 1114112) → table_of columns rows d e f ≡ table_of columns r d' e' f' in
     subst P is (subst Q is' (proofs-one columns rows))
 
 pub table-one : (bytes : List ℕ) (a b : Table) → SpellsTable bytes a → SpellsTable bytes b → a ≡ b

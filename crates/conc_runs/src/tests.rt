@@ -1,13 +1,8 @@
-ghost use Rattle.std.specs.Prelude.{◌≡◌, map};
-ghost use Rattle.std.specs.List.{list_any};
-ghost use Rattle.std.specs.Str.{bytes_eq};
-ghost use Rattle.conc_types.specs.Words.{are_distinct as are_distinct_of};
-
 use conc_clock::MemClock;
 use conc_disk::{Disk, MemDisk};
 use conc_outside::{MemShelf, MemSink};
 use conc_top::{Exit, conc};
-use conc_types::{Name, is_name};
+use conc_worked::shelf_with;
 use std::alloc::Global;
 use std::process::Abort;
 use std::sync::Wait;
@@ -17,6 +12,7 @@ use std::thread::Threads;
 mod calls;
 mod journals;
 mod rows;
+mod shown;
 
 const SETUP: &str =
     "tables = [\"t.csv\"]\n[[program]]\nname = \"P\"\ntable = \"t.csv\"\ngroup = \"k\"\nsum = \"v\"\n[[incompatible]]\nprogram = \"P\"\nwith = \"P\"\n[[manager]]\nname = \"M\"\n";
@@ -71,30 +67,6 @@ const TABLE: &str = "k,v\na,10\nb,20\na,5\n";
 
 pub(crate) const RUN: &str = "run a.toml a.csv a.clock --threads 0";
 
-fn name(rt: &impl Abort, alloc: Global, text: &str) -> Result<Name, Fail> {
-    let bytes = text.as_bytes().to_vec(alloc)?;
-    assert!(rt; is_name(&bytes), "{text}");
-    Ok(Name::from_vec(bytes))
-}
-
-fn is_named(name: &Name, files: &[(Name, Vec<u8>)]) -> bool
-    ensures { result ≡ list_any (bytes_eq name.now) (map (λ f. f.0) files.now) }
-{
-    match files.split_first() {
-        None => false,
-        Some((file, rest)) => name.as_bytes() == file.0.as_bytes() || is_named(name, rest),
-    }
-}
-
-fn are_distinct(files: &[(Name, Vec<u8>)]) -> bool
-    ensures { result ≡ are_distinct_of bytes_eq (map (λ f. f.0) files.now) }
-{
-    match files.split_first() {
-        None => true,
-        Some((file, rest)) => !is_named(&file.0, rest) && are_distinct(rest),
-    }
-}
-
 // The four files of a call.
 #[derive(Clone, Copy)]
 pub(crate) struct Given<'a> {
@@ -129,26 +101,13 @@ fn shelf_of(
     clock: &str,
     fails: Option<u64>,
 ) -> Result<MemShelf, Fail> {
-    let files = vec![in alloc;
-        (
-            name(rt, alloc, "a.toml")?,
-            given.setup.as_bytes().to_vec(alloc)?
-        ),
-        (
-            name(rt, alloc, "a.csv")?,
-            given.script.as_bytes().to_vec(alloc)?
-        ),
-        (
-            name(rt, alloc, clock)?,
-            given.clock.as_bytes().to_vec(alloc)?
-        ),
-        (
-            name(rt, alloc, "t.csv")?,
-            given.table.as_bytes().to_vec(alloc)?
-        ),
-    ]?;
-    assert!(rt; are_distinct(&files));
-    Ok(MemShelf::new(files, listed(alloc, fails)?))
+    let files = [
+        ("a.toml", given.setup),
+        ("a.csv", given.script),
+        (clock, given.clock),
+        ("t.csv", given.table),
+    ];
+    Ok(shelf_with(alloc, &files, listed(alloc, fails)?)?.expect(rt, "four names"))
 }
 
 fn words_of(alloc: Global, words: &str) -> Result<Vec<String>, Fail> {

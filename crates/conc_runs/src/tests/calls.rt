@@ -91,49 +91,19 @@ fn the_clock_of_the_system_is_asked_by_its_word(rt: HostRuntime) -> Result<(), F
     Ok(())
 }
 
-// Worked histories: a script with its header alone; a program that is incompatible with itself; the
-// order of priorities; a later start; commands; two readings.
-static HISTORIES: [(&str, &str, &str); 6] = [
-    ("", CLOCK, "tick 2025-03-03T09:00:00\n--\n"),
-    (
-        "2025-03-03T09:00:00,submit,P,ann,,,,\n2025-03-03T09:00:00,submit,P,ann,,,,\n",
-        CLOCK,
-        "tick 2025-03-03T09:00:00\ndo 1\ndo 2\nlet 1\nstart 1 1.1\nend 1 Normal 0 39\nlet 2\nstart 2 1.1\nend 2 Normal 39 39\n--\n1 Completed Normal P\n2 Completed Normal P\n",
-    ),
-    (
-        "2025-03-03T09:00:00,submit,P,ann,99,,,\n2025-03-03T09:00:00,submit,P,ann,1,,,\n",
-        CLOCK,
-        "tick 2025-03-03T09:00:00\ndo 1\ndo 2\nlet 2\nstart 2 1.1\nend 2 Normal 0 39\nlet 1\nstart 1 1.1\nend 1 Normal 39 39\n--\n1 Completed Normal P\n2 Completed Normal P\n",
-    ),
-    (
-        "2025-03-03T09:00:00,submit,P,ann,,2025-03-03T09:00:01,,\n",
-        CLOCK,
-        "tick 2025-03-03T09:00:00\ndo 1\n--\n1 Pending Scheduled P\n",
-    ),
-    (
-        "2025-03-03T09:00:00,submit,P,ann,,,,\n2025-03-03T09:00:00,hold,1,ann,,,,\n2025-03-03T09:00:00,submit,P,ann,,,,\n2025-03-03T09:00:00,cancel,2,,,,,\n",
-        CLOCK,
-        "tick 2025-03-03T09:00:00\ndo 1\ndo 2\ndo 3\ndo 4\n--\n1 Inactive On Hold P\n2 Completed Cancelled P\n",
-    ),
-    (
-        "2025-03-03T09:00:00,submit,P,ann,,2025-03-03T09:05:00,,\n",
-        "2025-03-03T09:00:00\r\n2025-03-03T09:05:00 !",
-        "tick 2025-03-03T09:00:00\ndo 1\ntick 2025-03-03T09:05:00\nlet 1\nstart 1 1.1\nend 1 Normal 0 39\n--\n1 Completed Normal P\n",
-    ),
-];
-
 #[test]
-fn runs_print_their_histories(rt: HostRuntime) -> Result<(), Fail> {
-    for (records, clock, want) in HISTORIES {
-        let script = script_of(rt.alloc(), records)?;
-        let files = Given {
-            clock,
-            ..with_script(&script)
-        };
-        let (exit, out) = call(&rt, rt.alloc(), RUN, files, None, None)?;
-        assert_eq!(rt; exit.number(), 0, "at {records:?}");
-        assert_eq!(rt; out.bytes(), want.as_bytes(), "at {records:?}");
-    }
+fn lines_of_a_clock_may_end_with_cr_and_lf(rt: HostRuntime) -> Result<(), Fail> {
+    let records = "2025-03-03T09:00:00,submit,P,ann,,2025-03-03T09:05:00,,\n";
+    let script = script_of(rt.alloc(), records)?;
+    let files = Given {
+        clock: "2025-03-03T09:00:00\r\n2025-03-03T09:05:00 !",
+        ..with_script(&script)
+    };
+    let (exit, out) = call(&rt, rt.alloc(), RUN, files, None, None)?;
+    assert_eq!(rt; exit.number(), 0);
+    let want =
+        "tick 2025-03-03T09:00:00\ndo 1\ntick 2025-03-03T09:05:00\nlet 1\nstart 1 1.1\nend 1 Normal 0 39\n--\n1 Completed Normal P\n";
+    assert_eq!(rt; out.bytes(), want.as_bytes());
     Ok(())
 }
 
