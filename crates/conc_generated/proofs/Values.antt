@@ -8,7 +8,6 @@ use Rattle.conc_types.specs.declared.script.Script.{Script}
 use Rattle.conc_types.specs.declared.setup.Setup.{Setup}
 use Rattle.conc_types.specs.declared.table.Table.{Table}
 use Rattle.conc_types.specs.Words.{are_distinct, has_length}
-use Rattle.conc_records.specs.Records.{records_of}
 use Rattle.conc_script.specs.Script.{SpellsScript}
 use Rattle.conc_tables.specs.Tables.{SpellsTable}
 

@@ -1,8 +1,7 @@
-use Rattle.std.proofs.Common.{◌≡◌, ◌∙◌, ℕ, List, [], ◌∷◌, Ok, None, ap, length, sym}
+use Rattle.std.proofs.Common.{◌≡◌, ◌∙◌, ℕ, List, Ok, ap, length, sym}
 use Rattle.std.proofs.lemmas.Result.{IfOk-at_ok}
 use Rattle.conc_types.specs.declared.plan.Plan.{Plan}
 use Rattle.conc_types.specs.declared.setup.Setup.{Setup}
-use Rattle.conc_types.specs.declared.table.Table.{Table}
 use Rattle.conc_plan.specs.Faults.{plan_fault}
 use Rattle.conc_script.specs.Clock.{SpellsClock}
 use Rattle.conc_script.specs.Script.{SpellsScript}

@@ -1,8 +1,7 @@
-use Rattle.std.proofs.Common.{◌≡◌, ◌∙◌, ℕ, Vec, ap}
-use Rattle.std.specs.declared.alloc.Global.{Global}
+use Rattle.std.proofs.Common.{◌∙◌, ap}
 use Rattle.std.proofs.lemmas.Result.{IfOk-weaker}
 use Rattle.conc_work.specs.Works.{list_in}
-use Rattle.conc_generated.specs.Summary.{IsSummary, summary_text}
+use Rattle.conc_generated.specs.Summary.{summary_text}
 use Rattle.conc_generated.proofs.summarizing.summarize.Goals as goal
 
 pub returns : goal.returns
