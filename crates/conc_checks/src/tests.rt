@@ -2,8 +2,10 @@ use conc_clock::MemClock;
 use conc_disk::MemDisk;
 use conc_outside::MemSink;
 use conc_top::{conc, exit_text};
-use conc_types::read_decimal;
-use conc_worked::{LIVES, MANAGERS, MONTH_END, PLAIN, SETS, Worked, shelf_with, worked_of};
+use conc_types::{Name, read_decimal};
+use conc_worked::{
+    LIVES, MANAGERS, MONTH_END, PLAIN, SETS, Worked, file_of, shelf_with, worked_of,
+};
 use std::alloc::Global;
 use std::process::Abort;
 use std::sync::Wait;
@@ -20,6 +22,10 @@ fn words_of(alloc: Global, words: &str) -> Result<Vec<String>, Fail> {
     Ok(list)
 }
 
+fn file(rt: &impl Abort, alloc: Global, name: &str, text: &str) -> Result<(Name, Vec<u8>), Fail> {
+    Ok(file_of(alloc, name, text)?.expect(rt, name))
+}
+
 // What the check of a history over these files prints or tells, without its LF.
 fn said<Rt: Abort + Threads + Wait + Sync>(
     rt: &Rt,
@@ -29,14 +35,14 @@ fn said<Rt: Abort + Threads + Wait + Sync>(
 ) -> Result<Vec<u8>, Fail> {
     let records = worked.records;
     let script = format!(in alloc; "{HEADER}{records}")?;
-    let files = [
-        ("a.toml", worked.setup),
-        ("a.csv", script.as_str()),
-        ("a.clock", worked.clock),
-        ("t.csv", worked.table),
-        ("a.history", history),
-    ];
-    let mut shelf = shelf_with(alloc, &files, Vec::new(alloc))?.expect(rt, "five names");
+    let files = vec![in alloc;
+        file(rt, alloc, "a.toml", worked.setup)?,
+        file(rt, alloc, "a.csv", &script)?,
+        file(rt, alloc, "a.clock", worked.clock)?,
+        file(rt, alloc, "t.csv", worked.table)?,
+        file(rt, alloc, "a.history", history)?,
+    ]?;
+    let mut shelf = shelf_with(files, Vec::new(alloc)).expect(rt, "five names");
     let mut out = MemSink::new(alloc, Vec::new(alloc));
     let mut journal = MemDisk::new(alloc, Vec::new(alloc), Vec::new(alloc));
     let mut spool = MemDisk::new(alloc, Vec::new(alloc), Vec::new(alloc));

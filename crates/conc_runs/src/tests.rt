@@ -2,7 +2,8 @@ use conc_clock::MemClock;
 use conc_disk::{Disk, MemDisk};
 use conc_outside::{MemShelf, MemSink};
 use conc_top::{Exit, conc};
-use conc_worked::shelf_with;
+use conc_types::Name;
+use conc_worked::{file_of, shelf_with};
 use std::alloc::Global;
 use std::process::Abort;
 use std::sync::Wait;
@@ -93,6 +94,10 @@ fn listed(alloc: Global, number: Option<u64>) -> Result<Vec<u64>, Fail> {
     Ok(numbers)
 }
 
+fn file(rt: &impl Abort, alloc: Global, name: &str, text: &str) -> Result<(Name, Vec<u8>), Fail> {
+    Ok(file_of(alloc, name, text)?.expect(rt, name))
+}
+
 // The four files in a shelf, the clock's under this name, where the read with this number fails.
 fn shelf_of(
     rt: &impl Abort,
@@ -101,13 +106,13 @@ fn shelf_of(
     clock: &str,
     fails: Option<u64>,
 ) -> Result<MemShelf, Fail> {
-    let files = [
-        ("a.toml", given.setup),
-        ("a.csv", given.script),
-        (clock, given.clock),
-        ("t.csv", given.table),
-    ];
-    Ok(shelf_with(alloc, &files, listed(alloc, fails)?)?.expect(rt, "four names"))
+    let files = vec![in alloc;
+        file(rt, alloc, "a.toml", given.setup)?,
+        file(rt, alloc, "a.csv", given.script)?,
+        file(rt, alloc, clock, given.clock)?,
+        file(rt, alloc, "t.csv", given.table)?,
+    ]?;
+    Ok(shelf_with(files, listed(alloc, fails)?).expect(rt, "four names"))
 }
 
 fn words_of(alloc: Global, words: &str) -> Result<Vec<String>, Fail> {

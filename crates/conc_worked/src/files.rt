@@ -26,24 +26,21 @@ fn are_distinct(files: &[(Name, Vec<u8>)]) -> bool
     }
 }
 
-/// A shelf of these files, whose reads with these numbers fail; None where a name is no name, or two
-/// files have one.
-pub fn shelf_with(
-    alloc: Global,
-    files: &[(&str, &str)],
-    fails: Vec<u64>,
-) -> Result<Option<MemShelf>, NoMemory> {
-    let mut list = Vec::new(alloc);
-    for (name, text) in files {
-        let name = name.as_bytes().to_vec(alloc)?;
-        if !is_name(&name) {
-            return Ok(None);
-        }
-        list.push((Name::from_vec(name), text.as_bytes().to_vec(alloc)?))?;
+/// A file of a shelf; None where the name is no name.
+pub fn file_of(alloc: Global, name: &str, text: &str) -> Result<Option<(Name, Vec<u8>)>, NoMemory> {
+    let name = name.as_bytes().to_vec(alloc)?;
+    if !is_name(&name) {
+        return Ok(None);
     }
-    Ok(if are_distinct(&list) {
-        Some(MemShelf::new(list, fails))
+    let bytes = text.as_bytes().to_vec(alloc)?;
+    Ok(Some((Name::from_vec(name), bytes)))
+}
+
+/// A shelf of these files, whose reads with these numbers fail; None where two files have one name.
+pub fn shelf_with(files: Vec<(Name, Vec<u8>)>, fails: Vec<u64>) -> Option<MemShelf> {
+    if are_distinct(&files) {
+        Some(MemShelf::new(files, fails))
     } else {
         None
-    })
+    }
 }

@@ -11,7 +11,7 @@ mod plain;
 mod sets;
 
 pub use examples::{Worked, worked_of};
-pub use files::shelf_with;
+pub use files::{file_of, shelf_with};
 pub use lives::LIVES;
 pub use managers::MANAGERS;
 pub use month_end::MONTH_END;
