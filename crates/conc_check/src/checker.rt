@@ -1,18 +1,17 @@
 ghost use Rattle.std.specs.Prelude.{◌≡◌, ◌↔◌, ℕ, ◌≤◌, List, IfOk, IsTrue, MatchOption, length, reverse, Err};
 ghost use Rattle.conc_types.specs.declared.event.Event.{Event};
 ghost use Rattle.conc_law.specs.Law.{Finished, Lawful};
-ghost use Rattle.conc_check.specs.declared.error.CheckFail.TheVariants.{Unlawful as unlawful_at};
+ghost use Rattle.conc_types.specs.declared.error.CheckFail.TheVariants.{Unlawful as unlawful_at};
 ghost use Rattle.conc_check.specs.Findings.{AreFindings, HasRoom};
 ghost use Rattle.conc_check.specs.Positions.{AreLawfulTo, IsFirstBad};
 ghost use Rattle.conc_check.specs.Prepared.{IsPrepared};
 
-use crate::error::CheckFail;
 use crate::findings::Findings;
 use crate::judging::is_at_rest;
 use crate::positions::is_lawful_at;
 use crate::prepared::Prepared;
 use crate::readings::next_reading;
-use conc_types::{Event, Plan, Readings};
+use conc_types::{CheckFail, Event, Plan, Readings};
 use std::alloc::Global;
 
 // The first position at which the event is not lawful, if there is one.

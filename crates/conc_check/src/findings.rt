@@ -1,17 +1,17 @@
-ghost use Rattle.std.specs.Prelude.{◌≡◌, ◌∷◌, ◌+◌, ◌<◌, ◌^◌, [], Bool, IfOk, List, false, length, map, reverse, slice_get};
+ghost use Rattle.std.specs.Prelude.{◌≡◌, ◌∷◌, ◌+◌, ◌<◌, ◌^◌, [], Bool, IfOk, List, false, length, map, reverse};
 ghost use Rattle.conc_types.specs.declared.event.Event.{Event};
 ghost use Rattle.conc_types.specs.declared.facts.Facts.{Facts};
-ghost use Rattle.conc_facts.specs.Advance.{all_after, IsAfter, one_by};
 ghost use Rattle.conc_law.specs.Standing.{no_facts as no_facts_of, standing as standing_of};
-ghost use Rattle.conc_reach.specs.Spans.{AreSpans, LeavesOthers};
+ghost use Rattle.conc_reach.specs.Spans.{AreSpans};
 ghost use Rattle.conc_check.specs.Findings.{AreFindings, earlier_after as earlier_after_of, HasRoom, HasTaken, ticks_after as ticks_after_of};
 ghost use Rattle.conc_check.specs.Prepared.{IsPrepared};
 
 use crate::live::{note_live, room_for_live};
 use crate::prepared::Prepared;
-use conc_facts::{begin, facts_after, mark_done, named_facts, tick_of, used_after};
-use conc_reach::{Span, Spans};
-use conc_types::{Event, Facts, Moment, NoMemory, Plan, RequestId, Seq, StageSet, Standing};
+use conc_facts::begin;
+use conc_reach::Spans;
+use conc_replay::take_in;
+use conc_types::{Event, Facts, Moment, NoMemory, Plan, RequestId, Seq, Standing};
 use std::alloc::Global;
 
 /// What is read of the events before a position.
@@ -28,24 +28,11 @@ pub(crate) struct Findings {
 
 // ---- no events
 
-const NO_FACTS: Facts = Facts {
-    entered: false,
-    held: false,
-    opened: false,
-    stage: None,
-    begun: StageSet::EMPTY,
-    let_out: false,
-    place: None,
-    started: false,
-    terminated: false,
-    outcome: None,
-};
-
 fn clear_facts(facts: &mut Seq<Facts>)
     ensures { facts.new ≡ map (λ (own : Facts). no_facts_of) facts.old }
 {
     for i in 0..facts.len() {
-        facts.set(i, NO_FACTS);
+        facts.set(i, Facts::NONE);
     }
 }
 
@@ -58,39 +45,6 @@ fn clear_flags(flags: &mut Seq<bool>)
 }
 
 // ---- one more event
-
-// Makes the facts of the request at an index what they are after an event.
-fn step_at(plan: &Plan, named: Facts, e: Event, facts: &mut Seq<Facts>, i: usize)
-    ensures { facts.new ≡ one_by plan.now named e facts.old i (slice_get plan.now.requests i) (slice_get facts.old i) }
-{
-    if let Some(r) = plan.requests.as_slice().get(i) {
-        if let Some(own) = facts.as_slice().get(i).copied() {
-            facts.set(i, facts_after(plan, named, e, r, own));
-        }
-    }
-}
-
-// Makes the facts of all requests what they are after an event that changes those within a span alone.
-fn step_within(plan: &Plan, named: Facts, e: Event, facts: &mut Seq<Facts>, span: Span)
-    requires { LeavesOthers plan.now e span }
-    ensures { facts.new ≡ all_after plan.now named e plan.now.requests facts.old }
-{
-    for i in span.from..span.to {
-        step_at(plan, named, e, facts, i);
-    }
-}
-
-fn step(plan: &Plan, spans: &Spans, standing: &mut Standing, e: Event)
-    requires { AreSpans plan.now spans.now }
-    ensures { IsAfter plan.now standing.old standing.new e }
-{
-    let named = named_facts(plan, standing.facts.as_slice(), e);
-    step_within(plan, named, e, &mut standing.facts, spans.reach(plan, e));
-    mark_done(&mut standing.done, e);
-    standing.used = used_after(standing.used, e);
-    standing.time = tick_of(e).or(standing.time);
-    standing.empty = false;
-}
 
 // The last tick of the earlier lives, where the last tick of all came at this moment.
 fn earlier_after(now: Option<Moment>, earlier: Option<Moment>, e: Event) -> Option<Moment>
@@ -150,7 +104,7 @@ impl Findings {
     {
         self.earlier = earlier_after(self.standing.time, self.earlier, e);
         self.ticks = ticks_after(self.ticks, e);
-        step(plan, spans, &mut self.standing, e);
+        take_in(plan, spans, &mut self.standing, e);
     }
 
     /// Reads these events, from the first one on, and nothing else. It takes no memory.

@@ -1,7 +1,7 @@
 ghost use Rattle.std.specs.Prelude.{◌≡◌, IsFalse, IsTrue, is_some};
-ghost use Rattle.std.specs.List.{find, list_any};
+ghost use Rattle.std.specs.List.{find};
 ghost use Rattle.std.specs.Option.{option_copied};
-ghost use Rattle.conc_law.specs.Next.{blocks as blocks_of, is_free as is_free_of};
+ghost use Rattle.conc_law.specs.Next.{is_free as is_free_of};
 ghost use Rattle.conc_law.specs.Standing.{facts_at, is_live as is_live_of};
 ghost use Rattle.conc_law.specs.Words.{Has};
 ghost use Rattle.conc_classes.specs.Classes.{AreClasses, rivals_at};
@@ -9,8 +9,7 @@ ghost use Rattle.conc_check.specs.Live.{AreLive, noted as noted_of, rival_noted 
 
 use crate::live::noted;
 use conc_classes::Classes;
-use conc_decide::{facts_at, is_live};
-use conc_rules::are_exclusive;
+use conc_decide::blocks;
 use conc_types::{Plan, Req, RequestId, Seq, Standing};
 
 fn first_noted<'a>(
@@ -37,22 +36,6 @@ fn rival_noted(classes: &Classes, live: &Seq<Option<RequestId>>, class: u32) -> 
     }
 }
 
-#[tactic(auto, unfolding(conc_law::specs::Next::blocks))]
-fn blocks(plan: &Plan, standing: &Standing, r: &Req, q: &Req) -> bool
-    ensures { result ≡ blocks_of plan.now standing.now r.now q.now }
-{
-    is_live(facts_at(standing, q)) && are_exclusive(plan, q, r)
-}
-
-fn is_blocked(plan: &Plan, standing: &Standing, r: &Req) -> bool
-    ensures { result ≡ list_any (blocks_of plan.now standing.now r.now) plan.now.requests }
-{
-    plan.requests
-        .as_slice()
-        .iter()
-        .any(|q| blocks(plan, standing, r, q))
-}
-
 // Whether the request with this number is live and excludes r.
 fn blocks_by_id(plan: &Plan, standing: &Standing, r: &Req, id: RequestId) -> bool
     ensures { IsTrue result → IsFalse (is_free_of plan.now standing.now r.now) }
@@ -68,10 +51,7 @@ fn blocks_by_id(plan: &Plan, standing: &Standing, r: &Req, id: RequestId) -> boo
 fn is_free_of_all(plan: &Plan, standing: &Standing, r: &Req, first: RequestId) -> bool
     ensures { result ≡ is_free_of plan.now standing.now r.now }
 {
-    if blocks_by_id(plan, standing, r, first) {
-        return false;
-    }
-    !is_blocked(plan, standing, r)
+    !blocks_by_id(plan, standing, r, first) && conc_decide::is_free(plan, standing, r)
 }
 
 /// Whether no live request excludes r, which is none itself. It looks at all requests only where its

@@ -1,47 +1,19 @@
 ghost use Rattle.std.specs.Prelude.{◌≡◌, ◌+◌, ◌<◌, ◌^◌, map};
 ghost use Rattle.std.specs.List.{list_any, range_with_len};
-ghost use Rattle.conc_types.specs.Plans.{request as request_of};
-ghost use Rattle.conc_types.specs.Words.{some_and};
-ghost use Rattle.conc_law.specs.Kinds.{is_resume as is_resume_of};
-ghost use Rattle.conc_law.specs.Next.{is_allowed as is_allowed_of, is_at_rest as is_at_rest_of, may_come as may_come_of, may_end as may_end_of, may_start as may_start_of, may_start_somewhere, may_take as may_take_of, may_tick as may_tick_of, runs_somewhere as runs_somewhere_of};
-ghost use Rattle.conc_law.specs.Places.{is_usable as is_usable_of};
+ghost use Rattle.conc_law.specs.Next.{is_allowed as is_allowed_of, is_at_rest as is_at_rest_of, may_come as may_come_of, may_start as may_start_of, may_start_somewhere, may_take as may_take_of, may_tick as may_tick_of};
 ghost use Rattle.conc_check.specs.Live.{AreLive};
 ghost use Rattle.conc_check.specs.Prepared.{IsPrepared};
 
 use crate::forcing::forced;
 use crate::prepared::Prepared;
-use conc_decide::{facts_at, is_not_earlier, is_same_event, may_end, may_start};
-use conc_time::{is_usable, place_count};
-use conc_types::{
-    Event, Extent, Moment, Outcome, PlaceId, Plan, Reading, Req, RequestId, Seq, Standing,
+use conc_decide::{
+    is_not_earlier, is_resume, is_same_event, is_usable_now, may_end_by_id, may_start,
+    may_start_by_id, one_runs,
 };
+use conc_time::place_count;
+use conc_types::{Event, Moment, PlaceId, Plan, Reading, Req, RequestId, Seq, Standing};
 
 // ---- rest
-
-#[tactic(auto, unfolding(conc_law::specs::Next::runs_somewhere))]
-fn runs_somewhere(standing: &Standing, r: &Req) -> bool
-    ensures { result ≡ runs_somewhere_of standing.now r.now }
-{
-    facts_at(standing, r).place.is_some()
-}
-
-fn one_runs(plan: &Plan, standing: &Standing) -> bool
-    ensures { result ≡ list_any (runs_somewhere_of standing.now) plan.now.requests }
-{
-    plan.requests
-        .as_slice()
-        .iter()
-        .any(|r| runs_somewhere(standing, r))
-}
-
-fn is_usable_now(plan: &Plan, standing: &Standing, place: PlaceId) -> bool
-    ensures { result ≡ some_and (λ t. is_usable_of plan.now t place) standing.now.time }
-{
-    match standing.time {
-        Some(t) => is_usable(plan, t, place),
-        None => false,
-    }
-}
 
 fn one_may_start(plan: &Plan, standing: &Standing, place: PlaceId) -> bool
     ensures { result ≡ list_any (λ r. may_start_of plan.now standing.now r place) plan.now.requests }
@@ -131,30 +103,6 @@ fn may_tick(
     }
 }
 
-fn may_start_by_id(plan: &Plan, standing: &Standing, id: RequestId, place: PlaceId) -> bool
-    ensures { result ≡ some_and (λ q. may_start_of plan.now standing.now q place) (request_of plan.now id) }
-{
-    match plan.request(id) {
-        Some(r) => may_start(plan, standing, r, place),
-        None => false,
-    }
-}
-
-fn may_end_by_id(
-    plan: &Plan,
-    standing: &Standing,
-    id: RequestId,
-    outcome: Outcome,
-    extent: Option<Extent>,
-) -> bool
-    ensures { result ≡ some_and (λ q. may_end_of standing.now q outcome extent) (request_of plan.now id) }
-{
-    match plan.request(id) {
-        Some(r) => may_end(standing, r, outcome, extent),
-        None => false,
-    }
-}
-
 #[tactic(auto, unfolding(conc_law::specs::Next::is_allowed))]
 fn is_allowed(
     plan: &Plan,
@@ -178,12 +126,6 @@ fn is_allowed(
         Event::Tick { moment } => may_tick(plan, prepared, standing, live, next, moment),
         _ => false,
     }
-}
-
-pub(crate) fn is_resume(e: Event) -> bool
-    ensures { result ≡ is_resume_of e }
-{
-    matches!(e, Event::Resume)
 }
 
 /// Whether the event may come next. `next` is the next reading of the last life, if one is left; it is

@@ -2,11 +2,11 @@ ghost use Rattle.std.specs.Prelude.{◌≡◌, false, unwrap_or};
 ghost use Rattle.std.specs.Bool.{then_some};
 ghost use Rattle.std.specs.Option.{option_and_then, option_map};
 ghost use Rattle.conc_types.specs.Words.{numbered};
-ghost use Rattle.conc_law.specs.Next.{can_run, forced_let as forced_let_of, let_event as let_event_of, may_let as may_let_of};
+ghost use Rattle.conc_law.specs.Next.{can_run, forced_let as forced_let_of, is_ready as is_ready_of, let_event as let_event_of, may_let as may_let_of};
 ghost use Rattle.conc_law.specs.Words.{Has};
 ghost use Rattle.conc_queue.specs.Least.{least, lesser};
 ghost use Rattle.conc_queue.specs.Turns.{request_at_turn as request_at_turn_of, turn as turn_of, turns_of};
-ghost use Rattle.conc_check.specs.Lets.{comes_before as comes_before_of, is_ready as is_ready_of};
+ghost use Rattle.conc_check.specs.Lets.{comes_before as comes_before_of};
 ghost use Rattle.conc_check.specs.Live.{AreLive};
 ghost use Rattle.conc_check.specs.Prepared.{IsPrepared};
 
@@ -39,7 +39,7 @@ fn is_runnable(_plan: &Plan, prepared: &Prepared, r: &Req) -> bool
 }
 
 // Whether r can be let out, or opened, unless a live request excludes it.
-#[tactic(auto, unfolding(crate::specs::Lets::is_ready))]
+#[tactic(auto, unfolding(conc_law::specs::Next::is_ready))]
 fn is_ready(plan: &Plan, prepared: &Prepared, standing: &Standing, r: &Req) -> bool
     requires prepared { IsPrepared plan.now prepared.now }
     requires own { Has plan.now.requests r.now }

@@ -3,7 +3,6 @@
 #![tactic(auto)]
 
 mod checker;
-mod error;
 mod findings;
 mod forcing;
 mod free;
@@ -16,5 +15,4 @@ mod prepared;
 mod readings;
 
 pub use checker::check;
-pub use error::CheckFail;
 pub use laws::lawful_at_each_position;

@@ -9,9 +9,10 @@ ghost use Rattle.conc_check.specs.Positions.{is_lawful_at as is_lawful_at_of, kn
 ghost use Rattle.conc_check.specs.Prepared.{IsPrepared};
 
 use crate::findings::Findings;
-use crate::judging::{is_resume, may_come};
+use crate::judging::may_come;
 use crate::prepared::Prepared;
 use crate::readings::next_reading;
+use conc_decide::is_resume;
 use conc_types::{Event, Plan, Reading, Readings};
 
 fn has_resume(events: &[Event]) -> bool

@@ -5,7 +5,7 @@ ghost use Rattle.conc_classes.specs.Classes.{AreClasses, class_at, rivals_at, se
 use crate::rivals::all_rows;
 use crate::seating::seat_all;
 use crate::spares::all_spares;
-use conc_types::{NoMemory, Plan, Req, Seq};
+use conc_types::{NoMemory, Plan, Req, Seq, numbered};
 use std::alloc::Global;
 
 /// The classes of a plan's requests. A class has the requests of one item, whose parents have one
@@ -60,12 +60,7 @@ impl Classes {
     pub fn class(&self, r: &Req) -> u32
         ensures { result ≡ class_at self.now r.now }
     {
-        if r.number.number == 0 {
-            return 0;
-        }
-        self.classes
-            .as_slice()
-            .get(r.number.number as usize - 1)
+        numbered(self.classes.as_slice(), r.number.number)
             .copied()
             .unwrap_or(0)
     }
@@ -75,12 +70,7 @@ impl Classes {
     pub fn seat(&self, r: &Req) -> u32
         ensures { result ≡ seat_at self.now r.now }
     {
-        if r.number.number == 0 {
-            return 0;
-        }
-        self.seats
-            .as_slice()
-            .get(r.number.number as usize - 1)
+        numbered(self.seats.as_slice(), r.number.number)
             .copied()
             .unwrap_or(0)
     }

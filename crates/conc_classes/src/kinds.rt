@@ -1,9 +1,7 @@
 ghost use Rattle.std.specs.Prelude.{◌≡◌, Some, slice_get};
-ghost use Rattle.conc_law.specs.Plans.{parent_item as parent_item_of};
-ghost use Rattle.conc_law.specs.Words.{item_eq};
 ghost use Rattle.conc_classes.specs.Kinds.{domain_at, kind_at, kind_eq, kind_of, one_domain as one_domain_of, parent_eq};
 
-use conc_rules::parent;
+use conc_rules::{is_same_item, parent_item};
 use conc_types::{Item, Plan, Req};
 
 /// The first request of a class: what the exclusion of the class depends on.
@@ -14,16 +12,6 @@ pub(crate) struct Head {
     pub parent: Option<Item>,
     /// Its index among the plan's requests, which has the domain.
     pub first: u32,
-}
-
-pub(crate) fn is_same_item(a: Item, b: Item) -> bool
-    ensures { result ≡ item_eq a b }
-{
-    match (a, b) {
-        (Item::Program(x), Item::Program(y)) => x == y,
-        (Item::Set(x), Item::Set(y)) => x == y,
-        _ => false,
-    }
 }
 
 fn is_same_parent(a: Option<Item>, b: Option<Item>) -> bool
@@ -60,16 +48,6 @@ pub(crate) fn are_one_kind(plan: &Plan, a: Head, b: Head) -> bool
     is_same_item(a.item, b.item)
         && is_same_parent(a.parent, b.parent)
         && are_in_one_domain(plan, a, b)
-}
-
-#[tactic(auto, unfolding(conc_law::specs::Plans::parent_item))]
-fn parent_item(plan: &Plan, r: &Req) -> Option<Item>
-    ensures { result ≡ parent_item_of plan.now r.now }
-{
-    match parent(plan, r) {
-        Some(set) => Some(set.item),
-        None => None,
-    }
 }
 
 // The head of a class of which the request, at this index, is the first.

@@ -1,11 +1,11 @@
 ghost use Rattle.std.specs.Prelude.{◌≡◌, ◌≤◌, ◌&&◌, IfOk, length};
 ghost use Rattle.std.specs.List.{filter, list_any};
-ghost use Rattle.conc_law.specs.Exclusion.{runs_alone as runs_alone_of};
 ghost use Rattle.conc_classes.specs.Kinds.{covers_item, owns as owns_of, reaches as reaches_of};
 ghost use Rattle.conc_classes.specs.Rivals.{IsClaim, claimed_by, claims as claims_of, either_claims as either_claims_of, heads_clash as heads_clash_of, row_of, rows_of};
 
-use crate::kinds::{Head, are_in_one_domain, is_same_item};
-use conc_types::{Entry, Item, NoMemory, Plan, Reach, Scope, Seq, Setup};
+use crate::kinds::{Head, are_in_one_domain};
+use conc_rules::{is_same_item, runs_alone};
+use conc_types::{Entry, Item, NoMemory, Plan, Reach, Scope, Seq};
 use std::alloc::Global;
 
 // All that excludes the requests of a class.
@@ -45,19 +45,6 @@ fn reaches(same_domain: bool, entry: Entry) -> bool
     ensures { result ≡ reaches_of same_domain entry }
 {
     matches!(entry.reach, Reach::Global) || same_domain
-}
-
-#[tactic(auto, unfolding(conc_law::specs::Exclusion::runs_alone))]
-fn runs_alone(setup: &Setup, item: Item) -> bool
-    ensures { result ≡ runs_alone_of setup.now item }
-{
-    match item {
-        Item::Program(n) => match setup.programs.as_slice().get(n as usize) {
-            Some(program) => program.run_alone,
-            None => false,
-        },
-        Item::Set(_) => false,
-    }
 }
 
 fn entries_of(alloc: Global, entries: &[Entry], item: Item) -> Result<Vec<Entry>, NoMemory>

@@ -1,25 +1,15 @@
 ghost use Rattle.std.specs.Prelude.{◌≡◌, [], IfOk, slice_get, slice_set, true, unwrap_or};
-ghost use Rattle.conc_types.specs.Words.{numbered};
 ghost use Rattle.conc_classes.specs.Spares.{AreSpared, IsSpare, are_row_rivals, parent_class as parent_class_of, rival_parent as rival_parent_of};
 
-use conc_types::{NoMemory, Plan, Req, RequestId, Seq};
+use conc_types::{NoMemory, Plan, Req, RequestId, Seq, numbered};
 use std::alloc::Global;
-
-fn class_numbered(classes: &[u32], id: RequestId) -> Option<u32>
-    ensures { result ≡ numbered classes.now id.number }
-{
-    if id.number == 0 {
-        return None;
-    }
-    classes.get(id.number as usize - 1).copied()
-}
 
 #[tactic(auto, unfolding(crate::specs::Spares::parent_class))]
 fn parent_class(classes: &[u32], r: &Req) -> Option<u32>
     ensures { result ≡ parent_class_of classes.now r.now }
 {
     match r.parent {
-        Some(id) => class_numbered(classes, id),
+        Some(id) => numbered(classes, id.number).copied(),
         None => None,
     }
 }

@@ -4,8 +4,6 @@
 mod clock;
 mod memory;
 mod system;
-#[cfg(test)]
-mod tests;
 
 pub use clock::Clock;
 pub use memory::MemClock;

@@ -1,8 +1,8 @@
 ghost use Rattle.std.specs.Prelude.{◌≡◌, ◌&&◌, ◌+◌, ◌<◌, ◌^◌, not, length, unwrap_or, false};
 ghost use Rattle.std.specs.List.{enumerate_from, find, list_any};
 ghost use Rattle.std.specs.Option.{option_copied, option_map};
-ghost use Rattle.conc_types.specs.Words.{numbered};
-ghost use Rattle.conc_law.specs.Next.{blocks as blocks_of, forced as forced_of, forced_command as forced_command_of, forced_interrupt as forced_interrupt_of, forced_let as forced_let_of, forced_step as forced_step_of, has_step as has_step_of, is_due as is_due_of, is_free as is_free_of, is_left_running as is_left_running_of, let_event as let_event_of, may_let as may_let_of};
+ghost use Rattle.conc_types.specs.Words.{numbered as numbered_of};
+ghost use Rattle.conc_law.specs.Next.{blocks as blocks_of, forced as forced_of, forced_command as forced_command_of, forced_interrupt as forced_interrupt_of, forced_let as forced_let_of, forced_step as forced_step_of, has_step as has_step_of, is_due as is_due_of, is_free as is_free_of, is_left_running as is_left_running_of, is_ready as is_ready_of, let_event as let_event_of, may_let as may_let_of};
 ghost use Rattle.conc_law.specs.Plans.{precedes as precedes_of};
 ghost use Rattle.conc_law.specs.Words.{first_by};
 ghost use Rattle.conc_decide.specs.Members.{AreMembers};
@@ -10,12 +10,13 @@ ghost use Rattle.conc_decide.specs.Members.{AreMembers};
 use crate::lookup::{facts_at, has_come, is_completed, is_live, is_running, is_waiting};
 use crate::stages::set_step;
 use conc_rules::{are_exclusive, can_run, is_set, precedes};
-use conc_types::{Event, Order, Plan, Req, Standing};
+use conc_types::{Event, Order, Plan, Req, Standing, numbered};
 
 // ---- interrupts
 
+/// Whether r ran at the stop of the system: it runs, and was not started since.
 #[tactic(auto, unfolding(conc_law::specs::Next::is_left_running))]
-fn is_left_running(standing: &Standing, r: &Req) -> bool
+pub fn is_left_running(standing: &Standing, r: &Req) -> bool
     ensures { result ≡ is_left_running_of standing.now r.now }
 {
     let facts = facts_at(standing, r);
@@ -31,8 +32,9 @@ fn first_left_running<'a>(plan: &'a Plan, standing: &Standing) -> Option<&'a Req
         .find(|r| is_left_running(standing, r))
 }
 
+/// The interrupt that is forced, if one is due: that of the first request that ran at the stop.
 #[tactic(auto, unfolding(conc_law::specs::Next::forced_interrupt))]
-fn forced_interrupt(plan: &Plan, standing: &Standing) -> Option<Event>
+pub fn forced_interrupt(plan: &Plan, standing: &Standing) -> Option<Event>
     ensures { result ≡ forced_interrupt_of plan.now standing.now }
 {
     match first_left_running(plan, standing) {
@@ -44,15 +46,9 @@ fn forced_interrupt(plan: &Plan, standing: &Standing) -> Option<Event>
 // ---- commands
 
 fn is_done(standing: &Standing, number: u32) -> bool
-    ensures { result ≡ unwrap_or (numbered standing.now.done number) false }
+    ensures { result ≡ unwrap_or (numbered_of standing.now.done number) false }
 {
-    if number == 0 {
-        return false;
-    }
-    standing
-        .done
-        .as_slice()
-        .get(number as usize - 1)
+    numbered(standing.done.as_slice(), number)
         .copied()
         .unwrap_or(false)
 }
@@ -77,8 +73,9 @@ fn first_due(standing: &Standing, orders: &[Order], number: u32) -> Option<u32>
     }
 }
 
+/// The command that is forced, if one is due.
 #[tactic(auto, unfolding(conc_law::specs::Next::forced_command))]
-fn forced_command(plan: &Plan, standing: &Standing) -> Option<Event>
+pub fn forced_command(plan: &Plan, standing: &Standing) -> Option<Event>
     ensures { result ≡ forced_command_of plan.now standing.now }
 {
     match first_due(standing, plan.script.commands.as_slice(), 1) {
@@ -121,8 +118,9 @@ fn forced_step(plan: &Plan, standing: &Standing) -> Option<Event>
 
 // ---- lets
 
+/// Whether q is live and excludes r.
 #[tactic(auto, unfolding(conc_law::specs::Next::blocks))]
-fn blocks(plan: &Plan, standing: &Standing, r: &Req, q: &Req) -> bool
+pub fn blocks(plan: &Plan, standing: &Standing, r: &Req, q: &Req) -> bool
     ensures { result ≡ blocks_of plan.now standing.now r.now q.now }
 {
     is_live(facts_at(standing, q)) && are_exclusive(plan, q, r)
@@ -137,16 +135,18 @@ fn is_blocked(plan: &Plan, standing: &Standing, r: &Req) -> bool
         .any(|q| blocks(plan, standing, r, q))
 }
 
+/// Whether no live request excludes r.
 #[tactic(auto, unfolding(conc_law::specs::Next::is_free))]
-fn is_free(plan: &Plan, standing: &Standing, r: &Req) -> bool
+pub fn is_free(plan: &Plan, standing: &Standing, r: &Req) -> bool
     ensures { result ≡ is_free_of plan.now standing.now r.now }
 {
     !is_blocked(plan, standing, r)
 }
 
-#[tactic(auto, unfolding(conc_law::specs::Next::may_let))]
-fn may_let(plan: &Plan, standing: &Standing, r: &Req) -> bool
-    ensures { result ≡ may_let_of plan.now standing.now r.now }
+/// Whether r can be let out, or opened, unless a live request excludes it.
+#[tactic(auto, unfolding(conc_law::specs::Next::is_ready))]
+pub fn is_ready(plan: &Plan, standing: &Standing, r: &Req) -> bool
+    ensures { result ≡ is_ready_of plan.now standing.now r.now }
 {
     let facts = facts_at(standing, r);
     facts.entered
@@ -156,7 +156,13 @@ fn may_let(plan: &Plan, standing: &Standing, r: &Req) -> bool
         && has_come(standing.time, r.start)
         && can_run(plan, r)
         && !is_waiting(plan, standing, r)
-        && is_free(plan, standing, r)
+}
+
+#[tactic(auto, unfolding(conc_law::specs::Next::may_let))]
+fn may_let(plan: &Plan, standing: &Standing, r: &Req) -> bool
+    ensures { result ≡ may_let_of plan.now standing.now r.now }
+{
+    is_ready(plan, standing, r) && is_free(plan, standing, r)
 }
 
 fn stands_before(plan: &Plan, standing: &Standing, r: &Req, q: &Req) -> bool

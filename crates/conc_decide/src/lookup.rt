@@ -1,42 +1,17 @@
 ghost use Rattle.std.specs.Prelude.{◌≡◌};
-ghost use Rattle.conc_law.specs.Standing.{facts_at as facts_at_of, has_come as has_come_of, is_completed as is_completed_of, is_live as is_live_of, is_not_earlier as is_not_earlier_of, is_running as is_running_of, is_stopping as is_stopping_of, is_waiting as is_waiting_of, no_facts as no_facts_of};
+ghost use Rattle.conc_law.specs.Standing.{facts_at as facts_at_of, has_come as has_come_of, is_completed as is_completed_of, is_live as is_live_of, is_not_earlier as is_not_earlier_of, is_running as is_running_of, is_stopping as is_stopping_of, is_waiting as is_waiting_of};
 
 use conc_rules::parent;
-use conc_types::{Facts, Moment, Plan, Req, StageSet, Standing};
-
-// The facts of a request of which no event speaks.
-fn no_facts() -> Facts
-    ensures { result ≡ no_facts_of }
-{
-    Facts {
-        entered: false,
-        held: false,
-        opened: false,
-        stage: None,
-        begun: StageSet::EMPTY,
-        let_out: false,
-        place: None,
-        started: false,
-        terminated: false,
-        outcome: None,
-    }
-}
+use conc_types::{Facts, Moment, Plan, Req, Standing, numbered};
 
 /// The facts of a request.
 #[tactic(auto, unfolding(conc_law::specs::Standing::facts_at))]
 pub fn facts_at(standing: &Standing, r: &Req) -> Facts
     ensures { result ≡ facts_at_of standing.now r.now }
 {
-    if r.number.number == 0 {
-        return no_facts();
-    }
-    let index = r.number.number as usize - 1;
-    standing
-        .facts
-        .as_slice()
-        .get(index)
+    numbered(standing.facts.as_slice(), r.number.number)
         .copied()
-        .unwrap_or(no_facts())
+        .unwrap_or(Facts::NONE)
 }
 
 pub(crate) fn is_running(facts: Facts) -> bool

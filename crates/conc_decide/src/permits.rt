@@ -42,7 +42,8 @@ fn is_vacant(plan: &Plan, standing: &Standing, place: PlaceId) -> bool
     !is_taken(plan, standing, place)
 }
 
-fn is_usable_now(plan: &Plan, standing: &Standing, place: PlaceId) -> bool
+/// Whether the place is usable at the last tick.
+pub fn is_usable_now(plan: &Plan, standing: &Standing, place: PlaceId) -> bool
     ensures { result ≡ some_and (λ t. is_usable_of plan.now t place) standing.now.time }
 {
     match standing.time {
@@ -121,14 +122,16 @@ pub fn may_end(standing: &Standing, r: &Req, outcome: Outcome, extent: Option<Ex
 
 // ---- rest and ticks
 
+/// Whether r runs.
 #[tactic(auto, unfolding(conc_law::specs::Next::runs_somewhere))]
-pub(crate) fn runs_somewhere(standing: &Standing, r: &Req) -> bool
+pub fn runs_somewhere(standing: &Standing, r: &Req) -> bool
     ensures { result ≡ runs_somewhere_of standing.now r.now }
 {
     is_running(facts_at(standing, r))
 }
 
-fn one_runs(plan: &Plan, standing: &Standing) -> bool
+/// Whether a request runs.
+pub fn one_runs(plan: &Plan, standing: &Standing) -> bool
     ensures { result ≡ list_any (runs_somewhere_of standing.now) plan.now.requests }
 {
     plan.requests
@@ -177,7 +180,8 @@ fn may_tick(plan: &Plan, standing: &Standing, next: Option<Option<Reading>>, t: 
 
 // ---- any event
 
-fn may_start_by_id(plan: &Plan, standing: &Standing, id: RequestId, place: PlaceId) -> bool
+/// Whether the plan has this request, and it may start at the place.
+pub fn may_start_by_id(plan: &Plan, standing: &Standing, id: RequestId, place: PlaceId) -> bool
     ensures { result ≡ some_and (λ q. may_start_of plan.now standing.now q place) (request_of plan.now id) }
 {
     match plan.request(id) {
@@ -186,7 +190,8 @@ fn may_start_by_id(plan: &Plan, standing: &Standing, id: RequestId, place: Place
     }
 }
 
-fn may_end_by_id(
+/// Whether the plan has this request, and it may end so.
+pub fn may_end_by_id(
     plan: &Plan,
     standing: &Standing,
     id: RequestId,
@@ -217,7 +222,8 @@ fn is_allowed(plan: &Plan, standing: &Standing, next: Option<Option<Reading>>, e
     }
 }
 
-fn is_resume(e: Event) -> bool
+/// Whether the event is a resume.
+pub fn is_resume(e: Event) -> bool
     ensures { result ≡ is_resume_of e }
 {
     matches!(e, Event::Resume)

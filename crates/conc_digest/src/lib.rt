@@ -2,7 +2,5 @@
 #![tactic(auto)]
 
 mod input;
-#[cfg(test)]
-mod tests;
 
 pub use input::InputDigest;

@@ -173,14 +173,17 @@ impl<F: FileExt + OpenFile> FileDisk<F> {
         Ok(())
     }
 
-    /// Counts a fault.
-    fn fault(&mut self, error: Failed) -> Failed
+    /// Counts a fault where a call ended in one.
+    fn counted<T>(&mut self, done: Result<T, Failed>) -> Result<T, Failed>
+        ensures same { result ≡ done }
         ensures broken { self.new.broken ≡ self.old.broken }
         ensures later { self.old.faults ≤ self.new.faults }
-        ensures fault { Rose self.old.faults self.new.faults }
+        ensures failed { OnErr result (Rose self.old.faults self.new.faults) }
     {
-        self.faults = self.faults.saturating_add(1);
-        error
+        if done.is_err() {
+            self.faults = self.faults.saturating_add(1);
+        }
+        done
     }
 }
 
@@ -208,10 +211,7 @@ impl<F: FileExt + OpenFile> Disk for FileDisk<F> {
         } else {
             length_of(&self.file)
         };
-        match done {
-            Ok(len) => Ok(len),
-            Err(error) => Err(self.fault(error)),
-        }
+        self.counted(done)
     }
 
     fn read(&mut self, at: u64, into: &mut [u8]) -> Result<(), Failed>
@@ -228,10 +228,7 @@ impl<F: FileExt + OpenFile> Disk for FileDisk<F> {
         } else {
             read_piece(&self.file, at, into)
         };
-        match done {
-            Ok(()) => Ok(()),
-            Err(error) => Err(self.fault(error)),
-        }
+        self.counted(done)
     }
 
     fn write_at(&mut self, at: u64, bytes: &[u8]) -> Result<(), Failed>
@@ -249,10 +246,7 @@ impl<F: FileExt + OpenFile> Disk for FileDisk<F> {
         } else {
             self.write_piece(at, bytes)
         };
-        match done {
-            Ok(()) => Ok(()),
-            Err(error) => Err(self.fault(error)),
-        }
+        self.counted(done)
     }
 
     fn cut(&mut self, len: u64) -> Result<(), Failed>
@@ -270,10 +264,7 @@ impl<F: FileExt + OpenFile> Disk for FileDisk<F> {
         } else {
             self.cut_to(len)
         };
-        match done {
-            Ok(()) => Ok(()),
-            Err(error) => Err(self.fault(error)),
-        }
+        self.counted(done)
     }
 
     fn sync(&mut self) -> Result<(), Failed>
@@ -289,12 +280,7 @@ impl<F: FileExt + OpenFile> Disk for FileDisk<F> {
         } else {
             sync_whole(&self.file)
         };
-        match done {
-            Ok(()) => Ok(()),
-            Err(error) => {
-                self.broken = true;
-                Err(self.fault(error))
-            }
-        }
+        self.broken = done.is_err();
+        self.counted(done)
     }
 }

@@ -6,8 +6,6 @@ mod disk;
 mod file;
 mod memory;
 mod tear;
-#[cfg(test)]
-mod tests;
 mod trace;
 
 pub use disk::Disk;

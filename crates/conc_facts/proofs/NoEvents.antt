@@ -10,18 +10,9 @@ use Rattle.conc_law.specs.Facts.{completion, current_stage, facts_of, is_entered
 use Rattle.conc_law.specs.Past.{last_life}
 use Rattle.conc_law.specs.Standing.{is_done, no_facts, now, standing, used}
 use Rattle.conc_law.specs.Words.{is_set}
+use Rattle.conc_law.proofs.FirstEvent.{facts_of-none}
 
--- nothing holds together with what does not hold
-and-no : (b : Bool) → (b && false) ≡ false
-and-no true = refl
-and-no false = refl
-
--- no event speaks of a request
-facts_of-none : (plan : Plan) (r : Req) → facts_of plan [] r ≡ no_facts
-unfolding facts_of is_entered is_held is_open current_stage stages_begun is_let running_place was_started was_terminated completion last_life
-facts_of-none plan r = rw (and-no (is_set r.item)) refl
-
--- so all have no facts
+-- no event speaks of a request, so all have no facts
 map-no_facts : (plan : Plan) (rs : List Req) → map (λ (r : Req). no_facts) rs ≡ map (facts_of plan []) rs
 map-no_facts plan [] = refl
 map-no_facts plan (r ∷ rs) =

@@ -3,26 +3,8 @@ ghost use Rattle.conc_types.specs.declared.script.Order.{Order};
 ghost use Rattle.conc_law.specs.Facts.{facts_of};
 ghost use Rattle.conc_law.specs.Standing.{no_facts as no_facts_of, standing};
 
-use conc_types::{Facts, NoMemory, Order, Plan, Req, Seq, StageSet, Standing};
+use conc_types::{Facts, NoMemory, Order, Plan, Req, Seq, Standing};
 use std::alloc::Global;
-
-// The facts of a request of which no event speaks.
-pub(crate) fn no_facts() -> Facts
-    ensures { result ≡ no_facts_of }
-{
-    Facts {
-        entered: false,
-        held: false,
-        opened: false,
-        stage: None,
-        begun: StageSet::EMPTY,
-        let_out: false,
-        place: None,
-        started: false,
-        terminated: false,
-        outcome: None,
-    }
-}
 
 fn all_facts(alloc: Global, requests: &[Req]) -> Result<Seq<Facts>, NoMemory>
     ensures { IfOk result (λ all. all ≡ map (λ (r : Req). no_facts_of) requests.now) }
@@ -30,7 +12,7 @@ fn all_facts(alloc: Global, requests: &[Req]) -> Result<Seq<Facts>, NoMemory>
     let mut all = Vec::with_capacity(alloc, requests.len())?;
     for r in requests {
         let _r = r;
-        all.push(no_facts())?;
+        all.push(Facts::NONE)?;
     }
     Ok(Seq::from_vec(all))
 }

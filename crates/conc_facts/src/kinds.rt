@@ -3,7 +3,7 @@ ghost use Rattle.std.specs.Option.{option_copied};
 ghost use Rattle.conc_types.specs.Words.{some_and};
 ghost use Rattle.conc_law.specs.Kinds.{act_of, closes as closes_of, extent_length as extent_length_of, is_cancel, is_command as is_command_of, is_hold, is_resume as is_resume_of, is_terminate, is_unhold, lets as lets_of, opens as opens_of, stage_begun_by as stage_begun_by_of, start_place as start_place_of, starts as starts_of, stops as stops_of, tick_of as tick_of_of};
 
-use conc_types::{Act, Event, Moment, PlaceId, Plan, RequestId};
+use conc_types::{Act, Event, Moment, PlaceId, Plan, RequestId, numbered};
 
 pub(crate) fn is_resume(e: Event) -> bool
     ensures { result ≡ is_resume_of e }
@@ -113,15 +113,10 @@ pub fn act(plan: &Plan, e: Event) -> Option<&Act>
     ensures { option_copied result ≡ act_of plan.now e }
 {
     match e {
-        Event::Command { number } => {
-            if number == 0 {
-                return None;
-            }
-            match plan.script.commands.as_slice().get(number as usize - 1) {
-                Some(order) => Some(&order.act),
-                None => None,
-            }
-        }
+        Event::Command { number } => match numbered(plan.script.commands.as_slice(), number) {
+            Some(order) => Some(&order.act),
+            None => None,
+        },
         _ => None,
     }
 }

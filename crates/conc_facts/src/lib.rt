@@ -1,4 +1,4 @@
-//! What stands after events: of no events, and after one more event.
+//! What stands after no events, and the parts of what stands after one more event.
 #![tactic(auto)]
 
 mod fresh;
@@ -7,6 +7,6 @@ mod kinds;
 mod step;
 
 pub use fresh::begin;
-pub use history::{advance, mark_done, named_facts, standing_after, used_after};
+pub use history::{mark_done, named_facts, used_after};
 pub use kinds::{act, tick_of};
 pub use step::facts_after;

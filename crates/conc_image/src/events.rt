@@ -187,6 +187,27 @@ fn tick_fields(moment: Moment) -> Fields
     }
 }
 
+// The fields of an event whose record has one number beside its kind.
+fn one_number(kind: u8, first: u32) -> Fields
+    ensures { result ≡ record { kind = kind; outcome = 0; first = first; second = 0; wide = 0; length = 0 } }
+{
+    Fields {
+        kind,
+        first,
+        ..EMPTY
+    }
+}
+
+// The same with two numbers.
+fn two_numbers(kind: u8, first: u32, second: u32) -> Fields
+    ensures { result ≡ record { kind = kind; outcome = 0; first = first; second = second; wide = 0; length = 0 } }
+{
+    Fields {
+        second,
+        ..one_number(kind, first)
+    }
+}
+
 // The fields of this event.
 #[tactic(auto, unfolding(crate::specs::Fields::event_of))]
 pub(crate) fn fields_for(event: Event) -> Fields
@@ -195,56 +216,26 @@ pub(crate) fn fields_for(event: Event) -> Fields
 {
     match event {
         Event::Tick { moment } => tick_fields(moment),
-        Event::Command { number } => Fields {
-            kind: 2,
-            first: number,
-            ..EMPTY
-        },
-        Event::OpenSet { set } => Fields {
-            kind: 3,
-            first: set.number,
-            ..EMPTY
-        },
-        Event::Stage { set, stage } => Fields {
-            kind: 4,
-            first: set.number,
-            second: stage,
-            ..EMPTY
-        },
+        Event::Command { number } => one_number(2, number),
+        Event::OpenSet { set } => one_number(3, set.number),
+        Event::Stage { set, stage } => two_numbers(4, set.number, stage),
         Event::CloseSet { set, outcome } => Fields {
-            kind: 5,
             outcome: outcome_number(outcome),
-            first: set.number,
-            ..EMPTY
+            ..one_number(5, set.number)
         },
-        Event::LetOut { request } => Fields {
-            kind: 6,
-            first: request.number,
-            ..EMPTY
-        },
-        Event::Started { request, place } => Fields {
-            kind: 7,
-            first: request.number,
-            second: place.index,
-            ..EMPTY
-        },
+        Event::LetOut { request } => one_number(6, request.number),
+        Event::Started { request, place } => two_numbers(7, request.number, place.index),
         Event::Ended {
             request,
             outcome,
             extent,
         } => Fields {
-            kind: 8,
             outcome: outcome_number(outcome),
-            first: request.number,
             wide: extent.map_or(0, |extent| extent.offset),
             length: extent.map_or(0, |extent| extent.length),
-            ..EMPTY
+            ..one_number(8, request.number)
         },
-        Event::Resume => Fields { kind: 9, ..EMPTY },
-        Event::Interrupt { request } => Fields {
-            kind: 10,
-            first: request.number,
-            ..EMPTY
-        },
+        Event::Resume => one_number(9, 0),
+        Event::Interrupt { request } => one_number(10, request.number),
     }
 }

@@ -9,8 +9,6 @@ mod found;
 mod header;
 mod laws;
 mod record;
-#[cfg(test)]
-mod tests;
 
 pub use events::has_record;
 pub use found::{Found, MOST_BYTES, MOST_RECORDS, read_records};

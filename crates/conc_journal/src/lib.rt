@@ -10,10 +10,8 @@ mod journal;
 mod opened;
 mod receipt;
 mod teller;
-#[cfg(test)]
-mod tests;
 
-pub use fault::{AppendFail, DiskFault, JournalFail};
+pub use fault::{AppendFail, JournalFail};
 pub use journal::Journal;
 pub use opened::Opened;
 pub use receipt::Receipt;

@@ -19,7 +19,7 @@ use Rattle.conc_types.specs.Tables.{can_report, has_columns, table_named}
 use Rattle.conc_law.specs.Alone.{choice, end_of, end_with, first_end, first_start, next_alone, next_tick, report_of, start_of}
 use Rattle.conc_law.specs.Facts.{is_let}
 use Rattle.conc_law.specs.Law.{Finished, is_past, may_follow}
-use Rattle.conc_law.specs.Next.{can_run, forced, is_at_rest, may_let, may_start, may_start_somewhere, may_take, runs_somewhere}
+use Rattle.conc_law.specs.Next.{can_run, forced, is_at_rest, is_ready, may_let, may_start, may_start_somewhere, may_take, runs_somewhere}
 use Rattle.conc_law.specs.Places.{all_places}
 use Rattle.conc_law.specs.Plans.{is_admitted, is_enabled, precedes, program_at, program_of}
 use Rattle.conc_law.specs.Readings.{next_reading}
@@ -57,10 +57,11 @@ find-none_any test xs h = none_any test xs (λ y k. elim (cases_Bool (test y)) [
 
 -- a request that could be let can run
 could_run : (plan : Plan) (s : Standing) (r : Req) → may_let plan s r ≡ true → can_run plan r ≡ true
-unfolding may_let
+unfolding may_let is_ready
 could_run plan s r h =
     let f = facts_at s r in
-    let a = (and_parts f.entered _ h).1 in
+    let ready : is_ready plan s r ≡ true = (and_parts _ _ h).0 in
+    let a = (and_parts f.entered _ ready).1 in
     let b = (and_parts (not (is_live f)) _ a).1 in
     let c = (and_parts (not (is_completed f)) _ b).1 in
     let d = (and_parts (not f.held) _ c).1 in

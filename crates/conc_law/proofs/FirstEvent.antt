@@ -16,7 +16,7 @@ use Rattle.conc_types.specs.Words.{numbered, some_and}
 use Rattle.conc_law.specs.Facts.{completion, current_stage, facts_of, is_entered, is_held, is_let, is_open, running_place, stages_begun, was_started, was_terminated}
 use Rattle.conc_law.specs.Kinds.{tick_of}
 use Rattle.conc_law.specs.Law.{is_past, may_follow}
-use Rattle.conc_law.specs.Next.{forced, forced_command, forced_interrupt, forced_let, forced_step, has_step, is_allowed, is_due, is_left_running, let_event, may_come, may_end, may_let, may_start, obeys}
+use Rattle.conc_law.specs.Next.{forced, forced_command, forced_interrupt, forced_let, forced_step, has_step, is_allowed, is_due, is_left_running, is_ready, let_event, may_come, may_end, may_let, may_start, obeys}
 use Rattle.conc_law.specs.Past.{last_life}
 use Rattle.conc_law.specs.Plans.{precedes}
 use Rattle.conc_law.specs.Stages.{set_step}
@@ -34,12 +34,12 @@ find-none test (x ∷ xs) h = cond-false (test x) (Some x) (find test xs) (h x) 
 -- ---- no request has a fact
 
 -- no event says anything of a request
-facts_of-none : (plan : Plan) (r : Req) → facts_of plan [] r ≡ no_facts
+pub facts_of-none : (plan : Plan) (r : Req) → facts_of plan [] r ≡ no_facts
 unfolding facts_of is_entered is_held is_open current_stage stages_begun is_let running_place was_started was_terminated completion last_life
 facts_of-none plan r = ap (λ b. record no_facts { opened = b }) (and_right (is_set r.item) false refl)
 
 -- nothing stands of a request
-facts_at-none : (plan : Plan) (r : Req) → facts_at (standing plan []) r ≡ no_facts
+pub facts_at-none : (plan : Plan) (r : Req) → facts_at (standing plan []) r ≡ no_facts
 unfolding facts_at standing
 facts_at-none plan r =
     ap (λ o. unwrap_or o no_facts) (numbered-map (facts_of plan []) plan.requests r.number.number)
@@ -75,8 +75,8 @@ no_step plan =
 
 -- no request can be let
 none_lettable : (plan : Plan) (r : Req) → may_let plan (standing plan []) r ≡ false
-unfolding may_let
-none_lettable plan r = and_left _ _ (ap (λ f. f.entered) (facts_at-none plan r))
+unfolding may_let is_ready
+none_lettable plan r = and_left _ _ (and_left _ _ (ap (λ f. f.entered) (facts_at-none plan r)))
 
 -- no let is forced
 no_let : (plan : Plan) → forced_let plan (standing plan []) ≡ None

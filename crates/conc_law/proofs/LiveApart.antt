@@ -13,7 +13,7 @@ use Rattle.conc_law.specs.Exclusion.{excludes}
 use Rattle.conc_law.specs.Facts.{facts_of, is_let, is_open, unlets}
 use Rattle.conc_law.specs.Kinds.{closes, lets, opens}
 use Rattle.conc_law.specs.Law.{is_past, may_follow}
-use Rattle.conc_law.specs.Next.{blocks, can_run, is_free, may_let}
+use Rattle.conc_law.specs.Next.{blocks, can_run, is_free, is_ready, may_let}
 use Rattle.conc_law.specs.Past.{stands_since}
 use Rattle.conc_law.specs.Plans.{are_exclusive, parent_item}
 use Rattle.conc_law.specs.Standing.{facts_at, has_come, is_completed, is_live, is_waiting, standing}
@@ -108,17 +108,16 @@ went_live plan past r e hr h (inr o) = (open_could plan None past r hr (subst (�
 -- what a request that can be let meets: it is not completed, does not wait for its stage, and none excludes it
 pub may_let-parts : (plan : Plan) (s : Standing) (r : Req) → may_let plan s r ≡ true
     → (is_completed (facts_at s r) ≡ false) × (is_waiting plan s r ≡ false) × (is_free plan s r ≡ true)
-unfolding may_let
+unfolding may_let is_ready
 may_let-parts plan s r h =
     let f = facts_at s r in
-    let last : Bool = not (is_waiting plan s r) && is_free plan s r in
-    let come : Bool = has_come s.time r.start && (can_run plan r && last) in
+    let both : (is_ready plan s r ≡ true) × (is_free plan s r ≡ true) = and_parts _ _ h in
+    let come : Bool = has_come s.time r.start && (can_run plan r && not (is_waiting plan s r)) in
     let open_part : (not (is_completed f) ≡ true) × ((not f.held && come) ≡ true) =
-    and_parts _ _ (and_parts (not (is_live f)) _ (and_parts f.entered _ h).1).1 in
-    let rest : last ≡ true =
+    and_parts _ _ (and_parts (not (is_live f)) _ (and_parts f.entered _ both.0).1).1 in
+    let begun : not (is_waiting plan s r) ≡ true =
     (and_parts (can_run plan r) _ (and_parts (has_come s.time r.start) _ (and_parts (not f.held) _ open_part.1).1).1).1 in
-    let both : (not (is_waiting plan s r) ≡ true) × (is_free plan s r ≡ true) = and_parts _ _ rest in
-    (not-true _ open_part.0, not-true _ both.0, both.1)
+    (not-true _ open_part.0, not-true _ begun, both.1)
 
 -- a request that can be let is excluded by no live one
 let_is_free : (plan : Plan) (past : List Event) (r q : Req) → may_let plan (standing plan past) r ≡ true → Has plan.requests q

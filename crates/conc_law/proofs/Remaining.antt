@@ -104,7 +104,7 @@ is_about_any event.Resume = false
 is_about_any _ = true
 
 -- each of these events is about a request of the plan
-about_one : (plan : Plan) (readings : Option (List Reading)) (past : List Event) (e : Event) → may_follow plan readings past e ≡ true → is_about_any e ≡ true → IsAboutOne plan e
+pub about_one : (plan : Plan) (readings : Option (List Reading)) (past : List Event) (e : Event) → may_follow plan readings past e ≡ true → is_about_any e ≡ true → IsAboutOne plan e
 about_one plan readings past (event.OpenSet s) m h =
     let l : Lettable plan (standing plan past) s true = open_comes plan readings past s m in (l.req, l.element, same_id s l.req.number l.number)
 about_one plan readings past (event.Stage s k) m h =
@@ -162,7 +162,7 @@ all_grow plan past n lawful =
 -- ---- commands and readings
 
 -- an event that does no command leaves as many to do
-commands_left-kept : (plan : Plan) (past : List Event) (e : Event) → does e ≡ false → commands_left plan (e ∷ past) ≡ commands_left plan past
+pub commands_left-kept : (plan : Plan) (past : List Event) (e : Event) → does e ≡ false → commands_left plan (e ∷ past) ≡ commands_left plan past
 unfolding commands_left is_done
 commands_left-kept plan past (event.Command n) h = cc
 commands_left-kept plan past _ h = refl
@@ -178,7 +178,7 @@ unfolding is_done
 done-command past order n h = or_left _ _ (eq-eqb _ _ (sym h))
 
 -- a command leaves fewer to do
-commands_left-less : (plan : Plan) (readings : Option (List Reading)) (past : List Event) (n : ℕ) → may_follow plan readings past (event.Command n) ≡ true
+pub commands_left-less : (plan : Plan) (readings : Option (List Reading)) (past : List Event) (n : ℕ) → may_follow plan readings past (event.Command n) ≡ true
     → commands_left plan (event.Command n ∷ past) < commands_left plan past
 unfolding commands_left
 commands_left-less plan readings past n m =
@@ -187,16 +187,16 @@ commands_left-less plan readings past n m =
     (not_from_true _ (done-command past u.order n u.number)) (not_from_false _ u.undone) (λ order h. done-more past (event.Command n) order h)
 
 -- how many readings are left
-abbrev readings_left : List Reading → List Event → ℕ
+abbrev pub readings_left : List Reading → List Event → ℕ
 readings_left readings past = length (life_readings readings past) - ticks past
 
 -- the event is a tick
-abbrev is_tick : Event → Bool
+abbrev pub is_tick : Event → Bool
 is_tick (event.Tick t) = true
 is_tick _ = false
 
 -- an event that is no tick leaves as many
-readings_left-kept : (readings : List Reading) (past : List Event) (e : Event) → is_resume e ≡ false → is_tick e ≡ false → readings_left readings (e ∷ past) ≡ readings_left readings past
+pub readings_left-kept : (readings : List Reading) (past : List Event) (e : Event) → is_resume e ≡ false → is_tick e ≡ false → readings_left readings (e ∷ past) ≡ readings_left readings past
 unfolding life_readings ticks earlier_lives last_life
 readings_left-kept readings past (event.Tick t) n h = cc
 readings_left-kept readings past event.Resume n h = cc
@@ -209,7 +209,7 @@ unfolding life_readings ticks earlier_lives last_life
 tick_takes readings past t = (refl, refl)
 
 -- a tick leaves fewer
-readings_left-less : (plan : Plan) (readings : List Reading) (past : List Event) (t : Moment) → may_follow plan (Some readings) past (event.Tick t) ≡ true
+pub readings_left-less : (plan : Plan) (readings : List Reading) (past : List Event) (t : Moment) → may_follow plan (Some readings) past (event.Tick t) ≡ true
     → readings_left readings (event.Tick t ∷ past) < readings_left readings past
 unfolding next_reading
 readings_left-less plan readings past t m =

@@ -13,7 +13,7 @@ use Rattle.conc_types.specs.declared.plan.Req.{Req}
 use Rattle.conc_types.specs.declared.script.Reading.{Reading}
 use Rattle.conc_law.specs.Facts.{completes, completion, facts_of, is_let, is_open, running_place, runs, unlets, was_completed, was_started}
 use Rattle.conc_law.specs.Law.{is_past, may_follow}
-use Rattle.conc_law.specs.Next.{may_let}
+use Rattle.conc_law.specs.Next.{is_ready, may_let}
 use Rattle.conc_law.specs.Past.{last_life}
 use Rattle.conc_law.specs.Remaining.{events_left}
 use Rattle.conc_law.specs.Standing.{facts_at, is_completed, is_live, is_running, standing}
@@ -69,10 +69,11 @@ set_let_not plan past r hr lawful set = elim (cases_Bool (is_let plan past r)) [
 
 -- a request that could be let is not live
 pub could_not_live : (plan : Plan) (past : List Event) (r : Req) → Has plan.requests r → may_let plan (standing plan past) r ≡ true → (is_let plan past r ≡ false) × (is_open past r ≡ false)
-unfolding may_let facts_of
+unfolding may_let is_ready facts_of
 could_not_live plan past r hr h =
     let f = facts_at (standing plan past) r in
-    let a : (not (is_live f) && _) ≡ true = (and_parts f.entered _ h).1 in
+    let ready : is_ready plan (standing plan past) r ≡ true = (and_parts _ _ h).0 in
+    let a : (not (is_live f) && _) ≡ true = (and_parts f.entered _ ready).1 in
     let b : is_live f ≡ false = not-true _ (and_parts (not (is_live f)) _ a).0 in
     or_parts (is_let plan past r) (is_open past r) (sym (is_live-standing plan past r hr) ∙ b)
 

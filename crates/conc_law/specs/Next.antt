@@ -64,17 +64,20 @@ is_free plan s r = not (list_any (blocks plan s r) plan.requests)
 unfoldable pub can_run : Plan → Req → Bool
 can_run plan r = is_set r.item || (is_enabled plan r && is_admitted plan r)
 
--- r can be let out, or opened
-unfoldable pub may_let : Plan → Standing → Req → Bool
-may_let plan s r =
+-- r can be let out, or opened, unless a live request excludes it
+unfoldable pub is_ready : Plan → Standing → Req → Bool
+is_ready plan s r =
     (facts_at s r).entered
     && (not (is_live (facts_at s r))
     && (not (is_completed (facts_at s r))
     && (not (facts_at s r).held
     && (has_come s.time r.start
     && (can_run plan r
-    && (not (is_waiting plan s r)
-    && is_free plan s r))))))
+    && not (is_waiting plan s r))))))
+
+-- r can be let out, or opened
+unfoldable pub may_let : Plan → Standing → Req → Bool
+may_let plan s r = is_ready plan s r && is_free plan s r
 
 abbrev pub let_event : Req → Event
 let_event r = if is_set r.item then event.OpenSet r.number else event.LetOut r.number

@@ -15,7 +15,8 @@ use Rattle.conc_queue.specs.Turns.{turns_of}
 use Rattle.conc_queue.proofs.Maps.{facts_at-alike}
 use Rattle.conc_classes.specs.Classes.{are_rivals, class_at, of_class}
 use Rattle.conc_classes.specs.declared.classes.Classes.{Classes}
-use Rattle.conc_lets.specs.Lets.{AreLets, is_live_rival, is_ready, live_rivals}
+use Rattle.conc_law.specs.Next.{is_ready}
+use Rattle.conc_lets.specs.Lets.{AreLets, is_live_rival, live_rivals}
 use Rattle.conc_lets.specs.Starts.{earlier, is_in_lull, lull_at, next_from}
 use Rattle.conc_lets.specs.declared.lets.Lets.{Lets}
 use Rattle.conc_lets.proofs.Lists.{length-filter_same, map_range-same}

@@ -9,7 +9,7 @@ use Rattle.conc_types.specs.declared.plan.Plan.{Plan}
 use Rattle.conc_types.specs.declared.plan.Req.{Req}
 use Rattle.conc_types.specs.Plans.{request}
 use Rattle.conc_types.specs.Words.{some_and}
-use Rattle.conc_law.specs.Next.{may_let}
+use Rattle.conc_law.specs.Next.{is_ready, may_let}
 use Rattle.conc_law.specs.Words.{Has}
 use Rattle.conc_law.proofs.Numbering.{found}
 use Rattle.conc_law.proofs.Options.{some_and-some}
@@ -20,12 +20,12 @@ use Rattle.conc_queue.proofs.LeastOf.{HasLeast, least-none, least-some}
 use Rattle.conc_classes.specs.Classes.{AreClasses, class_at, of_class, spares_at}
 use Rattle.conc_classes.specs.declared.classes.Classes.{Classes}
 use Rattle.conc_lets.specs.Forced.{is_spared, turn_in_class}
-use Rattle.conc_lets.specs.Lets.{AreLets, is_ready, live_rivals}
+use Rattle.conc_lets.specs.Lets.{AreLets, live_rivals}
 use Rattle.conc_lets.specs.declared.lets.Lets.{Lets}
 use Rattle.conc_lets.proofs.Free.{free-may_let, may_let-parts, rival-may_let, spared-may_let}
 use Rattle.conc_lets.proofs.Lists.{map_range-get}
 use Rattle.conc_lets.proofs.Queues.{of_class-has, turns-same}
-use Rattle.conc_lets.proofs.Turns.{least-filter, least-or, least_of-none}
+use Rattle.conc_queue.proofs.LeastTurns.{least-filter, least-or, least_of-none}
 
 -- ---- what is kept of a class
 

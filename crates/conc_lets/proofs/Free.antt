@@ -11,7 +11,7 @@ use Rattle.conc_types.specs.declared.plan.Req.{Req}
 use Rattle.conc_types.specs.Plans.{request}
 use Rattle.conc_types.specs.Words.{some_and}
 use Rattle.conc_law.specs.Exclusion.{excludes, is_kin}
-use Rattle.conc_law.specs.Next.{blocks, can_run, is_free, may_let}
+use Rattle.conc_law.specs.Next.{blocks, can_run, is_free, is_ready, may_let}
 use Rattle.conc_law.specs.Plans.{are_exclusive, parent}
 use Rattle.conc_law.specs.Standing.{facts_at, has_come, is_completed, is_live, is_waiting}
 use Rattle.conc_law.specs.Words.{Has, id_eq}
@@ -22,7 +22,7 @@ use Rattle.conc_classes.specs.declared.classes.Classes.{Classes}
 use Rattle.conc_reach.specs.Spans.{AreSpans, span_of_members}
 use Rattle.conc_reach.specs.declared.spans.Spans.{Spans}
 use Rattle.conc_lets.specs.Forced.{is_child, is_live_member, is_live_outside, is_spared, live_members, live_parents}
-use Rattle.conc_lets.specs.Lets.{is_live_rival, is_ready, live_rivals}
+use Rattle.conc_lets.specs.Lets.{is_live_rival, live_rivals}
 use Rattle.conc_lets.proofs.Lists.{any-filter, length-filter_change, length-filter_none, length-filter_parts, length-filter_same}
 use Rattle.conc_lets.proofs.Queues.{same_number}
 
@@ -180,22 +180,10 @@ free-count plan classes s are r has ready =
       twice true = refl
       twice false = refl
 
-chain : (a b c d e f g h : Bool) → (a && (b && (c && (d && (e && (f && (g && h))))))) ≡ ((a && (b && (c && (d && (e && (f && g)))))) && h)
-chain false b c d e f g h = refl
-chain true false c d e f g h = refl
-chain true true false d e f g h = refl
-chain true true true false e f g h = refl
-chain true true true true false f g h = refl
-chain true true true true true false g h = refl
-chain true true true true true true false h = refl
-chain true true true true true true true h = refl
-
 -- a request may be let where it is ready and free
 pub may_let-parts : (plan : Plan) (s : Standing) (r : Req) → may_let plan s r ≡ (is_ready plan s r && is_free plan s r)
-unfolding may_let is_ready
-may_let-parts plan s r =
-    chain (facts_at s r).entered (not (is_live (facts_at s r))) (not (is_completed (facts_at s r))) (not (facts_at s r).held)
-    (has_come s.time r.start) (can_run plan r) (not (is_waiting plan s r)) (is_free plan s r)
+unfolding may_let
+may_let-parts plan s r = refl
 
 -- a request is spared where so many live rivals are kin of it as there are
 pub spared-may_let : (plan : Plan) (classes : Classes) (s : Standing) → AreClasses plan classes → (c : ℕ) (r : Req) → Has plan.requests r

@@ -1,7 +1,6 @@
 pub mod Lists
 pub mod Queues
 pub mod Loops
-pub mod Turns
 pub mod Free
 pub mod Written
 pub mod Counts

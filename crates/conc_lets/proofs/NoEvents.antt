@@ -15,32 +15,22 @@ use Rattle.conc_queue.specs.Least.{vacant}
 use Rattle.conc_queue.specs.Turns.{turn, turns_of}
 use Rattle.conc_classes.specs.Classes.{AreClasses, of_class}
 use Rattle.conc_classes.specs.declared.classes.Classes.{Classes}
-use Rattle.conc_lets.specs.Lets.{all_classes, is_live_rival, is_ready, live_rivals}
+use Rattle.conc_law.specs.Next.{is_ready}
+use Rattle.conc_law.proofs.FirstEvent.{facts_at-none}
+use Rattle.conc_lets.specs.Lets.{all_classes, is_live_rival, live_rivals}
 use Rattle.conc_lets.proofs.Lists.{length-filter_none, map_range-within, place-some}
 use Rattle.conc_lets.proofs.Queues.{of_class-has}
-
-and-no : (b : Bool) → (b && false) ≡ false
-and-no true = refl
-and-no false = refl
-
--- no event speaks of a request
-facts_of-none : (plan : Plan) (r : Req) → facts_of plan [] r ≡ no_facts
-unfolding facts_of is_entered is_held is_open current_stage stages_begun is_let running_place was_started was_terminated completion last_life
-facts_of-none plan r = rw (and-no (is_set r.item)) refl
-
-facts_at-none : (plan : Plan) (r : Req) → Has plan.requests r → facts_at (standing plan []) r ≡ no_facts
-facts_at-none plan r has = facts_at-standing plan [] r has ∙ facts_of-none plan r
 
 -- none is ready
 ready-none : (plan : Plan) (r : Req) → Has plan.requests r → is_ready plan (standing plan []) r ≡ false
 unfolding is_ready
-ready-none plan r has = and_left _ _ (ap (λ f. f.entered) (facts_at-none plan r has))
+ready-none plan r has = and_left _ _ (ap (λ f. f.entered) (facts_at-none plan r))
 
 -- none is live
 pub live-none : (plan : Plan) (classes : Classes) (c : ℕ) → live_rivals plan classes (standing plan []) c ≡ 0
 unfolding live_rivals is_live_rival
 live-none plan classes c = length-filter_none (is_live_rival classes (standing plan []) c) plan.requests
-    (λ q has. and_left _ _ (ap (λ f. is_live f) (facts_at-none plan q has)))
+    (λ q has. and_left _ _ (ap (λ f. is_live f) (facts_at-none plan q)))
 
 vacant-turns : (test : Req → Bool) (xs : List Req) → ((y : Req) → Has xs y → test y ≡ false) → vacant (length xs) ≡ turns_of test xs
 unfolding vacant turns_of

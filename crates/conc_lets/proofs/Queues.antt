@@ -14,7 +14,7 @@ use Rattle.conc_queue.specs.Turns.{turn, turns_of}
 use Rattle.conc_queue.proofs.Maps.{place_of_request, request_at_place}
 use Rattle.conc_classes.specs.Classes.{AreClasses, class_at, of_class, seat_at}
 use Rattle.conc_classes.specs.declared.classes.Classes.{Classes}
-use Rattle.conc_lets.specs.Lets.{is_ready}
+use Rattle.conc_law.specs.Next.{is_ready}
 use Rattle.conc_lets.specs.Refresh.{put_in, queues_of, refreshed, refreshed_all, refreshed_by}
 use Rattle.conc_lets.proofs.Lists.{filter-distinct, filter-has, has-place, IsDistinct, map_range-get, map_range-same, map_range-set, place-has}
 

@@ -11,7 +11,7 @@ use Rattle.conc_types.specs.declared.plan.Req.{Req}
 use Rattle.conc_types.specs.Plans.{request}
 use Rattle.conc_types.specs.Stages.{has_stage}
 use Rattle.conc_types.specs.Words.{numbered, some_and}
-use Rattle.conc_law.specs.Next.{can_run}
+use Rattle.conc_law.specs.Next.{can_run, is_ready}
 use Rattle.conc_law.specs.Plans.{parent}
 use Rattle.conc_law.specs.Standing.{facts_at, has_come, is_completed, is_live, is_waiting, no_facts}
 use Rattle.conc_law.specs.Words.{Has}
@@ -23,7 +23,6 @@ use Rattle.conc_classes.specs.Classes.{AreClasses}
 use Rattle.conc_classes.specs.declared.classes.Classes.{Classes}
 use Rattle.conc_reach.specs.Spans.{AreSpans, span_of_members}
 use Rattle.conc_reach.specs.declared.spans.Spans.{Spans}
-use Rattle.conc_lets.specs.Lets.{is_ready}
 use Rattle.conc_lets.specs.Refresh.{queues_of, refreshed_all, refreshed_at, refreshed_by}
 use Rattle.conc_lets.specs.Renewal.{renewed, renewed_within}
 use Rattle.conc_lets.proofs.Lists.{place-some}

@@ -6,14 +6,14 @@ use Rattle.conc_types.specs.declared.facts.Standing.{Standing}
 use Rattle.conc_types.specs.declared.plan.Plan.{Plan}
 use Rattle.conc_types.specs.declared.plan.Req.{Req}
 use Rattle.conc_types.specs.Words.{some_and}
-use Rattle.conc_law.specs.Next.{may_let}
+use Rattle.conc_law.specs.Next.{is_ready, may_let}
 use Rattle.conc_law.specs.Plans.{parent}
 use Rattle.conc_law.specs.Words.{id_eq}
 use Rattle.conc_queue.specs.Least.{least}
 use Rattle.conc_queue.specs.Turns.{turns_of}
 use Rattle.conc_classes.specs.Classes.{class_at, of_class}
 use Rattle.conc_classes.specs.declared.classes.Classes.{Classes}
-use Rattle.conc_lets.specs.Lets.{is_live_rival, is_ready}
+use Rattle.conc_lets.specs.Lets.{is_live_rival}
 
 -- the least turn of those of a class that may be let
 unfoldable pub turn_in_class : Plan → Classes → Standing → ℕ → Option ℕ

@@ -4,24 +4,13 @@ use Rattle.std.specs.List.{filter, range_with_len}
 use Rattle.conc_types.specs.declared.facts.Standing.{Standing}
 use Rattle.conc_types.specs.declared.plan.Plan.{Plan}
 use Rattle.conc_types.specs.declared.plan.Req.{Req}
-use Rattle.conc_law.specs.Next.{can_run}
-use Rattle.conc_law.specs.Standing.{facts_at, has_come, is_completed, is_live, is_waiting}
+use Rattle.conc_law.specs.Next.{is_ready}
+use Rattle.conc_law.specs.Standing.{facts_at, has_come, is_live}
 use Rattle.conc_law.specs.Words.{Has}
 use Rattle.conc_queue.specs.Turns.{turns_of}
 use Rattle.conc_classes.specs.Classes.{are_rivals, class_at, of_class}
 use Rattle.conc_classes.specs.declared.classes.Classes.{Classes}
 use Rattle.conc_lets.specs.declared.lets.Lets.{Lets}
-
--- r can be let out, or opened, unless a live request excludes it
-unfoldable pub is_ready : Plan → Standing → Req → Bool
-is_ready plan s r =
-    (facts_at s r).entered
-    && (not (is_live (facts_at s r))
-    && (not (is_completed (facts_at s r))
-    && (not (facts_at s r).held
-    && (has_come s.time r.start
-    && (can_run plan r
-    && not (is_waiting plan s r))))))
 
 -- q is live, and its class excludes a class
 unfoldable pub is_live_rival : Classes → Standing → ℕ → Req → Bool

@@ -8,7 +8,8 @@ use Rattle.conc_types.specs.Words.{is_between}
 use Rattle.conc_queue.specs.Turns.{turn, turns_of}
 use Rattle.conc_classes.specs.Classes.{class_at, of_class, seat_at}
 use Rattle.conc_classes.specs.declared.classes.Classes.{Classes}
-use Rattle.conc_lets.specs.Lets.{all_classes, is_ready}
+use Rattle.conc_law.specs.Next.{is_ready}
+use Rattle.conc_lets.specs.Lets.{all_classes}
 
 -- the key of a request: its turn, where it is ready
 abbrev pub key : Plan → Standing → Req → Option ℕ

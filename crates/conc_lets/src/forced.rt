@@ -9,9 +9,8 @@ ghost use Rattle.conc_reach.specs.Spans.{AreSpans};
 ghost use Rattle.conc_lets.specs.Forced.{is_spared as is_spared_of};
 
 use crate::kin::{live_members, live_parents};
-use crate::readiness::is_ready;
 use conc_classes::Classes;
-use conc_decide::let_event;
+use conc_decide::{is_ready, let_event};
 use conc_queue::{Queue, lesser, request_at_turn, turn};
 use conc_reach::Spans;
 use conc_types::{Event, Plan, Req, Standing};

@@ -6,7 +6,6 @@ mod forced;
 mod fresh;
 mod kin;
 mod lets;
-mod readiness;
 mod refresh;
 mod renewal;
 mod rivals;

@@ -1,8 +1,8 @@
 ghost use Rattle.std.specs.Prelude.{◌≡◌, ◌-◌, ◌≤◌, length, slice_get};
 ghost use Rattle.conc_lets.specs.Refresh.{key as key_of, put_in as put_in_of, refreshed, refreshed_all, refreshed_at};
 
-use crate::readiness::is_ready;
 use conc_classes::Classes;
+use conc_decide::is_ready;
 use conc_queue::{Queue, turn};
 use conc_reach::Span;
 use conc_types::{Plan, Req, Standing};

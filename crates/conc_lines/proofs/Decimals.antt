@@ -14,6 +14,7 @@ use Rattle.std.proofs.lemmas.Str.{digit_value_digit}
 use Rattle.std.proofs.lemmas.Str.Parse.{digit_from_value, IsNumeralModel, numerals_by_value, tells_digits}
 use Rattle.conc_types.specs.declared.event.RequestId.{RequestId}
 use Rattle.conc_types.specs.Decimals.{decimal_value, is_decimal}
+use Rattle.conc_types.proofs.Decimals.{decimal_digits, digit_below}
 use Rattle.conc_law.specs.Text.{id_word}
 use Rattle.conc_law.proofs.Options.{and_then-some, map-some, then_some-some}
 use Rattle.conc_lines.specs.Numbers.{id_of, number_of, stage_of}
@@ -22,23 +23,6 @@ own : IsNumeralModel (AllDigits 10) (digits_value 10)
 own = numerals_by_value (AllDigits 10) tells_digits
 
 -- ---- what a decimal is made of
-
-is_digit : (c : ℕ) → is_ascii_digit c ≡ true → IsInRange 48 57 c
-is_digit c e = grind (arith, nat_tests)
-
-digit_below : (c : ℕ) → is_ascii_digit c ≡ true → digit_value c < 10
-digit_below c e = let k = is_digit c e in omega (arith, digit_value_digit c k)
-
-all_digits : (bs : List ℕ) → list_all is_ascii_digit bs ≡ true → AllDigits 10 bs
-all_digits [] e = tt
-all_digits (c ∷ cs) e = let k = and_parts (is_ascii_digit c) (list_all is_ascii_digit cs) e in (digit_below c k.0, all_digits cs k.1)
-
-decimal_digits : (bs : List ℕ) → is_decimal bs ≡ true → AllDigits 10 bs
-decimal_digits [] e = tt
-decimal_digits (c ∷ cs) e =
-    let k = and_parts (is_ascii_digit c) _ e in
-    let m = and_parts (list_all is_ascii_digit cs) _ k.1 in
-    (digit_below c k.0, all_digits cs m.0)
 
 decimal_some : (bs : List ℕ) → is_decimal bs ≡ true → 0 < length bs
 decimal_some [] e = absurd cc

@@ -25,8 +25,9 @@ fn is_last(line: &[u8]) -> bool
     line == b"--".as_slice()
 }
 
-// The first line that ends with LF, without it, and the text behind it.
-fn split_line(bytes: &[u8]) -> Option<(&[u8], &[u8])>
+/// The first line that ends with LF, without it, and the text behind it. A text without LF has no such
+/// line.
+pub fn split_line(bytes: &[u8]) -> Option<(&[u8], &[u8])>
     ensures lines { MatchOption result (whole_lines bytes.now ≡ []) (λ p. whole_lines bytes.now ≡ p.0.now ∷ whole_lines p.1.now) }
     ensures length { IfSome result (λ p. length bytes.now ≡ length p.0.now + 1 + length p.1.now) }
 {

@@ -11,7 +11,7 @@ mod starts;
 mod tests;
 mod words;
 
-pub use history::{Lines, read_history};
+pub use history::{Lines, read_history, split_line};
 pub use laws::{
     event_lines_are_read_back, event_lines_have_one_spelling, lawful_events_have_lines,
     read_texts_have_one_spelling, texts_are_read_back,

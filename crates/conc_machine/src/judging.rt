@@ -2,14 +2,13 @@ ghost use Rattle.std.specs.Prelude.{◌≡◌, not};
 ghost use Rattle.std.specs.List.{list_any};
 ghost use Rattle.conc_types.specs.Plans.{request as request_of};
 ghost use Rattle.conc_types.specs.Words.{some_and};
-ghost use Rattle.conc_law.specs.Kinds.{is_resume as is_resume_of};
-ghost use Rattle.conc_law.specs.Next.{is_allowed as is_allowed_of, is_at_rest as is_at_rest_of, may_come as may_come_of, may_end as may_end_of, may_start as may_start_of, may_start_somewhere, may_take as may_take_of, may_tick as may_tick_of, runs_somewhere};
+ghost use Rattle.conc_law.specs.Next.{is_allowed as is_allowed_of, is_at_rest as is_at_rest_of, may_come as may_come_of, may_start as may_start_of, may_start_somewhere, may_take as may_take_of, may_tick as may_tick_of, runs_somewhere};
 ghost use Rattle.conc_machine.specs.Kept.{AreKept};
 
 use crate::forcing::forced;
 use crate::kept::Kept;
-use conc_decide::{is_not_earlier, is_same_event, may_end};
-use conc_types::{Event, Extent, Moment, Outcome, PlaceId, Plan, Reading, RequestId};
+use conc_decide::{is_not_earlier, is_resume, is_same_event, may_end_by_id};
+use conc_types::{Event, Moment, PlaceId, Plan, Reading, RequestId};
 
 // ---- rest
 
@@ -72,21 +71,6 @@ pub(crate) fn may_start(plan: &Plan, kept: &Kept, id: RequestId, place: PlaceId)
     }
 }
 
-fn may_end_by_id(
-    plan: &Plan,
-    kept: &Kept,
-    id: RequestId,
-    outcome: Outcome,
-    extent: Option<Extent>,
-) -> bool
-    ensures { result ≡ some_and (λ q. may_end_of kept.now.standing q outcome extent) (request_of plan.now id) }
-{
-    match plan.request(id) {
-        Some(r) => may_end(&kept.standing, r, outcome, extent),
-        None => false,
-    }
-}
-
 #[tactic(auto, unfolding(conc_law::specs::Next::is_allowed))]
 fn is_allowed(plan: &Plan, kept: &Kept, next: Option<Option<Reading>>, e: Event) -> bool
     requires { AreKept plan.now kept.now }
@@ -98,16 +82,10 @@ fn is_allowed(plan: &Plan, kept: &Kept, next: Option<Option<Reading>>, e: Event)
             request,
             outcome,
             extent,
-        } => may_end_by_id(plan, kept, request, outcome, extent),
+        } => may_end_by_id(plan, &kept.standing, request, outcome, extent),
         Event::Tick { moment } => may_tick(plan, kept, next, moment),
         _ => false,
     }
-}
-
-fn is_resume(e: Event) -> bool
-    ensures { result ≡ is_resume_of e }
-{
-    matches!(e, Event::Resume)
 }
 
 /// Whether the event may come next. `next` is the next reading of the last life, if one is left; it is

@@ -6,8 +6,6 @@ mod inputs;
 mod script;
 mod setup;
 mod table;
-#[cfg(test)]
-mod tests;
 mod words;
 
 pub use inputs::{Inputs, make};

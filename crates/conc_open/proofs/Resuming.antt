@@ -13,8 +13,10 @@ use Rattle.conc_journal.specs.declared.journal.Stage.{Stage}
 use Rattle.conc_journal.specs.declared.journal.Stage.TheVariants.{AppendFailed, Begun, BeginFailed}
 use Rattle.conc_law.specs.Alone.{opening}
 use Rattle.conc_work.specs.Survival.{Survives}
+use Rattle.conc_work.proofs.Prefixes.{prefix-opening, prefix-self}
+use Rattle.conc_work.proofs.Surviving.{journal-survives}
 use Rattle.conc_open.specs.Examined.{MayStart}
-use Rattle.conc_open.proofs.Surviving.{each-wider, journal-survives, left-wider, opening-prefix, same-prefix, unbegun-survives}
+use Rattle.conc_open.proofs.Surviving.{each-wider, left-wider, unbegun-survives}
 
 -- ---- the stage
 
@@ -27,14 +29,14 @@ is-begun digest stage (inr begun) h = begun
 -- while the header is written
 pub header-survives : (digest image : List ℕ) → FitsStage (BeginFailed digest) [] image → Survives digest [] [] image
 header-survives digest image (inl none) = unbegun-survives digest image none
-header-survives digest image (inr journal) = journal-survives digest [] [] [] image (same-prefix []) (same-prefix []) journal
+header-survives digest image (inr journal) = journal-survives digest [] [] [] image (prefix-self []) (prefix-self []) journal
 
 -- of a journal with no event or with some
 pub begun-survives : (digest : List ℕ) (list : List Event) (image : List ℕ) → IsJournal digest list image → Survives digest list (opening list) image
-begun-survives digest list image journal = journal-survives digest list list (opening list) image (same-prefix list) (opening-prefix list) journal
+begun-survives digest list image journal = journal-survives digest list list (opening list) image (prefix-self list) (prefix-opening list) journal
 
 pub opened-survives : (digest : List ℕ) (list : List Event) (image : List ℕ) → IsJournal digest (opening list) image → Survives digest list (opening list) image
-opened-survives digest list image journal = journal-survives digest list (opening list) (opening list) image (opening-prefix list) (same-prefix (opening list)) journal
+opened-survives digest list image journal = journal-survives digest list (opening list) (opening list) image (prefix-opening list) (prefix-self (opening list)) journal
 
 -- while the resume is added
 pub resume-survives : (digest : List ℕ) (list : List Event) (image : List ℕ) → opening list ≡ list ++ event.Resume ∷ [] → FitsStage (AppendFailed digest event.Resume) list image → Survives digest list (opening list) image

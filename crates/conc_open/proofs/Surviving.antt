@@ -27,27 +27,6 @@ unbegun-survives digest image none = record {
   within = ([], sym (append-nil (events_of image) ∙ ap (λ (b : Bool). if b then [] else (found_in image).events) none));
 }
 
--- a journal
-pub journal-survives : (digest : List ℕ) (first list last : List Event) (image : List ℕ) → IsPrefix first list → IsPrefix list last → IsJournal digest list image → Survives digest first last image
-journal-survives digest first list last image begins within journal =
-    let begun = header-begun image journal.header in
-    let events : events_of image ≡ list = ap (λ (b : Bool). if b then [] else (found_in image).events) begun ∙ ap (λ (f : Found). f.events) journal.found in
-    record {
-      opens = ap (λ (b : Bool). b || has_header image) begun ∙ journal.header;
-      own = inr (ap (λ (b : Bool). if b then None else Some (digest_in image)) begun ∙ ap (λ (d : List ℕ). Some d) journal.of_input);
-      whole = ap (λ (b : Bool). if b then None else (found_in image).broken) begun ∙ ap (λ (f : Found). f.broken) journal.found;
-      begins = subst (IsPrefix first) (sym events) begins;
-      within = subst (λ (l : List Event). IsPrefix l last) (sym events) within;
-    }
-
-pub same-prefix : (list : List Event) → IsPrefix list list
-same-prefix list = ([], sym (append-nil list))
-
--- before the resume, and behind it
-pub opening-prefix : (found : List Event) → IsPrefix found (opening found)
-opening-prefix [] = ([], refl)
-opening-prefix (e ∷ es) = (event.Resume ∷ [], refl)
-
 -- ---- disks
 
 -- the images of one kind are of each kind that follows

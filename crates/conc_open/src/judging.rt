@@ -8,8 +8,8 @@ ghost use Rattle.conc_open.specs.Listing.{IsUnlisted};
 
 use crate::extents::first_past;
 use conc_machine::Machine;
-use conc_restart::{CheckFail, resume};
-use conc_types::{Event, Plan};
+use conc_restart::resume;
+use conc_types::{CheckFail, Event, Plan};
 use conc_work::Stopped;
 use std::alloc::Global;
 

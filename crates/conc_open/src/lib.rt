@@ -9,8 +9,6 @@ mod listing;
 mod opening;
 mod reading;
 mod starting;
-#[cfg(test)]
-mod tests;
 mod text;
 
 pub use listing::read_list;

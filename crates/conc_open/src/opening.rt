@@ -8,7 +8,7 @@ ghost use Rattle.conc_open.specs.Opening.{HasSurvived, IsBegun};
 use crate::examining::{Examined, examine};
 use crate::starting::start;
 use conc_disk::Disk;
-use conc_journal::DiskFault;
+use conc_outside::Failed;
 use conc_types::{Plan, Readings};
 use conc_work::{Stopped, Which, Work};
 use std::alloc::Global;
@@ -49,7 +49,7 @@ pub fn open<'p, D: Disk, E: Disk>(
             journal: list,
             spool: texts,
         }),
-        Err(DiskFault) => Err(Stopped::DiskFault {
+        Err(Failed) => Err(Stopped::DiskFault {
             which: Which::Journal,
         }),
     }

@@ -8,7 +8,8 @@ ghost use Rattle.conc_work.specs.Survival.{Survives};
 ghost use Rattle.conc_open.specs.Examined.{MayStart};
 
 use conc_disk::Disk;
-use conc_journal::{DiskFault, Journal};
+use conc_journal::Journal;
+use conc_outside::Failed;
 use conc_types::Event;
 
 /// Begins a life in a journal: the header where none was begun, and a resume where it has events.
@@ -16,7 +17,7 @@ pub(crate) fn start<D: Disk>(
     journal: &mut Journal,
     disk: &mut D,
     digest: &[u8; 32],
-) -> Result<(), DiskFault>
+) -> Result<(), Failed>
     requires stage { MayStart digest.now (stage_of journal.old) }
     requires room { 0 < room_of journal.old }
     requires on { IsOn journal.old (D.state disk.old) }
@@ -38,6 +39,6 @@ pub(crate) fn start<D: Disk>(
     }
     match journal.append(disk, Event::Resume) {
         Ok(_) => Ok(()),
-        Err(_) => Err(DiskFault),
+        Err(_) => Err(Failed),
     }
 }

@@ -7,8 +7,6 @@ mod memory_sink;
 mod real;
 mod shelf;
 mod sink;
-#[cfg(test)]
-mod tests;
 
 pub use error::{Failed, ShelfFail};
 pub use memory_shelf::MemShelf;

@@ -2,7 +2,5 @@
 #![tactic(auto)]
 
 mod path_disk;
-#[cfg(test)]
-mod tests;
 
 pub use path_disk::PathDisk;

@@ -3,3 +3,4 @@ pub mod Tournaments
 pub mod Maps
 pub mod LeastOf
 pub mod Firsts
+pub mod LeastTurns

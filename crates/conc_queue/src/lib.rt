@@ -4,8 +4,6 @@
 
 mod laws;
 mod queue;
-#[cfg(test)]
-mod tests;
 mod turns;
 
 pub use laws::{first_by_number, first_in_precedence};

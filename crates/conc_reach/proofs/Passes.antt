@@ -1,15 +1,16 @@
 -- A pass over the facts of the requests that an event can change, and not over the others.
-use Rattle.std.proofs.Common.{◌≡◌, ℕ, zero, suc, ◌<◌, ◌≤◌, List, [], ◌∷◌, take, Some, slice_get, refl, arith, ap}
+use Rattle.std.proofs.Common.{◌≡◌, ℕ, zero, suc, ◌<◌, ◌≤◌, Bool, List, [], ◌∷◌, take, Some, slice_get, refl, arith, ap}
 use Rattle.conc_types.specs.declared.event.Event.{Event}
 use Rattle.conc_types.specs.declared.facts.Facts.{Facts}
 use Rattle.conc_types.specs.declared.plan.Plan.{Plan}
 use Rattle.conc_types.specs.declared.plan.Req.{Req}
 use Rattle.conc_facts.specs.Advance.{all_after}
 use Rattle.conc_facts.specs.Step.{facts_after}
-use Rattle.conc_reach.specs.Spans.{LeavesOthers}
+use Rattle.conc_reach.specs.Spans.{is_within, LeavesOthers}
 use Rattle.conc_reach.specs.declared.span.Span.{Span}
 use Rattle.std.specs.Prelude.{nat_le, nat_lt}
 use Rattle.std.proofs.lemmas.Bool.{and_left, and_right, le-ltb, lt-leb}
+use Rattle.std.proofs.lemmas.Bool.Decides.{nat_tests}
 
 -- the event leaves the facts of a request as they are
 abbrev Leaves : Plan → Event → Req → Type 0
@@ -68,3 +69,14 @@ pub all_after-behind : (plan : Plan) (named : Facts) (e : Event) (span : Span) (
 all_after-behind plan named e span facts leaves =
     last-unchanged plan named e span.to plan.requests facts
     (λ i r at above. leaves i r at (and_right (nat_le span.from i) (nat_lt i span.to) (le-ltb i span.to above)))
+
+-- what is outside a wider span is outside the span
+outside-wider : (span : Span) (end i : ℕ) → span.to ≤ end → is_within i (record { from = span.from; to = end }) ≡ Bool.false → is_within i span ≡ Bool.false
+outside-wider span end i wide out = grind (arith, nat_tests)
+
+-- nothing changes behind an index that is behind the span
+pub all_after-from : (plan : Plan) (named : Facts) (e : Event) (span : Span) (facts : List Facts) (end : ℕ) → LeavesOthers plan e span → span.to ≤ end
+    → all_after plan named e (take end plan.requests) facts ≡ all_after plan named e plan.requests facts
+all_after-from plan named e span facts end leaves wide =
+    all_after-behind plan named e (record { from = span.from; to = end }) facts
+    (λ i r at out. leaves i r at (outside-wider span end i wide out))

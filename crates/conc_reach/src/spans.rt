@@ -1,5 +1,4 @@
 ghost use Rattle.std.specs.Prelude.{◌≡◌, ◌+◌, ◌<◌, ◌≤◌, ◌^◌, IfOk, length, replicate};
-ghost use Rattle.conc_types.specs.Words.{numbered as numbered_of};
 ghost use Rattle.conc_law.specs.Kinds.{act_of};
 ghost use Rattle.conc_reach.specs.Reach.{IsAround, is_acted_on, is_of_set, is_request};
 ghost use Rattle.conc_reach.specs.Spans.{AreMembers, AreSpans, LeavesOthers, span_of_command, span_of_members};
@@ -7,7 +6,7 @@ ghost use Rattle.conc_reach.specs.Widened.{IsWidened, IsWidenedBy};
 
 use crate::span::Span;
 use conc_facts::act;
-use conc_types::{Act, Event, NoMemory, Plan, Req, RequestId, Seq};
+use conc_types::{Act, Event, NoMemory, Plan, Req, RequestId, Seq, numbered};
 use std::alloc::Global;
 
 /// Where the requests of each command and the members of each set stand in a plan.
@@ -27,21 +26,12 @@ fn no_spans(alloc: Global, count: usize) -> Result<Seq<Span>, NoMemory>
     Ok(Seq::from_vec(vec![in alloc; Span::NONE; count]?))
 }
 
-fn numbered(spans: &[Span], number: u32) -> Option<Span>
-    ensures { result ≡ numbered_of spans.now number }
-{
-    if number == 0 {
-        return None;
-    }
-    spans.get(number as usize - 1).copied()
-}
-
 // Takes an index into the span of a number, if there is one.
 fn widen(spans: &mut Seq<Span>, number: u32, index: usize)
     requires { index + 1 < 2 ^ 64 }
     ensures { IsWidened spans.old spans.new number index }
 {
-    if let Some(span) = numbered(spans.as_slice(), number) {
+    if let Some(span) = numbered(spans.as_slice(), number).copied() {
         spans.set(number as usize - 1, span.cover(Span::of(index)));
     }
 }
@@ -94,7 +84,9 @@ impl Spans {
     pub fn span_of_members(&self, set: RequestId) -> Span
         ensures { result ≡ span_of_members self.now set }
     {
-        numbered(self.members.as_slice(), set.number).unwrap_or(self.whole)
+        numbered(self.members.as_slice(), set.number)
+            .copied()
+            .unwrap_or(self.whole)
     }
 
     /// Requests among which all members of a set stand, in order.
@@ -114,7 +106,9 @@ impl Spans {
     fn span_of_command(&self, command: u32) -> Span
         ensures { result ≡ span_of_command self.now command }
     {
-        numbered(self.commands.as_slice(), command).unwrap_or(self.whole)
+        numbered(self.commands.as_slice(), command)
+            .copied()
+            .unwrap_or(self.whole)
     }
 
     // Where a set and its members stand.

@@ -2,8 +2,6 @@
 #![tactic(auto)]
 
 mod records;
-#[cfg(test)]
-mod tests;
 
 pub use csv::ByteRecord;
 pub use records::Records;

@@ -30,7 +30,8 @@ fn step_within(plan: &Plan, named: Facts, e: Event, facts: &mut Seq<Facts>, span
     }
 }
 
-fn step(plan: &Plan, spans: &Spans, standing: &mut Standing, e: Event)
+/// Takes one more event into what stands.
+pub fn take_in(plan: &Plan, spans: &Spans, standing: &mut Standing, e: Event)
     requires { AreSpans plan.now spans.now }
     ensures { IsAfter plan.now standing.old standing.new e }
 {
@@ -47,7 +48,7 @@ fn advance(plan: &Plan, spans: &Spans, standing: &mut Standing, e: Event)
     requires { AreSpans plan.now spans.now }
     ensures { (past : List Event) → standing.old ≡ standing_of plan.now past → standing.new ≡ standing_of plan.now (e ∷ past) }
 {
-    step(plan, spans, standing, e);
+    take_in(plan, spans, standing, e);
 }
 
 /// What stands after these events of the plan, which stand in the order in which they came. Each event

@@ -9,7 +9,5 @@ mod making;
 mod numbers;
 mod quotes;
 mod tally;
-#[cfg(test)]
-mod tests;
 
 pub use making::{Made, report};

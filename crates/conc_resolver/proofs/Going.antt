@@ -30,7 +30,9 @@ use Rattle.conc_work.specs.Disks.{disks}
 use Rattle.conc_resolver.specs.Runs.{WentOn}
 use Rattle.conc_resolver.specs.Steps.{SurvivesFor, TellsOn}
 use Rattle.conc_resolver.proofs.Extents.{used-more}
-use Rattle.conc_resolver.proofs.Logs.{prefix-self, sound-begun, sound-whole, survives-wider}
+use Rattle.conc_work.proofs.Prefixes.{prefix-self}
+use Rattle.conc_work.proofs.Surviving.{survives-wider}
+use Rattle.conc_resolver.proofs.Logs.{sound-begun, sound-whole}
 use Rattle.conc_resolver.proofs.Texts.{agrees-on}
 
 -- where no append met a fault, the disk has at most the list
@@ -168,9 +170,9 @@ module _ (plan : Plan) (readings : List Reading) (old mid new : Work) (journal j
           let behind : IsPrefix (longest_in mid) (longest_in new) = (second.list.added, second.list.all ∙ ap (λ l. l ++ second.list.added) (sym whole)) in
           leaves-twice kind journal journal' journal''
           (leaves-wider (Survives digest (list_in old) (longest_in mid)) kind journal journal' (first.journal digest begun)
-          (if_some-any journal.seen (λ bytes image. survives-wider digest (list_in old) (longest_in mid) (list_in old) (longest_in new) image (prefix-self (list_in old)) behind)))
+          (if_some-any journal.seen (λ bytes image. survives-wider digest (list_in old) (list_in old) (longest_in mid) (longest_in new) image (prefix-self (list_in old)) behind)))
           (leaves-wider (Survives digest (list_in mid) (longest_in new)) kind journal' journal'' (second.journal digest (still-begun digest begun))
-          (if_some-any journal'.seen (λ bytes image. survives-wider digest (list_in mid) (longest_in new) (list_in old) (longest_in new) image before (prefix-self (longest_in new)))));
+          (if_some-any journal'.seen (λ bytes image. survives-wider digest (list_in old) (list_in mid) (longest_in new) (longest_in new) image before (prefix-self (longest_in new)))));
       spool =
           leaves-twice (KeepsBelow (used_of old.spool) spool) spool spool' spool'' first.spool
           (leaves-wider (KeepsBelow (used_of mid.spool) spool') (KeepsBelow (used_of old.spool) spool) spool' spool'' second.spool (keeps-below (used_of old.spool) (used_of mid.spool) spool spool' fewer first.spool_now));

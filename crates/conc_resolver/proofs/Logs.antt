@@ -14,43 +14,16 @@ use Rattle.conc_journal.specs.declared.journal.Stage.{Stage}
 use Rattle.conc_journal.specs.declared.journal.Stage.TheVariants.{Begun, AppendFailed}
 use Rattle.conc_work.specs.Lists.{failed_in, IsPrefix}
 use Rattle.conc_work.specs.Survival.{Survives}
+use Rattle.conc_work.proofs.Prefixes.{prefix-self}
+use Rattle.conc_work.proofs.Surviving.{journal-survives}
 use Rattle.conc_resolver.specs.Steps.{SurvivesFor}
-
--- ---- lists that go on
-
-pub prefix-self : (list : List Event) → IsPrefix list list
-prefix-self list = ([], sym (append-nil list))
-
-prefix-on : (a b c : List Event) → IsPrefix a b → IsPrefix b c → IsPrefix a c
-prefix-on a b c first second = (first.0 ++ second.0, second.1 ∙ ap (λ l. l ++ second.0) first.1 ∙ append_assoc a first.0 second.0)
 
 -- ---- images
 
-survives : (digest : List ℕ) (first list last : List Event) (image : List ℕ) → IsJournal digest list image → IsPrefix first list → IsPrefix list last → Survives digest first last image
-survives digest first list last image journal begins within =
-    let begun = header-begun image journal.header in
-    let events : events_of image ≡ list = ap (λ (b : Bool). if b then [] else (found_in image).events) begun ∙ ap (λ (f : Found). f.events) journal.found in
-    record {
-      opens = ap (λ (b : Bool). b || has_header image) begun ∙ journal.header;
-      own = inr (ap (λ (b : Bool). if b then None else Some (digest_in image)) begun ∙ ap (λ (d : List ℕ). Some d) journal.of_input);
-      whole = ap (λ (b : Bool). if b then None else (found_in image).broken) begun ∙ ap (λ (f : Found). f.broken) journal.found;
-      begins = subst (λ (l : List Event). IsPrefix first l) (sym events) begins;
-      within = subst (λ (l : List Event). IsPrefix l last) (sym events) within;
-    }
-
-pub survives-wider : (digest : List ℕ) (first last sooner later : List Event) (image : List ℕ) → IsPrefix sooner first → IsPrefix last later → Survives digest first last image → Survives digest sooner later image
-survives-wider digest first last sooner later image before behind s = record {
-  opens = s.opens;
-  own = s.own;
-  whole = s.whole;
-  begins = prefix-on sooner first (events_of image) before s.begins;
-  within = prefix-on (events_of image) last later s.within behind;
-}
-
 fits-survives : (digest : List ℕ) (list : List Event) (e : Event) (image : List ℕ) → FitsStage (AppendFailed digest e) list image → Survives digest list (list ++ e ∷ []) image
 fits-survives digest list e image fits = ⊎_elim
-    (λ (without : IsJournal digest list image). survives digest list list (list ++ e ∷ []) image without (prefix-self list) (e ∷ [], refl))
-    (λ (with_it : IsJournal digest (list ++ e ∷ []) image). survives digest list (list ++ e ∷ []) (list ++ e ∷ []) image with_it (e ∷ [], refl) (prefix-self (list ++ e ∷ [])))
+    (λ (without : IsJournal digest list image). journal-survives digest list list (list ++ e ∷ []) image (prefix-self list) (e ∷ [], refl) without)
+    (λ (with_it : IsJournal digest (list ++ e ∷ []) image). journal-survives digest list (list ++ e ∷ []) (list ++ e ∷ []) image (e ∷ [], refl) (prefix-self (list ++ e ∷ [])) with_it)
     fits
 
 -- at each moment of an append

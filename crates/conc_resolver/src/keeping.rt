@@ -8,7 +8,7 @@ ghost use Rattle.conc_work.specs.declared.fail.RunFail.TheVariants as RunFail;
 
 use conc_choice::Next;
 use conc_disk::Disk;
-use conc_spool::DiskFault;
+use conc_outside::Failed;
 use conc_work::{RunFail, Work};
 
 /// Brings the text of the event, if it has one, to the spool's disk. After a fault the spool is as before.
@@ -35,7 +35,7 @@ pub(crate) fn keep<E: Disk>(work: &mut Work<'_>, spool: &mut E, next: &Next) -> 
         None => Ok(()),
         Some(text) => match work.spool.append(spool, text.as_slice()) {
             Ok(_) => Ok(()),
-            Err(DiskFault) => Err(RunFail::SpoolFault),
+            Err(Failed) => Err(RunFail::SpoolFault),
         },
     }
 }

@@ -4,7 +4,6 @@ pub mod SetsLeft
 pub mod OwnLeft
 pub mod Numbered
 pub mod RequestsLeft
-pub mod Abouts
 pub mod StepsLeft
 pub mod LivesFit
 pub mod ReadSoFar

@@ -15,9 +15,9 @@ use Rattle.conc_law.specs.Law.{is_lawful, is_past, may_follow}
 use Rattle.conc_law.specs.Remaining.{commands_left}
 use Rattle.conc_law.proofs.LawfulIsPast.{lawful_is_past}
 use Rattle.conc_law.proofs.Positions.{reverse-push}
-use Rattle.conc_restart.proofs.Abouts.{about_one}
+use Rattle.conc_law.proofs.Remaining.{about_one, commands_left-kept, commands_left-less, readings_left, readings_left-kept, readings_left-less}
 use Rattle.conc_restart.proofs.RequestsLeft.{all_below, all_grow, all_left, all_left-most, all_less}
-use Rattle.conc_restart.proofs.StepsLeft.{commands_left-kept, commands_left-less, commands_left-most, readings_left, readings_left-kept, readings_left-less, readings_left-most}
+use Rattle.conc_restart.proofs.StepsLeft.{commands_left-most, readings_left-most}
 use Rattle.conc_restart.specs.Need.{IsOfOneLife, need}
 
 -- ---- one event

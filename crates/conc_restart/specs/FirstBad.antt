@@ -4,8 +4,8 @@ use Rattle.conc_types.specs.declared.event.Event.{Event}
 use Rattle.conc_types.specs.declared.plan.Plan.{Plan}
 use Rattle.conc_types.specs.Words.{numbered}
 use Rattle.conc_law.specs.Law.{may_follow, Past}
-use Rattle.conc_restart.specs.declared.fail.CheckFail.{CheckFail}
-use Rattle.conc_restart.specs.declared.fail.CheckFail.TheVariants as fail
+use Rattle.conc_types.specs.declared.error.CheckFail.{CheckFail}
+use Rattle.conc_types.specs.declared.error.CheckFail.TheVariants as fail
 
 -- the event at this position, counted from 1, may not follow those before it, and each of those may follow the ones
 -- before it. Every life is judged as an earlier one

@@ -2,12 +2,10 @@
 //! room that the events of one more life need.
 #![tactic(auto)]
 
-mod fail;
 mod laws;
 mod resuming;
 mod room;
 
-pub use fail::CheckFail;
 pub use laws::life_fits_need;
 pub use resuming::resume;
 pub use room::need;

@@ -1,12 +1,11 @@
 ghost use Rattle.std.specs.Prelude.{◌≡◌, IfErr, IfOk, None, reverse};
 ghost use Rattle.conc_law.specs.Law.{Past};
 ghost use Rattle.conc_machine.specs.Stands.{plan_of, readings_of, Stands};
-ghost use Rattle.conc_restart.specs.declared.fail.CheckFail.TheVariants as fail;
+ghost use Rattle.conc_types.specs.declared.error.CheckFail.TheVariants as fail;
 ghost use Rattle.conc_restart.specs.FirstBad.{IsRefused};
 
-use crate::fail::CheckFail;
 use conc_machine::Machine;
-use conc_types::{Event, Plan};
+use conc_types::{CheckFail, Event, Plan};
 use std::alloc::Global;
 
 /// The machine that stands for the events of a journal, where each may follow those before it with

@@ -32,8 +32,9 @@ fn entry_covers(entry: Entry, y: &Req, parent: Option<Item>) -> bool
     }
 }
 
+/// Whether the item is a program that never runs beside another request of its domain.
 #[tactic(auto, unfolding(conc_law::specs::Exclusion::runs_alone))]
-fn runs_alone(setup: &Setup, item: Item) -> bool
+pub fn runs_alone(setup: &Setup, item: Item) -> bool
     ensures { result ≡ runs_alone_of setup.now item }
 {
     match item {

@@ -11,7 +11,8 @@ pub fn is_set(item: Item) -> bool
     matches!(item, Item::Set(_))
 }
 
-pub(crate) fn is_same_item(a: Item, b: Item) -> bool
+/// Whether two items are the same program or the same set.
+pub fn is_same_item(a: Item, b: Item) -> bool
     ensures { result ≡ item_eq a b }
 {
     match (a, b) {

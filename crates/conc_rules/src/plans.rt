@@ -19,8 +19,9 @@ pub fn parent<'a>(plan: &'a Plan, r: &Req) -> Option<&'a Req>
     }
 }
 
+/// The set of which the request is a member, as an item.
 #[tactic(auto, unfolding(conc_law::specs::Plans::parent_item))]
-fn parent_item(plan: &Plan, r: &Req) -> Option<Item>
+pub fn parent_item(plan: &Plan, r: &Req) -> Option<Item>
     ensures { result ≡ parent_item_of plan.now r.now }
 {
     match parent(plan, r) {

@@ -16,19 +16,9 @@ use Rattle.conc_law.proofs.Positions.{reverse-push}
 use Rattle.conc_work.specs.Lists.{IsPrefix}
 use Rattle.conc_work.specs.Told.{AreTold}
 use Rattle.conc_work.specs.Works.{with_kept}
+use Rattle.conc_work.proofs.Prefixes.{prefix-opening, prefix-self, prefix-twice}
 
 -- ---- beginnings
-
-pub prefix-itself : (l : List Event) → IsPrefix l l
-prefix-itself l = ([], sym (append-nil l))
-
-pub prefix-twice : (a b c : List Event) → IsPrefix a b → IsPrefix b c → IsPrefix a c
-prefix-twice a b c first second = (first.0 ++ second.0, second.1 ∙ ap (λ (l : List Event). l ++ second.0) first.1 ∙ append_assoc a first.0 second.0)
-
--- a life begins with the events found
-pub prefix-opening : (found : List Event) → IsPrefix found (opening found)
-prefix-opening [] = ([], refl)
-prefix-opening (e ∷ es) = (event.Resume ∷ [], refl)
 
 -- without its last event a list begins with what it began with, if that was shorter
 prefix-less : (front list : List Event) (e r : Event) (rest : List Event) → list ++ e ∷ [] ≡ front ++ r ∷ rest → IsPrefix front list
@@ -53,7 +43,7 @@ opening-adds [] = inl refl
 opening-adds (e ∷ es) = inr (event.Resume, refl)
 
 pub prefix-with_kept : (kept : Option Event) (list : List Event) → IsPrefix list (with_kept kept list)
-prefix-with_kept None list = prefix-itself list
+prefix-with_kept None list = prefix-self list
 prefix-with_kept (Some e) list = (e ∷ [], refl)
 
 -- ---- the bytes of their texts

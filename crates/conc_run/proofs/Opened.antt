@@ -16,7 +16,8 @@ use Rattle.conc_work.specs.Works.{list_in}
 use Rattle.conc_work.specs.declared.fail.Stopped.{Stopped}
 use Rattle.conc_work.specs.declared.work.Work.{Work}
 use Rattle.conc_run.specs.Whole.{HasBetween, HasLeft, KeepsTexts}
-use Rattle.conc_run.proofs.Lists.{opening-adds, prefix-itself, prefix-opening}
+use Rattle.conc_work.proofs.Prefixes.{prefix-opening, prefix-self}
+use Rattle.conc_run.proofs.Lists.{opening-adds}
 
 -- nothing was written
 pub left-untouched : (h : Handed) (s : HasSurvived h) → IsUntouched h → HasLeft h s.found s.found s.found
@@ -37,7 +38,7 @@ pub left-opening : (h : Handed) (s : HasSurvived h) → ((list : List Event) →
     → HasLeft h s.found s.found (opening s.found)
 left-opening h s to_past stays survives = record {
   events = s.events;
-  goes_on = inl (prefix-itself (opening s.found));
+  goes_on = inl (prefix-self (opening s.found));
   past = λ past. to_past (opening s.found) (opening-lawful h.plan h.readings s.found past);
   acknowledged = opening-adds s.found;
   journal = s.journal;

@@ -21,7 +21,8 @@ use Rattle.conc_work.specs.Told.{AreTold}
 use Rattle.conc_work.specs.Works.{list_in, longest_in, with_kept}
 use Rattle.conc_work.specs.declared.work.Work.{Work}
 use Rattle.conc_run.specs.Whole.{HasLeft, IsFinished}
-use Rattle.conc_run.proofs.Lists.{prefix-kept, prefix-opening, prefix-twice, prefix-with_kept, told-opening, used-opening, used-prefix}
+use Rattle.conc_work.proofs.Prefixes.{prefix-opening, prefix-twice}
+use Rattle.conc_run.proofs.Lists.{prefix-kept, prefix-with_kept, told-opening, used-opening, used-prefix}
 use Rattle.conc_run.proofs.Survived.{begun-longest, fits-survives, journal-left}
 use Rattle.conc_run.proofs.Texts.{Keeps, spool-left, spool-now}
 

@@ -15,42 +15,20 @@ use Rattle.conc_journal.specs.declared.journal.Stage.TheVariants.{NotBegun, Begi
 use Rattle.conc_law.specs.Alone.{opening}
 use Rattle.conc_work.specs.Lists.{failed_in, IsPrefix}
 use Rattle.conc_work.specs.Survival.{Survives}
-use Rattle.conc_run.proofs.Lists.{prefix-itself, prefix-opening, prefix-twice}
-
--- between lists that are farther apart
-pub survives-wider : (digest : List ℕ) (outer first last outmost : List Event) (image : List ℕ) → IsPrefix outer first → IsPrefix last outmost → Survives digest first last image → Survives digest outer outmost image
-survives-wider digest outer first last outmost image front back is = record {
-  opens = is.opens;
-  own = is.own;
-  whole = is.whole;
-  begins = prefix-twice outer first (events_of image) front is.begins;
-  within = prefix-twice (events_of image) last outmost is.within back;
-}
-
--- a journal with a list between two
-journal-survives : (digest : List ℕ) (first list last : List Event) (image : List ℕ) → IsPrefix first list → IsPrefix list last → IsJournal digest list image → Survives digest first last image
-journal-survives digest first list last image front back is =
-    let begun = header-begun image is.header in
-    let events : events_of image ≡ list = ap (λ (b : Bool). if b then [] else (found_in image).events) begun ∙ ap (λ (f : Found). f.events) is.found in
-    record {
-      opens = ap (λ (b : Bool). b || has_header image) begun ∙ is.header;
-      own = inr (ap (λ (b : Bool). if b then None else Some (digest_in image)) begun ∙ ap (λ (d : List ℕ). Some d) is.of_input);
-      whole = ap (λ (b : Bool). if b then None else (found_in image).broken) begun ∙ ap (λ (f : Found). f.broken) is.found;
-      begins = subst (λ (l : List Event). IsPrefix first l) (sym events) front;
-      within = subst (λ (l : List Event). IsPrefix l last) (sym events) back;
-    }
+use Rattle.conc_work.proofs.Prefixes.{prefix-opening, prefix-self}
+use Rattle.conc_work.proofs.Surviving.{journal-survives, survives-wider}
 
 -- what fits the stage of a journal has its list, or the longest
 pub fits-survives : (stage : Stage) (digest : List ℕ) (list : List Event) (image : List ℕ) → IsTrue (takes_events stage) → stage_digest stage ≡ Some digest → FitsStage stage list image → Survives digest list (list ++ failed_in stage) image
 fits-survives (Begun own) digest list image takes is fits =
     let same : own ≡ digest = cc in
-    subst (λ (d : List ℕ). Survives d list (list ++ []) image) same (journal-survives own list list (list ++ []) image (prefix-itself list) ([], refl) fits)
+    subst (λ (d : List ℕ). Survives d list (list ++ []) image) same (journal-survives own list list (list ++ []) image (prefix-self list) ([], refl) fits)
 fits-survives (AppendFailed own e) digest list image takes is (inl fits) =
     let same : own ≡ digest = cc in
-    subst (λ (d : List ℕ). Survives d list (list ++ e ∷ []) image) same (journal-survives own list list (list ++ e ∷ []) image (prefix-itself list) (e ∷ [], refl) fits)
+    subst (λ (d : List ℕ). Survives d list (list ++ e ∷ []) image) same (journal-survives own list list (list ++ e ∷ []) image (prefix-self list) (e ∷ [], refl) fits)
 fits-survives (AppendFailed own e) digest list image takes is (inr fits) =
     let same : own ≡ digest = cc in
-    subst (λ (d : List ℕ). Survives d list (list ++ e ∷ []) image) same (journal-survives own list (list ++ e ∷ []) (list ++ e ∷ []) image (e ∷ [], refl) (prefix-itself (list ++ e ∷ [])) fits)
+    subst (λ (d : List ℕ). Survives d list (list ++ e ∷ []) image) same (journal-survives own list (list ++ e ∷ []) (list ++ e ∷ []) image (e ∷ [], refl) (prefix-self (list ++ e ∷ [])) fits)
 fits-survives NotBegun digest list image takes is fits = cc
 fits-survives (BeginFailed own) digest list image takes is fits = cc
 fits-survives (Broken own) digest list image takes is fits = cc
@@ -71,10 +49,10 @@ pub journal-left : (digest : List ℕ) (told found last : List Event) (before mi
     → LeavesOnly (Between before digest told (opening told)) before mid → LeavesOnly (Survives digest (opening found) last) mid after → LeavesOnly (Between before digest found last) before after
 journal-left digest told found last before mid after told_is found_is begins opened ran =
     let wide : (image : List ℕ) → Survives digest found (opening found) image → Survives digest found last image =
-    λ image is. survives-wider digest found found (opening found) last image (prefix-itself found) begins is in
+    λ image is. survives-wider digest found found (opening found) last image (prefix-self found) begins is in
     leaves-twice (Between before digest found last) before mid after
     (leaves-wider (Between before digest told (opening told)) (Between before digest found last) before mid opened
     (if_some-both before.seen told_is found_is (λ bytes one other image is.
     ⊎_elim inl (λ survives. inr (wide image (subst (λ (l : List Event). Survives digest l (opening l) image) (one ∙ sym other) survives))) is)))
     (leaves-wider (Survives digest (opening found) last) (Between before digest found last) mid after ran
-    (if_some-any mid.seen (λ bytes image is. inr (survives-wider digest found (opening found) last last image (prefix-opening found) (prefix-itself last) is))))
+    (if_some-any mid.seen (λ bytes image is. inr (survives-wider digest found (opening found) last last image (prefix-opening found) (prefix-self last) is))))

@@ -9,8 +9,6 @@ mod lines;
 mod owning;
 mod rule;
 mod script;
-#[cfg(test)]
-mod tests;
 mod words;
 
 pub use clock::read_clock;

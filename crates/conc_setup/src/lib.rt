@@ -14,8 +14,6 @@ mod resolve;
 mod second_pass;
 mod set;
 mod setup;
-#[cfg(test)]
-mod tests;
 mod third_pass;
 
 pub use setup::read_setup;

@@ -1,15 +1,10 @@
-ghost use Rattle.std.specs.Prelude.{◌≡◌, ⊤};
+ghost use Rattle.std.specs.Prelude.{◌≡◌};
 ghost use Rattle.conc_spool.specs.declared.error.ReadBack.TheVariants as read_back;
 ghost use Rattle.conc_spool.specs.declared.error.SpoolFail.TheVariants as spool_fail;
 
 use conc_outside::Failed;
 use std::alloc::AllocError;
 use thiserror::Error;
-
-/// A call of the disk failed.
-#[derive(Clone, Copy, Debug, PartialEq, Eq, Error)]
-#[error("the disk failed")]
-pub struct DiskFault;
 
 /// Why a spool is not opened.
 #[derive(Clone, Copy, Debug, PartialEq, Eq, Error)]
@@ -27,14 +22,6 @@ pub enum ReadBack {
     DiskFault,
     #[error("no memory")]
     NoMemory,
-}
-
-impl From<Failed> for DiskFault {
-    ghost from_gives = { λ _ _. ⊤ };
-
-    fn from(_: Failed) -> Self {
-        DiskFault
-    }
 }
 
 impl From<Failed> for SpoolFail {

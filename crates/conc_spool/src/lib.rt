@@ -3,8 +3,6 @@
 
 mod error;
 mod spool;
-#[cfg(test)]
-mod tests;
 
-pub use error::{DiskFault, ReadBack, SpoolFail};
+pub use error::{ReadBack, SpoolFail};
 pub use spool::Spool;

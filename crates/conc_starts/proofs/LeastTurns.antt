@@ -19,6 +19,7 @@ use Rattle.conc_law.specs.Words.{first_by}
 use Rattle.conc_queue.specs.Least.{least, lesser}
 use Rattle.conc_queue.specs.Turns.{request_at_turn, turn, turns_of}
 use Rattle.conc_queue.proofs.Firsts.{first-least}
+use Rattle.conc_queue.proofs.LeastTurns.{least-or, least_of-none}
 use Rattle.conc_starts.specs.declared.starts.Starts.{Starts}
 use Rattle.conc_starts.specs.Starts.{AreStarts, may_start_under}
 use Rattle.conc_starts.specs.Updates.{is_open, manager_at, queue_at}
@@ -30,67 +31,14 @@ pub turns-agree : (f g : Req → Bool) (rs : List Req) → ((r : Req) → g r �
 unfolding turns_of
 turns-agree f g rs h = map-agree (λ r. then_some (f r) (turn r)) (λ r. then_some (g r) (turn r)) rs (λ r. ap (λ b. then_some b (turn r)) (h r))
 
--- where none passes, there is no least turn
-pub least-none_pass : (f : Req → Bool) (rs : List Req) → ((r : Req) → f r ≡ false) → least (turns_of f rs) ≡ None
-unfolding least turns_of
-least-none_pass f [] h = refl
-least-none_pass f (r ∷ rs) h = rw (h r) (least-none_pass f rs h)
-
--- ---- the lesser of two
-
-lesser-assoc : (x y z : Option ℕ) → lesser (lesser x y) z ≡ lesser x (lesser y z)
-lesser-assoc None y z = refl
-lesser-assoc (Some a) None z = refl
-lesser-assoc (Some a) (Some b) None = refl
-lesser-assoc (Some a) (Some b) (Some c) = ap (λ n. Some n) (numbers a b c) where
-  numbers : (a b c : ℕ) → (if nat_lt c (if nat_lt b a then b else a) then c else (if nat_lt b a then b else a))
-      ≡ (if nat_lt (if nat_lt c b then c else b) a then (if nat_lt c b then c else b) else a)
-  numbers a b c = grind (arith, nat_tests)
-
-lesser-comm : (x y : Option ℕ) → lesser x y ≡ lesser y x
-lesser-comm None None = refl
-lesser-comm None (Some b) = refl
-lesser-comm (Some a) None = refl
-lesser-comm (Some a) (Some b) = ap (λ n. Some n) (numbers a b) where
-  numbers : (a b : ℕ) → (if nat_lt b a then b else a) ≡ (if nat_lt a b then a else b)
-  numbers a b = grind (arith, nat_tests)
-
-lesser-same : (x : Option ℕ) → lesser x x ≡ x
-lesser-same None = refl
-lesser-same (Some a) = ap (λ n. Some n) (numbers a) where
-  numbers : (a : ℕ) → (if nat_lt a a then a else a) ≡ a
-  numbers a = grind (arith, nat_tests)
-
--- the key of one that passes one of two tests
-lesser-or : (a b : Bool) (t : ℕ) → then_some (a || b) t ≡ lesser (then_some a t) (then_some b t)
-lesser-or true true t = sym (lesser-same (Some t))
-lesser-or true false t = refl
-lesser-or false true t = refl
-lesser-or false false t = refl
-
-lesser-four : (x y u v : Option ℕ) → lesser (lesser x y) (lesser u v) ≡ lesser (lesser x u) (lesser y v)
-lesser-four x y u v =
-    lesser-assoc x y (lesser u v)
-    ∙ ap (lesser x) (sym (lesser-assoc y u v) ∙ ap (λ z. lesser z v) (lesser-comm y u) ∙ lesser-assoc u y v)
-    ∙ sym (lesser-assoc x u (lesser y v))
-
--- the least turn of those that pass one of two tests
-pub least-or : (f g : Req → Bool) (rs : List Req) → least (turns_of (λ r. f r || g r) rs) ≡ lesser (least (turns_of f rs)) (least (turns_of g rs))
-unfolding least turns_of
-least-or f g [] = refl
-least-or f g (r ∷ rs) =
-    ap (λ x. lesser x (least (map (λ q. then_some (f q || g q) (turn q)) rs))) (lesser-or (f r) (g r) (turn r))
-    ∙ ap (lesser (lesser (then_some (f r) (turn r)) (then_some (g r) (turn r)))) (least-or f g rs)
-    ∙ lesser-four (then_some (f r) (turn r)) (then_some (g r) (turn r)) (least (map (λ q. then_some (f q) (turn q)) rs)) (least (map (λ q. then_some (g q) (turn q)) rs))
-
 -- ---- at a place
 
 -- at a place that is not open none may start
 pub least-closed : (plan : Plan) (s : Standing) (starts : Starts) (place : PlaceId) → AreStarts plan s starts → is_open starts place ≡ false
     → least (turns_of (λ r. may_start plan s r place) plan.requests) ≡ None
 least-closed plan s starts place are closed =
-    least-none_pass (λ r. may_start plan s r place) plan.requests
-    (λ r. may_start_is plan s starts r place are ∙ ap (λ b. (facts_at s r).let_out && (not (is_running (facts_at s r)) && (b && some_and (λ manager. admits manager r) (manager_at plan starts place)))) closed
+    least_of-none (λ r. may_start plan s r place) plan.requests
+    (λ r has. may_start_is plan s starts r place are ∙ ap (λ b. (facts_at s r).let_out && (not (is_running (facts_at s r)) && (b && some_and (λ manager. admits manager r) (manager_at plan starts place)))) closed
     ∙ off (facts_at s r).let_out (not (is_running (facts_at s r)))) where
       off : (a b : Bool) → (a && (b && false)) ≡ false
       off true true = refl
@@ -104,7 +52,7 @@ under s o r = (facts_at s r).let_out && (not (is_running (facts_at s r)) && some
 least-under : (s : Standing) (rs : List Req) (o : Option Manager) → least (turns_of (under s o) rs)
     ≡ option_and_then least (option_map (λ manager. turns_of (may_start_under s manager) rs) o)
 unfolding may_start_under
-least-under s rs None = least-none_pass (under s None) rs (λ r. off (facts_at s r).let_out (not (is_running (facts_at s r)))) where
+least-under s rs None = least_of-none (under s None) rs (λ r has. off (facts_at s r).let_out (not (is_running (facts_at s r)))) where
   off : (a b : Bool) → (a && (b && false)) ≡ false
   off true true = refl
   off true false = refl
@@ -136,7 +84,7 @@ least-more plan s from count rest e =
 -- at no place none may start
 pub least-nowhere : (plan : Plan) (s : Standing) (from count : ℕ) → count ≡ 0
     → least (turns_of (λ r. list_any (may_start plan s r) (map (λ index. record { index = index }) (range_with_len from count))) plan.requests) ≡ None
-least-nowhere plan s from count e = rw e (least-none_pass (λ r. false) plan.requests (λ r. refl))
+least-nowhere plan s from count e = rw e (least_of-none (λ r. false) plan.requests (λ r has. refl))
 
 -- the first request in precedence that may start somewhere has the least turn of those
 pub first-somewhere : (plan : Plan) (s : Standing) (count : ℕ) → count ≡ count_of_places plan → first_by precedes (may_start_somewhere plan s) plan.requests

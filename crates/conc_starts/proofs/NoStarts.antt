@@ -12,6 +12,7 @@ use Rattle.conc_law.specs.Next.{runs_at}
 use Rattle.conc_law.specs.Places.{all_places}
 use Rattle.conc_law.specs.Standing.{facts_at, no_facts, now, standing}
 use Rattle.conc_law.proofs.FactsAt.{numbered-map}
+use Rattle.conc_law.proofs.FirstEvent.{facts_at-none}
 use Rattle.conc_facts.proofs.NoEvents.{standing-none}
 use Rattle.conc_queue.specs.Least.{vacant}
 use Rattle.conc_queue.specs.Turns.{turns_of}
@@ -19,18 +20,6 @@ use Rattle.conc_starts.specs.declared.starts.Starts.{Starts}
 use Rattle.conc_starts.specs.Starts.{AreStarts, is_usable_now, may_start_under, owner_of, running_at}
 use Rattle.conc_starts.proofs.Counts.{filter-none}
 use Rattle.conc_starts.proofs.Ranges.{map-agree}
-
--- no request has facts
-facts_at-none : (plan : Plan) (r : Req) → facts_at (standing plan []) r ≡ no_facts
-unfolding facts_at
-facts_at-none plan r =
-    ap (λ s. unwrap_or (numbered s.facts r.number.number) no_facts)
-    (sym (standing-none plan (map (λ (order : Order). false) plan.script.commands) (map (λ (q : Req). no_facts) plan.requests) refl refl))
-    ∙ ap (λ o. unwrap_or o no_facts) (numbered-map (λ (q : Req). no_facts) plan.requests r.number.number)
-    ∙ by (numbered plan.requests r.number.number) where
-      by : (o : _) → unwrap_or (option_map (λ (q : Req). no_facts) o) no_facts ≡ no_facts
-      by None = refl
-      by (Some q) = refl
 
 -- where none passes, no seat has a key
 vacant-turns : (f : Req → Bool) (rs : List Req) → ((r : Req) → f r ≡ false) → vacant (length rs) ≡ turns_of f rs

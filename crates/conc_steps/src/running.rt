@@ -2,13 +2,13 @@ ghost use Rattle.std.specs.Prelude.{◌≡◌, [], IfOk};
 ghost use Rattle.std.specs.List.{find};
 ghost use Rattle.std.specs.Option.{option_copied};
 ghost use Rattle.conc_types.specs.declared.facts.Standing.{Standing};
-ghost use Rattle.conc_law.specs.Next.{forced_interrupt as forced_interrupt_of, is_left_running as is_left_running_of, runs_somewhere};
+ghost use Rattle.conc_law.specs.Next.{forced_interrupt as forced_interrupt_of, is_left_running as is_left_running_of, runs_somewhere as runs_somewhere_of};
 ghost use Rattle.conc_law.specs.Standing.{standing};
 ghost use Rattle.conc_queue.specs.Written.{IsWritten};
 ghost use Rattle.conc_steps.specs.Steps.{AreRunning};
 
 use crate::seats::{least_request, refresh, request_at};
-use conc_decide::facts_at;
+use conc_decide::{is_left_running, runs_somewhere};
 use conc_queue::Queue;
 use conc_types::{Event, Facts, NoMemory, Plan, Req, Standing};
 use std::alloc::Global;
@@ -20,21 +20,6 @@ pub struct Running {
     all: Queue,
     // The numbers of those that run since an earlier life.
     left: Queue,
-}
-
-#[tactic(auto, unfolding(conc_law::specs::Next::runs_somewhere))]
-fn is_running(standing: &Standing, r: &Req) -> bool
-    ensures { result ≡ runs_somewhere standing.now r.now }
-{
-    facts_at(standing, r).place.is_some()
-}
-
-#[tactic(auto, unfolding(conc_law::specs::Next::is_left_running))]
-fn is_left_running(standing: &Standing, r: &Req) -> bool
-    ensures { result ≡ is_left_running_of standing.now r.now }
-{
-    let facts = facts_at(standing, r);
-    facts.place.is_some() && !facts.started
 }
 
 impl Running {
@@ -53,7 +38,7 @@ impl Running {
         ensures { (before : Standing) → IsWritten plan.now before after.now i _old → AreRunning plan.now before self.old → AreRunning plan.now after.now self.new }
     {
         if let Some(r) = request_at(plan, i) {
-            refresh(&mut self.all, r, is_running(after, r));
+            refresh(&mut self.all, r, runs_somewhere(after, r));
             refresh(&mut self.left, r, is_left_running(after, r));
         }
     }
@@ -62,7 +47,7 @@ impl Running {
     #[tactic(auto, using(crate::proofs::Firsts::first_running))]
     pub fn first<'a>(&self, plan: &'a Plan, _standing: &Standing) -> Option<&'a Req>
         requires { AreRunning plan.now _standing.now self.now }
-        ensures { option_copied result ≡ find (runs_somewhere _standing.now) plan.now.requests }
+        ensures { option_copied result ≡ find (runs_somewhere_of _standing.now) plan.now.requests }
     {
         least_request(&self.all, plan)
     }

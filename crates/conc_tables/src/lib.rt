@@ -3,7 +3,5 @@
 
 mod columns;
 mod reading;
-#[cfg(test)]
-mod tests;
 
 pub use reading::read_table;

@@ -7,8 +7,6 @@ mod managers;
 mod moments;
 mod reading;
 mod shifts;
-#[cfg(test)]
-mod tests;
 
 pub use laws::{moments_are_read_back, moments_have_one_spelling};
 pub use managers::{is_admitted_at, is_usable, place_count, place_of};

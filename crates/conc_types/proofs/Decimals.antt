@@ -21,14 +21,14 @@ both false y e = absurd cc
 is_digit : (c : ℕ) → is_ascii_digit c ≡ true → IsInRange 48 57 c
 is_digit c e = grind (arith, nat_tests)
 
-digit_below : (c : ℕ) → is_ascii_digit c ≡ true → digit_value c < 10
+pub digit_below : (c : ℕ) → is_ascii_digit c ≡ true → digit_value c < 10
 digit_below c e = let k = is_digit c e in omega (arith, digit_value_digit c k)
 
 all_digits : (bs : List ℕ) → list_all is_ascii_digit bs ≡ true → AllDigits 10 bs
 all_digits [] e = tt
 all_digits (c ∷ cs) e = let k = both (is_ascii_digit c) (list_all is_ascii_digit cs) e in (digit_below c k.0, all_digits cs k.1)
 
-decimal_digits : (bs : List ℕ) → is_decimal bs ≡ true → AllDigits 10 bs
+pub decimal_digits : (bs : List ℕ) → is_decimal bs ≡ true → AllDigits 10 bs
 decimal_digits [] e = tt
 decimal_digits (c ∷ cs) e =
     let k = both (is_ascii_digit c) _ e in

@@ -1,4 +1,5 @@
-ghost use Rattle.std.specs.Prelude.{⊤};
+ghost use Rattle.std.specs.Prelude.{◌≡◌, ⊤};
+ghost use Rattle.conc_types.specs.declared.error.CheckFail.TheVariants.{NoMemory as out_of_memory};
 
 use std::alloc::{AllocError, AllocFailed};
 use thiserror::Error;
@@ -21,5 +22,23 @@ impl<T: Drop> From<AllocFailed<T>> for NoMemory {
 
     fn from(_: AllocFailed<T>) -> Self {
         NoMemory
+    }
+}
+
+/// Why a list of events is not taken.
+#[derive(Clone, Copy, Debug, PartialEq, Eq, Error)]
+pub enum CheckFail {
+    /// The event at this position, counted from 1, may not follow those before it.
+    #[error("event {position} is not lawful")]
+    Unlawful { position: u64 },
+    #[error("no memory")]
+    NoMemory,
+}
+
+impl From<NoMemory> for CheckFail {
+    ghost from_gives = { λ _ e. e ≡ out_of_memory };
+
+    fn from(_: NoMemory) -> Self {
+        CheckFail::NoMemory
     }
 }

@@ -25,6 +25,22 @@ pub struct Facts {
     pub outcome: Option<Outcome>,
 }
 
+impl Facts {
+    /// The facts of a request of which no event speaks.
+    pub const NONE: Facts = Facts {
+        entered: false,
+        held: false,
+        opened: false,
+        stage: None,
+        begun: StageSet::EMPTY,
+        let_out: false,
+        place: None,
+        started: false,
+        terminated: false,
+        outcome: None,
+    };
+}
+
 /// What stands after some events: all that the rules read of a history, but for its readings.
 #[derive(Drop)]
 pub struct Standing {

@@ -19,13 +19,11 @@ mod set;
 mod setup;
 mod stage;
 mod table;
-#[cfg(test)]
-mod tests;
 mod text;
 
 pub use cells::Cells;
 pub use decimal::{put_decimal, read_decimal};
-pub use error::NoMemory;
+pub use error::{CheckFail, NoMemory};
 pub use event::{Event, Extent, Moment, Outcome, Phase, PlaceId, RequestId, Status};
 pub use facts::{Facts, Standing};
 pub use item::{Entry, Item, Reach, Scope};
@@ -35,7 +33,7 @@ pub use plan::{Plan, Req};
 pub use program::{Filter, Job, Program, Test};
 pub use refusal::{FileKind, ReadFail, Refusal};
 pub use script::{Act, Order, Reading, Readings, Script};
-pub use seq::Seq;
+pub use seq::{Seq, numbered};
 pub use set::SetDef;
 pub use setup::Setup;
 pub use stage::{Stage, StageSet};

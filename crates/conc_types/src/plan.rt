@@ -3,7 +3,7 @@ ghost use Rattle.conc_types.specs.Expansion.{expansion};
 ghost use Rattle.conc_types.specs.Scripts.{are_commands};
 ghost use Rattle.conc_types.specs.Tables.{are_tables};
 
-use crate::{Item, Moment, Name, RequestId, Script, Seq, Setup, Table, Text};
+use crate::{Item, Moment, Name, RequestId, Script, Seq, Setup, Table, Text, numbered};
 
 /// A request.
 #[derive(Drop)]
@@ -48,9 +48,6 @@ impl Plan {
     pub fn request(&self, id: RequestId) -> Option<&Req>
         ensures { option_copied result ≡ request_of self.now id }
     {
-        if id.number == 0 {
-            return None;
-        }
-        self.requests.as_slice().get(id.number as usize - 1)
+        numbered(self.requests.as_slice(), id.number)
     }
 }

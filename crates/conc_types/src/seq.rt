@@ -1,4 +1,6 @@
 ghost use Rattle.std.specs.Prelude.{◌≡◌, ◌<◌, ◌↔◌, [], length, slice_set, IsTrue};
+ghost use Rattle.std.specs.Option.{option_copied};
+ghost use Rattle.conc_types.specs.Words.{numbered as numbered_of};
 
 use std::marker::Model;
 
@@ -61,4 +63,14 @@ impl<T: Copy> Seq<T> {
     {
         self.inner[index] = value;
     }
+}
+
+/// The item that has this number, where the first one has number 1.
+pub fn numbered<T>(items: &[T], number: u32) -> Option<&T>
+    ensures { option_copied result ≡ numbered_of items.now number }
+{
+    if number == 0 {
+        return None;
+    }
+    items.get(number as usize - 1)
 }

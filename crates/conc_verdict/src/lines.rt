@@ -1,21 +1,7 @@
-ghost use Rattle.std.specs.Prelude.{◌≡◌, ◌==◌, ◌<◌, ◌∷◌, [], length, position, IfNone, IfSome, MatchOption, Some, slice_get};
+ghost use Rattle.std.specs.Prelude.{◌≡◌, ◌∷◌, IfNone, IfSome, Some, slice_get};
 ghost use Rattle.conc_lines.specs.History.{whole_lines};
 
-fn line_feed(bytes: &[u8]) -> Option<usize>
-    ensures { result ≡ position (λ byte. byte == 10) bytes.now }
-{
-    bytes.iter().position(|byte| *byte == b'\n')
-}
-
-/// The first line that ends with LF, without it, and the text behind it.
-pub(crate) fn split_line(bytes: &[u8]) -> Option<(&[u8], &[u8])>
-    ensures lines { MatchOption result (whole_lines bytes.now ≡ []) (λ p. whole_lines bytes.now ≡ p.0.now ∷ whole_lines p.1.now) }
-    ensures shorter { IfSome result (λ p. length p.1.now < length bytes.now) }
-{
-    let end = line_feed(bytes)?;
-    let (line, rest) = bytes.split_at(end);
-    Some((line, &rest[1..]))
-}
+use conc_lines::split_line;
 
 /// The text behind its first line, where this is that line.
 pub(crate) fn after_line<'a>(text: &'a [u8], line: &[u8]) -> Option<&'a [u8]>

@@ -2,9 +2,9 @@ ghost use Rattle.std.specs.Prelude.{◌≡◌, ◌≤◌, length, IfOk, IfSome, 
 ghost use Rattle.conc_lines.specs.History.{whole_lines};
 ghost use Rattle.conc_verdict.specs.Verdicts.{BeginsWith, IsFirstOther, IsBadLine, IsWhole, read};
 
-use crate::lines::{after_line, split_line};
+use crate::lines::after_line;
 use conc_history::put_status_table;
-use conc_lines::Lines;
+use conc_lines::{Lines, split_line};
 use conc_types::{NoMemory, Plan};
 use std::alloc::Global;
 

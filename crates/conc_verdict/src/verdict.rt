@@ -2,9 +2,9 @@ ghost use Rattle.std.specs.Prelude.{IfOk};
 ghost use Rattle.conc_verdict.specs.Verdicts.{IsVerdict};
 
 use crate::table::bad_line;
-use conc_check::{CheckFail, check};
+use conc_check::check;
 use conc_lines::{read_history, starts_of};
-use conc_types::{NoMemory, Plan, Readings};
+use conc_types::{CheckFail, NoMemory, Plan, Readings};
 use std::alloc::Global;
 
 /// What is found of the text of a history.

@@ -3,8 +3,6 @@
 
 mod command;
 mod options;
-#[cfg(test)]
-mod tests;
 mod words;
 
 pub use command::{Command, read_command};

@@ -18,7 +18,7 @@ use Rattle.conc_law.specs.Standing.{now, used, is_done, standing, facts_at, is_w
 use Rattle.conc_law.specs.Stages.{worst, outcome_at, completed_at, has_ended, stage_outcome, next_stage, counts_for_set, critical_stages, set_outcome, set_step}
 use Rattle.conc_law.specs.Status.{waiting_status, open_status, status_of}
 use Rattle.conc_law.specs.Events.{event_eq}
-use Rattle.conc_law.specs.Next.{is_left_running, forced_interrupt, is_due, forced_command, has_step, forced_step, blocks, is_free, can_run, may_let, forced_let, forced, runs_at, is_vacant, may_start, is_next_extent, may_end, may_start_somewhere, runs_somewhere, is_at_rest, may_take, may_tick, is_allowed, may_come}
+use Rattle.conc_law.specs.Next.{is_left_running, forced_interrupt, is_due, forced_command, has_step, forced_step, blocks, is_free, can_run, is_ready, may_let, forced_let, forced, runs_at, is_vacant, may_start, is_next_extent, may_end, may_start_somewhere, runs_somewhere, is_at_rest, may_take, may_tick, is_allowed, may_come}
 use Rattle.conc_law.specs.Readings.{life_readings, ticks, next_reading}
 use Rattle.conc_law.specs.Law.{may_follow, is_past, is_lawful}
 use Rattle.conc_law.specs.Numbers.{are_digits, whole_number, total}
@@ -30,7 +30,7 @@ use Rattle.conc_law.proofs.rows.Plans.{texts}
 
 -- to unfold this is to unfold all definitions of the law
 unfoldable pub the_law : Unit {0}
-unfolding is_kin same_domain covers runs_alone entry_excludes excludes_from excludes matches admits shift_covers level covering strongest places place_of is_usable count_of_places all_places parent parent_item program_at program_of set_at is_enabled has_restart is_admitted are_exclusive precedes is_member members stages_of act_of last_life earlier_lives is_entered is_open current_stage stages_begun running_place runs was_started waits_for_stage is_idle cancels completes completion was_completed holds unholds terminates is_held unlets is_let was_terminated facts_of now used is_done standing facts_at is_waiting has_come is_not_earlier worst outcome_at completed_at has_ended stage_outcome next_stage counts_for_set critical_stages set_outcome set_step waiting_status open_status status_of event_eq is_left_running forced_interrupt is_due forced_command has_step forced_step blocks is_free can_run may_let forced_let forced runs_at is_vacant may_start is_next_extent may_end may_start_somewhere runs_somewhere is_at_rest may_take may_tick is_allowed may_come life_readings ticks next_reading may_follow is_past is_lawful are_digits whole_number total cell filter_value passes_filter passes passing keys quoted sum_of line header rows_of group_lines full_text outcome_by first_bad report report_of first_end first_start next_tick choice next_alone days_before_year is_leap days_before_month year_of day_in_year month_of day_in_month date_text time_text moment_text place_word event_words item_name request_line table_text events_text text_of request has_stage with_stage digits texts
+unfolding is_kin same_domain covers runs_alone entry_excludes excludes_from excludes matches admits shift_covers level covering strongest places place_of is_usable count_of_places all_places parent parent_item program_at program_of set_at is_enabled has_restart is_admitted are_exclusive precedes is_member members stages_of act_of last_life earlier_lives is_entered is_open current_stage stages_begun running_place runs was_started waits_for_stage is_idle cancels completes completion was_completed holds unholds terminates is_held unlets is_let was_terminated facts_of now used is_done standing facts_at is_waiting has_come is_not_earlier worst outcome_at completed_at has_ended stage_outcome next_stage counts_for_set critical_stages set_outcome set_step waiting_status open_status status_of event_eq is_left_running forced_interrupt is_due forced_command has_step forced_step blocks is_free can_run is_ready may_let forced_let forced runs_at is_vacant may_start is_next_extent may_end may_start_somewhere runs_somewhere is_at_rest may_take may_tick is_allowed may_come life_readings ticks next_reading may_follow is_past is_lawful are_digits whole_number total cell filter_value passes_filter passes passing keys quoted sum_of line header rows_of group_lines full_text outcome_by first_bad report report_of first_end first_start next_tick choice next_alone days_before_year is_leap days_before_month year_of day_in_year month_of day_in_month date_text time_text moment_text place_word event_words item_name request_line table_text events_text text_of request has_stage with_stage digits texts
 the_law = tt
 
 -- ---- runs without workers

@@ -260,6 +260,81 @@ fn a_journal_without_room_for_a_life_is_refused(rt: HostRuntime) -> Result<(), F
     Ok(())
 }
 
+const HEADER_LEN: usize = 64;
+
+const TICK_LEN: usize = 96;
+
+// What stands in a journal: so many bytes of a header and the record of a tick, and what follows; which calls of the
+// journal's and the spool's disk fail; and what the run prints or tells.
+static FOUND: [(usize, &[u8], Option<u64>, Option<u64>, &str); 11] = [
+    // It goes on.
+    (0, b"", None, None, "tick 2025-03-03T09:00:00\n--\n"),
+    (
+        HEADER_LEN,
+        b"\0",
+        None,
+        None,
+        "tick 2025-03-03T09:00:00\n--\n",
+    ),
+    (
+        TICK_LEN,
+        b"\0",
+        None,
+        None,
+        "tick 2025-03-03T09:00:00\nresume\ntick 2025-03-03T09:00:00\n--\n",
+    ),
+    // Of several faults the first in the order is told.
+    (0, b"xx", Some(0), Some(0), "disk fault: journal\n"),
+    (0, b"xx", None, Some(0), "not a journal\n"),
+    (TICK_LEN, b"\x01", None, Some(0), "disk fault: spool\n"),
+    (TICK_LEN, b"\x01", None, None, "unlawful record: 2\n"),
+    // The record of a resume, and that of an end with an extent of nine bytes, and a closed gate.
+    (
+        HEADER_LEN,
+        b"\x01\x09\0\0\0\0\0\0\0\0\0\0\0\0\0\0\0\0\0\0\0\0\0\0\0\0\0\0\0\0\0\0\0",
+        None,
+        None,
+        "unlawful record: 1\n",
+    ),
+    (
+        HEADER_LEN,
+        b"\x01\x08\x01\0\0\0\0\x01\0\0\0\0\0\0\0\0\0\0\0\0\0\0\0\x09\0\0\0\0\0\0\0\0\0",
+        None,
+        None,
+        "unlawful record: 1\n",
+    ),
+    (
+        TICK_LEN,
+        b"\x01\x08\x01\0\0\0\0\x01\0\0\0\0\0\0\0\0\0\0\0\0\0\0\0\x09\0\0\0\0\0\0\0\0\0",
+        Some(3),
+        None,
+        "unlawful record: 2\n",
+    ),
+    (TICK_LEN, b"\0", Some(3), None, "disk fault: journal\n"),
+];
+
+#[test]
+fn what_stands_on_the_disks_is_judged_in_its_order(rt: HostRuntime) -> Result<(), Fail> {
+    let alloc = rt.alloc();
+    let given = with_script(HEADER);
+    let begun = run_over(&rt, alloc, given, &[], &[])?;
+    for (kept, rest, journal_fails, spool_fails, said) in FOUND {
+        let mut image = first(alloc, &begun.journal, kept)?;
+        image.extend_from_slice(rest)?;
+        let mut journal = disk_of(alloc, &image, journal_fails)?;
+        let mut spool = disk_of(alloc, b"texts", spool_fails)?;
+        let (exit, out) = call_on(&rt, alloc, RUN, given, &mut journal, &mut spool)?;
+        let line = exit_text(alloc, &exit)?;
+        let text = if line.is_empty() {
+            out.bytes()
+        } else {
+            line.as_slice()
+        };
+        assert_eq!(rt; text, said.as_bytes(), "{kept} {rest:?}");
+    }
+    Ok(())
+}
+
 // A run of `TWICE` calls the journal's disk at least so often.
 const CALLS: u64 = 40;
 

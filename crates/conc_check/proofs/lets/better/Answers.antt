@@ -1,7 +1,6 @@
 use Rattle.std.proofs.Common.{◌≡◌, true, false, sym, ◌∙◌, ap}
 use Rattle.std.proofs.lemmas.Bool.{and_from, and_left, and_right}
-use Rattle.conc_law.specs.Next.{is_free, may_let}
-use Rattle.conc_check.specs.Lets.{is_ready}
+use Rattle.conc_law.specs.Next.{is_free, is_ready, may_let}
 use Rattle.conc_check.proofs.Turns.{better-before, better-later, better-not, may_let-parts, ready-not_live}
 use Rattle.conc_check.proofs.lets.better.Goals as goal
 

@@ -4,7 +4,7 @@ use Rattle.conc_law.specs.Next.{may_let}
 use Rattle.conc_queue.specs.Least.{least, lesser}
 use Rattle.conc_queue.specs.Turns.{turns_of}
 use Rattle.conc_queue.proofs.Maps.{request_at_place}
-use Rattle.conc_check.proofs.Turns.{least-end, least-next}
+use Rattle.conc_queue.proofs.LeastTurns.{least-end, least-next}
 use Rattle.conc_check.proofs.lets.least_turn.Goals as goal
 
 pub better-best-requires-clause-own : goal.better-best-requires-clause-own

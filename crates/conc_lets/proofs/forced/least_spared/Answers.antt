@@ -2,7 +2,7 @@ use Rattle.std.proofs.Common.{◌+◌, length, get_or, drop, ap, sym, ◌∙◌,
 use Rattle.conc_queue.specs.Least.{least, lesser}
 use Rattle.conc_queue.specs.Turns.{turns_of}
 use Rattle.conc_lets.specs.Forced.{is_spared}
-use Rattle.conc_lets.proofs.Turns.{least-end, least-next}
+use Rattle.conc_queue.proofs.LeastTurns.{least-end, least-next}
 use Rattle.conc_lets.proofs.forced.least_spared.Goals as goal
 
 pub loop-r-preserved : goal.loop-r-preserved

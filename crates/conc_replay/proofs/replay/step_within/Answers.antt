@@ -1,7 +1,6 @@
 use Rattle.std.proofs.Common.{sym, ◌∙◌, add-one, arith}
 use Rattle.conc_facts.proofs.Passes.{all_after-more}
-use Rattle.conc_reach.proofs.Passes.{all_after-before}
-use Rattle.conc_replay.proofs.Passes.{all_after-from}
+use Rattle.conc_reach.proofs.Passes.{all_after-before, all_after-from}
 use Rattle.conc_replay.proofs.replay.step_within.Goals as goal
 
 pub loop-i-init : goal.loop-i-init

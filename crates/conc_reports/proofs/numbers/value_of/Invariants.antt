@@ -1,6 +1,9 @@
-use Rattle.std.proofs.Common.{◌≡◌, take}
+use Rattle.std.proofs.Common.{◌≡◌, true, take}
+use Rattle.std.specs.List.{list_all}
 use Rattle.std.specs.Str.Parse.{digits_value}
+use Rattle.conc_law.specs.Numbers.{is_digit}
 use Rattle.conc_reports.proofs.numbers.value_of.Given as goal
 
-abbrev pub invariant-loop-digit : goal.invariant-loop-digit
-invariant-loop-digit l = l.value ≡ digits_value 10 (take l.digit-index l.digits)
+-- the bytes so far are digits of this value
+abbrev pub invariant-loop-byte : goal.invariant-loop-byte
+invariant-loop-byte l = (list_all is_digit (take l.byte-index l.bytes) ≡ true) × (l.value ≡ digits_value 10 (take l.byte-index l.bytes))

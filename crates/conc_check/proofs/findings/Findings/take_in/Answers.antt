@@ -3,4 +3,4 @@ use Rattle.conc_check.proofs.findings.Findings.take_in.Goals as goal
 
 pub returns-clause-read : goal.returns-clause-read
 returns-clause-read c =
-    λ past are. taken-next _ c.args.self.now _ _ past c.step.ensures c.earlier_after-self.ensures c.ticks_after-self.ensures are
+    λ past are. taken-next _ c.args.self.now _ _ past c.take_in.ensures c.earlier_after-self.ensures c.ticks_after-self.ensures are

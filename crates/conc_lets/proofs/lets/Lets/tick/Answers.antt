@@ -2,7 +2,8 @@ use Rattle.std.proofs.Common.{◌-◌, length, sym, ◌∙◌, ap, arith}
 use Rattle.std.specs.Prelude.{unwrap_or}
 use Rattle.conc_types.specs.Words.{numbered}
 use Rattle.conc_law.specs.Standing.{facts_at, no_facts}
-use Rattle.conc_lets.specs.Lets.{is_ready, live_rivals}
+use Rattle.conc_law.specs.Next.{is_ready}
+use Rattle.conc_lets.specs.Lets.{live_rivals}
 use Rattle.conc_lets.specs.Refresh.{queues_of}
 use Rattle.conc_lets.specs.declared.starts.Lull.{Lull}
 use Rattle.conc_lets.proofs.Alike.{kept-in_lull, lull-begun, rivals-alike}

@@ -7,7 +7,7 @@ pub returns-in-Some : goal.returns-in-Some
 returns-in-Some c = λ before written are.
     running_written c.args.plan.now before c.args.after.now c.args.i c.args._old written c.in-Some.r.now (sym c.in-Some.ensures) c.args.self.now
     record { all = c.refresh.new.seats; left = c.refresh-in-Some.new.seats } are
-    (c.refresh.ensures ∙ ap (refreshed c.args.self.now.all c.in-Some.r.now) c.is_running.ensures)
+    (c.refresh.ensures ∙ ap (refreshed c.args.self.now.all c.in-Some.r.now) c.runs_somewhere.ensures)
     (c.refresh-in-Some.ensures ∙ ap (refreshed c.args.self.now.left c.in-Some.r.now) c.is_left_running.ensures)
 
 pub returns-in_default : goal.returns-in_default

@@ -1,5 +1,0 @@
-use Rattle.conc_facts.proofs.NextStanding.{standing-next}
-use Rattle.conc_facts.proofs.history.advance.Goals as goal
-
-pub returns : goal.returns
-returns c = λ past is. standing-next _ _ _ _ past c.step.ensures is

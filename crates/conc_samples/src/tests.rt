@@ -1,0 +1,10 @@
+mod make;
+mod queue;
+mod records;
+mod reports;
+mod script;
+mod setup;
+mod tables;
+mod time;
+mod types;
+mod words;

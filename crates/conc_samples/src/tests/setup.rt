@@ -1,0 +1,266 @@
+use conc_setup::read_setup;
+use conc_types::{Entry, FileKind, Item, Reach, ReadFail, Refusal, Scope, Setup};
+use std::alloc::Global;
+use std::process::Abort;
+use std::test::Fail;
+
+fn refusal(read: Result<Setup, ReadFail>) -> Option<Refusal> {
+    match read {
+        Err(ReadFail::Refused(refusal)) => Some(refusal),
+        _ => None,
+    }
+}
+
+// Setup files, each with the line and the kind for which it is refused.
+static REFUSED: [(&str, u64, u8); 30] = [
+    // A key twice.
+    ("tables = []\ntables = []\n", 0, 1),
+    // A key that the top level does not list.
+    ("programs = []\n", 0, 2),
+    // A program without a table.
+    ("[[program]]\nname = \"P\"\n", 1, 3),
+    // A rule that names nothing.
+    ("[[manager]]\nname = \"M\"\ninclude = [{}]\n", 1, 3),
+    // A table in the place of an array of tables.
+    ("[program]\nname = \"P\"\n", 0, 4),
+    // A number in the place of a table.
+    ("manager = [3]\n", 1, 4),
+    // A float in the place of a whole number.
+    (
+        "[[manager]]\nname = \"M\"\nshift = [{ places = 1.5 }]\n",
+        1,
+        4,
+    ),
+    // A table twice.
+    ("tables = [\"t.csv\", \"u.csv\", \"t.csv\"]\n", 0, 5),
+    // A set with the name of a program.
+    (
+        "[[program]]\nname = \"P\"\ntable = \"t.csv\"\n\n[[set]]\nname = \"P\"\nstage = [{ name = \"A\", members = [\"P\"] }]\n",
+        2,
+        5,
+    ),
+    // A manager's name twice.
+    (
+        "[[manager]]\nname = \"M\"\n\n[[manager]]\nname = \"M\"\n",
+        2,
+        5,
+    ),
+    // A stage's name twice.
+    (
+        "[[program]]\nname = \"P\"\ntable = \"t.csv\"\n\n[[set]]\nname = \"S\"\nstage = [{ name = \"A\", members = [\"P\"] }, { name = \"A\", members = [\"P\"] }]\n",
+        2,
+        5,
+    ),
+    // An incompatibility with what is not there.
+    (
+        "[[program]]\nname = \"P\"\ntable = \"t.csv\"\n\n[[incompatible]]\nprogram = \"P\"\nwith = \"Q\"\n",
+        2,
+        6,
+    ),
+    // A rule for a set.
+    (
+        "[[program]]\nname = \"P\"\ntable = \"t.csv\"\n\n[[manager]]\nname = \"M\"\ninclude = [{ program = \"S\" }]\n\n[[set]]\nname = \"S\"\nstage = [{ name = \"A\", members = [\"P\"] }]\n",
+        2,
+        6,
+    ),
+    // A member that is a set.
+    (
+        "[[program]]\nname = \"P\"\ntable = \"t.csv\"\n\n[[set]]\nname = \"S\"\nstage = [{ name = \"A\", members = [\"P\", \"S\"] }]\n",
+        2,
+        6,
+    ),
+    // A link to a stage that is not there.
+    (
+        "[[program]]\nname = \"P\"\ntable = \"t.csv\"\n\n[[set]]\nname = \"S\"\nstage = [{ name = \"A\", members = [\"P\"], on_success = \"B\" }]\n",
+        2,
+        6,
+    ),
+    // 65 places of a shift.
+    (
+        "[[manager]]\nname = \"M\"\nshift = [{ places = 65 }]\n",
+        1,
+        7,
+    ),
+    // A stage without a member.
+    (
+        "[[set]]\nname = \"S\"\nstage = [{ name = \"A\", members = [] }]\n",
+        1,
+        7,
+    ),
+    // A set without a stage.
+    ("[[set]]\nname = \"S\"\nstage = []\n", 1, 7),
+    // A time without the other.
+    (
+        "[[manager]]\nname = \"M\"\nshift = [{ from = \"08:00\", places = 1 }]\n",
+        1,
+        8,
+    ),
+    // A link to the same stage.
+    (
+        "[[program]]\nname = \"P\"\ntable = \"t.csv\"\n\n[[set]]\nname = \"S\"\nstage = [{ name = \"A\", members = [\"P\"], on_error = \"A\" }]\n",
+        2,
+        9,
+    ),
+    // A link to an earlier stage.
+    (
+        "[[program]]\nname = \"P\"\ntable = \"t.csv\"\n\n[[set]]\nname = \"S\"\nstage = [{ name = \"A\", members = [\"P\"] }, { name = \"B\", members = [\"P\"], on_warning = \"A\" }]\n",
+        2,
+        9,
+    ),
+    // 65 places in all, before a fault of a later line.
+    (
+        "[[manager]]\nname = \"M\"\nshift = [{ places = 64 }]\n\n[[manager]]\nname = \"N\"\n\n[[manager]]\nplace = 1\n",
+        0,
+        10,
+    ),
+    // 17 filters of a program.
+    (
+        "[[program]]\nname = \"P\"\ntable = \"t.csv\"\n\n[[program]]\nname = \"Q\"\ntable = \"t.csv\"\nfilter = [{ column = \"k\", test = \"is\", value = \"$\" }, { column = \"k\", test = \"is\", value = \"$\" }, { column = \"k\", test = \"is\", value = \"$\" }, { column = \"k\", test = \"is\", value = \"$\" }, { column = \"k\", test = \"is\", value = \"$\" }, { column = \"k\", test = \"is\", value = \"$\" }, { column = \"k\", test = \"is\", value = \"$\" }, { column = \"k\", test = \"is\", value = \"$\" }, { column = \"k\", test = \"is\", value = \"$\" }, { column = \"k\", test = \"is\", value = \"$\" }, { column = \"k\", test = \"is\", value = \"$\" }, { column = \"k\", test = \"is\", value = \"$\" }, { column = \"k\", test = \"is\", value = \"$\" }, { column = \"k\", test = \"is\", value = \"$\" }, { column = \"k\", test = \"is\", value = \"$\" }, { column = \"k\", test = \"is\", value = \"$\" }, { column = \"k\", test = \"is\", value = \"$\" }]\n",
+        2,
+        10,
+    ),
+    // The places of a manager that is refused do not count.
+    (
+        "[[manager]]\nname = \"M\"\nshift = [{ places = 64 }]\n\n[[manager]]\nname = \"N\"\nplace = 1\n",
+        2,
+        2,
+    ),
+    // Two faults on one line: an unknown key where another one is missing.
+    ("[[program]]\nname = \"P\"\ntype = 3\nowner = \"x\"\n", 1, 2),
+    // Two faults on one line: a link to the same stage, and a member that is not there.
+    (
+        "[[set]]\nname = \"S\"\nstage = [{ name = \"A\", members = [\"P\"], on_success = \"A\" }]\n",
+        1,
+        6,
+    ),
+    // Faults on two lines of one array.
+    (
+        "[[program]]\nname = \"\"\ntable = \"t.csv\"\n\n[[program]]\nname = \"P\"\n",
+        1,
+        7,
+    ),
+    // Faults on the lines of two arrays, the later one of a lesser kind.
+    (
+        "[[program]]\nname = \"P\"\ntable = \"t.csv\"\n\n[[set]]\nname = \"S\"\nstage = [{ name = \"A\", members = [\"Q\"] }]\n\n[[set]]\nname = \"T\"\nstage = [{ name = \"A\", members = [\"P\"], on_success = \"A\" }]\n",
+        2,
+        6,
+    ),
+    // A name twice on a later line than a name that is not there.
+    (
+        "[[program]]\nname = \"P\"\ntable = \"t.csv\"\n\n[[incompatible]]\nprogram = \"P\"\nwith = \"Q\"\n\n[[manager]]\nname = \"M\"\n\n[[manager]]\nname = \"M\"\n",
+        4,
+        5,
+    ),
+    // An unknown key on a later line than a name twice.
+    (
+        "[[program]]\nname = \"P\"\ntable = \"t.csv\"\n\n[[program]]\nname = \"P\"\ntable = \"t.csv\"\n\n[[program]]\nname = \"Q\"\ntable = \"t.csv\"\nowner = \"x\"\n",
+        3,
+        2,
+    ),
+];
+
+fn refused(line: u64, kind: u8) -> Option<Refusal> {
+    let file = FileKind::Setup;
+    Some(Refusal { file, line, kind })
+}
+
+#[test]
+fn refuses_setups(rt: HostRuntime) {
+    for (text, line, kind) in REFUSED {
+        let read = read_setup(rt.alloc(), text.as_bytes());
+        assert_eq!(rt; refusal(read), refused(line, kind), "at {text:?}");
+    }
+    let read = read_setup(rt.alloc(), b"tables = [\"\xff\"]\n");
+    assert_eq!(rt; refusal(read), refused(0, 1));
+}
+
+// A setup of two programs, an incompatibility, a manager and a set.
+const DEPARTMENT: &str = "tables = [\"gl.csv\", \"ap.csv\"]
+
+[[program]]
+name = \"GL Journal Summary\"
+type = \"Ledger\"
+restart = true
+table = \"gl.csv\"
+group = \"account\"
+sum = \"cents\"
+filter = [{ column = \"period\", test = \"is\", value = \"$\" }]
+
+[[program]]
+name = \"AP Hold Report\"
+type = \"Payables\"
+table = \"ap.csv\"
+group = \"supplier\"
+warn_over = 0
+
+[[incompatible]]
+program = \"AP Hold Report\"
+with = \"Month End\"
+scope = \"set\"
+type = \"global\"
+
+[[manager]]
+name = \"Standard Manager\"
+exclude = [{ type = \"Ledger\", user = \"batch\" }]
+shift = [
+  { days = [\"Mon\", \"Tue\", \"Wed\", \"Thu\", \"Fri\"], from = \"08:00\", to = \"18:00\", places = 3 },
+  { date = \"2025-03-31\", places = 6 },
+  { places = 1 },
+]
+
+[[set]]
+name = \"Month End\"
+
+[[set.stage]]
+name = \"Check\"
+members = [\"AP Hold Report\"]
+on_success = \"Summary\"
+on_warning = \"Summary\"
+
+[[set.stage]]
+name = \"Summary\"
+critical = true
+members = [\"GL Journal Summary\"]
+";
+
+fn department(alloc: Global) -> Result<Setup, ReadFail> {
+    read_setup(alloc, DEPARTMENT.as_bytes())
+}
+
+#[test]
+fn reads_setups(rt: HostRuntime) -> Result<(), Fail> {
+    let setup = department(rt.alloc())?;
+    assert_eq!(rt; setup.tables.len(), 2);
+    assert_eq!(rt; setup.programs.len(), 2);
+    let entry = Entry {
+        owner: Item::Program(1),
+        other: Item::Set(0),
+        scope: Scope::Set,
+        reach: Reach::Global,
+    };
+    assert_eq!(rt; setup.entries.as_slice().first().copied(), Some(entry));
+    let [manager] = setup.managers.as_slice() else {
+        panic!(rt; "{} managers", setup.managers.len());
+    };
+    let [week, day, other] = manager.shifts.as_slice() else {
+        panic!(rt; "{} shifts", manager.shifts.len());
+    };
+    assert_eq!(rt;
+        (week.days, week.times, week.places),
+        (31, Some((28_800, 64_800)), 3)
+    );
+    assert_eq!(rt; (day.date, day.places, other.places), (Some(739_340), 6, 1));
+    assert_eq!(rt; manager.exclude.len(), 1);
+    let [set] = setup.sets.as_slice() else {
+        panic!(rt; "{} sets", setup.sets.len());
+    };
+    let [check, summary] = set.stages.as_slice() else {
+        panic!(rt; "{} stages", set.stages.len());
+    };
+    assert_eq!(rt; check.links, [Some(1), Some(1), None]);
+    assert_eq!(rt; check.members.as_slice().first().copied(), Some(1));
+    assert_eq!(rt; summary.links, [None, None, None]);
+    assert_eq!(rt; summary.members.as_slice().first().copied(), Some(0));
+    assert!(rt; summary.critical && !check.critical);
+    Ok(())
+}

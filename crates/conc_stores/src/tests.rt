@@ -1,0 +1,8 @@
+mod clock;
+mod digest;
+mod disk;
+mod image;
+mod journal;
+mod outside;
+mod paths;
+mod spool;

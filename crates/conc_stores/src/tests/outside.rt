@@ -1,0 +1,93 @@
+use conc_outside::{Failed, FileShelf, MemShelf, MemSink, Shelf, ShelfFail, WriterSink, write_all};
+use conc_types::{Name, is_name};
+use std::alloc::Global;
+use std::fs;
+use std::process::{self, Abort};
+use std::test::Fail;
+
+fn name(rt: &impl Abort, alloc: Global, text: &str) -> Result<Name, Fail> {
+    let bytes = text.as_bytes().to_vec(alloc)?;
+    assert!(rt; is_name(&bytes), "{text}");
+    Ok(Name::from_vec(bytes))
+}
+
+#[test]
+fn a_shelf_in_memory_tells_its_file(rt: HostRuntime) -> Result<(), Fail> {
+    let alloc = rt.alloc();
+    let files = vec![in alloc; (name(&rt, alloc, "setup")?, b"a b".to_vec(alloc)?)]?;
+    let mut shelf = MemShelf::new(files, vec![in alloc; 2]?);
+    let setup = name(&rt, alloc, "setup")?;
+    let clock = name(&rt, alloc, "clock")?;
+    assert_eq!(rt;
+        shelf.read_file(alloc, &setup)?.as_slice(),
+        b"a b".as_slice()
+    );
+    assert_eq!(rt;
+        shelf.read_file(alloc, &clock).err(),
+        Some(ShelfFail::Absent)
+    );
+    assert_eq!(rt;
+        shelf.read_file(alloc, &setup).err(),
+        Some(ShelfFail::Failed)
+    );
+    assert_eq!(rt;
+        shelf.read_file(alloc, &setup)?.as_slice(),
+        b"a b".as_slice()
+    );
+    Ok(())
+}
+
+#[test]
+fn a_sink_in_memory_takes_all_or_nothing(rt: HostRuntime) -> Result<(), Fail> {
+    let alloc = rt.alloc();
+    let mut out = MemSink::new(alloc, vec![in alloc; 0]?);
+    assert_eq!(rt; write_all(&mut out, b"one"), Err(Failed));
+    assert_eq!(rt; out.bytes(), b"".as_slice());
+    write_all(&mut out, b"two")?;
+    write_all(&mut out, b"")?;
+    write_all(&mut out, b"three")?;
+    assert_eq!(rt; out.bytes(), b"twothree".as_slice());
+    assert_eq!(rt; out.starved(), 0);
+    Ok(())
+}
+
+#[test]
+fn a_shelf_of_files_reads_a_real_one(rt: HostRuntime) -> Result<(), Fail> {
+    let alloc = rt.alloc();
+    let path = format!(in alloc; "/tmp/conc_outside_{}", process::id(rt.process()))?;
+    let file = name(&rt, alloc, &path)?;
+    // More than one piece.
+    let bytes = vec![in alloc; b'x'; 100_000]?;
+    fs::write(&rt, path.as_str(), bytes.as_slice())?;
+    let mut shelf = FileShelf::new(&rt);
+    let read = shelf.read_file(alloc, &file);
+    fs::remove_file(&rt, path.as_str())?;
+    assert_eq!(rt; read?.as_slice(), bytes.as_slice());
+    assert_eq!(rt;
+        shelf.read_file(alloc, &file).err(),
+        Some(ShelfFail::Absent)
+    );
+    let folder = name(&rt, alloc, "/tmp")?;
+    assert_eq!(rt;
+        shelf.read_file(alloc, &folder).err(),
+        Some(ShelfFail::Failed)
+    );
+    Ok(())
+}
+
+#[test]
+fn a_writer_gets_the_bytes(rt: HostRuntime) -> Result<(), Fail> {
+    let alloc = rt.alloc();
+    let mut bytes = Vec::new(alloc);
+    write_all(&mut WriterSink::new(&mut bytes), b"one")?;
+    assert_eq!(rt; bytes.as_slice(), b"one".as_slice());
+    // A writer with room for two bytes takes these, and then none.
+    let mut room = [0u8; 2];
+    let mut rest = room.as_mut_slice();
+    assert_eq!(rt;
+        write_all(&mut WriterSink::new(&mut rest), b"one"),
+        Err(Failed)
+    );
+    assert_eq!(rt; room, *b"on");
+    Ok(())
+}

@@ -1,0 +1,30 @@
+use conc_disk::Disk;
+use conc_outside::Failed;
+use conc_paths::PathDisk;
+use std::test::Fail;
+use std::{fs, process};
+
+#[test]
+fn a_disk_is_opened_at_its_first_use(rt: HostRuntime) -> Result<(), Fail> {
+    let alloc = rt.alloc();
+    let folder = format!(in alloc; "/tmp/conc_paths_{}", process::id(rt.process()))?;
+    let path = format!(in alloc; "{folder}/disk")?;
+    let mut disk = PathDisk::new(&rt, path.as_str());
+    // There is no folder yet.
+    assert_eq!(rt; disk.len(), Err(Failed));
+    fs::create_dir(&rt, folder.as_str())?;
+    assert!(rt; !fs::exists(&rt, path.as_str())?);
+    assert_eq!(rt; disk.len(), Ok(0));
+    disk.write_at(0, b"abcdef")?;
+    disk.cut(4)?;
+    disk.sync()?;
+    let mut again = PathDisk::new(&rt, path.as_str());
+    let mut read = [0u8; 3];
+    again.read(1, &mut read)?;
+    assert_eq!(rt; read, *b"bcd");
+    assert_eq!(rt; again.read(2, &mut read), Err(Failed));
+    fs::remove_file(&rt, path.as_str())?;
+    fs::remove_dir(&rt, folder.as_str())?;
+    assert_eq!(rt; disk.len(), Ok(4));
+    Ok(())
+}
