@@ -260,13 +260,15 @@ fn a_journal_without_room_for_a_life_is_refused(rt: HostRuntime) -> Result<(), F
     Ok(())
 }
 
+const TITLE_LEN: usize = 16;
+
 const HEADER_LEN: usize = 64;
 
 const TICK_LEN: usize = 96;
 
-// What stands in a journal: so many bytes of a header and the record of a tick, and what follows; which calls of the
+// What stands in a journal: so many bytes of its header and of the record of a tick, and what follows; which calls of the
 // journal's and the spool's disk fail; and what the run prints or tells.
-static FOUND: [(usize, &[u8], Option<u64>, Option<u64>, &str); 11] = [
+static FOUND: [(usize, &[u8], Option<u64>, Option<u64>, &str); 13] = [
     // It goes on.
     (0, b"", None, None, "tick 2025-03-03T09:00:00\n--\n"),
     (
@@ -283,9 +285,24 @@ static FOUND: [(usize, &[u8], Option<u64>, Option<u64>, &str); 11] = [
         None,
         "tick 2025-03-03T09:00:00\nresume\ntick 2025-03-03T09:00:00\n--\n",
     ),
+    (
+        TICK_LEN,
+        b"\x01\x09\0\0\0\0\0\0\0\0\0\0\0\0\0\0\0\0\0\0\0\0\0\0\0\0\0\0\0\0\0\0\0",
+        None,
+        None,
+        "tick 2025-03-03T09:00:00\nresume\nresume\ntick 2025-03-03T09:00:00\n--\n",
+    ),
     // Of several faults the first in the order is told.
     (0, b"xx", Some(0), Some(0), "disk fault: journal\n"),
     (0, b"xx", None, Some(0), "not a journal\n"),
+    // The title, the digest of another input, and an open gate without a record.
+    (
+        TITLE_LEN,
+        b"abcdefghijklmnopqrstuvwxyz012345\0\0\0\0\0\0\0\0\0\0\0\0\0\0\0\0\x01",
+        None,
+        Some(0),
+        "other input: 6162636465666768696a6b6c6d6e6f707172737475767778797a303132333435 c422574cc22d1c48adbc2d37fb06714eb0e3f1d25964ca8e48c2033169c7846b\n",
+    ),
     (TICK_LEN, b"\x01", None, Some(0), "disk fault: spool\n"),
     (TICK_LEN, b"\x01", None, None, "unlawful record: 2\n"),
     // The record of a resume, and that of an end with an extent of nine bytes, and a closed gate.
