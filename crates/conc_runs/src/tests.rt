@@ -25,10 +25,15 @@ fn worked_histories_and_changed_ones_are_judged(rt: HostRuntime) -> Result<(), F
 
 #[test]
 fn calls_end_as_the_examples_say(rt: HostRuntime) -> Result<(), Fail> {
-    for examples in [FILES, STOPS, JOURNALS] {
+    for examples in [FILES, STOPS] {
         check_examples(&rt, rt.alloc(), examples)?;
     }
     Ok(())
+}
+
+#[test]
+fn what_stands_on_disks_is_continued_or_refused(rt: HostRuntime) -> Result<(), Fail> {
+    check_examples(&rt, rt.alloc(), JOURNALS)
 }
 
 // A run of the example calls the journal's disk at least so often.

@@ -308,6 +308,8 @@ bytes 1 9
 zeros 30
 524285 times from 64
 bytes 0
+== spool
+first 0
 == run
 == ends 11
 journal full: 1048570 13
@@ -317,6 +319,7 @@ what stands on the disks is judged in its order: a disk without a byte is begun
 == journal
 first 0
 == spool
+first 0
 text texts
 == run
 == ends 0
@@ -330,6 +333,7 @@ what stands on the disks is judged in its order: a header and a closed gate go o
 first 64
 bytes 0
 == spool
+first 0
 text texts
 == run
 == ends 0
@@ -343,6 +347,7 @@ what stands on the disks is judged in its order: a tick goes on
 first 96
 bytes 0
 == spool
+first 0
 text texts
 == run
 == ends 0
@@ -359,6 +364,7 @@ first 96
 bytes 1 9
 zeros 31
 == spool
+first 0
 text texts
 == run
 == ends 0
@@ -375,6 +381,7 @@ what stands on the disks is judged in its order: of two disks that fail the jour
 first 0
 text xx
 == spool
+first 0
 text texts
 == fails journal 0
 == fails spool 0
@@ -388,6 +395,7 @@ what stands on the disks is judged in its order: what is no journal is told befo
 first 0
 text xx
 == spool
+first 0
 text texts
 == fails spool 0
 == run
@@ -402,6 +410,7 @@ text abcdefghijklmnopqrstuvwxyz012345
 zeros 16
 bytes 1
 == spool
+first 0
 text texts
 == fails spool 0
 == run
@@ -414,6 +423,7 @@ what stands on the disks is judged in its order: the spool's disk is told before
 first 96
 bytes 1
 == spool
+first 0
 text texts
 == fails spool 0
 == run
@@ -426,6 +436,7 @@ what stands on the disks is judged in its order: an open gate without a record
 first 96
 bytes 1
 == spool
+first 0
 text texts
 == run
 == ends 13
@@ -438,6 +449,7 @@ first 64
 bytes 1 9
 zeros 31
 == spool
+first 0
 text texts
 == run
 == ends 13
@@ -452,6 +464,7 @@ zeros 15
 bytes 9
 zeros 9
 == spool
+first 0
 text texts
 == run
 == ends 13
@@ -466,6 +479,7 @@ zeros 15
 bytes 9
 zeros 9
 == spool
+first 0
 text texts
 == fails journal 3
 == run
@@ -478,6 +492,7 @@ what stands on the disks is judged in its order: a fault of the journal's disk b
 first 96
 bytes 0
 == spool
+first 0
 text texts
 == fails journal 3
 == run
