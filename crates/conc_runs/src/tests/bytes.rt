@@ -3,6 +3,27 @@ use std::alloc::Global;
 use std::process::Abort;
 use std::test::Fail;
 
+/// The text that lines stand for: `\` at the end of a line takes its LF away, `\r` is CR, `\t` is TAB, and a line behind
+/// `COUNT times: ` stands so often.
+pub(crate) fn text_of(alloc: Global, lines: &str) -> Result<String, Fail> {
+    let joined = lines.replace(alloc, "\\\n", "")?;
+    let plain = joined
+        .replace(alloc, "\\r", "\r")?
+        .replace(alloc, "\\t", "\t")?;
+    let mut text = String::new(alloc);
+    for line in plain.split_inclusive('\n') {
+        match line.split_once(" times: ") {
+            Some((count, line)) => {
+                for _ in 0..count.parse::<u32>()? {
+                    text.push_str(line)?;
+                }
+            }
+            None => text.push_str(line)?,
+        }
+    }
+    Ok(text)
+}
+
 pub(crate) fn number_of(rt: &impl Abort, digits: &str) -> u64 {
     read_decimal(digits.as_bytes()).expect(rt, digits)
 }

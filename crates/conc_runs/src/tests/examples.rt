@@ -6,7 +6,7 @@
 //! - `setup`, `script`, `clock`, `table`: the lines are the file `a.toml`, the records of `a.csv`, `a.clock`, or
 //!   `t.csv`. Where a line ends with `\` it has no LF, `\r` is CR, and a line behind `COUNT times: ` stands so often.
 //! - `clock-file NAME`: the clock's file has this name in the place of `a.clock`.
-//! - `moment SECONDS`: the clock of the system gives this moment once a call. Else it gives none.
+//! - `moment`: the clock of the system gives 2025-03-03T10:10:01 once a call. Else it gives none.
 //!
 //! What is given to the next call alone:
 //!
@@ -26,7 +26,7 @@
 //! - `spool-text`: the lines are what the spool has.
 //! - `disks-stay`: both disks have what the call found.
 
-use super::bytes::{change_bytes, number_of};
+use super::bytes::{change_bytes, number_of, text_of};
 use super::call::{Ended, Fails, Given, NO_FAILS, call};
 use std::alloc::Global;
 use std::process::Abort;
@@ -51,33 +51,29 @@ const CLOCK: &str = "2025-03-03T09:00:00\n";
 
 const TABLE: &str = "k,v\na,10\nb,20\na,5\n";
 
-pub(crate) const HEADER: &str = "at,do,what,user,priority,start,domain,argument\n";
-
 pub(crate) const RUN: &str = "run a.toml a.csv a.clock --threads 0";
 
 // How far an example is: what is given, and what the last call ended with.
 #[derive(Drop)]
 struct Example<'a> {
-    setup: &'a str,
-    script: &'a str,
-    clock: &'a str,
-    clock_file: &'a str,
-    table: &'a str,
-    moment: Option<u64>,
-    fails: Fails,
+    given: Given<'a>,
     stayed: bool,
     ended: Ended,
 }
 
 fn begun(alloc: Global) -> Example<'static> {
     Example {
-        setup: SETUP,
-        script: "",
-        clock: CLOCK,
-        clock_file: "a.clock",
-        table: TABLE,
-        moment: None,
-        fails: NO_FAILS,
+        given: Given {
+            words: RUN,
+            setup: SETUP,
+            records: "",
+            clock_file: "a.clock",
+            clock: CLOCK,
+            table: TABLE,
+            history: None,
+            has_moment: false,
+            fails: NO_FAILS,
+        },
         stayed: true,
         ended: Ended {
             number: 0,
@@ -89,54 +85,17 @@ fn begun(alloc: Global) -> Example<'static> {
     }
 }
 
-// The text that the lines below a step stand for.
-fn text_of(rt: &impl Abort, alloc: Global, lines: &str) -> Result<String, Fail> {
-    let joined = lines.replace(alloc, "\\\n", "")?;
-    let plain = joined
-        .replace(alloc, "\\r", "\r")?
-        .replace(alloc, "\\t", "\t")?;
-    let mut text = String::new(alloc);
-    for line in plain.split_inclusive('\n') {
-        match line.split_once(" times: ") {
-            Some((count, line)) => {
-                for _ in 0..number_of(rt, count) {
-                    text.push_str(line)?;
-                }
-            }
-            None => text.push_str(line)?,
-        }
-    }
-    Ok(text)
-}
-
 fn do_call<Rt: Abort + Threads + Wait + Sync>(
     rt: &Rt,
     alloc: Global,
     example: &mut Example<'_>,
-    words: &str,
 ) -> Result<(), Fail> {
-    let setup = text_of(rt, alloc, example.setup)?;
-    let records = text_of(rt, alloc, example.script)?;
-    let script = format!(in alloc; "{HEADER}{records}")?;
-    let clock = text_of(rt, alloc, example.clock)?;
-    let table = text_of(rt, alloc, example.table)?;
-    let given = Given {
-        words,
-        files: &[
-            ("a.toml", &setup),
-            ("a.csv", &script),
-            (example.clock_file, &clock),
-            ("t.csv", &table),
-        ],
-        moment: example.moment,
-        fails: example.fails,
-    };
     let found = &example.ended;
-    let ended = call(rt, alloc, given, &found.journal, &found.spool)?;
+    let ended = call(rt, alloc, example.given, &found.journal, &found.spool)?;
     example.stayed = ended.journal.as_slice() == found.journal.as_slice()
         && ended.spool.as_slice() == found.spool.as_slice();
     example.ended = ended;
-    example.fails = NO_FAILS;
+    example.given.fails = NO_FAILS;
     Ok(())
 }
 
@@ -171,7 +130,7 @@ fn is_met(
                 && ended.line.as_slice() == lines.as_bytes()
                 && (ended.number == 0 || ended.text.is_empty())
         }
-        "prints" => ended.text.as_slice() == text_of(rt, alloc, lines)?.as_bytes(),
+        "prints" => ended.text.as_slice() == text_of(alloc, lines)?.as_bytes(),
         "prints-lines" => {
             let count = ended.text.iter().filter(|byte| **byte == b'\n').count();
             count as u64 == number_of(rt, rest)
@@ -201,19 +160,23 @@ fn take<'a, Rt: Abort + Threads + Wait + Sync>(
 ) -> Result<(), Fail> {
     let (word, rest) = step.split_once(' ').unwrap_or((step, ""));
     match word {
-        "setup" => example.setup = lines,
-        "script" => example.script = lines,
-        "clock" => example.clock = lines,
-        "table" => example.table = lines,
-        "clock-file" => example.clock_file = rest,
-        "moment" => example.moment = Some(number_of(rt, rest)),
-        "fails" => fail(rt, &mut example.fails, rest),
+        "setup" => example.given.setup = lines,
+        "script" => example.given.records = lines,
+        "clock" => example.given.clock = lines,
+        "table" => example.given.table = lines,
+        "clock-file" => example.given.clock_file = rest,
+        "moment" => example.given.has_moment = true,
+        "fails" => fail(rt, &mut example.given.fails, rest),
         "journal" => change_bytes(rt, alloc, &mut example.ended.journal, lines)?,
         "spool" => change_bytes(rt, alloc, &mut example.ended.spool, lines)?,
-        "run" => do_call(rt, alloc, example, RUN)?,
+        "run" => {
+            example.given.words = RUN;
+            do_call(rt, alloc, example)?;
+        }
         _ => {
             assert_eq!(rt; word, "call");
-            do_call(rt, alloc, example, rest)?;
+            example.given.words = rest;
+            do_call(rt, alloc, example)?;
         }
     }
     Ok(())

@@ -1,6 +1,6 @@
 // The words of a call, its clock, each stop, and the listing of a plan.
 pub(crate) const STOPS: &str = r#"the clock of the system is asked by its word: it gives 2025-03-03T10:10:01
-== moment 63876593401
+== moment
 == call run a.toml a.csv system --threads 0
 == ends 0
 == prints
@@ -14,7 +14,7 @@ clock fault
 =====
 the clock of the system is asked by its word: a file with this name is not read
 == clock-file system
-== moment 63876593401
+== moment
 == call run a.toml a.csv system --threads 0
 == ends 0
 == prints
@@ -29,7 +29,7 @@ clock fault
 =====
 the clock of the system is asked by its word: another name is a file's
 == clock-file ./system
-== moment 63876593401
+== moment
 == call run a.toml a.csv ./system --threads 0
 == ends 0
 == prints
@@ -38,7 +38,7 @@ tick 2025-03-03T09:00:00
 =====
 the clock of the system is asked by its word: another name is that of a file that is lacking
 == clock-file system
-== moment 63876593401
+== moment
 == call run a.toml a.csv ./system --threads 0
 == ends 4
 absent: ./system

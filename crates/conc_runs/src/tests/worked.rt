@@ -1,6 +1,6 @@
 use super::call::{Given, NO_FAILS, call};
 use super::bytes::number_of;
-use super::examples::{HEADER, RUN};
+use super::examples::RUN;
 use conc_worked::{LIVES, MANAGERS, MONTH_END, PLAIN, SETS, Worked, worked_of};
 use std::alloc::Global;
 use std::process::Abort;
@@ -14,17 +14,15 @@ fn check_run<Rt: Abort + Threads + Wait + Sync>(
     alloc: Global,
     worked: Worked<'_>,
 ) -> Result<(), Fail> {
-    let records = worked.records;
-    let script = format!(in alloc; "{HEADER}{records}")?;
     let given = Given {
         words: RUN,
-        files: &[
-            ("a.toml", worked.setup),
-            ("a.csv", &script),
-            ("a.clock", worked.clock),
-            ("t.csv", worked.table),
-        ],
-        moment: None,
+        setup: worked.setup,
+        records: worked.records,
+        clock_file: "a.clock",
+        clock: worked.clock,
+        table: worked.table,
+        history: None,
+        has_moment: false,
         fails: NO_FAILS,
     };
     let ended = call(rt, alloc, given, &[], &[])?;
@@ -54,18 +52,15 @@ fn check_answer<Rt: Abort + Threads + Wait + Sync>(
     history: &str,
     answer: &str,
 ) -> Result<(), Fail> {
-    let records = worked.records;
-    let script = format!(in alloc; "{HEADER}{records}")?;
     let given = Given {
         words: "check a.toml a.csv a.clock a.history",
-        files: &[
-            ("a.toml", worked.setup),
-            ("a.csv", &script),
-            ("a.clock", worked.clock),
-            ("t.csv", worked.table),
-            ("a.history", history),
-        ],
-        moment: None,
+        setup: worked.setup,
+        records: worked.records,
+        clock_file: "a.clock",
+        clock: worked.clock,
+        table: worked.table,
+        history: Some(history),
+        has_moment: false,
         fails: NO_FAILS,
     };
     let mut ended = call(rt, alloc, given, &[], &[])?;
