@@ -5,7 +5,5 @@ mod counting;
 mod generating;
 mod running;
 mod summarizing;
-#[cfg(test)]
-mod tests;
 
 pub use summarizing::summarize;

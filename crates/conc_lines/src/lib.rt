@@ -7,8 +7,6 @@ mod history;
 mod laws;
 mod split;
 mod starts;
-#[cfg(test)]
-mod tests;
 mod words;
 
 pub use history::{Lines, read_history, split_line};

@@ -6,7 +6,5 @@ mod entering;
 mod expanding;
 mod judging;
 mod making;
-#[cfg(test)]
-mod tests;
 
 pub use making::make_plan;

@@ -17,6 +17,14 @@ use conc_types::{Bytes, Job, NoMemory, Outcome, Table, put_decimal};
 use itoa::Buffer;
 use std::alloc::Global;
 
+/// How many bytes a report has at most.
+const MOST_BYTES: usize = 1_048_576;
+
+// About what the header and the total take, and what the line of a key takes.
+const HEAD_BYTES: usize = 64;
+
+const LINE_BYTES: usize = 32;
+
 /// A report: the outcome of the run that made it, and its text.
 #[derive(Drop)]
 pub struct Made {
@@ -86,12 +94,21 @@ fn header(job: &Job) -> &'static [u8]
     }
 }
 
+// About how many bytes the text of so many keys has, at most as many as a report may have. A text that is
+// longer grows.
+fn room_for(keys: usize) -> usize {
+    keys.saturating_mul(LINE_BYTES)
+        .saturating_add(HEAD_BYTES)
+        .min(MOST_BYTES)
+}
+
 #[tactic(auto, unfolding(crate::specs::Texts::tally_text))]
 fn tally_text(alloc: Global, job: &Job, tally: &Tally<'_>) -> Result<Vec<u8>, NoMemory>
     ensures text { IfOk result (λ text. text.items ≡ tally_text_of job.now (shown tally.now.total) (map group_of tally.now.groups.entries)) }
     ensures ordered { OnOk result (IsOrdered (λ x y. slice_cmp nat_cmp x.now y.now) tally.now.groups) }
 {
-    let mut text = Vec::from_slice(alloc, header(job))?;
+    let mut text = Vec::with_capacity(alloc, room_for(tally.groups.len()))?;
+    text.extend_from_slice(header(job))?;
     put_groups(&mut text, job, &tally.groups)?;
     text.extend_from_slice(b"total")?;
     put_figures(&mut text, job, tally.total)?;
@@ -156,7 +173,7 @@ fn report_of_tally(alloc: Global, job: &Job, tally: &Tally<'_>) -> Result<Made, 
     ensures ordered { OnOk result (IsOrdered (λ x y. slice_cmp nat_cmp x.now y.now) tally.now.groups) }
 {
     let text = tally_text(alloc, job, tally)?;
-    if text.len() > 1_048_576 {
+    if text.len() > MOST_BYTES {
         return too_long(alloc);
     }
     Ok(Made {

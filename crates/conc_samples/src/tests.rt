@@ -1,4 +1,6 @@
+mod lines;
 mod make;
+mod plan;
 mod queue;
 mod records;
 mod reports;

@@ -1,7 +1,6 @@
 ghost use Rattle.std.specs.Prelude.{◌≡◌, [], ◌∷◌, IfOk};
 
-use super::*;
-use crate::event::event_of;
+use conc_lines::{Lines, read_history, starts_of};
 use conc_types::{
     Event, Extent, Manager, Moment, Name, NoMemory, Outcome, PlaceId, Plan, RequestId, Script, Seq,
     Setup, is_name,
@@ -13,8 +12,24 @@ use std::test::Fail;
 // Manager 1 has two places, and manager 2 has one.
 const STARTS: [u32; 3] = [0, 2, 3];
 
+// 2025-03-03T09:00:00
+const NINE: Moment = Moment {
+    seconds: 63_876_589_200,
+};
+
 fn id(number: u32) -> RequestId {
     RequestId { number }
+}
+
+fn opened(number: u32) -> Event {
+    Event::OpenSet { set: id(number) }
+}
+
+fn staged(number: u32, stage: u32) -> Event {
+    Event::Stage {
+        set: id(number),
+        stage,
+    }
 }
 
 fn started(number: u32, index: u32) -> Event {
@@ -39,29 +54,20 @@ fn closed(number: u32, outcome: Outcome) -> Event {
     }
 }
 
+// What is read of a history of this one line and no table.
+fn read_line(alloc: Global, line: &str) -> Result<Lines, Fail> {
+    let text = format!(in alloc; "{line}\n--\n")?;
+    Ok(read_history(alloc, text.as_bytes(), &STARTS)?)
+}
+
 #[test]
-fn reads_event_lines(rt: HostRuntime) {
-    // 2025-03-03T09:00:00
-    let moment = Moment {
-        seconds: 63_876_589_200,
-    };
+fn reads_event_lines(rt: HostRuntime) -> Result<(), Fail> {
     for (line, event) in [
-        ("tick 2025-03-03T09:00:00", Event::Tick { moment }),
+        ("tick 2025-03-03T09:00:00", Event::Tick { moment: NINE }),
         ("do 1", Event::Command { number: 1 }),
         ("do 0", Event::Command { number: 0 }),
-        (
-            "open 4294967295",
-            Event::OpenSet {
-                set: id(4294967295),
-            },
-        ),
-        (
-            "stage 1 2",
-            Event::Stage {
-                set: id(1),
-                stage: 2,
-            },
-        ),
+        ("open 4294967295", opened(4_294_967_295)),
+        ("stage 1 2", staged(1, 2)),
         ("close 1 Normal", closed(1, Outcome::Normal)),
         ("close 1 Warning", closed(1, Outcome::Warning)),
         ("close 1 Error", closed(1, Outcome::Error)),
@@ -85,58 +91,66 @@ fn reads_event_lines(rt: HostRuntime) {
         ("resume", Event::Resume),
         ("interrupt 3", Event::Interrupt { request: id(3) }),
     ] {
-        assert_eq!(rt; event_of(line.as_bytes(), &STARTS), Some(event));
+        let lines = read_line(rt.alloc(), line)?;
+        assert_eq!(rt; lines.events.as_slice(), [event].as_slice(), "{line}");
+        assert_eq!(rt; lines.bad, None, "{line}");
     }
+    Ok(())
 }
 
+// Lines that tell no event.
+static OTHERS: [&str; 41] = [
+    "",
+    "do",
+    "do ",
+    "do  1",
+    " do 1",
+    "do 1 ",
+    "do\t1",
+    "do 1\r",
+    "do 1 2",
+    "do 01",
+    "do +1",
+    "do -1",
+    "do 4294967296",
+    "Do 1",
+    "resume ",
+    "resume 1",
+    "tick 2025-02-30T09:00:00",
+    "tick 2025-03-03T09:00:00 !",
+    "stage 1",
+    "stage 1 0",
+    "close 1",
+    "close 1 Terminated",
+    "start 1 1.0",
+    "start 1 0.1",
+    "start 1 1.3",
+    "start 1 2.2",
+    "start 1 3.1",
+    "start 1 1",
+    "start 1 1.1.1",
+    "start 1 1.01",
+    "start 1 18446744073709551615.1",
+    "start 1 1.18446744073709551615",
+    "end 1",
+    "end 1 Normal",
+    "end 1 Normal 0",
+    "end 1 normal 0 1",
+    "end 1 Cancelled 0 1",
+    "end 1 Terminated 0 1",
+    "end 1 Normal 0 1 2",
+    "end 1 Normal 0 4294967296",
+    "end 1 Normal 18446744073709551616 1",
+];
+
 #[test]
-fn refuses_other_lines(rt: HostRuntime) {
-    for line in [
-        "",
-        "--",
-        "do",
-        "do ",
-        "do  1",
-        " do 1",
-        "do 1 ",
-        "do\t1",
-        "do 1\r",
-        "do 1 2",
-        "do 01",
-        "do +1",
-        "do -1",
-        "do 4294967296",
-        "Do 1",
-        "resume ",
-        "resume 1",
-        "tick 2025-02-30T09:00:00",
-        "tick 2025-03-03T09:00:00 !",
-        "stage 1",
-        "stage 1 0",
-        "close 1",
-        "close 1 Terminated",
-        "start 1 1.0",
-        "start 1 0.1",
-        "start 1 1.3",
-        "start 1 2.2",
-        "start 1 3.1",
-        "start 1 1",
-        "start 1 1.1.1",
-        "start 1 1.01",
-        "start 1 18446744073709551615.1",
-        "start 1 1.18446744073709551615",
-        "end 1",
-        "end 1 Normal",
-        "end 1 Normal 0",
-        "end 1 normal 0 1",
-        "end 1 Cancelled 0 1",
-        "end 1 Terminated 0 1",
-        "end 1 Normal 0 1 2",
-        "end 1 Normal 0 4294967296",
-        "end 1 Normal 18446744073709551616 1",
-    ] {
-        assert_eq!(rt; event_of(line.as_bytes(), &STARTS), None);
+fn refuses_other_lines(rt: HostRuntime) -> Result<(), Fail> {
+    for line in OTHERS {
+        let lines = read_line(rt.alloc(), line)?;
+        assert!(rt; lines.events.is_empty(), "{line:?}");
+        assert_eq!(rt; lines.bad, Some(1), "{line:?}");
     }
+    Ok(())
 }
 
 fn check(rt: &impl Abort, lines: &Lines, events: usize, bad: Option<u64>, next: usize) {
