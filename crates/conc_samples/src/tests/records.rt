@@ -1,3 +1,4 @@
+use conc_expect::same;
 use conc_records::{ByteRecord, Records};
 use std::test::Fail;
 
@@ -9,9 +10,9 @@ fn reads_records(rt: HostRuntime) -> Result<(), Fail> {
     let mut record = ByteRecord::new(rt.alloc());
     for fields in wanted {
         assert!(rt; records.read(&mut record)?);
-        assert_eq!(rt; record.len(), fields.len());
+        same(&rt, record.len(), fields.len());
         for (index, field) in fields.iter().enumerate() {
-            assert_eq!(rt; record.get(index), Some(*field));
+            same(&rt, record.get(index), Some(*field));
         }
     }
     assert!(rt; !records.read(&mut record)?);

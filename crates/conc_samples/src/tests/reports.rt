@@ -1,3 +1,4 @@
+use conc_expect::same_at;
 use conc_reports::report;
 use conc_setup::read_setup;
 use conc_tables::read_table;
@@ -69,8 +70,8 @@ fn reports(rt: HostRuntime) -> Result<(), Fail> {
         let table = read_table(alloc, rows.as_bytes(), 0)?;
         let program = setup.programs.as_slice().first().expect(&rt, more);
         let made = report(alloc, &program.job, b"", &table)?;
-        assert_eq!(rt; made.outcome, outcome, "at {rows:?} with {more}");
-        assert_eq!(rt; made.text.as_slice(), text.as_bytes(), "at {rows:?}");
+        same_at(&rt, made.outcome, outcome, (rows, more));
+        same_at(&rt, made.text.as_slice(), text.as_bytes(), rows);
     }
     Ok(())
 }

@@ -1,3 +1,4 @@
+use conc_expect::{same, same_at};
 use conc_script::{read_clock, read_script};
 use conc_setup::read_setup;
 use conc_types::{Act, FileKind, Item, Moment, NoMemory, ReadFail, Reading, Refusal, RequestId};
@@ -37,26 +38,30 @@ fn with_header(alloc: Global, records: &[u8]) -> Result<Vec<u8>, NoMemory> {
     Ok(text)
 }
 
+// Clocks, and the line and the rule for which they are refused.
+static CLOCKS: [(&str, u64, u8); 7] = [
+    ("", 1, 22),
+    ("2025-03-03T09:00:00  !\n", 1, 22),
+    ("2025-03-03T09:00:00!\n", 1, 22),
+    ("2025-03-03T09:00:00\nx\n", 2, 22),
+    ("2025-03-03T09:00:00\n\n2025-03-03T09:00:01\n", 2, 22),
+    (
+        "2025-03-03T09:00:00\n2025-03-03T09:00:01\n2025-03-03T09:00:00\n",
+        3,
+        27,
+    ),
+    ("2025-03-03T09:00:01\n2025-03-03T09:00:00 x\n", 2, 22),
+];
+
 #[test]
 fn refuses_clocks(rt: HostRuntime) {
-    for (text, line, kind) in [
-        ("", 1, 22),
-        ("2025-03-03T09:00:00  !\n", 1, 22),
-        ("2025-03-03T09:00:00!\n", 1, 22),
-        ("2025-03-03T09:00:00\nx\n", 2, 22),
-        ("2025-03-03T09:00:00\n\n2025-03-03T09:00:01\n", 2, 22),
-        (
-            "2025-03-03T09:00:00\n2025-03-03T09:00:01\n2025-03-03T09:00:00\n",
-            3,
-            27,
-        ),
-        ("2025-03-03T09:00:01\n2025-03-03T09:00:00 x\n", 2, 22),
-    ] {
+    for (text, line, kind) in CLOCKS {
         let file = FileKind::Clock;
-        assert_eq!(rt;
+        same_at(
+            &rt,
             refusal(read_clock(rt.alloc(), text.as_bytes())),
             Some(Refusal { file, line, kind }),
-            "at {text:?}"
+            text,
         );
     }
 }
@@ -83,17 +88,9 @@ fn reads_clocks(rt: HostRuntime) -> Result<(), Fail> {
         ),
     ] {
         let readings = read_clock(rt.alloc(), text.as_bytes())?.list;
-        assert_eq!(rt;
-            readings.as_slice().first().copied(),
-            Some(first),
-            "at {text:?}"
-        );
-        assert_eq!(rt;
-            readings.as_slice().last().copied(),
-            Some(last),
-            "at {text:?}"
-        );
-        assert_eq!(rt; readings.len(), text.lines().count(), "at {text:?}");
+        same_at(&rt, readings.as_slice().first().copied(), Some(first), text);
+        same_at(&rt, readings.as_slice().last().copied(), Some(last), text);
+        same_at(&rt, readings.len(), text.lines().count(), text);
     }
     Ok(())
 }
@@ -166,15 +163,19 @@ fn refuses_scripts(rt: HostRuntime) -> Result<(), Fail> {
     let setup = read_setup(alloc, SETUP.as_bytes())?;
     for text in ["", "At,do,what,user,priority,start,domain,argument\n"] {
         let read = read_script(alloc, text.as_bytes(), &setup);
-        assert_eq!(rt; refusal(read), refused(1, 20), "at {text:?}");
+        same_at(&rt, refusal(read), refused(1, 20), text);
     }
     for (records, line, kind) in REFUSED {
         let text = with_header(alloc, records.as_bytes())?;
         let read = read_script(alloc, &text, &setup);
-        assert_eq!(rt; refusal(read), refused(line, kind), "at {records:?}");
+        same_at(&rt, refusal(read), refused(line, kind), records);
     }
     let text = with_header(alloc, b"2025-03-03T09:00:00,submit,daily,ann,,,,\xff\n")?;
-    assert_eq!(rt; refusal(read_script(alloc, &text, &setup)), refused(2, 20));
+    same(
+        &rt,
+        refusal(read_script(alloc, &text, &setup)),
+        refused(2, 20),
+    );
     Ok(())
 }
 
@@ -186,10 +187,11 @@ fn bounds_arguments(rt: HostRuntime) -> Result<(), Fail> {
         let mut text = with_header(alloc, b"2025-03-03T09:00:00,submit,daily,ann,,,,")?;
         let argument = vec![in alloc; b'x'; length]?;
         text.extend_from_slice(&argument)?;
-        assert_eq!(rt;
+        same_at(
+            &rt,
             refusal(read_script(alloc, &text, &setup)),
             want,
-            "at {length}"
+            length,
         );
     }
     Ok(())
@@ -217,12 +219,12 @@ fn reads_scripts(rt: HostRuntime) -> Result<(), Fail> {
     else {
         panic!(rt; "no submission");
     };
-    assert_eq!(rt; submission.at, nine);
-    assert_eq!(rt; *item, Item::Set(0));
-    assert_eq!(rt; *priority, 50);
-    assert_eq!(rt; *start, nine);
-    assert_eq!(rt; user.as_bytes(), b"ann".as_slice());
-    assert_eq!(rt; domain.as_bytes(), b"Standard".as_slice());
+    same(&rt, submission.at, nine);
+    same(&rt, *item, Item::Set(0));
+    same(&rt, *priority, 50);
+    same(&rt, *start, nine);
+    same(&rt, user.as_bytes(), b"ann".as_slice());
+    same(&rt, domain.as_bytes(), b"Standard".as_slice());
     assert!(rt; argument.is_empty());
     let request = RequestId { number: 3 };
     assert!(rt; matches!(&hold.act, Act::Hold { request: held } if *held == request));

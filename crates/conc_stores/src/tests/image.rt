@@ -1,3 +1,5 @@
+ghost use Rattle.std.specs.Prelude.{◌<◌};
+
 use conc_expect::{same, same_at};
 use conc_image::{
     Header, has_record, header_of, judge_header, read_record, read_records, record_of,
@@ -203,7 +205,12 @@ const PAST: &[u8; 31] =
 fn refuses_other_values(rt: HostRuntime) {
     for (bytes, at, value) in OTHERS {
         assert!(rt; at < 31);
-        same_at(&rt, read_record(&altered(bytes, at, value)), None, (at, bytes));
+        same_at(
+            &rt,
+            read_record(&altered(bytes, at, value)),
+            None,
+            (at, bytes),
+        );
     }
     assert!(rt; read_record(LAST).is_some());
     same(&rt, read_record(PAST), None);
@@ -243,7 +250,12 @@ fn finds_events(rt: HostRuntime) -> Result<(), Fail> {
         let image = image_of(rt.alloc(), &pieces)?;
         let found = read_records(rt.alloc(), &image)?;
         same_at(&rt, found.broken, broken, pieces);
-        same_at(&rt, Some(found.events.as_slice()), EVENTS.get(..count), pieces);
+        same_at(
+            &rt,
+            Some(found.events.as_slice()),
+            EVENTS.get(..count),
+            pieces,
+        );
     }
     Ok(())
 }
@@ -274,11 +286,13 @@ static HEADERS: [(usize, u8, Header); 7] = [
 #[test]
 fn judges_headers(rt: HostRuntime) -> Result<(), Fail> {
     let image = begun_image(rt.alloc())?;
-    assert!(rt; image.len() == 65);
-    same(&rt, &image[1..65], header_of(&DIGEST).as_slice());
-    same(&rt, judge_header(&image), BEGUN);
-    same(&rt, judge_header(&image[..64]), Header::Foreign);
-    same(&rt, judge_header(&image[..1]), Header::NotBegun);
+    same(&rt, image.len(), 65);
+    let header = header_of(&DIGEST);
+    same(&rt, image.get(1..65), Some(header.as_slice()));
+    for (length, want) in [(65, BEGUN), (64, Header::Foreign), (1, Header::NotBegun)] {
+        let front = image.get(..length).expect(&rt, "a part of the header");
+        same_at(&rt, judge_header(front), want, length);
+    }
     for (at, value, want) in HEADERS {
         let mut other = image.clone()?;
         assert!(rt; at < other.len());

@@ -1,4 +1,5 @@
 use conc_disk::Disk;
+use conc_expect::same;
 use conc_outside::Failed;
 use conc_paths::PathDisk;
 use std::test::Fail;
@@ -11,20 +12,20 @@ fn a_disk_is_opened_at_its_first_use(rt: HostRuntime) -> Result<(), Fail> {
     let path = format!(in alloc; "{folder}/disk")?;
     let mut disk = PathDisk::new(&rt, path.as_str());
     // There is no folder yet.
-    assert_eq!(rt; disk.len(), Err(Failed));
+    same(&rt, disk.len(), Err(Failed));
     fs::create_dir(&rt, folder.as_str())?;
     assert!(rt; !fs::exists(&rt, path.as_str())?);
-    assert_eq!(rt; disk.len(), Ok(0));
+    same(&rt, disk.len(), Ok(0));
     disk.write_at(0, b"abcdef")?;
     disk.cut(4)?;
     disk.sync()?;
     let mut again = PathDisk::new(&rt, path.as_str());
     let mut read = [0u8; 3];
     again.read(1, &mut read)?;
-    assert_eq!(rt; read, *b"bcd");
-    assert_eq!(rt; again.read(2, &mut read), Err(Failed));
+    same(&rt, read, *b"bcd");
+    same(&rt, again.read(2, &mut read), Err(Failed));
     fs::remove_file(&rt, path.as_str())?;
     fs::remove_dir(&rt, folder.as_str())?;
-    assert_eq!(rt; disk.len(), Ok(4));
+    same(&rt, disk.len(), Ok(4));
     Ok(())
 }
