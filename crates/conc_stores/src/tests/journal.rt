@@ -20,6 +20,21 @@ const TWO_RECORDS: &[u8; 128] = b"\x01conc journal 1\n\
     \x01\x01\0\0\0\0\0\0\0\0\0\0\0\0\0\x0e\xdfWf\x90\0\0\0\0\0\0\0\0\0\0\0\0\
     \x01\x02\0\0\0\0\0\x01\0\0\0\0\0\0\0\0\0\0\0\0\0\0\0\0\0\0\0\0\0\0\0\0";
 
+// The header, the nine records of `in_turn`, one on a line, and the gate of the next one: 353 bytes.
+const NINE_RECORDS: &[u8; 353] = b"\x01conc journal 1\n\
+    abcdefghijklmnopqrstuvwxyz012345\
+    \0\0\0\0\0\0\0\0\0\0\0\0\0\0\0\0\
+    \x01\x01\0\0\0\0\0\0\0\0\0\0\0\0\0\x0e\xdf\x57\x66\x90\0\0\0\0\0\0\0\0\0\0\0\0\
+    \x01\x02\0\0\0\0\0\x01\0\0\0\0\0\0\0\0\0\0\0\0\0\0\0\0\0\0\0\0\0\0\0\0\
+    \x01\x02\0\0\0\0\0\x02\0\0\0\0\0\0\0\0\0\0\0\0\0\0\0\0\0\0\0\0\0\0\0\0\
+    \x01\x06\0\0\0\0\0\x01\0\0\0\0\0\0\0\0\0\0\0\0\0\0\0\0\0\0\0\0\0\0\0\0\
+    \x01\x07\0\0\0\0\0\x01\0\0\0\0\0\0\0\0\0\0\0\0\0\0\0\0\0\0\0\0\0\0\0\0\
+    \x01\x08\x01\0\0\0\0\x01\0\0\0\0\0\0\0\0\0\0\0\0\0\0\0\x27\0\0\0\0\0\0\0\0\
+    \x01\x06\0\0\0\0\0\x02\0\0\0\0\0\0\0\0\0\0\0\0\0\0\0\0\0\0\0\0\0\0\0\0\
+    \x01\x07\0\0\0\0\0\x02\0\0\0\0\0\0\0\0\0\0\0\0\0\0\0\0\0\0\0\0\0\0\0\0\
+    \x01\x08\x01\0\0\0\0\x02\0\0\0\0\0\0\0\0\0\0\0\x27\0\0\0\x27\0\0\0\0\0\0\0\0\
+    \0";
+
 const TICK: Event = Event::Tick {
     moment: Moment {
         seconds: 63_876_589_200,
@@ -235,29 +250,6 @@ fn in_turn() -> [Event; 9] {
     ]
 }
 
-// The records of the last seven.
-fn last_records() -> [[u8; 32]; 7] {
-    [
-        record(2, 0, 2, 0, 0),
-        record(6, 0, 1, 0, 0),
-        record(7, 0, 1, 0, 0),
-        record(8, 1, 1, 0, 39),
-        record(6, 0, 2, 0, 0),
-        record(7, 0, 2, 0, 0),
-        record(8, 1, 2, 39, 39),
-    ]
-}
-
-// The journal of these events: 353 bytes.
-fn nine_records(alloc: Global) -> Result<Vec<u8>, Fail> {
-    let mut bytes = TWO_RECORDS.to_vec(alloc)?;
-    for record in last_records() {
-        bytes.extend_from_slice(&record)?;
-    }
-    bytes.push(0)?;
-    Ok(bytes)
-}
-
 fn append_all<Rt: Abort>(
     rt: &Rt,
     journal: &mut Journal,
@@ -284,7 +276,7 @@ fn nine_records_have_353_bytes(rt: HostRuntime) -> Result<(), Fail> {
     append_all(&rt, &mut journal, &mut disk, &in_turn())?;
     let bytes = bytes_on(alloc, &mut disk)?;
     same(&rt, bytes.len(), 353);
-    same(&rt, bytes.as_slice(), nine_records(alloc)?.as_slice());
+    same(&rt, bytes.as_slice(), NINE_RECORDS.as_slice());
     let opened = Journal::open_on(alloc, &mut disk)?;
     same(&rt, opened.events.as_slice(), in_turn().as_slice());
     Ok(())
@@ -306,9 +298,10 @@ fn wanted(length: usize) -> Told {
 #[test]
 fn each_length_is_told(rt: HostRuntime) -> Result<(), Fail> {
     let alloc = rt.alloc();
-    let bytes = nine_records(alloc)?;
     for length in 0..354 {
-        let front = bytes.get(..length).expect(&rt, "a part of the records");
+        let front = NINE_RECORDS
+            .get(..length)
+            .expect(&rt, "a part of the records");
         same_at(&rt, told(&rt, alloc, front)?, wanted(length), length);
     }
     Ok(())
@@ -331,8 +324,6 @@ fn told_with<Rt: Abort>(
 #[test]
 fn each_gate_is_told(rt: HostRuntime) -> Result<(), Fail> {
     let alloc = rt.alloc();
-    let bytes = nine_records(alloc)?;
-    same(&rt, bytes.len(), 353);
     for value in 0..=255 {
         // What the gate of the last record shuts out, and that of the header.
         let (last, header) = if value == 0 {
@@ -340,9 +331,9 @@ fn each_gate_is_told(rt: HostRuntime) -> Result<(), Fail> {
         } else {
             ((true, 9, None), (true, 9, None))
         };
-        let found = told_with(&rt, alloc, &bytes, 320, value)?;
+        let found = told_with(&rt, alloc, NINE_RECORDS, 320, value)?;
         same_at(&rt, found, Ok(last), value);
-        let found = told_with(&rt, alloc, &bytes, 0, value)?;
+        let found = told_with(&rt, alloc, NINE_RECORDS, 0, value)?;
         same_at(&rt, found, Ok(header), value);
     }
     Ok(())
@@ -370,7 +361,7 @@ fn kinds() -> [([u8; 32], &'static [u8; 31]); 11] {
 fn with_third(alloc: Global, third: &[u8; 32]) -> Result<Vec<u8>, Fail> {
     let mut bytes = TWO_RECORDS.to_vec(alloc)?;
     bytes.extend_from_slice(third)?;
-    for byte in nine_records(alloc)?.iter().skip(160) {
+    for byte in NINE_RECORDS.iter().skip(160) {
         bytes.push(*byte)?;
     }
     Ok(bytes)
