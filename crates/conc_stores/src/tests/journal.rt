@@ -212,15 +212,6 @@ fn opens_what_stands_there(rt: HostRuntime) -> Result<(), Fail> {
 
 // ---- nine records
 
-// A record behind an open gate, whose numbers are below 256.
-fn record(kind: u8, outcome: u8, first: u8, offset: u8, length: u8) -> [u8; 32] {
-    let (o, l) = (offset, length);
-    [
-        1, kind, outcome, 0, 0, 0, 0, first, 0, 0, 0, 0, 0, 0, 0, 0, 0, 0, 0, o, 0, 0, 0, l, 0, 0,
-        0, 0, 0, 0, 0, 0,
-    ]
-}
-
 // A program that is incompatible with itself is submitted twice, and runs at the one place.
 fn in_turn() -> [Event; 9] {
     let one = RequestId { number: 1 };
@@ -339,28 +330,32 @@ fn each_gate_is_told(rt: HostRuntime) -> Result<(), Fail> {
     Ok(())
 }
 
+// A record whose numbers are below 256: its kind, outcome, first number, offset and length.
+type Record = (u8, u8, u8, u8, u8);
+
 // A record of each kind with all that its events use, and where of its bytes behind the gate nothing but 0
 // may stand.
-fn kinds() -> [([u8; 32], &'static [u8; 31]); 11] {
-    [
-        (record(1, 0, 0, 9, 0), b"x..........xxxxxxxx............"),
-        (record(2, 0, 9, 0, 0), b"x..xxxx........................"),
-        (record(3, 0, 9, 0, 0), b"x..xxxx........................"),
-        (record(4, 0, 9, 0, 0), b"x..xxxxxxxx...................."),
-        (record(5, 2, 9, 0, 0), b"xx.xxxx........................"),
-        (record(6, 0, 9, 0, 0), b"x..xxxx........................"),
-        (record(7, 0, 9, 0, 0), b"x..xxxxxxxx...................."),
-        (record(8, 3, 9, 9, 9), b"xx.xxxx....xxxxxxxxxxxx........"),
-        (record(8, 4, 9, 0, 0), b"xx.xxxx........................"),
-        (record(9, 0, 0, 0, 0), b"x.............................."),
-        (record(10, 0, 9, 0, 0), b"x..xxxx........................"),
-    ]
-}
+static KINDS: [(Record, &[u8; 31]); 11] = [
+    ((1, 0, 0, 9, 0), b"x..........xxxxxxxx............"),
+    ((2, 0, 9, 0, 0), b"x..xxxx........................"),
+    ((3, 0, 9, 0, 0), b"x..xxxx........................"),
+    ((4, 0, 9, 0, 0), b"x..xxxxxxxx...................."),
+    ((5, 2, 9, 0, 0), b"xx.xxxx........................"),
+    ((6, 0, 9, 0, 0), b"x..xxxx........................"),
+    ((7, 0, 9, 0, 0), b"x..xxxxxxxx...................."),
+    ((8, 3, 9, 9, 9), b"xx.xxxx....xxxxxxxxxxxx........"),
+    ((8, 4, 9, 0, 0), b"xx.xxxx........................"),
+    ((9, 0, 0, 0, 0), b"x.............................."),
+    ((10, 0, 9, 0, 0), b"x..xxxx........................"),
+];
 
-// The journal of nine events with another third record.
-fn with_third(alloc: Global, third: &[u8; 32]) -> Result<Vec<u8>, Fail> {
+// The journal of nine events with another third record, whose gate is open.
+fn with_third(alloc: Global, third: Record) -> Result<Vec<u8>, Fail> {
+    let (kind, outcome, first, offset, length) = third;
     let mut bytes = TWO_RECORDS.to_vec(alloc)?;
-    bytes.extend_from_slice(third)?;
+    bytes.extend_from_slice(&[1, kind, outcome, 0, 0, 0, 0, first, 0, 0, 0, 0])?;
+    bytes.extend_from_slice(&[0, 0, 0, 0, 0, 0, 0, offset, 0, 0, 0, length])?;
+    bytes.extend_from_slice(&[0; 8])?;
     for byte in NINE_RECORDS.iter().skip(160) {
         bytes.push(*byte)?;
     }
@@ -370,20 +365,13 @@ fn with_third(alloc: Global, third: &[u8; 32]) -> Result<Vec<u8>, Fail> {
 #[test]
 fn each_broken_spelling_is_told(rt: HostRuntime) -> Result<(), Fail> {
     let alloc = rt.alloc();
-    for (good, used) in kinds() {
-        let bytes = with_third(alloc, &good)?;
+    for (good, used) in KINDS {
+        let bytes = with_third(alloc, good)?;
         same_at(&rt, told(&rt, alloc, &bytes)?, Ok((true, 9, None)), good);
         for at in 0..31 {
             if used[at] == b'.' {
-                let mut stray = good;
-                stray[at + 1] = 1;
-                let bytes = with_third(alloc, &stray)?;
-                same_at(
-                    &rt,
-                    told(&rt, alloc, &bytes)?,
-                    Ok((true, 2, Some(3))),
-                    stray,
-                );
+                let stray = told_with(&rt, alloc, &bytes, 129 + at, 1)?;
+                same_at(&rt, stray, Ok((true, 2, Some(3))), (good, at));
             }
         }
     }
@@ -391,29 +379,27 @@ fn each_broken_spelling_is_told(rt: HostRuntime) -> Result<(), Fail> {
 }
 
 // Records of which a value is out of its range.
-fn out_of_range() -> [[u8; 32]; 10] {
-    [
-        record(0, 0, 0, 0, 0),
-        record(11, 0, 0, 0, 0),
-        record(200, 0, 0, 0, 0),
-        // A set closes as Normal, Warning or Error.
-        record(5, 0, 9, 0, 0),
-        record(5, 4, 9, 0, 0),
-        // An end with a report has one of these outcomes and some bytes.
-        record(8, 0, 9, 9, 9),
-        record(8, 5, 9, 9, 9),
-        record(8, 1, 9, 9, 0),
-        // One without a report has neither.
-        record(8, 4, 9, 0, 9),
-        record(8, 4, 9, 9, 0),
-    ]
-}
+static OUT_OF_RANGE: [Record; 10] = [
+    (0, 0, 0, 0, 0),
+    (11, 0, 0, 0, 0),
+    (200, 0, 0, 0, 0),
+    // A set closes as Normal, Warning or Error.
+    (5, 0, 9, 0, 0),
+    (5, 4, 9, 0, 0),
+    // An end with a report has one of these outcomes and some bytes.
+    (8, 0, 9, 9, 9),
+    (8, 5, 9, 9, 9),
+    (8, 1, 9, 9, 0),
+    // One without a report has neither.
+    (8, 4, 9, 0, 9),
+    (8, 4, 9, 9, 0),
+];
 
 #[test]
 fn each_value_out_of_range_is_told(rt: HostRuntime) -> Result<(), Fail> {
     let alloc = rt.alloc();
-    for broken in out_of_range() {
-        let bytes = with_third(alloc, &broken)?;
+    for broken in OUT_OF_RANGE {
+        let bytes = with_third(alloc, broken)?;
         same_at(
             &rt,
             told(&rt, alloc, &bytes)?,

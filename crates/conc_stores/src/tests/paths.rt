@@ -9,11 +9,7 @@ use std::test::Fail;
 use std::{fs, process};
 
 // Leaves four bytes on the disk, and reads three of them by another disk over the same file.
-fn write_and_read<R: Files + Abort>(
-    rt: &R,
-    path: &str,
-    disk: &mut PathDisk<R>,
-) -> Result<(), Fail>
+fn write_and_read<R: Files + Abort>(rt: &R, path: &str, disk: &mut PathDisk<R>) -> Result<(), Fail>
 where
     R::File: FileExt,
 {

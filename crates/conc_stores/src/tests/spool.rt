@@ -2,6 +2,8 @@ use conc_disk::MemDisk;
 use conc_expect::{same, same_at};
 use conc_outside::Failed;
 use conc_spool::{Spool, SpoolFail};
+use std::alloc::Global;
+use std::process::Abort;
 use std::test::Fail;
 
 #[test]
@@ -21,20 +23,25 @@ fn texts_are_read_back(rt: HostRuntime) -> Result<(), Fail> {
     Ok(())
 }
 
+// Fails to add a text, as the call with this number fails, and then adds another one.
+fn add_after_fault<Rt: Abort>(rt: &Rt, alloc: Global, call: u64) -> Result<(), Fail> {
+    let fails = vec![in alloc; call]?;
+    let mut disk = MemDisk::new(alloc, Vec::new(alloc), fails);
+    let mut spool = Spool::open_on(&mut disk, 0)?;
+    let failed = spool.append(&mut disk, b"abc");
+    same_at(rt, failed, Err(Failed), call);
+    same_at(rt, spool.used(), 0, call);
+    let extent = spool.append(&mut disk, b"de")?;
+    let text = spool.read(alloc, &mut disk, extent)?;
+    same_at(rt, text.as_slice(), b"de".as_slice(), call);
+    Ok(())
+}
+
 #[test]
 fn a_text_is_added_after_a_fault(rt: HostRuntime) -> Result<(), Fail> {
-    let alloc = rt.alloc();
     // The calls of the first append.
     for call in [2, 3] {
-        let fails = vec![in alloc; call]?;
-        let mut disk = MemDisk::new(alloc, Vec::new(alloc), fails);
-        let mut spool = Spool::open_on(&mut disk, 0)?;
-        let failed = spool.append(&mut disk, b"abc");
-        same_at(&rt, failed, Err(Failed), call);
-        same_at(&rt, spool.used(), 0, call);
-        let extent = spool.append(&mut disk, b"de")?;
-        let text = spool.read(alloc, &mut disk, extent)?;
-        same_at(&rt, text.as_slice(), b"de".as_slice(), call);
+        add_after_fault(&rt, rt.alloc(), call)?;
     }
     Ok(())
 }
