@@ -81,4 +81,4 @@ not-refused h (stopped.DiskFault which) journal spool room cause = refl
 not-refused h stopped.NoMemory journal spool room cause = refl
 
 pub ends-alone : (h : Handed) (list : List Event) → h.journal_before.seen ≡ Some [] → IsFinished h list → Alone h.plan h.readings [] list
-ends-alone h list journal is = subst (λ (found : List Event). Alone h.plan h.readings found list) (found-none h is.found journal is.is_found) is.alone
+ends-alone h list journal is = subst (λ (found : List Event). Alone h.plan h.readings found list) (found-none h is.found journal is.taken.is_found) is.alone

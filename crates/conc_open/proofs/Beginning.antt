@@ -4,6 +4,7 @@ use Rattle.conc_types.specs.declared.event.Event.{Event}
 use Rattle.conc_types.specs.declared.plan.Plan.{Plan}
 use Rattle.conc_types.specs.declared.script.Readings.{Readings}
 use Rattle.conc_disk.specs.Disk.{DiskState, Stays}
+use Rattle.conc_disk.specs.Left.{EachImage}
 use Rattle.conc_law.specs.Alone.{opening}
 use Rattle.conc_law.specs.Law.{Lawful}
 use Rattle.conc_law.specs.Standing.{used}
@@ -13,24 +14,54 @@ use Rattle.conc_journal.specs.Journals.{IsOn as JournalIsOn}
 use Rattle.conc_journal.specs.Stages.{has_faulted, takes_events}
 use Rattle.conc_journal.specs.declared.journal.Journal.{Journal}
 use Rattle.conc_journal.specs.declared.journal.Stage.TheVariants.{Begun}
-use Rattle.conc_work.specs.Handed.{handed}
+use Rattle.conc_spool.specs.Spools.{KeepsBelow}
+use Rattle.conc_work.specs.Handed.{handed, IsTaken}
 use Rattle.conc_open.specs.declared.examining.Examined.{Examined}
 use Rattle.conc_open.specs.Examined.{IsExamined}
-use Rattle.conc_open.specs.Opening.{IsBegun}
+use Rattle.conc_open.specs.Opening.{HasOpening, IsBegun, IsStopped, LeavesOpening, StillTold}
 use Rattle.conc_open.proofs.Counting.{end-within}
 use Rattle.conc_open.proofs.Lives.{disk-told, opening-lawful, opening-lives, opening-used}
+use Rattle.conc_open.proofs.Surviving.{texts-stay}
 
+-- what was examined is taken
+taken : (plan : Plan) (readings : Readings) (digest : List ℕ) (journal mid new spool spool' : DiskState) (examined : Examined)
+    → IsExamined (handed plan readings digest journal mid spool spool') examined → IsTaken (handed plan readings digest journal new spool spool') (list_of examined.journal)
+taken plan readings digest journal mid new spool spool' examined is = record {
+  is_found = record { past = is.found.past; own = is.found.own; whole = is.found.whole; events = is.found.events; within = is.found.within };
+  room = omega (arith, is.ready.room, examined.journal.few);
+}
+
+-- the texts of its ends are told as before
+told-still : (plan : Plan) (readings : Readings) (digest : List ℕ) (journal mid new spool spool' : DiskState) (examined : Examined)
+    → IsExamined (handed plan readings digest journal mid spool spool') examined → Stays spool spool' → StillTold (handed plan readings digest journal new spool spool') (list_of examined.journal)
+told-still plan readings digest journal mid new spool spool' examined is stays = λ from told.
+    disk-told plan from examined.spool.used (list_of examined.journal) spool spool' stays (end-within plan examined.spool.used (list_of examined.journal) is.ready.past (omega (arith, is.ready.used_is))) is.spool_on told
+
+-- the journal's disk failed
+pub stops : (plan : Plan) (readings : Readings) (digest : List ℕ) (journal mid new spool spool' : DiskState) (examined : Examined)
+    → IsExamined (handed plan readings digest journal mid spool spool') examined → Stays spool spool' → LeavesOpening (handed plan readings digest journal new spool spool') (list_of examined.journal)
+    → EachImage (HasOpening (handed plan readings digest journal new spool spool') (list_of examined.journal)) new → IsStopped (handed plan readings digest journal new spool spool')
+stops plan readings digest journal mid new spool spool' examined is stays left now = record {
+  found = list_of examined.journal;
+  taken = taken plan readings digest journal mid new spool spool' examined is;
+  left = left;
+  journal = now;
+  spool = subst (λ (n : ℕ). EachImage (KeepsBelow n spool) spool') is.ready.used_is (texts-stay examined.spool.used spool spool' stays is.spool_on);
+  told = told-still plan readings digest journal mid new spool spool' examined is stays;
+}
+
+-- the life is begun
 pub begins : (plan : Plan) (readings : Readings) (digest : List ℕ) (journal mid new spool spool' : DiskState) (examined : Examined) (list : Journal)
     → IsExamined (handed plan readings digest journal mid spool spool') examined → Stays spool spool' → JournalIsOn list new → stage_of list ≡ Begun digest → list_of list ≡ opening (list_of examined.journal)
-    → room_of list + length (list_of list) ≡ room_of examined.journal + length (list_of examined.journal)
+    → room_of list + length (list_of list) ≡ room_of examined.journal + length (list_of examined.journal) → LeavesOpening (handed plan readings digest journal new spool spool') (list_of examined.journal)
     → IsBegun (handed plan readings digest journal new spool spool') (record { machine = examined.machine; journal = list; spool = examined.spool })
-begins plan readings digest journal mid new spool spool' examined list is stays on stage all room =
+begins plan readings digest journal mid new spool spool' examined list is stays on stage all room left =
     let found : List Event = list_of examined.journal in
     let more = opening-lives found in
     let longer : length (list_of list) ≡ length found + length more.0 = ap length (all ∙ more.1) ∙ length-append found more.0 in
     record {
       found = found;
-      is_found = record { own = is.found.own; events = is.found.events; good = is.found.good };
+      taken = taken plan readings digest journal mid new spool spool' examined is;
       list = all;
       ready = record {
         tied = record {
@@ -53,5 +84,6 @@ begins plan readings digest journal mid new spool spool' examined list is stays 
         sound = ap has_faulted stage;
       };
       stage = stage;
-      told = λ from told. disk-told plan from examined.spool.used found spool spool' stays (end-within plan examined.spool.used found is.ready.past (omega (arith, is.ready.used_is))) is.spool_on told;
+      left = left;
+      told = told-still plan readings digest journal mid new spool spool' examined is stays;
     }

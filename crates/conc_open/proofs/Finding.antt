@@ -25,13 +25,11 @@ pub record HasFound (h : Handed) (opened : Opened) : Type 0 where
 -- the events are good
 pub found-good : (h : Handed) (opened : Opened) → HasFound h opened → Past h.plan opened.events.items → opened.broken ≡ None → Reaches h.spool_before (counted opened.events.items) → IsFound h opened.events.items
 found-good h opened has past whole long = record {
+  past = past;
   own = has.own;
+  whole = IfSome_then h.journal_before.seen has.found (λ image is. sym is.broken ∙ whole);
   events = IfSome_then h.journal_before.seen has.found (λ image is. is.events);
-  good = IfSome_then h.journal_before.seen has.found (λ image is. IfSome_then h.spool_before.seen long (λ texts far. record {
-    whole = sym is.broken ∙ whole;
-    past = past;
-    within = end-within h.plan (length texts) opened.events.items past (omega (arith, far, counted-is h.plan opened.events.items past));
-  }));
+  within = IfSome_then h.spool_before.seen long (λ texts far. end-within h.plan (length texts) opened.events.items past (omega (arith, far, counted-is h.plan opened.events.items past)));
 }
 
 -- the first bad record
@@ -66,7 +64,7 @@ short-untold plan events broken old new len (stopped.DiskFault which) long is = 
 pub found-untold : (h : Handed) (opened : Opened) (events : List Event) (e : Stopped) → HasFound h opened → events ≡ opened.events.items → IsUntold h.plan events opened.broken h.spool_before h.spool_after e → HasCause h e
 found-untold h opened events (stopped.Unlawful number) has same is =
     found-bad h opened number has (subst (λ (l : List Event). IfSome h.spool_before.seen (λ texts. IsBadRecord h.plan (length texts) l opened.broken number)) same is)
-found-untold h opened events (stopped.DiskFault which.Spool) has same is = is
+found-untold h opened events (stopped.DiskFault which.Spool) has same is = (has.own, is)
 found-untold h opened events stopped.NoMemory has same is = tt
 found-untold h opened events stopped.NotJournal has same is = absurd is
 found-untold h opened events (stopped.OtherInput found) has same is = absurd is

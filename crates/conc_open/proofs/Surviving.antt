@@ -1,19 +1,16 @@
 -- What a stop may leave while a life begins.
-use Rattle.std.proofs.Common.{IsTrue, ◌≡◌, ◌⊎◌, inl, inr, ℕ, Bool, ◌||◌, if◌then◌else◌, List, [], ◌∷◌, Option, None, Some, IfSome, refl, sym, ◌∙◌, ap, subst, append-nil}
+use Rattle.std.proofs.Common.{IsTrue, ◌≡◌, ◌⊎◌, inl, inr, ℕ, Bool, ◌||◌, if◌then◌else◌, List, [], Option, None, Some, IfSome, refl, sym, ◌∙◌, ap, subst, append-nil}
 use Rattle.std.proofs.lemmas.Option.{IfSome_then}
 use Rattle.conc_types.specs.declared.event.Event.{Event}
-use Rattle.conc_types.specs.declared.event.Event.TheVariants as event
 use Rattle.conc_disk.specs.Disk.{DiskState, Stays}
 use Rattle.conc_disk.specs.Left.{EachImage, LeavesOnly}
 use Rattle.conc_disk.proofs.Leaving.{if_some-any, leaves-twice, leaves-wider}
-use Rattle.conc_image.specs.Image.{digest_in, Found, found_in, has_header, IsJournal, is_not_begun}
-use Rattle.conc_image.proofs.Beginning.{header-begun}
+use Rattle.conc_image.specs.Image.{digest_in, found_in, has_header, is_not_begun}
 use Rattle.conc_journal.specs.Opens.{events_of}
-use Rattle.conc_law.specs.Alone.{opening}
 use Rattle.conc_work.specs.Handed.{Handed}
-use Rattle.conc_work.specs.Lists.{IsPrefix}
+use Rattle.conc_spool.specs.Spools.{Agrees, KeepsBelow}
 use Rattle.conc_work.specs.Survival.{Survives}
-use Rattle.conc_open.specs.Opening.{HasSurvived}
+use Rattle.conc_open.specs.Opening.{HasOpening, LeavesOpening}
 
 -- ---- images
 
@@ -38,33 +35,18 @@ left-wider kind wider old new more left = leaves-wider kind wider old new left (
 
 -- ---- the whole
 
--- what is found in what a disk tells
-found-in : Option (List ℕ) → List Event
-found-in None = []
-found-in (Some image) = events_of image
+-- a life is begun behind what only looked
+pub opening-left : (h : Handed) (found : List Event) (mid : DiskState) → LeavesOnly h.journal_before.may_leave h.journal_before mid → LeavesOnly (HasOpening h found) mid h.journal_after → LeavesOpening h found
+opening-left h found mid first second =
+    let K : List ℕ → Type 0 = λ image. h.journal_before.may_leave image ⊎ HasOpening h found image in
+    leaves-twice K h.journal_before mid h.journal_after (left-wider h.journal_before.may_leave K h.journal_before mid (λ c is. inl is) first) (left-wider (HasOpening h found) K mid h.journal_after (λ c is. inr is) second)
 
-found-told : (seen : Option (List ℕ)) → IfSome seen (λ image. found-in seen ≡ events_of image)
-unfolding found-in
-found-told None = tt
-found-told (Some image) = refl
-
--- nothing is written
-pub kept-survives : (h : Handed) → Stays h.journal_before h.journal_after → LeavesOnly h.journal_before.may_leave h.journal_before h.journal_after → HasSurvived h
-kept-survives h stays left = record {
-  found = found-in h.journal_before.seen;
-  events = found-told h.journal_before.seen;
-  journal = left-wider h.journal_before.may_leave _ h.journal_before h.journal_after (λ c is. inl is) left;
-  journal_now = if_some-any h.journal_after.seen (λ bytes c here. inl (stays.images c here));
-}
-
--- a life is begun
-pub begun-survives : (h : Handed) (found : List Event) (mid : DiskState) → IfSome h.journal_before.seen (λ image. found ≡ events_of image) → LeavesOnly h.journal_before.may_leave h.journal_before mid
-    → LeavesOnly (Survives h.digest found (opening found)) mid h.journal_after → EachImage (Survives h.digest found (opening found)) h.journal_after → HasSurvived h
-begun-survives h found mid events first second now =
-    let K : List ℕ → Type 0 = λ image. h.journal_before.may_leave image ⊎ Survives h.digest found (opening found) image in
-    record {
-      found = found;
-      events = events;
-      journal = leaves-twice K h.journal_before mid h.journal_after (left-wider h.journal_before.may_leave K h.journal_before mid (λ c is. inl is) first) (left-wider (Survives h.digest found (opening found)) K mid h.journal_after (λ c is. inr is) second);
-      journal_now = each-wider (Survives h.digest found (opening found)) K h.journal_after (λ c is. inr is) now;
-    }
+-- the spool has the bytes of the texts, where it stays as it was
+pub texts-stay : (n : ℕ) (old new : DiskState) → Stays old new → IfSome new.seen (λ bytes. (image : List ℕ) → new.may_leave image → Agrees n bytes image) → EachImage (KeepsBelow n old) new
+texts-stay n old new stays on =
+    IfSome_then new.seen on (λ bytes each image left. go old.seen new.seen bytes image stays.seen on left)
+  where
+    go : (was seen : Option (List ℕ)) (bytes image : List ℕ) → seen ≡ was → IfSome seen (λ b. (i : List ℕ) → new.may_leave i → Agrees n b i) → new.may_leave image → IfSome was (λ b. Agrees n b image)
+    go None seen bytes image same on left = tt
+    go (Some b) (Some c) bytes image same on left = let is : c ≡ b = cc in subst (λ (x : List ℕ). Agrees n x image) is (on image left)
+    go (Some b) None bytes image same on left = cc same

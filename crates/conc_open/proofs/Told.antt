@@ -46,7 +46,7 @@ untold-read plan digest d opened events (stopped.Unlawful number) own found same
       subst (λ (l : List Event). IsBadRecord plan (length texts) l (broken_of image) number) (same ∙ is.events)
       (subst (λ (b : Option ℕ). IsBadRecord plan (length texts) events b number) is.broken here)));
 }
-untold-read plan digest d opened events (stopped.DiskFault which.Spool) own found same bad = bad
+untold-read plan digest d opened events (stopped.DiskFault which.Spool) own found same bad = (own, bad)
 untold-read plan digest d opened events stopped.NoMemory own found same bad = tt
 untold-read plan digest d opened events stopped.NotJournal own found same bad = absurd bad
 untold-read plan digest d opened events (stopped.OtherInput other) own found same bad = absurd bad

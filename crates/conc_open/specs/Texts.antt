@@ -73,7 +73,8 @@ HasReadCause plan digest d stopped.NotJournal = IfSome d.journal_before.seen (λ
 HasReadCause plan digest d (stopped.OtherInput found) = IfSome d.journal_before.seen (IsOther digest found)
 HasReadCause plan digest d (stopped.Unlawful number) = HasBadRecord plan digest d.journal_before d.spool_before number
 HasReadCause plan digest d (stopped.DiskFault which.Journal) = Rose d.journal_before.faults d.journal_after.faults
-HasReadCause plan digest d (stopped.DiskFault which.Spool) = Rose d.spool_before.faults d.spool_after.faults
+HasReadCause plan digest d (stopped.DiskFault which.Spool) =
+    IfSome d.journal_before.seen (IsOwnJournal digest) × Rose d.spool_before.faults d.spool_after.faults
 HasReadCause plan digest d stopped.NoMemory = ⊤
 HasReadCause plan digest d (stopped.JournalFull len needed) = ⊥
 

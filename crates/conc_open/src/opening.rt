@@ -1,9 +1,9 @@
-ghost use Rattle.std.specs.Prelude.{IfErr, IfOk, IsFalse};
+ghost use Rattle.std.specs.Prelude.{◌⊎◌, IfErr, IfOk, IsFalse, OnErr};
 ghost use Rattle.conc_disk.specs.Disk.{Stays};
 ghost use Rattle.conc_disk.specs.Left.{LeavesOnly};
 ghost use Rattle.conc_work.specs.Causes.{HasCause, is_journal_fault};
 ghost use Rattle.conc_work.specs.Handed.{handed, IsUntouched};
-ghost use Rattle.conc_open.specs.Opening.{HasSurvived, IsBegun};
+ghost use Rattle.conc_open.specs.Opening.{IsBegun, IsStopped};
 
 use crate::examining::{Examined, examine};
 use crate::starting::start;
@@ -33,8 +33,9 @@ pub fn open<'p, D: Disk, E: Disk>(
     ensures cause { IfErr result (HasCause (handed plan.now readings.now digest.now (D.state journal.old) (D.state journal.new) (E.state spool.old) (E.state spool.new))) }
     ensures untouched { IfErr result (λ e. IsFalse (is_journal_fault e) → IsUntouched (handed plan.now readings.now digest.now (D.state journal.old) (D.state journal.new) (E.state spool.old) (E.state spool.new))) }
 
-    // A stop at any moment.
-    ensures survives { HasSurvived (handed plan.now readings.now digest.now (D.state journal.old) (D.state journal.new) (E.state spool.old) (E.state spool.new)) }
+    // A stop at any moment. What it leaves where a life is begun stands above.
+    ensures stopped { OnErr result (IsUntouched (handed plan.now readings.now digest.now (D.state journal.old) (D.state journal.new) (E.state spool.old) (E.state spool.new))
+        ⊎ IsStopped (handed plan.now readings.now digest.now (D.state journal.old) (D.state journal.new) (E.state spool.old) (E.state spool.new))) }
     ensures spool { Stays (E.state spool.old) (E.state spool.new) }
     ensures spool_survives { LeavesOnly (E.state spool.old).may_leave (E.state spool.old) (E.state spool.new) }
 {

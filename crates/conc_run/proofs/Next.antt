@@ -1,14 +1,12 @@
 -- What a stop leaves is taken by the next run.
-use Rattle.std.proofs.Common.{◌≡◌, ◌⊎◌, ℕ, zero, suc, ◌+◌, ◌++◌, ◌-◌, ◌≤◌, List, Option, None, Some, refl, sym, ◌∙◌, subst, arith, inl, inr}
-use Rattle.std.specs.Prelude.{IsFalse, IsTrue, slice_get}
+use Rattle.std.proofs.Common.{◌≡◌, ℕ, zero, suc, ◌+◌, ◌++◌, ◌-◌, List, Option, None, Some, sym, ◌∙◌, subst, arith, inl, inr}
+use Rattle.std.specs.Prelude.{IsFalse, IsTrue}
 use Rattle.conc_types.specs.declared.event.Event.{Event}
 use Rattle.conc_types.specs.declared.event.Event.TheVariants as event
 use Rattle.conc_types.specs.declared.plan.Plan.{Plan}
-use Rattle.conc_types.specs.Words.{numbered}
-use Rattle.conc_journal.specs.Opens.{broken_of, digest_of, events_of, may_open}
+use Rattle.conc_journal.specs.Opens.{broken_of, events_of, may_open}
 use Rattle.conc_law.specs.Law.{Past}
 use Rattle.conc_law.proofs.Numbering.{numbered-at}
-use Rattle.conc_restart.specs.FirstBad.{IsFirstBad}
 use Rattle.conc_restart.proofs.ReadSoFar.{bad-not_past}
 use Rattle.conc_work.specs.Causes.{IsOther}
 use Rattle.conc_work.specs.Handed.{IsOwnJournal}

@@ -1,59 +1,117 @@
 -- What is left where no life was begun.
-use Rattle.std.proofs.Common.{◌≡◌, inl, inr, ⊎_elim, true, false, List, refl, sym, ◌∙◌, ap, IfErr, IfOk, IsErrAnd, IsFalse, Ok, Err, Result}
+use Rattle.std.proofs.Common.{◌≡◌, ◌⊎◌, inl, inr, ℕ, true, false, List, [], Option, None, Some, IfSome, IsFalse, IsTrue, refl, sym, ◌∙◌, append-nil, arith}
 use Rattle.std.proofs.lemmas.Bool.{cases_Bool}
 use Rattle.std.proofs.lemmas.Option.{IfSome_then}
 use Rattle.conc_types.specs.declared.event.Event.{Event}
-use Rattle.conc_disk.specs.Disk.{Stays}
 use Rattle.conc_disk.specs.Left.{LeavesOnly}
 use Rattle.conc_disk.proofs.Leaving.{if_some-any, leaves-wider}
+use Rattle.conc_journal.specs.Opens.{events_of}
 use Rattle.conc_law.specs.Alone.{opening}
 use Rattle.conc_law.specs.Law.{Lawful, Past}
 use Rattle.conc_law.proofs.AloneHistory.{opening-lawful}
-use Rattle.conc_open.specs.Opening.{HasSurvived}
-use Rattle.conc_work.specs.Causes.{is_journal_fault}
+use Rattle.conc_open.specs.Opening.{IsStopped}
+use Rattle.conc_work.specs.Causes.{HasCause, is_journal_fault, is_refusal}
 use Rattle.conc_work.specs.Handed.{Handed, IsUntouched}
-use Rattle.conc_work.specs.Works.{list_in}
+use Rattle.conc_work.specs.Lists.{GoesOn}
 use Rattle.conc_work.specs.declared.fail.Stopped.{Stopped}
-use Rattle.conc_work.specs.declared.work.Work.{Work}
-use Rattle.conc_run.specs.Whole.{HasBetween, HasLeft, KeepsTexts}
-use Rattle.conc_work.proofs.Prefixes.{prefix-opening, prefix-self}
-use Rattle.conc_run.proofs.Lists.{opening-adds}
+use Rattle.conc_work.specs.declared.fail.Stopped.TheVariants as stopped
+use Rattle.conc_work.specs.declared.fail.Which.TheVariants as which
+use Rattle.conc_run.specs.Whole.{HasBetween, HasLeft, IsCutShort, KeepsTexts}
+use Rattle.conc_work.proofs.Prefixes.{prefix-self}
+use Rattle.conc_run.proofs.Lists.{opening-adds, told-opening}
+
+-- what is found in what a disk tells
+found-in : Option (List ℕ) → List Event
+found-in None = []
+found-in (Some image) = events_of image
+
+found-told : (seen : Option (List ℕ)) → IfSome seen (λ image. found-in seen ≡ events_of image)
+unfolding found-in
+found-told None = tt
+found-told (Some image) = refl
 
 -- nothing was written
-pub left-untouched : (h : Handed) (s : HasSurvived h) → IsUntouched h → HasLeft h s.found s.found s.found
-left-untouched h s is = record {
-  events = s.events;
-  goes_on = inl (prefix-opening s.found);
-  past = λ past. past;
+left-untouched : (h : Handed) (found : List Event) → IfSome h.journal_before.seen (λ image. found ≡ events_of image) → IsUntouched h → HasLeft h found found found
+left-untouched h found events is = record {
+  events = events;
+  begins = prefix-self found;
+  goes_on = inl refl;
   acknowledged = inl refl;
-  journal = leaves-wider h.journal_before.may_leave (HasBetween h s.found s.found) h.journal_before h.journal_after is.journal_survives (if_some-any h.journal_before.seen (λ bytes image left. inl left));
-  journal_now = if_some-any h.journal_after.seen (λ bytes image left. inl (refl, is.journal.images image left));
-  spool = leaves-wider h.spool_before.may_leave (KeepsTexts h s.found) h.spool_before h.spool_after is.spool_survives (if_some-any h.spool_before.seen (λ bytes image left. inl left));
-  spool_now = if_some-any h.spool_after.seen (λ bytes image left. inl (refl, is.spool.images image left));
-  told = λ from told. if_some-any h.spool_after.seen (λ bytes image left. inl (refl, is.spool.images image left));
+  journal = leaves-wider h.journal_before.may_leave (HasBetween h found found) h.journal_before h.journal_after is.journal_survives (if_some-any h.journal_before.seen (λ bytes image left. inl left));
+  spool = leaves-wider h.spool_before.may_leave (KeepsTexts h found) h.spool_before h.spool_after is.spool_survives (if_some-any h.spool_before.seen (λ bytes image left. inl left));
+  now = inl is;
+}
+
+-- the opening goes on from itself, by no event
+stands-still : (h : Handed) (list : List Event) → GoesOn h.plan h.readings list list
+stands-still h list = record {
+  added = [];
+  all = sym (append-nil list);
+  each = λ i from below. absurd (omega (arith, from, below));
+  no_resume = refl;
 }
 
 -- the journal may have been written
-pub left-opening : (h : Handed) (s : HasSurvived h) → ((list : List Event) → Lawful h.plan h.readings list → Past h.plan list) → Stays h.spool_before h.spool_after → LeavesOnly h.spool_before.may_leave h.spool_before h.spool_after
+left-opening : (h : Handed) (s : IsStopped h) → ((list : List Event) → Lawful h.plan h.readings list → Past h.plan list) → LeavesOnly h.spool_before.may_leave h.spool_before h.spool_after
     → HasLeft h s.found s.found (opening s.found)
-left-opening h s to_past stays survives = record {
-  events = s.events;
-  goes_on = inl (prefix-self (opening s.found));
-  past = λ past. to_past (opening s.found) (opening-lawful h.plan h.readings s.found past);
+left-opening h s to_past survives = record {
+  events = s.taken.is_found.events;
+  begins = prefix-self s.found;
+  goes_on = inr (stands-still h (opening s.found));
   acknowledged = opening-adds s.found;
-  journal = s.journal;
-  journal_now = IfSome_then h.journal_after.seen s.journal_now (λ bytes each image left. ⊎_elim (λ was. inl (refl, was)) (λ is. inr is) (each image left));
+  journal = s.left;
   spool = leaves-wider h.spool_before.may_leave (KeepsTexts h s.found) h.spool_before h.spool_after survives (if_some-any h.spool_before.seen (λ bytes image left. inl left));
-  spool_now = if_some-any h.spool_after.seen (λ bytes image left. inl (refl, stays.images image left));
-  told = λ from told. if_some-any h.spool_after.seen (λ bytes image left. inl (refl, stays.images image left));
+  now = inr (record {
+    taken = s.taken;
+    past = to_past (opening s.found) (opening-lawful h.plan h.readings s.found s.taken.is_found.past);
+    journal = s.journal;
+    spool = s.spool;
+    told = λ from told. IfSome_then h.spool_after.seen (s.told from told) (λ bytes each image left. told-opening h.plan from s.found image (each image left));
+  });
+}
+
+-- no refusal comes while the journal is written
+refused-before : (e : Stopped) → IsTrue (is_refusal e) → IsFalse (is_journal_fault e)
+refused-before stopped.NotJournal is = refl
+refused-before (stopped.OtherInput found) is = refl
+refused-before (stopped.Unlawful number) is = refl
+refused-before (stopped.JournalFull len needed) is = refl
+refused-before (stopped.DiskFault which.Spool) is = refl
+refused-before (stopped.DiskFault which.Journal) is = cc is
+refused-before stopped.NoMemory is = refl
+
+-- where nothing was written
+pub cut-untouched : (h : Handed) (e : Stopped) → HasCause h e → IsUntouched h → IsCutShort h e
+cut-untouched h e cause is =
+    let found : List Event = found-in h.journal_before.seen in
+    record {
+      cause = cause;
+      untouched = λ refusal. is;
+      found = found;
+      kept = found;
+      last = found;
+      left = left-untouched h found (found-told h.journal_before.seen) is;
+      whole = λ same. refl;
+    }
+
+-- the journal's disk failed while the life was begun
+cut-stopped : (h : Handed) (e : Stopped) → HasCause h e → is_journal_fault e ≡ true → (IsFalse (is_journal_fault e) → IsUntouched h) → IsStopped h → ((list : List Event) → Lawful h.plan h.readings list → Past h.plan list)
+    → LeavesOnly h.spool_before.may_leave h.spool_before h.spool_after → IsCutShort h e
+cut-stopped h e cause fault quiet s to_past survives = record {
+  cause = cause;
+  untouched = λ refusal. quiet (refused-before e refusal);
+  found = s.found;
+  kept = s.found;
+  last = opening s.found;
+  left = left-opening h s to_past survives;
+  whole = λ none. let two : true ≡ false = sym fault ∙ none in absurd (cc);
 }
 
 -- the beginning of a life was stopped
-pub left-stopped : (h : Handed) (e : Stopped) (r : Result Work Stopped) → IsErrAnd r (λ v. v ≡ e) → HasSurvived h → (IsFalse (is_journal_fault e) → IsUntouched h) → ((list : List Event) → Lawful h.plan h.readings list → Past h.plan list)
-    → Stays h.spool_before h.spool_after → LeavesOnly h.spool_before.may_leave h.spool_before h.spool_after
-    → (found : List Event) × (kept : List Event) × (last : List Event) × HasLeft h found kept last × IfOk r (λ work. (kept ≡ list_in work) × (last ≡ kept)) × IfErr r (λ v. IsFalse (is_journal_fault v) → last ≡ kept)
-left-stopped h e (Ok work) is s quiet to_past stays survives = absurd is
-left-stopped h e (Err v) is s quiet to_past stays survives = elim (cases_Bool (is_journal_fault e)) [
-  | inl fault ↦ (s.found, s.found, opening s.found, left-opening h s to_past stays survives, tt, λ none. let two : true ≡ false = sym fault ∙ ap (λ (x : Stopped). is_journal_fault x) (sym is) ∙ none in absurd (cc))
-  | inr none ↦ (s.found, s.found, s.found, left-untouched h s (quiet none), tt, λ same. refl)
+pub cut-opening : (h : Handed) (e : Stopped) → HasCause h e → (IsFalse (is_journal_fault e) → IsUntouched h) → IsUntouched h ⊎ IsStopped h → ((list : List Event) → Lawful h.plan h.readings list → Past h.plan list)
+    → LeavesOnly h.spool_before.may_leave h.spool_before h.spool_after → IsCutShort h e
+cut-opening h e cause quiet (inl is) to_past survives = cut-untouched h e cause is
+cut-opening h e cause quiet (inr s) to_past survives = elim (cases_Bool (is_journal_fault e)) [
+  | inl fault ↦ cut-stopped h e cause fault quiet s to_past survives
+  | inr none ↦ cut-untouched h e cause (quiet none)
 ]

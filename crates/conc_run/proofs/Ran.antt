@@ -1,5 +1,5 @@
 -- What is left where a life was begun and the run went on.
-use Rattle.std.proofs.Common.{◌≡◌, inr, ℕ, ◌≤◌, List, ◌++◌, reverse, Some, IfSome, sym, ◌∙◌, ap, subst, arith}
+use Rattle.std.proofs.Common.{◌≡◌, inr, ℕ, ◌≤◌, List, reverse, Some, IfSome, IsFalse, IsTrue, sym, ◌∙◌, ap, subst, arith}
 use Rattle.std.proofs.lemmas.Option.{IfSome_then}
 use Rattle.conc_types.specs.declared.event.Event.{Event}
 use Rattle.conc_disk.specs.Disk.{DiskState, SeenFollows, Stays}
@@ -10,18 +10,20 @@ use Rattle.conc_journal.specs.declared.journal.Stage.{Stage}
 use Rattle.conc_law.specs.Alone.{Alone, opening}
 use Rattle.conc_law.specs.Law.{Finished, Lawful, Past}
 use Rattle.conc_law.specs.Standing.{used}
-use Rattle.conc_open.specs.Opening.{HasSurvived, IsBegun}
+use Rattle.conc_open.specs.Opening.{IsBegun}
+use Rattle.conc_work.specs.Causes.{HasCause, is_journal_fault, is_refusal}
 use Rattle.conc_work.specs.Disks.{disks}
 use Rattle.conc_resolver.specs.Runs.{WentOn}
 use Rattle.conc_spool.specs.Spools.{Agrees, used_of}
-use Rattle.conc_work.specs.Handed.{Handed}
+use Rattle.conc_work.specs.Handed.{Handed, IsTaken, IsUntouched}
 use Rattle.conc_work.specs.Lists.{GoesOn, IsPrefix}
 use Rattle.conc_work.specs.Survival.{Survives}
 use Rattle.conc_work.specs.Told.{AreTold}
 use Rattle.conc_work.specs.Works.{list_in, longest_in, with_kept}
+use Rattle.conc_work.specs.declared.fail.Stopped.{Stopped}
 use Rattle.conc_work.specs.declared.work.Work.{Work}
-use Rattle.conc_run.specs.Whole.{HasLeft, IsFinished}
-use Rattle.conc_work.proofs.Prefixes.{prefix-opening, prefix-twice}
+use Rattle.conc_run.specs.Whole.{HasLeft, HasNow, IsCutShort, IsFinished}
+use Rattle.conc_work.proofs.Prefixes.{prefix-twice}
 use Rattle.conc_run.proofs.Lists.{prefix-kept, prefix-with_kept, told-opening, used-opening, used-prefix}
 use Rattle.conc_run.proofs.Survived.{begun-longest, fits-survives, journal-left}
 use Rattle.conc_run.proofs.Texts.{Keeps, spool-left, spool-now}
@@ -57,19 +59,32 @@ module _ (h : Handed) (journal spool : DiskState) (old new : Work) (begun : IsBe
   own-digest : stage_digest (stage_of new.journal) ≡ Some h.digest
   own-digest = went.digest ∙ ap (λ (s : Stage). stage_digest s) begun.stage
 
-  pub left-run : HasSurvived (until h journal spool) → ((list : List Event) → Lawful h.plan h.readings list → Past h.plan list) → Stays h.spool_before spool → LeavesOnly h.spool_before.may_leave h.spool_before spool
+  -- what was found is taken, whatever the disks are now
+  still-taken : IsTaken h begun.found
+  still-taken =
+      let is = begun.taken.is_found in
+      record { is_found = record { past = is.past; own = is.own; whole = is.whole; events = is.events; within = is.within }; room = begun.taken.room }
+
+  has-now : ((list : List Event) → Lawful h.plan h.readings list → Past h.plan list) → Stays h.spool_before spool → HasNow h begun.found (list_in new) (longest_in new)
+  has-now to_past stays = record {
+    taken = still-taken;
+    past = to_past (longest_in new) went.lawful;
+    journal = IfSome_then h.journal_after.seen went.tied.journal_on (λ bytes each image left. fits-survives (stage_of new.journal) h.digest (list_in new) image went.tied.takes own-digest (each image left));
+    spool = spool-now (used (reverse begun.found)) (used_of new.spool) h.spool_before spool h.spool_after (omega (arith, used-found, used-grows)) stays (subst (λ (n : ℕ). SeenFollows (Agrees n) spool h.spool_after) used-found went.spool_now) went.tied.spool_on;
+    told = told-longest;
+  }
+
+  pub left-run : ((list : List Event) → Lawful h.plan h.readings list → Past h.plan list) → Stays h.spool_before spool → LeavesOnly h.spool_before.may_leave h.spool_before spool
       → HasLeft h begun.found (list_in new) (longest_in new)
-  left-run survived to_past stays survives = record {
-    events = begun.is_found.events;
+  left-run to_past stays survives = record {
+    events = begun.taken.is_found.events;
+    begins = prefix-kept begun.found (list_in new) (longest_in new) begins went.acknowledged;
     goes_on = inr goes-on;
-    past = λ past. to_past (longest_in new) went.lawful;
     acknowledged = went.acknowledged;
-    journal = journal-left h.digest survived.found begun.found (longest_in new) h.journal_before journal h.journal_after survived.events begun.is_found.events begins survived.journal
+    journal = journal-left h.digest begun.found (longest_in new) h.journal_before journal h.journal_after begins begun.left
         (subst (λ (l : List Event). LeavesOnly (Survives h.digest l (longest_in new)) journal h.journal_after) begun.list (went.journal h.digest begun.stage));
-    journal_now = IfSome_then h.journal_after.seen went.tied.journal_on (λ bytes each image left. inr (fits-survives (stage_of new.journal) h.digest (list_in new) image went.tied.takes own-digest (each image left)));
     spool = subst (λ (n : ℕ). LeavesOnly (Keeps h.spool_before n) h.spool_before h.spool_after) used-found (spool-left (used_of old.spool) h.spool_before spool h.spool_after stays survives went.spool);
-    spool_now = IfSome_then h.spool_after.seen (spool-now (used (reverse begun.found)) (used_of new.spool) h.spool_before spool h.spool_after (omega (arith, used-found, used-grows)) stays (subst (λ (n : ℕ). SeenFollows (Agrees n) spool h.spool_after) used-found went.spool_now) went.tied.spool_on) (λ bytes each image left. inr (each image left));
-    told = λ from told. IfSome_then h.spool_after.seen (told-longest from told) (λ bytes each image left. inr (each image left));
+    now = inr (has-now to_past stays);
   }
 
   -- no append met a fault
@@ -81,15 +96,26 @@ module _ (h : Handed) (journal spool : DiskState) (old new : Work) (begun : IsBe
       let going = subst (λ (l : List Event). GoesOn h.plan h.readings (opening begun.found) l) (longest-kept same) goes-on in
       record { begins = (going.added, going.all); each = going.each; finished = finished }
 
-  pub finished-run : ((list : List Event) → Lawful h.plan h.readings list → Past h.plan list) → ((before after : List Event) → Past h.plan (before ++ after) → Past h.plan before) → stage_of new.journal ≡ stage_of old.journal
+  pub finished-run : ((list : List Event) → Lawful h.plan h.readings list → Past h.plan list) → Stays h.spool_before spool → LeavesOnly h.spool_before.may_leave h.spool_before spool → stage_of new.journal ≡ stage_of old.journal
       → Finished h.plan h.readings (list_in new) → IsFinished h (list_in new)
-  finished-run to_past front same finished = record {
+  finished-run to_past stays survives same finished = record {
     found = begun.found;
-    is_found = record { own = begun.is_found.own; events = begun.is_found.events; good = begun.is_found.good };
-    past =
-        let opened = prefix-opening begun.found in
-        front begun.found opened.0 (subst (λ (l : List Event). Past h.plan l) (begun.list ∙ opened.1) (to_past (list_in old) begun.ready.tied.lawful));
+    taken = still-taken;
     alone = alone same finished;
     journal = subst (λ (s : Stage). EachImage (FitsStage s (list_in new)) h.journal_after) (same ∙ begun.stage) went.tied.journal_on;
     told = λ from told. subst (λ (l : List Event). EachImage (AreTold h.plan from l) h.spool_after) (longest-kept same) (told-longest from told);
+    left = subst (λ (l : List Event). HasLeft h begun.found (list_in new) l) (longest-kept same) (left-run to_past stays survives);
+  }
+
+  -- the run ended before its history was finished
+  pub cut-run : (e : Stopped) → HasCause h e → (IsTrue (is_refusal e) → IsUntouched h) → (IsFalse (is_journal_fault e) → stage_of new.journal ≡ stage_of old.journal)
+      → ((list : List Event) → Lawful h.plan h.readings list → Past h.plan list) → Stays h.spool_before spool → LeavesOnly h.spool_before.may_leave h.spool_before spool → IsCutShort h e
+  cut-run e cause untouched sound to_past stays survives = record {
+    cause = cause;
+    untouched = untouched;
+    found = begun.found;
+    kept = list_in new;
+    last = longest_in new;
+    left = left-run to_past stays survives;
+    whole = λ quiet. longest-kept (sound quiet);
   }

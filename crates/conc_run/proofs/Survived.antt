@@ -1,14 +1,11 @@
 -- What a stop may leave of a journal.
-use Rattle.std.proofs.Common.{◌≡◌, ◌⊎◌, inl, inr, ⊎_elim, ℕ, Bool, ◌||◌, if◌then◌else◌, List, [], ◌∷◌, ◌++◌, None, Some, IfSome, IsTrue, refl, sym, ◌∙◌, ap, subst}
+use Rattle.std.proofs.Common.{◌≡◌, ◌⊎◌, inl, inr, ⊎_elim, ℕ, List, [], ◌∷◌, ◌++◌, Some, IsTrue, refl, ◌∙◌, ap, subst}
 use Rattle.std.proofs.lemmas.List.{append-nil}
 use Rattle.conc_types.specs.declared.event.Event.{Event}
 use Rattle.conc_disk.specs.Disk.{DiskState}
 use Rattle.conc_disk.specs.Left.{LeavesOnly}
-use Rattle.conc_disk.proofs.Leaving.{if_some-any, if_some-both, leaves-twice, leaves-wider}
-use Rattle.conc_image.specs.Image.{digest_in, Found, found_in, has_header, IsJournal}
-use Rattle.conc_image.proofs.Beginning.{header-begun}
+use Rattle.conc_disk.proofs.Leaving.{if_some-any, leaves-twice, leaves-wider}
 use Rattle.conc_journal.specs.Journals.{FitsStage}
-use Rattle.conc_journal.specs.Opens.{events_of}
 use Rattle.conc_journal.specs.Stages.{stage_digest, takes_events}
 use Rattle.conc_journal.specs.declared.journal.Stage.{Stage}
 use Rattle.conc_journal.specs.declared.journal.Stage.TheVariants.{NotBegun, BeginFailed, Begun, Broken, AppendFailed}
@@ -44,15 +41,13 @@ abbrev pub Between : DiskState → List ℕ → List Event → List Event → Li
 Between before digest first last image = before.may_leave image ⊎ Survives digest first last image
 
 -- the beginning of a life, and then the run
-pub journal-left : (digest : List ℕ) (told found last : List Event) (before mid after : DiskState)
-    → IfSome before.seen (λ image. told ≡ events_of image) → IfSome before.seen (λ image. found ≡ events_of image) → IsPrefix (opening found) last
-    → LeavesOnly (Between before digest told (opening told)) before mid → LeavesOnly (Survives digest (opening found) last) mid after → LeavesOnly (Between before digest found last) before after
-journal-left digest told found last before mid after told_is found_is begins opened ran =
+pub journal-left : (digest : List ℕ) (found last : List Event) (before mid after : DiskState) → IsPrefix (opening found) last
+    → LeavesOnly (Between before digest found (opening found)) before mid → LeavesOnly (Survives digest (opening found) last) mid after → LeavesOnly (Between before digest found last) before after
+journal-left digest found last before mid after begins opened ran =
     let wide : (image : List ℕ) → Survives digest found (opening found) image → Survives digest found last image =
     λ image is. survives-wider digest found found (opening found) last image (prefix-self found) begins is in
     leaves-twice (Between before digest found last) before mid after
-    (leaves-wider (Between before digest told (opening told)) (Between before digest found last) before mid opened
-    (if_some-both before.seen told_is found_is (λ bytes one other image is.
-    ⊎_elim inl (λ survives. inr (wide image (subst (λ (l : List Event). Survives digest l (opening l) image) (one ∙ sym other) survives))) is)))
+    (leaves-wider (Between before digest found (opening found)) (Between before digest found last) before mid opened
+    (if_some-any before.seen (λ bytes image is. ⊎_elim inl (λ survives. inr (wide image survives)) is)))
     (leaves-wider (Survives digest (opening found) last) (Between before digest found last) mid after ran
     (if_some-any mid.seen (λ bytes image is. inr (survives-wider digest found (opening found) last last image (prefix-opening found) (prefix-self last) is))))

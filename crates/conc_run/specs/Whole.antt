@@ -1,5 +1,5 @@
--- What a whole run leaves.
-use Rattle.std.specs.Prelude.{◌≡◌, ◌⊎◌, ℕ, ◌∷◌, [], ◌++◌, List, reverse, IfSome}
+-- What a whole run leaves, and why it ends before its history is finished.
+use Rattle.std.specs.Prelude.{◌≡◌, ◌⊎◌, ℕ, ◌∷◌, [], ◌++◌, List, reverse, IfSome, IsFalse, IsTrue}
 use Rattle.conc_types.specs.declared.event.Event.{Event}
 use Rattle.conc_law.specs.Alone.{Alone, opening}
 use Rattle.conc_law.specs.Law.{Past}
@@ -8,20 +8,14 @@ use Rattle.conc_disk.specs.Left.{EachImage, LeavesOnly}
 use Rattle.conc_image.specs.Image.{IsJournal}
 use Rattle.conc_journal.specs.Opens.{events_of}
 use Rattle.conc_spool.specs.Spools.{KeepsBelow}
-use Rattle.conc_work.specs.Handed.{Handed, IsFound}
+use Rattle.conc_work.specs.Causes.{HasCause, is_journal_fault, is_refusal}
+use Rattle.conc_work.specs.Handed.{Handed, IsTaken, IsUntouched}
 use Rattle.conc_work.specs.Lists.{GoesOn, IsPrefix}
 use Rattle.conc_work.specs.Survival.{Survives}
 use Rattle.conc_work.specs.Told.{AreTold}
+use Rattle.conc_work.specs.declared.fail.Stopped.{Stopped}
 
--- The run is finished: its list is the one that the run without workers makes from the list found. Each image now of the
--- journal has it.
-pub record IsFinished (h : Handed) (list : List Event) : Type 0 where
-  pub found : List Event
-  pub is_found : IsFound h found
-  pub past : Past h.plan found
-  pub alone : Alone h.plan h.readings found list
-  pub journal : EachImage (IsJournal h.digest list) h.journal_after
-  pub told : (from : ℕ) → IfSome h.spool_before.seen (AreTold h.plan from found) → EachImage (AreTold h.plan from list) h.spool_after
+-- ---- what is left
 
 -- an image that a stop might have left before, or one of a journal whose list is between these
 abbrev pub HasBetween : Handed → List Event → List Event → List ℕ → Type 0
@@ -31,26 +25,48 @@ HasBetween h first last image = h.journal_before.may_leave image ⊎ Survives h.
 abbrev pub KeepsTexts : Handed → List Event → List ℕ → Type 0
 KeepsTexts h found image = h.spool_before.may_leave image ⊎ KeepsBelow (used (reverse found)) h.spool_before image
 
--- one of a journal whose list is the kept one or the last; or, where nothing was kept beyond what was found, one that a stop
--- might have left before
-abbrev pub HasNow : Handed → List Event → List Event → List Event → List ℕ → Type 0
-HasNow h found kept last image = ((kept ≡ found) × h.journal_before.may_leave image) ⊎ Survives h.digest kept last image
+-- What was found is taken. Each image now of the journal has the kept list or the last, which is lawful, every life judged as
+-- an earlier one. Each image now of the spool has the bytes of the texts of the ends found, and tells the ends of the last list
+-- if the spool told those found.
+pub record HasNow (h : Handed) (found kept last : List Event) : Type 0 where
+  pub taken : IsTaken h found
+  pub past : Past h.plan last
+  pub journal : EachImage (Survives h.digest kept last) h.journal_after
+  pub spool : EachImage (KeepsBelow (used (reverse found)) h.spool_before) h.spool_after
+  pub told : (from : ℕ) → IfSome h.spool_before.seen (AreTold h.plan from found) → EachImage (AreTold h.plan from last) h.spool_after
 
--- one with the bytes of the texts of the ends found; or, where nothing was kept beyond, one that a stop might have left before
-abbrev pub KeepsNow : Handed → List Event → List Event → List ℕ → Type 0
-KeepsNow h found kept image = ((kept ≡ found) × h.spool_before.may_leave image) ⊎ KeepsBelow (used (reverse found)) h.spool_before image
-
--- What the run leaves on its disks, however it ended. `found` is the list found, `kept` the one at the end, and `last` the longest
--- that the journal's disk may have: `kept`, or `kept` and the event whose append met a fault. At each moment a stop left a list
--- that begins with the one found and is a beginning of the last one, and now it leaves the kept one or the last.
+-- What the run leaves on its disks, however it ended. `found` is the list found, `kept` the one that was acknowledged, and `last`
+-- the longest that the journal's disk may have: `kept`, or `kept` and the event whose append met a fault. At each moment a stop
+-- left a list that begins with the one found and is a beginning of the last one. Now nothing was written, or it leaves the kept
+-- one or the last.
 pub record HasLeft (h : Handed) (found kept last : List Event) : Type 0 where
   pub events : IfSome h.journal_before.seen (λ image. found ≡ events_of image)
-  pub goes_on : IsPrefix last (opening found) ⊎ GoesOn h.plan h.readings (opening found) last
-  pub past : Past h.plan found → Past h.plan last
+  pub begins : IsPrefix found kept
+  pub goes_on : (last ≡ found) ⊎ GoesOn h.plan h.readings (opening found) last
   pub acknowledged : (last ≡ kept) ⊎ ((e : Event) × (last ≡ kept ++ e ∷ []))
   pub journal : LeavesOnly (HasBetween h found last) h.journal_before h.journal_after
-  pub journal_now : EachImage (HasNow h found kept last) h.journal_after
   pub spool : LeavesOnly (KeepsTexts h found) h.spool_before h.spool_after
-  pub spool_now : EachImage (KeepsNow h found kept) h.spool_after
-  pub told : (from : ℕ) → IfSome h.spool_before.seen (AreTold h.plan from found)
-      → EachImage (λ image. ((kept ≡ found) × h.spool_before.may_leave image) ⊎ AreTold h.plan from last image) h.spool_after
+  pub now : IsUntouched h ⊎ HasNow h found kept last
+
+-- ---- how a run ends
+
+-- The run is finished: its list is the one that the run without workers makes from the list found. Each image now of the
+-- journal has it, and each of the spool tells the ends that were added, and all ends if it told those found.
+pub record IsFinished (h : Handed) (list : List Event) : Type 0 where
+  pub found : List Event
+  pub taken : IsTaken h found
+  pub alone : Alone h.plan h.readings found list
+  pub journal : EachImage (IsJournal h.digest list) h.journal_after
+  pub told : (from : ℕ) → IfSome h.spool_before.seen (AreTold h.plan from found) → EachImage (AreTold h.plan from list) h.spool_after
+  pub left : HasLeft h found list list
+
+-- The run did not begin, or ended before its history was finished. Where it was refused nothing was written; and but for a fault of
+-- the journal's disk that disk has the list that was acknowledged.
+pub record IsCutShort (h : Handed) (s : Stopped) : Type 0 where
+  pub cause : HasCause h s
+  pub untouched : IsTrue (is_refusal s) → IsUntouched h
+  pub found : List Event
+  pub kept : List Event
+  pub last : List Event
+  pub left : HasLeft h found kept last
+  pub whole : IsFalse (is_journal_fault s) → last ≡ kept

@@ -1,15 +1,13 @@
-ghost use Rattle.std.specs.Prelude.{◌≡◌, IfErr, IfOk, IsFalse, IsTrue, List};
-ghost use Rattle.conc_types.specs.declared.event.Event.{Event};
-ghost use Rattle.conc_work.specs.Causes.{HasCause, is_journal_fault, is_refusal};
-ghost use Rattle.conc_work.specs.Handed.{handed, IsUntouched};
+ghost use Rattle.std.specs.Prelude.{◌≡◌, IfErr, IfOk};
+ghost use Rattle.conc_work.specs.Handed.{handed};
 ghost use Rattle.conc_work.specs.Works.{list_in};
-ghost use Rattle.conc_run.specs.Whole.{HasLeft, IsFinished};
+ghost use Rattle.conc_run.specs.Whole.{IsCutShort, IsFinished};
 ghost use Rattle.conc_work.specs.declared.fail.RunFail.TheVariants as run_fail;
 ghost use Rattle.conc_work.specs.declared.fail.Stopped.TheVariants as stopped;
 ghost use Rattle.conc_work.specs.declared.fail.Which.TheVariants as which;
 
 use conc_disk::Disk;
-use conc_law::{lawful_is_past, prefix_is_past};
+use conc_law::lawful_is_past;
 use conc_open::open;
 use conc_resolver::run_alone;
 use conc_types::{Plan, Readings};
@@ -46,19 +44,9 @@ pub fn run_plan<'p, D: Disk, E: Disk>(
     spool: &mut E,
 ) -> Result<Work<'p>, Stopped>
     ensures finished { IfOk result (λ work. IsFinished (handed plan.now readings.now digest.now (D.state journal.old) (D.state journal.new) (E.state spool.old) (E.state spool.new)) (list_in work)) }
-
-    // Each cause.
-    ensures cause { IfErr result (HasCause (handed plan.now readings.now digest.now (D.state journal.old) (D.state journal.new) (E.state spool.old) (E.state spool.new))) }
-    ensures untouched { IfErr result (λ e. IsTrue (is_refusal e) → IsUntouched (handed plan.now readings.now digest.now (D.state journal.old) (D.state journal.new) (E.state spool.old) (E.state spool.new))) }
-
-    // A stop at any moment, and what is left at the end.
-    ensures left { (found : List Event) × (kept : List Event) × (last : List Event)
-        × HasLeft (handed plan.now readings.now digest.now (D.state journal.old) (D.state journal.new) (E.state spool.old) (E.state spool.new)) found kept last
-        × IfOk result (λ work. (kept ≡ list_in work) × (last ≡ kept))
-        × IfErr result (λ e. IsFalse (is_journal_fault e) → last ≡ kept) }
+    ensures cut_short { IfErr result (IsCutShort (handed plan.now readings.now digest.now (D.state journal.old) (D.state journal.new) (E.state spool.old) (E.state spool.new))) }
 {
     lawful_is_past();
-    prefix_is_past();
     let mut work = open(alloc, plan, readings, digest, journal, spool)?;
     match run_alone(alloc, plan, &mut work, journal, spool) {
         Ok(()) => Ok(work),

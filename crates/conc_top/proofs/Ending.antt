@@ -9,7 +9,8 @@ use Rattle.conc_work.specs.declared.fail.Stopped.TheVariants as stopped
 use Rattle.conc_top.specs.declared.exit.Exit.{Exit}
 use Rattle.conc_top.specs.declared.exit.Exit.TheVariants as exit
 use Rattle.conc_top.specs.Printing.{Sunk, TookNothing, Wrote}
-use Rattle.conc_top.specs.Runs.{IsCutShort, IsHistory, RunEnds}
+use Rattle.conc_run.specs.Whole.{IsCutShort}
+use Rattle.conc_top.specs.Runs.{IsHistory, RunEnds}
 use Rattle.conc_top.specs.Ways.{exit_for}
 
 -- what a read gives is of this kind where each image is

@@ -1,5 +1,5 @@
 -- How a run ends whose files are accepted.
-use Rattle.std.specs.Prelude.{◌≡◌, ℕ, List, length, IfSome, IsFalse, IsTrue}
+use Rattle.std.specs.Prelude.{◌≡◌, List, length, IfSome}
 use Rattle.conc_types.specs.declared.event.Event.{Event}
 use Rattle.conc_law.specs.Alone.{opening}
 use Rattle.conc_law.specs.Ends.{AreReported}
@@ -9,10 +9,8 @@ use Rattle.conc_law.specs.Text.{text_of}
 use Rattle.conc_image.specs.Image.{IsJournal}
 use Rattle.conc_outside.specs.Counts.{Rose}
 use Rattle.conc_outside.specs.Taken.{Took, TookPrefix}
-use Rattle.conc_run.specs.Whole.{HasLeft, IsFinished}
-use Rattle.conc_work.specs.Causes.{HasCause, is_journal_fault, is_refusal}
-use Rattle.conc_work.specs.Handed.{Handed, IsUntouched}
-use Rattle.conc_work.specs.declared.fail.Stopped.{Stopped}
+use Rattle.conc_run.specs.Whole.{IsCutShort, IsFinished}
+use Rattle.conc_work.specs.Handed.{Handed}
 use Rattle.conc_work.specs.declared.fail.Stopped.TheVariants as stopped
 use Rattle.conc_top.specs.declared.exit.Exit.{Exit}
 use Rattle.conc_top.specs.declared.exit.Exit.TheVariants as exit
@@ -28,18 +26,6 @@ pub record IsHistory (h : Handed) (history : List Event) : Type 0 where
   pub apart : NoOverlap h.plan history
   pub reported : AreReported h.plan (length (opening finished.found)) history
   pub read : IfSome h.journal_after.seen (IsJournal h.digest history)
-  pub left : (found : List Event) × HasLeft h found history history
-
--- The run did not begin, or ended before its history was finished. Where it was refused nothing was written; and but for a fault of
--- the journal's disk that disk has the list that was acknowledged.
-pub record IsCutShort (h : Handed) (s : Stopped) : Type 0 where
-  pub cause : HasCause h s
-  pub untouched : IsTrue (is_refusal s) → IsUntouched h
-  pub found : List Event
-  pub kept : List Event
-  pub last : List Event
-  pub left : HasLeft h found kept last
-  pub whole : IsFalse (is_journal_fault s) → last ≡ kept
 
 -- what each exit says of the run and of the output
 abbrev pub RunEnds : Handed → Sunk → Exit → Type 0

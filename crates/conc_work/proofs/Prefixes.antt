@@ -1,5 +1,5 @@
 -- Lists that begin with other lists.
-use Rattle.std.proofs.Common.{◌≡◌, List, [], ◌∷◌, ◌++◌, refl, sym, ◌∙◌, ap, append_assoc, append-nil}
+use Rattle.std.proofs.Common.{List, [], ◌∷◌, ◌++◌, refl, sym, ◌∙◌, ap, append_assoc, append-nil}
 use Rattle.conc_types.specs.declared.event.Event.{Event}
 use Rattle.conc_types.specs.declared.event.Event.TheVariants as event
 use Rattle.conc_law.specs.Alone.{opening}

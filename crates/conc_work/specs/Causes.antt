@@ -30,10 +30,10 @@ pub record IsUnlawful (h : Handed) (number : ℕ) : Type 0 where
   pub own : IfSome h.journal_before.seen (IsOwnJournal h.digest)
   pub bad : Finds (λ image len. IsBadRecord h.plan len (events_of image) (broken_of image) number) h
 
--- the count of faults of this disk rose
+-- the count of faults of this disk rose; the spool is not opened before the journal was found to be this input's
 abbrev pub Faulted : Handed → Which → Type 0
 Faulted h which.Journal = Rose h.journal_before.faults h.journal_after.faults
-Faulted h which.Spool = Rose h.spool_before.faults h.spool_after.faults
+Faulted h which.Spool = IfSome h.journal_before.seen (IsOwnJournal h.digest) × Rose h.spool_before.faults h.spool_after.faults
 
 -- the cause of each answer; want of memory needs none
 abbrev pub HasCause : Handed → Stopped → Type 0
@@ -50,7 +50,7 @@ is_refusal (stopped.DiskFault which) = false
 is_refusal stopped.NoMemory = false
 is_refusal _ = true
 
--- the answer comes where the journal is written
+-- the answer that may come while the journal is written
 abbrev pub is_journal_fault : Stopped → Bool
 is_journal_fault (stopped.DiskFault which.Journal) = true
 is_journal_fault _ = false

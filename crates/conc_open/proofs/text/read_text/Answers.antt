@@ -85,7 +85,7 @@ returns-in-Err-DiskFault-clause-cause g c =
     let old = g.E.Disk.state c.args.spool.now in
     let mid = g.E.Disk.state c.open_texts.new.disk in
     let new = g.E.Disk.state c.read.new.disk in
-    rose-later old.faults mid.faults new.faults c.open_texts.ensures.survives.faults (c.read.ensures.fault (c.in-Err-DiskFault.is ∙ ap Err c.in-Err-DiskFault.field-0-is))
+    (c.in_ok-opened.ensures.own, rose-later old.faults mid.faults new.faults c.open_texts.ensures.survives.faults (c.read.ensures.fault (c.in-Err-DiskFault.is ∙ ap Err c.in-Err-DiskFault.field-0-is)))
 
 pub returns-clause-spool_stays : goal.returns-clause-spool_stays
 returns-clause-spool_stays g c =

@@ -1,74 +1,48 @@
-use Rattle.std.proofs.Common.{◌≡◌, refl, sym, ◌∙◌, ap, true, false}
+use Rattle.std.proofs.Common.{◌≡◌, sym, ◌∙◌, ap, true, false}
+use Rattle.std.proofs.lemmas.Result.{err_from_is_err_and}
 use Rattle.conc_work.specs.Causes.{is_journal_fault}
 use Rattle.conc_work.specs.Handed.{handed, Handed}
-use Rattle.conc_work.specs.Works.{list_in, longest_in}
 use Rattle.conc_work.specs.declared.fail.RunFail.TheVariants as run_fail
 use Rattle.conc_work.specs.declared.fail.Stopped.{Stopped}
-use Rattle.conc_run.proofs.Opened.{left-stopped}
-use Rattle.conc_run.proofs.Ran.{finished-run, left-run, longest-kept}
+use Rattle.conc_run.proofs.Opened.{cut-opening}
+use Rattle.conc_run.proofs.Ran.{cut-run, finished-run}
 use Rattle.conc_run.proofs.Stops.{rose-since, stop-cause, stop-late}
 use Rattle.conc_run.proofs.whole.run_plan.Goals as goal
 
-pub returns-in_err-work-clause-left : goal.returns-in_err-work-clause-left
-returns-in_err-work-clause-left g c =
-    left-stopped
-    (handed c.args.plan.now c.args.readings.now c.args.digest.now (g.D.Disk.state c.args.journal.now) (g.D.Disk.state c.open.new.journal) (g.E.Disk.state c.args.spool.now) (g.E.Disk.state c.open.new.spool))
-    c.in_err-work.field-0.0 c.from_residual.result c.from_residual.ensures.1 c.open.ensures.survives c.in_err-work.ensures.untouched (c.lawful_is_past.ensures c.args.plan.now c.args.readings.now)
-    c.open.ensures.spool c.open.ensures.spool_survives
+pub returns-in_err-work-clause-cut_short : goal.returns-in_err-work-clause-cut_short
+returns-in_err-work-clause-cut_short g c =
+    let p = err_from_is_err_and c.from_residual.result c.from_residual.ensures.1 in
+    let h : Handed = handed c.args.plan.now c.args.readings.now c.args.digest.now (g.D.Disk.state c.args.journal.now) (g.D.Disk.state c.open.new.journal) (g.E.Disk.state c.args.spool.now) (g.E.Disk.state c.open.new.spool) in
+    rw (p.1, p.2)
+    (cut-opening h c.in_err-work.field-0.0 c.in_err-work.ensures.cause c.in_err-work.ensures.untouched c.in_err-work.ensures.stopped (c.lawful_is_past.ensures c.args.plan.now c.args.readings.now)
+    c.open.ensures.spool_survives)
 
 pub returns-in-Ok-clause-finished : goal.returns-in-Ok-clause-finished
 returns-in-Ok-clause-finished g c =
     let h : Handed = handed c.args.plan.now c.args.readings.now c.args.digest.now (g.D.Disk.state c.args.journal.now) (g.D.Disk.state c.run_alone.new.journal) (g.E.Disk.state c.args.spool.now) (g.E.Disk.state c.run_alone.new.spool) in
     let begun = c.in_ok-work.ensures.begun in
     finished-run h (g.D.Disk.state c.open.new.journal) (g.E.Disk.state c.open.new.spool) c.in_ok-work.work c.run_alone.new.work begun
-    (c.run_alone.ensures.went_on c.args.readings.now.list begun.ready.tied.readings_are) (c.lawful_is_past.ensures c.args.plan.now c.args.readings.now) (c.prefix_is_past.ensures c.args.plan.now)
+    (c.run_alone.ensures.went_on c.args.readings.now.list begun.ready.tied.readings_are) (c.lawful_is_past.ensures c.args.plan.now c.args.readings.now) c.open.ensures.spool c.open.ensures.spool_survives
     (c.in-Ok.ensures.sound (λ is. cc)) (c.in-Ok.ensures.finished c.args.readings.now.list begun.ready.tied.readings_are)
 
-pub returns-in-Ok-clause-left : goal.returns-in-Ok-clause-left
-returns-in-Ok-clause-left g c =
-    let h : Handed = handed c.args.plan.now c.args.readings.now c.args.digest.now (g.D.Disk.state c.args.journal.now) (g.D.Disk.state c.run_alone.new.journal) (g.E.Disk.state c.args.spool.now) (g.E.Disk.state c.run_alone.new.spool) in
+pub returns-clause-cut_short : goal.returns-clause-cut_short
+returns-clause-cut_short g c =
+    let before = g.D.Disk.state c.args.journal.now in
+    let begun-on = g.D.Disk.state c.open.new.journal in
+    let after = g.D.Disk.state c.run_alone.new.journal in
+    let spool-before = g.E.Disk.state c.args.spool.now in
+    let spool-begun = g.E.Disk.state c.open.new.spool in
+    let spool-after = g.E.Disk.state c.run_alone.new.spool in
+    let h : Handed = handed c.args.plan.now c.args.readings.now c.args.digest.now before after spool-before spool-after in
     let begun = c.in_ok-work.ensures.begun in
-    let journal = g.D.Disk.state c.open.new.journal in
-    let spool = g.E.Disk.state c.open.new.spool in
-    let old = c.in_ok-work.work in
-    let new = c.run_alone.new.work in
-    let went = c.run_alone.ensures.went_on c.args.readings.now.list begun.ready.tied.readings_are in (
-      begun.found,
-      list_in new,
-      longest_in new,
-      left-run h journal spool old new begun went c.open.ensures.survives (c.lawful_is_past.ensures c.args.plan.now c.args.readings.now) c.open.ensures.spool c.open.ensures.spool_survives,
-      (refl, longest-kept h journal spool old new begun went (c.in-Ok.ensures.sound (λ is. cc))),
-      tt,
-    )
-
-pub returns-clause-cause : goal.returns-clause-cause
-returns-clause-cause g c =
-    let h : Handed = handed c.args.plan.now c.args.readings.now c.args.digest.now (g.D.Disk.state c.args.journal.now) (g.D.Disk.state c.run_alone.new.journal) (g.E.Disk.state c.args.spool.now) (g.E.Disk.state c.run_alone.new.spool) in
-    stop-cause h c.in-Err.fail c.stopped_by.result c.stopped_by.ensures.journal c.stopped_by.ensures.spool c.stopped_by.ensures.memory
-    (λ is. rose-since (g.D.Disk.state c.args.journal.now).faults (g.D.Disk.state c.open.new.journal).faults (g.D.Disk.state c.run_alone.new.journal).faults c.open.ensures.survives.journal.faults (c.in-Err.ensures.journal_fault (cc)))
-    (λ is. rose-since (g.E.Disk.state c.args.spool.now).faults (g.E.Disk.state c.open.new.spool).faults (g.E.Disk.state c.run_alone.new.spool).faults c.open.ensures.spool_survives.faults (c.in-Err.ensures.spool_fault (cc)))
-
-pub returns-clause-untouched : goal.returns-clause-untouched
-returns-clause-untouched g c =
-    let h : Handed = handed c.args.plan.now c.args.readings.now c.args.digest.now (g.D.Disk.state c.args.journal.now) (g.D.Disk.state c.run_alone.new.journal) (g.E.Disk.state c.args.spool.now) (g.E.Disk.state c.run_alone.new.spool) in
-    stop-late h c.in-Err.fail c.stopped_by.result c.stopped_by.ensures.journal c.stopped_by.ensures.spool c.stopped_by.ensures.memory
-
-pub returns-clause-left : goal.returns-clause-left
-returns-clause-left g c =
-    let h : Handed = handed c.args.plan.now c.args.readings.now c.args.digest.now (g.D.Disk.state c.args.journal.now) (g.D.Disk.state c.run_alone.new.journal) (g.E.Disk.state c.args.spool.now) (g.E.Disk.state c.run_alone.new.spool) in
-    let begun = c.in_ok-work.ensures.begun in
-    let journal = g.D.Disk.state c.open.new.journal in
-    let spool = g.E.Disk.state c.open.new.spool in
-    let old = c.in_ok-work.work in
-    let new = c.run_alone.new.work in
-    let went = c.run_alone.ensures.went_on c.args.readings.now.list begun.ready.tied.readings_are in (
-      begun.found,
-      list_in new,
-      longest_in new,
-      left-run h journal spool old new begun went c.open.ensures.survives (c.lawful_is_past.ensures c.args.plan.now c.args.readings.now) c.open.ensures.spool c.open.ensures.spool_survives,
-      tt,
-      λ quiet. longest-kept h journal spool old new begun went (c.in-Err.ensures.sound (λ is.
-          let fail : c.in-Err.fail ≡ run_fail.JournalFault = cc in
-          let two : true ≡ false = sym (ap (λ (s : Stopped). is_journal_fault s) (c.stopped_by.ensures.journal fail)) ∙ quiet in
-          absurd (cc))),
-    )
+    let made = c.stopped_by.ensures in
+    cut-run h begun-on spool-begun c.in_ok-work.work c.run_alone.new.work begun (c.run_alone.ensures.went_on c.args.readings.now.list begun.ready.tied.readings_are) c.stopped_by.result
+    (stop-cause h c.in-Err.fail c.stopped_by.result made.journal made.spool made.memory
+    (λ is. rose-since before.faults begun-on.faults after.faults begun.left.faults (c.in-Err.ensures.journal_fault (cc)))
+    (λ is. (begun.taken.is_found.own, rose-since spool-before.faults spool-begun.faults spool-after.faults c.open.ensures.spool_survives.faults (c.in-Err.ensures.spool_fault (cc)))))
+    (stop-late h c.in-Err.fail c.stopped_by.result made.journal made.spool made.memory)
+    (λ quiet. c.in-Err.ensures.sound (λ is.
+    let fail : c.in-Err.fail ≡ run_fail.JournalFault = cc in
+    let two : true ≡ false = sym (ap (λ (s : Stopped). is_journal_fault s) (made.journal fail)) ∙ quiet in
+    absurd (cc)))
+    (c.lawful_is_past.ensures c.args.plan.now c.args.readings.now) c.open.ensures.spool c.open.ensures.spool_survives

@@ -2,7 +2,6 @@ use Rattle.std.proofs.Common.{◌∙◌, ap, refl, subst, sym}
 use Rattle.conc_image.specs.Image.{IsJournal}
 use Rattle.conc_law.specs.Law.{Lawful}
 use Rattle.conc_law.specs.Text.{text_of}
-use Rattle.conc_run.specs.Whole.{HasLeft}
 use Rattle.conc_work.specs.Handed.{handed}
 use Rattle.conc_work.specs.Works.{list_in}
 use Rattle.conc_top.specs.Printing.{sunk}
@@ -16,19 +15,7 @@ returns-in-Err g c =
     let spool = g.E.Disk.state in
     let h = handed c.args.plan.now c.args.readings.now c.args.digest.now (journal c.args.journal.now) (journal c.run_plan.new.journal) (spool c.args.spool.now) (spool c.run_plan.new.spool) in
     let sink = sunk (g.O.Sink.taken c.args.out.now) (g.O.Sink.taken c.args.out.now) (g.O.Sink.faults c.args.out.now) (g.O.Sink.faults c.args.out.now) in
-    let left = c.in-Err.ensures.left in
-    subst (RunEnds h sink) (sym c.exit_for.ensures)
-    (cut-ends h sink c.in-Err.stopped
-    (record {
-      cause = c.in-Err.ensures.cause;
-      untouched = c.in-Err.ensures.untouched;
-      found = left.0;
-      kept = left.1;
-      last = left.2;
-      left = left.3;
-      whole = left.5;
-    })
-    refl)
+    subst (RunEnds h sink) (sym c.exit_for.ensures) (cut-ends h sink c.in-Err.stopped c.in-Err.ensures.cut_short refl)
 
 pub returns-in-Ok-put_history : goal.returns-in-Ok-put_history
 returns-in-Ok-put_history g c =
@@ -40,9 +27,8 @@ returns-in-Ok-put_history g c =
     let sink = sunk (g.O.Sink.taken c.args.out.now) (g.O.Sink.taken c.write_text.new.out) (g.O.Sink.faults c.args.out.now) (g.O.Sink.faults c.write_text.new.out) in
     let history = list_in c.in-Ok.work in
     let finished = c.in-Ok.ensures.finished in
-    let left = c.in-Ok.ensures.left in
     let lawful : Lawful plan readings.list history
-    = c.alone_is_lawful.ensures plan readings.list finished.found history finished.past finished.alone in
+    = c.alone_is_lawful.ensures plan readings.list finished.found history finished.taken.is_found.past finished.alone in
     history-ends h sink history c.deref.result.now c.write_text.result
     (c.deref.ensures.value ∙ c.in-Ok-put_history.ensures ∙ ap (text_of plan) c.events.ensures)
     (record {
@@ -53,6 +39,5 @@ returns-in-Ok-put_history g c =
       reported = c.alone_reports.ensures plan readings.list finished.found history finished.alone;
       read = read-of (IsJournal c.args.digest.now history) (journal c.run_plan.new.journal).seen (journal c.run_plan.new.journal).may_leave finished.journal
           (g.met.D.Disk.seen_is_left c.run_plan.new.journal);
-      left = (left.0, subst (λ l. HasLeft h left.0 l history) left.4.0 (subst (λ l. HasLeft h left.0 left.1 l) (left.4.1 ∙ left.4.0) left.3));
     })
     c.write_text.ensures

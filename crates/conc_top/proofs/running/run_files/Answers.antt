@@ -1,6 +1,5 @@
 use Rattle.std.proofs.Common.{Some, refl, subst, sym, inl, inr}
 use Rattle.conc_inputs.specs.Given.{named}
-use Rattle.conc_work.specs.Disks.{disks}
 use Rattle.conc_work.specs.Handed.{handed}
 use Rattle.conc_top.specs.Answers.{around, IsUnplanned}
 use Rattle.conc_top.specs.Printing.{sunk}
