@@ -1,5 +1,6 @@
 ghost use Rattle.std.specs.Prelude.{◌≡◌, [], ◌∷◌, IfOk};
 
+use conc_expect::{same, same_at};
 use conc_lines::{Lines, read_history, starts_of};
 use conc_types::{
     Event, Extent, Manager, Moment, Name, NoMemory, Outcome, PlaceId, Plan, RequestId, Script, Seq,
@@ -92,8 +93,8 @@ fn reads_event_lines(rt: HostRuntime) -> Result<(), Fail> {
         ("interrupt 3", Event::Interrupt { request: id(3) }),
     ] {
         let lines = read_line(rt.alloc(), line)?;
-        assert_eq!(rt; lines.events.as_slice(), [event].as_slice(), "{line}");
-        assert_eq!(rt; lines.bad, None, "{line}");
+        same_at(&rt, lines.events.as_slice(), [event].as_slice(), line);
+        same_at(&rt, lines.bad, None, line);
     }
     Ok(())
 }
@@ -143,38 +144,45 @@ static OTHERS: [&str; 41] = [
     "end 1 Normal 18446744073709551616 1",
 ];
 
+// How many events are read of a history of this one line, and which line is bad.
+fn found_of(alloc: Global, line: &str) -> Result<(usize, Option<u64>), Fail> {
+    let lines = read_line(alloc, line)?;
+    Ok((lines.events.len(), lines.bad))
+}
+
 #[test]
 fn refuses_other_lines(rt: HostRuntime) -> Result<(), Fail> {
     for line in OTHERS {
-        let lines = read_line(rt.alloc(), line)?;
-        assert!(rt; lines.events.is_empty(), "{line:?}");
-        assert_eq!(rt; lines.bad, Some(1), "{line:?}");
+        same_at(&rt, found_of(rt.alloc(), line)?, (0, Some(1)), line);
     }
     Ok(())
 }
 
 fn check(rt: &impl Abort, lines: &Lines, events: usize, bad: Option<u64>, next: usize) {
-    assert_eq!(rt; lines.events.len(), events);
-    assert_eq!(rt; lines.bad, bad);
-    assert_eq!(rt; lines.next, next);
+    same(rt, lines.events.len(), events);
+    same(rt, lines.bad, bad);
+    same(rt, lines.next, next);
 }
+
+// Texts of histories, how many events are read, the first line that is bad, and where the rest begins.
+static TEXTS: [(&str, usize, Option<u64>, usize); 12] = [
+    ("--\n", 0, None, 3),
+    ("do 1\nlet 1\n--\n1 Pending Normal P\n", 2, None, 14),
+    ("do 1\n--\n--\nx", 1, None, 8),
+    ("", 0, Some(1), 0),
+    ("do 1", 0, Some(1), 4),
+    ("do 1\n", 1, Some(2), 5),
+    ("do 1\nlet 1", 1, Some(2), 10),
+    ("do 1\n--", 1, Some(2), 7),
+    ("do 1\n-- \n", 1, Some(2), 9),
+    ("do 1\n\n--\n", 1, Some(2), 9),
+    ("do 1\nx\nlet 1\n--\nx", 1, Some(2), 16),
+    ("do 1\r\n--\n", 0, Some(1), 9),
+];
 
 #[test]
 fn reads_texts(rt: HostRuntime) -> Result<(), Fail> {
-    for (text, events, bad, next) in [
-        ("--\n", 0, None, 3),
-        ("do 1\nlet 1\n--\n1 Pending Normal P\n", 2, None, 14),
-        ("do 1\n--\n--\nx", 1, None, 8),
-        ("", 0, Some(1), 0),
-        ("do 1", 0, Some(1), 4),
-        ("do 1\n", 1, Some(2), 5),
-        ("do 1\nlet 1", 1, Some(2), 10),
-        ("do 1\n--", 1, Some(2), 7),
-        ("do 1\n-- \n", 1, Some(2), 9),
-        ("do 1\n\n--\n", 1, Some(2), 9),
-        ("do 1\nx\nlet 1\n--\nx", 1, Some(2), 16),
-        ("do 1\r\n--\n", 0, Some(1), 9),
-    ] {
+    for (text, events, bad, next) in TEXTS {
         let lines = read_history(rt.alloc(), text.as_bytes(), &STARTS)?;
         check(&rt, &lines, events, bad, next);
     }
@@ -188,13 +196,15 @@ fn reads_a_worked_history(rt: HostRuntime) -> Result<(), Fail> {
     let lines = read_history(rt.alloc(), text.as_slice(), &[0, 1])?;
     check(&rt, &lines, 5, None, 69);
     let events = lines.events.as_slice();
-    assert_eq!(rt;
+    same(
+        &rt,
         events.get(2).copied(),
-        Some(Event::LetOut { request: id(1) })
+        Some(Event::LetOut { request: id(1) }),
     );
-    assert_eq!(rt;
+    same(
+        &rt,
         events.last().copied(),
-        Some(ended(1, Outcome::Normal, Some((0, 39))))
+        Some(ended(1, Outcome::Normal, Some((0, 39)))),
     );
     Ok(())
 }
@@ -256,6 +266,6 @@ fn plan(rt: &impl Abort, alloc: Global) -> Result<Plan, NoMemory> {
 #[test]
 fn makes_the_table_of_places(rt: HostRuntime) -> Result<(), Fail> {
     let starts = starts_of(rt.alloc(), &plan(&rt, rt.alloc())?)?;
-    assert_eq!(rt; starts.as_slice(), [0, 1].as_slice());
+    same(&rt, starts.as_slice(), [0, 1].as_slice());
     Ok(())
 }

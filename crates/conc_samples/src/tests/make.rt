@@ -1,3 +1,4 @@
+use conc_expect::same;
 use conc_make::make;
 use std::test::Fail;
 
@@ -24,12 +25,13 @@ const TABLE: &str = concat!(
 #[test]
 fn makes_what_another_program_makes(rt: HostRuntime) -> Result<(), Fail> {
     let inputs = make(rt.alloc(), 7, 3)?;
-    assert_eq!(rt; inputs.setup.len(), 913);
-    assert_eq!(rt; inputs.script.as_slice(), SCRIPT.as_bytes());
-    assert_eq!(rt;
+    same(&rt, inputs.setup.len(), 913);
+    same(&rt, inputs.script.as_slice(), SCRIPT.as_bytes());
+    same(
+        &rt,
         inputs.clock.as_slice(),
-        b"2025-01-01T00:00:00\n".as_slice()
+        b"2025-01-01T00:00:00\n".as_slice(),
     );
-    assert_eq!(rt; inputs.table.as_slice(), TABLE.as_bytes());
+    same(&rt, inputs.table.as_slice(), TABLE.as_bytes());
     Ok(())
 }

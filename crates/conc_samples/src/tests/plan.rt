@@ -1,8 +1,9 @@
+use conc_expect::same;
 use conc_plan::make_plan;
 use conc_script::read_script;
 use conc_setup::read_setup;
 use conc_tables::read_table;
-use conc_types::{Moment, Plan, ReadFail, RequestId, Seq};
+use conc_types::{Moment, Plan, ReadFail, Req, RequestId, Seq};
 use std::alloc::Global;
 use std::process::Abort;
 use std::test::Fail;
@@ -22,7 +23,7 @@ fn plan_of(rt: &impl Abort, alloc: Global, script: &[u8]) -> Result<Plan, ReadFa
     let script = read_script(alloc, script, &setup)?;
     let mut tables = Vec::new(alloc);
     tables.push(read_table(alloc, b"k,v\n", 0)?)?;
-    assert_eq!(rt; tables.len(), setup.tables.len());
+    assert!(rt; tables.len() == setup.tables.len());
     make_plan(alloc, setup, script, Seq::from_vec(tables))
 }
 
@@ -33,24 +34,28 @@ fn a_script_without_a_command_enters_nothing(rt: HostRuntime) -> Result<(), Fail
     Ok(())
 }
 
+fn is_of_bob<Rt: Abort>(rt: &Rt, request: &Req) {
+    same(rt, request.number, RequestId { number: 2 });
+    same(rt, request.command, 3);
+    // 2025-03-03T09:00:02
+    let start = Moment {
+        seconds: 63_876_589_202,
+    };
+    same(rt, request.start, start);
+    same(rt, request.priority, 7);
+    same(rt, request.user.as_bytes(), b"bob".as_slice());
+    same(rt, request.domain.as_bytes(), b"D 1".as_slice());
+    same(rt, request.argument.as_slice(), b"x".as_slice());
+    same(rt, request.parent, None);
+}
+
 #[test]
 fn a_submission_enters_a_request(rt: HostRuntime) -> Result<(), Fail> {
     let plan = plan_of(&rt, rt.alloc(), THREE)?;
-    assert_eq!(rt; plan.requests.len(), 2);
-    let request = plan.requests.as_slice().last().expect(&rt, "a request");
-    assert_eq!(rt; request.number, RequestId { number: 2 });
-    assert_eq!(rt; request.command, 3);
-    // 2025-03-03T09:00:02
-    assert_eq!(rt;
-        request.start,
-        Moment {
-            seconds: 63_876_589_202
-        }
+    same(&rt, plan.requests.len(), 2);
+    is_of_bob(
+        &rt,
+        plan.requests.as_slice().last().expect(&rt, "a request"),
     );
-    assert_eq!(rt; request.priority, 7);
-    assert_eq!(rt; request.user.as_bytes(), b"bob".as_slice());
-    assert_eq!(rt; request.domain.as_bytes(), b"D 1".as_slice());
-    assert_eq!(rt; request.argument.as_slice(), b"x".as_slice());
-    assert_eq!(rt; request.parent, None);
     Ok(())
 }

@@ -1,7 +1,9 @@
-use conc_reports::report;
+use conc_expect::same_at;
+use conc_reports::{Made, report};
 use conc_setup::read_setup;
 use conc_tables::read_table;
-use conc_types::Outcome;
+use conc_types::{Outcome, Program, Setup};
+use std::alloc::Global;
 use std::test::Fail;
 
 // A program that sums a column.
@@ -60,17 +62,25 @@ static REPORTS: [(&str, &str, Outcome, &str); 8] = [
     ),
 ];
 
+fn setup_with(alloc: Global, more: &str) -> Result<Setup, Fail> {
+    let text = format!(in alloc; "{SETUP}{more}\n")?;
+    Ok(read_setup(alloc, text.as_bytes())?)
+}
+
+fn made_of(alloc: Global, program: &Program, rows: &str) -> Result<Made, Fail> {
+    let table = read_table(alloc, rows.as_bytes(), 0)?;
+    Ok(report(alloc, &program.job, b"", &table)?)
+}
+
 #[test]
 fn reports(rt: HostRuntime) -> Result<(), Fail> {
     let alloc = rt.alloc();
     for (more, rows, outcome, text) in REPORTS {
-        let setup = format!(in alloc; "{SETUP}{more}\n")?;
-        let setup = read_setup(alloc, setup.as_bytes())?;
-        let table = read_table(alloc, rows.as_bytes(), 0)?;
+        let setup = setup_with(alloc, more)?;
         let program = setup.programs.as_slice().first().expect(&rt, more);
-        let made = report(alloc, &program.job, b"", &table)?;
-        assert_eq!(rt; made.outcome, outcome, "at {rows:?} with {more}");
-        assert_eq!(rt; made.text.as_slice(), text.as_bytes(), "at {rows:?}");
+        let made = made_of(alloc, program, rows)?;
+        same_at(&rt, made.outcome, outcome, (rows, more));
+        same_at(&rt, made.text.as_slice(), text.as_bytes(), (rows, more));
     }
     Ok(())
 }

@@ -1,7 +1,12 @@
+use conc_expect::{same, same_at};
 use conc_script::{read_clock, read_script};
 use conc_setup::read_setup;
-use conc_types::{Act, FileKind, Item, Moment, NoMemory, ReadFail, Reading, Refusal, RequestId};
+use conc_types::{
+    Act, FileKind, Item, Moment, NoMemory, Order, ReadFail, Reading, Refusal, RequestId, Script,
+    Setup,
+};
 use std::alloc::Global;
+use std::process::Abort;
 use std::test::Fail;
 
 // 2025-03-03T09:00:00
@@ -37,28 +42,39 @@ fn with_header(alloc: Global, records: &[u8]) -> Result<Vec<u8>, NoMemory> {
     Ok(text)
 }
 
+// Clocks, and the line and the rule for which they are refused.
+static CLOCKS: [(&str, u64, u8); 7] = [
+    ("", 1, 22),
+    ("2025-03-03T09:00:00  !\n", 1, 22),
+    ("2025-03-03T09:00:00!\n", 1, 22),
+    ("2025-03-03T09:00:00\nx\n", 2, 22),
+    ("2025-03-03T09:00:00\n\n2025-03-03T09:00:01\n", 2, 22),
+    (
+        "2025-03-03T09:00:00\n2025-03-03T09:00:01\n2025-03-03T09:00:00\n",
+        3,
+        27,
+    ),
+    ("2025-03-03T09:00:01\n2025-03-03T09:00:00 x\n", 2, 22),
+];
+
 #[test]
 fn refuses_clocks(rt: HostRuntime) {
-    for (text, line, kind) in [
-        ("", 1, 22),
-        ("2025-03-03T09:00:00  !\n", 1, 22),
-        ("2025-03-03T09:00:00!\n", 1, 22),
-        ("2025-03-03T09:00:00\nx\n", 2, 22),
-        ("2025-03-03T09:00:00\n\n2025-03-03T09:00:01\n", 2, 22),
-        (
-            "2025-03-03T09:00:00\n2025-03-03T09:00:01\n2025-03-03T09:00:00\n",
-            3,
-            27,
-        ),
-        ("2025-03-03T09:00:01\n2025-03-03T09:00:00 x\n", 2, 22),
-    ] {
+    for (text, line, kind) in CLOCKS {
         let file = FileKind::Clock;
-        assert_eq!(rt;
+        same_at(
+            &rt,
             refusal(read_clock(rt.alloc(), text.as_bytes())),
             Some(Refusal { file, line, kind }),
-            "at {text:?}"
+            text,
         );
     }
+}
+
+// The first reading of a clock, the last one, and how many there are.
+fn ends_of(alloc: Global, text: &str) -> Result<(Option<Reading>, Option<Reading>, usize), Fail> {
+    let readings = read_clock(alloc, text.as_bytes())?.list;
+    let list = readings.as_slice();
+    Ok((list.first().copied(), list.last().copied(), list.len()))
 }
 
 #[test]
@@ -82,18 +98,8 @@ fn reads_clocks(rt: HostRuntime) -> Result<(), Fail> {
             at(nine, true),
         ),
     ] {
-        let readings = read_clock(rt.alloc(), text.as_bytes())?.list;
-        assert_eq!(rt;
-            readings.as_slice().first().copied(),
-            Some(first),
-            "at {text:?}"
-        );
-        assert_eq!(rt;
-            readings.as_slice().last().copied(),
-            Some(last),
-            "at {text:?}"
-        );
-        assert_eq!(rt; readings.len(), text.lines().count(), "at {text:?}");
+        let want = (Some(first), Some(last), text.lines().count());
+        same_at(&rt, ends_of(rt.alloc(), text)?, want, text);
     }
     Ok(())
 }
@@ -160,22 +166,42 @@ fn refused(line: u64, kind: u8) -> Option<Refusal> {
     Some(Refusal { file, line, kind })
 }
 
-#[test]
-fn refuses_scripts(rt: HostRuntime) -> Result<(), Fail> {
-    let alloc = rt.alloc();
-    let setup = read_setup(alloc, SETUP.as_bytes())?;
+// For what a script of these records is refused, if it is.
+fn refusal_of(alloc: Global, records: &[u8], setup: &Setup) -> Result<Option<Refusal>, Fail> {
+    let text = with_header(alloc, records)?;
+    Ok(refusal(read_script(alloc, &text, setup)))
+}
+
+fn refuses<Rt: Abort>(rt: &Rt, alloc: Global, setup: &Setup) -> Result<(), Fail> {
     for text in ["", "At,do,what,user,priority,start,domain,argument\n"] {
-        let read = read_script(alloc, text.as_bytes(), &setup);
-        assert_eq!(rt; refusal(read), refused(1, 20), "at {text:?}");
+        let read = read_script(alloc, text.as_bytes(), setup);
+        same_at(rt, refusal(read), refused(1, 20), text);
     }
     for (records, line, kind) in REFUSED {
-        let text = with_header(alloc, records.as_bytes())?;
-        let read = read_script(alloc, &text, &setup);
-        assert_eq!(rt; refusal(read), refused(line, kind), "at {records:?}");
+        let found = refusal_of(alloc, records.as_bytes(), setup)?;
+        same_at(rt, found, refused(line, kind), records);
     }
-    let text = with_header(alloc, b"2025-03-03T09:00:00,submit,daily,ann,,,,\xff\n")?;
-    assert_eq!(rt; refusal(read_script(alloc, &text, &setup)), refused(2, 20));
+    let found = refusal_of(
+        alloc,
+        b"2025-03-03T09:00:00,submit,daily,ann,,,,\xff\n",
+        setup,
+    )?;
+    same(rt, found, refused(2, 20));
     Ok(())
+}
+
+#[test]
+fn refuses_scripts(rt: HostRuntime) -> Result<(), Fail> {
+    let setup = read_setup(rt.alloc(), SETUP.as_bytes())?;
+    refuses(&rt, rt.alloc(), &setup)
+}
+
+// A submission whose argument has so many bytes.
+fn with_argument(alloc: Global, length: usize) -> Result<Vec<u8>, Fail> {
+    let mut records = b"2025-03-03T09:00:00,submit,daily,ann,,,,".to_vec(alloc)?;
+    let argument = vec![in alloc; b'x'; length]?;
+    records.extend_from_slice(&argument)?;
+    Ok(records)
 }
 
 #[test]
@@ -183,16 +209,41 @@ fn bounds_arguments(rt: HostRuntime) -> Result<(), Fail> {
     let alloc = rt.alloc();
     let setup = read_setup(alloc, SETUP.as_bytes())?;
     for (length, want) in [(200, None), (201, refused(2, 22))] {
-        let mut text = with_header(alloc, b"2025-03-03T09:00:00,submit,daily,ann,,,,")?;
-        let argument = vec![in alloc; b'x'; length]?;
-        text.extend_from_slice(&argument)?;
-        assert_eq!(rt;
-            refusal(read_script(alloc, &text, &setup)),
-            want,
-            "at {length}"
-        );
+        let records = with_argument(alloc, length)?;
+        same_at(&rt, refusal_of(alloc, &records, &setup)?, want, length);
     }
     Ok(())
+}
+
+fn submits_the_set<Rt: Abort>(rt: &Rt, order: &Order) {
+    let nine = Moment { seconds: NINE };
+    let Act::Submit {
+        item,
+        user,
+        priority,
+        start,
+        domain,
+        argument,
+    } = &order.act
+    else {
+        panic!(rt; "no submission");
+    };
+    same(rt, order.at, nine);
+    same(rt, *item, Item::Set(0));
+    same(rt, *priority, 50);
+    same(rt, *start, nine);
+    same(rt, user.as_bytes(), b"ann".as_slice());
+    same(rt, domain.as_bytes(), b"Standard".as_slice());
+    assert!(rt; argument.is_empty());
+}
+
+fn submits_and_holds<Rt: Abort>(rt: &Rt, script: &Script) {
+    let [submission, hold] = script.commands.as_slice() else {
+        panic!(rt; "{} commands", script.commands.len());
+    };
+    submits_the_set(rt, submission);
+    let request = RequestId { number: 3 };
+    assert!(rt; matches!(&hold.act, Act::Hold { request: held } if *held == request));
 }
 
 #[test]
@@ -202,29 +253,6 @@ fn reads_scripts(rt: HostRuntime) -> Result<(), Fail> {
     let records = b"2025-03-03T09:00:00,submit,close,ann,,,,\n2025-03-03T09:00:00,hold,3,,,,,\n";
     let text = with_header(alloc, records)?;
     let script = read_script(alloc, &text, &setup)?;
-    let [submission, hold] = script.commands.as_slice() else {
-        panic!(rt; "{} commands", script.commands.len());
-    };
-    let nine = Moment { seconds: NINE };
-    let Act::Submit {
-        item,
-        user,
-        priority,
-        start,
-        domain,
-        argument,
-    } = &submission.act
-    else {
-        panic!(rt; "no submission");
-    };
-    assert_eq!(rt; submission.at, nine);
-    assert_eq!(rt; *item, Item::Set(0));
-    assert_eq!(rt; *priority, 50);
-    assert_eq!(rt; *start, nine);
-    assert_eq!(rt; user.as_bytes(), b"ann".as_slice());
-    assert_eq!(rt; domain.as_bytes(), b"Standard".as_slice());
-    assert!(rt; argument.is_empty());
-    let request = RequestId { number: 3 };
-    assert!(rt; matches!(&hold.act, Act::Hold { request: held } if *held == request));
+    submits_and_holds(&rt, &script);
     Ok(())
 }

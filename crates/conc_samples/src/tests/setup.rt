@@ -1,6 +1,6 @@
+use conc_expect::{same, same_at};
 use conc_setup::read_setup;
-use conc_types::{Entry, FileKind, Item, Reach, ReadFail, Refusal, Scope, Setup};
-use std::alloc::Global;
+use conc_types::{Entry, FileKind, Item, Manager, Reach, ReadFail, Refusal, Scope, SetDef, Setup};
 use std::process::Abort;
 use std::test::Fail;
 
@@ -168,10 +168,10 @@ fn refused(line: u64, kind: u8) -> Option<Refusal> {
 fn refuses_setups(rt: HostRuntime) {
     for (text, line, kind) in REFUSED {
         let read = read_setup(rt.alloc(), text.as_bytes());
-        assert_eq!(rt; refusal(read), refused(line, kind), "at {text:?}");
+        same_at(&rt, refusal(read), refused(line, kind), text);
     }
     let read = read_setup(rt.alloc(), b"tables = [\"\xff\"]\n");
-    assert_eq!(rt; refusal(read), refused(0, 1));
+    same(&rt, refusal(read), refused(0, 1));
 }
 
 // A setup of two programs, an incompatibility, a manager and a set.
@@ -223,44 +223,51 @@ critical = true
 members = [\"GL Journal Summary\"]
 ";
 
-fn department(alloc: Global) -> Result<Setup, ReadFail> {
-    read_setup(alloc, DEPARTMENT.as_bytes())
+fn is_the_manager<Rt: Abort>(rt: &Rt, manager: &Manager) {
+    let [week, day, other] = manager.shifts.as_slice() else {
+        panic!(rt; "{} shifts", manager.shifts.len());
+    };
+    let times = Some((28_800, 64_800));
+    same(rt, (week.days, week.times, week.places), (31, times, 3));
+    same(rt, (day.date, day.places), (Some(739_340), 6));
+    same(rt, other.places, 1);
+    same(rt, manager.exclude.len(), 1);
 }
 
-#[test]
-fn reads_setups(rt: HostRuntime) -> Result<(), Fail> {
-    let setup = department(rt.alloc())?;
-    assert_eq!(rt; setup.tables.len(), 2);
-    assert_eq!(rt; setup.programs.len(), 2);
+fn is_the_set<Rt: Abort>(rt: &Rt, set: &SetDef) {
+    let [check, summary] = set.stages.as_slice() else {
+        panic!(rt; "{} stages", set.stages.len());
+    };
+    same(rt, check.links, [Some(1), Some(1), None]);
+    same(rt, check.members.as_slice().first().copied(), Some(1));
+    same(rt, summary.links, [None, None, None]);
+    same(rt, summary.members.as_slice().first().copied(), Some(0));
+    assert!(rt; summary.critical && !check.critical);
+}
+
+fn is_the_department<Rt: Abort>(rt: &Rt, setup: &Setup) {
+    same(rt, setup.tables.len(), 2);
+    same(rt, setup.programs.len(), 2);
     let entry = Entry {
         owner: Item::Program(1),
         other: Item::Set(0),
         scope: Scope::Set,
         reach: Reach::Global,
     };
-    assert_eq!(rt; setup.entries.as_slice().first().copied(), Some(entry));
+    same(rt, setup.entries.as_slice().first().copied(), Some(entry));
     let [manager] = setup.managers.as_slice() else {
         panic!(rt; "{} managers", setup.managers.len());
     };
-    let [week, day, other] = manager.shifts.as_slice() else {
-        panic!(rt; "{} shifts", manager.shifts.len());
-    };
-    assert_eq!(rt;
-        (week.days, week.times, week.places),
-        (31, Some((28_800, 64_800)), 3)
-    );
-    assert_eq!(rt; (day.date, day.places, other.places), (Some(739_340), 6, 1));
-    assert_eq!(rt; manager.exclude.len(), 1);
+    is_the_manager(rt, manager);
     let [set] = setup.sets.as_slice() else {
         panic!(rt; "{} sets", setup.sets.len());
     };
-    let [check, summary] = set.stages.as_slice() else {
-        panic!(rt; "{} stages", set.stages.len());
-    };
-    assert_eq!(rt; check.links, [Some(1), Some(1), None]);
-    assert_eq!(rt; check.members.as_slice().first().copied(), Some(1));
-    assert_eq!(rt; summary.links, [None, None, None]);
-    assert_eq!(rt; summary.members.as_slice().first().copied(), Some(0));
-    assert!(rt; summary.critical && !check.critical);
+    is_the_set(rt, set);
+}
+
+#[test]
+fn reads_setups(rt: HostRuntime) -> Result<(), Fail> {
+    let setup = read_setup(rt.alloc(), DEPARTMENT.as_bytes())?;
+    is_the_department(&rt, &setup);
     Ok(())
 }

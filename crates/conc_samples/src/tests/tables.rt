@@ -1,3 +1,4 @@
+use conc_expect::{same, same_at};
 use conc_tables::read_table;
 use conc_types::{FileKind, ReadFail, Refusal};
 use std::alloc::Global;
@@ -21,54 +22,51 @@ fn shown(alloc: Global, text: &[u8]) -> Result<Vec<u8>, ReadFail> {
     Ok(shown)
 }
 
+// Texts, and the tables that they are.
+static READ: [(&str, &str); 8] = [
+    ("k,v\na,1\nb,2\n", "k|v|/a|1|/b|2|"),
+    ("k,v\na,1\nb,2", "k|v|/a|1|/b|2|"),
+    ("k,v\r\na,1\r\nb,2\r\n", "k|v|/a|1|/b|2|"),
+    ("\nk,v\n\na,1\n\n\nb,2\n", "k|v|/a|1|/b|2|"),
+    ("k,v\n\"a,b\",\"say \"\"1\"\"\"\n", "k|v|/a,b|say \"1\"|"),
+    ("k,v\n\"a\nb\",1\n", "k|v|/a\nb|1|"),
+    ("k,v\n,\n", "k|v|/||"),
+    ("k", "k|"),
+];
+
+// Texts, and the record and the rule for which they are refused.
+static REFUSED: [(&str, u64, u8); 7] = [
+    ("", 1, 30),
+    ("\r\n\n", 1, 30),
+    ("k,k\n", 1, 32),
+    ("k,v,k\na\n", 1, 32),
+    ("k,v\na,1\nb\n", 3, 31),
+    ("k,v\na,1,2\nb\n", 2, 31),
+    ("k,v\n\n\"a\nb\",1\n\nb\n", 3, 31),
+];
+
+fn refused(line: u64, kind: u8) -> Option<ReadFail> {
+    let file = FileKind::Table(7);
+    Some(ReadFail::Refused(Refusal { file, line, kind }))
+}
+
 #[test]
-fn reads_tables(rt: HostRuntime) {
-    for (text, wanted) in [
-        ("k,v\na,1\nb,2\n", Ok("k|v|/a|1|/b|2|")),
-        ("k,v\na,1\nb,2", Ok("k|v|/a|1|/b|2|")),
-        ("k,v\r\na,1\r\nb,2\r\n", Ok("k|v|/a|1|/b|2|")),
-        ("\nk,v\n\na,1\n\n\nb,2\n", Ok("k|v|/a|1|/b|2|")),
-        (
-            "k,v\n\"a,b\",\"say \"\"1\"\"\"\n",
-            Ok("k|v|/a,b|say \"1\"|"),
-        ),
-        ("k,v\n\"a\nb\",1\n", Ok("k|v|/a\nb|1|")),
-        ("k,v\n,\n", Ok("k|v|/||")),
-        ("k", Ok("k|")),
-        ("", Err((1, 30))),
-        ("\r\n\n", Err((1, 30))),
-        ("k,k\n", Err((1, 32))),
-        ("k,v,k\na\n", Err((1, 32))),
-        ("k,v\na,1\nb\n", Err((3, 31))),
-        ("k,v\na,1,2\nb\n", Err((2, 31))),
-        ("k,v\n\n\"a\nb\",1\n\nb\n", Err((3, 31))),
-    ] {
-        match (shown(rt.alloc(), text.as_bytes()), wanted) {
-            (Ok(table), Ok(wanted)) => assert_eq!(rt; table.as_slice(), wanted.as_bytes()),
-            (Err(fail), Err((line, kind))) => {
-                let refusal = Refusal {
-                    file: FileKind::Table(7),
-                    line,
-                    kind,
-                };
-                assert_eq!(rt; fail, ReadFail::Refused(refusal));
-            }
-            (found, _) => panic!(rt; "{text:?} is read as {found:?}"),
-        }
+fn reads_tables(rt: HostRuntime) -> Result<(), Fail> {
+    for (text, want) in READ {
+        let table = shown(rt.alloc(), text.as_bytes())?;
+        same_at(&rt, table.as_slice(), want.as_bytes(), text);
     }
+    for (text, line, kind) in REFUSED {
+        let read = shown(rt.alloc(), text.as_bytes());
+        same_at(&rt, read.err(), refused(line, kind), text);
+    }
+    Ok(())
 }
 
 #[test]
 fn refuses_a_file_that_is_too_long(rt: HostRuntime) -> Result<(), Fail> {
     let text = vec![in rt.alloc(); b'k'; 67_108_865]?;
-    let refusal = Refusal {
-        file: FileKind::Table(7),
-        line: 0,
-        kind: 33,
-    };
-    assert_eq!(rt;
-        shown(rt.alloc(), text.as_slice()),
-        Err(ReadFail::Refused(refusal))
-    );
+    let read = shown(rt.alloc(), text.as_slice());
+    same(&rt, read.err(), refused(0, 33));
     Ok(())
 }

@@ -1,83 +1,90 @@
 ghost use Rattle.std.specs.Prelude.{◌≤◌, IsTrue, length};
 ghost use Rattle.conc_types.specs.Fields.{is_shift};
 
+use conc_expect::same;
 use conc_time::{places, put_moment, read_moment};
 use conc_types::{Manager, Moment, Name, NoMemory, Seq, Shift, is_name};
 use std::alloc::Global;
 use std::process::Abort;
 use std::test::Fail;
 
+// Seconds since the first moment of the calendar, and how it is written behind `at `.
+static PUT: [(u64, &str); 5] = [
+    (0, "at 0001-01-01T00:00:00"),
+    (59931705600, "at 1900-03-01T00:00:00"),
+    (63087465599, "at 2000-02-29T23:59:59"),
+    (63876589200, "at 2025-03-03T09:00:00"),
+    (315537897599, "at 9999-12-31T23:59:59"),
+];
+
 #[test]
 fn puts_moments(rt: HostRuntime) -> Result<(), Fail> {
-    for (seconds, want) in [
-        (0, "at 0001-01-01T00:00:00"),
-        (59931705600, "at 1900-03-01T00:00:00"),
-        (63087465599, "at 2000-02-29T23:59:59"),
-        (63876589200, "at 2025-03-03T09:00:00"),
-        (315537897599, "at 9999-12-31T23:59:59"),
-    ] {
+    for (seconds, want) in PUT {
         let mut out = b"at ".to_vec(rt.alloc())?;
         put_moment(&mut out, Moment { seconds })?;
-        assert_eq!(rt; out.as_slice(), want.as_bytes());
+        same(&rt, out.as_slice(), want.as_bytes());
     }
     Ok(())
 }
 
+// Texts, and the seconds of the moment that is read.
+static READ: [(&str, Option<u64>); 46] = [
+    ("0001-01-01T00:00:00", Some(0)),
+    ("0001-01-01T00:00:01", Some(1)),
+    ("0001-12-31T23:59:59", Some(31535999)),
+    ("0004-02-29T00:00:00", Some(99705600)),
+    ("0400-02-29T12:00:00", Some(12596299200)),
+    ("1582-10-10T00:00:00", Some(49915872000)),
+    ("1900-02-28T23:59:59", Some(59931705599)),
+    ("1900-03-01T00:00:00", Some(59931705600)),
+    ("1970-01-01T00:00:00", Some(62135596800)),
+    ("1999-12-31T23:59:59", Some(63082281599)),
+    ("2000-02-29T23:59:59", Some(63087465599)),
+    ("2024-02-29T00:00:00", Some(63844761600)),
+    ("2025-03-03T09:00:00", Some(63876589200)),
+    ("2025-04-30T10:20:30", Some(63881605230)),
+    ("2025-12-31T23:59:59", Some(63902822399)),
+    ("9999-12-31T23:59:59", Some(315537897599)),
+    // the calendar has no such date
+    ("0000-01-01T00:00:00", None),
+    ("1900-02-29T00:00:00", None),
+    ("2023-02-29T00:00:00", None),
+    ("2024-02-30T00:00:00", None),
+    ("2025-00-03T09:00:00", None),
+    ("2025-13-03T09:00:00", None),
+    ("2025-03-00T09:00:00", None),
+    ("2025-03-32T09:00:00", None),
+    ("2025-04-31T09:00:00", None),
+    // a day has no such time
+    ("2025-03-03T24:00:00", None),
+    ("2025-03-03T23:60:00", None),
+    ("2025-03-03T23:59:60", None),
+    // another form
+    ("", None),
+    ("2025-03-03", None),
+    ("2025-03-03T09:00:0", None),
+    ("2025-03-03T09:00:000", None),
+    ("2025-03-03T09:00:00Z", None),
+    (" 2025-03-03T09:00:00", None),
+    ("2025-03-03t09:00:00", None),
+    ("2025-03-03 09:00:00", None),
+    ("2025/03/03T09:00:00", None),
+    ("2025-03-03T09.00.00", None),
+    ("+025-03-03T09:00:00", None),
+    ("-025-03-03T09:00:00", None),
+    ("x025-03-03T09:00:00", None),
+    ("2025-x3-03T09:00:00", None),
+    ("2025-03-0xT09:00:00", None),
+    ("2025-03-03Tx9:00:00", None),
+    ("2025-03-03T09:0x:00", None),
+    ("2025-03-03T09:00:x0", None),
+];
+
 #[test]
 fn reads_moments(rt: HostRuntime) -> Result<(), Fail> {
-    for (text, want) in [
-        ("0001-01-01T00:00:00", Some(0)),
-        ("0001-01-01T00:00:01", Some(1)),
-        ("0001-12-31T23:59:59", Some(31535999)),
-        ("0004-02-29T00:00:00", Some(99705600)),
-        ("0400-02-29T12:00:00", Some(12596299200)),
-        ("1582-10-10T00:00:00", Some(49915872000)),
-        ("1900-02-28T23:59:59", Some(59931705599)),
-        ("1900-03-01T00:00:00", Some(59931705600)),
-        ("1970-01-01T00:00:00", Some(62135596800)),
-        ("1999-12-31T23:59:59", Some(63082281599)),
-        ("2000-02-29T23:59:59", Some(63087465599)),
-        ("2024-02-29T00:00:00", Some(63844761600)),
-        ("2025-03-03T09:00:00", Some(63876589200)),
-        ("2025-04-30T10:20:30", Some(63881605230)),
-        ("2025-12-31T23:59:59", Some(63902822399)),
-        ("9999-12-31T23:59:59", Some(315537897599)),
-        // the calendar has no such date
-        ("0000-01-01T00:00:00", None),
-        ("1900-02-29T00:00:00", None),
-        ("2023-02-29T00:00:00", None),
-        ("2024-02-30T00:00:00", None),
-        ("2025-00-03T09:00:00", None),
-        ("2025-13-03T09:00:00", None),
-        ("2025-03-00T09:00:00", None),
-        ("2025-03-32T09:00:00", None),
-        ("2025-04-31T09:00:00", None),
-        // a day has no such time
-        ("2025-03-03T24:00:00", None),
-        ("2025-03-03T23:60:00", None),
-        ("2025-03-03T23:59:60", None),
-        // another form
-        ("", None),
-        ("2025-03-03", None),
-        ("2025-03-03T09:00:0", None),
-        ("2025-03-03T09:00:000", None),
-        ("2025-03-03T09:00:00Z", None),
-        (" 2025-03-03T09:00:00", None),
-        ("2025-03-03t09:00:00", None),
-        ("2025-03-03 09:00:00", None),
-        ("2025/03/03T09:00:00", None),
-        ("2025-03-03T09.00.00", None),
-        ("+025-03-03T09:00:00", None),
-        ("-025-03-03T09:00:00", None),
-        ("x025-03-03T09:00:00", None),
-        ("2025-x3-03T09:00:00", None),
-        ("2025-03-0xT09:00:00", None),
-        ("2025-03-03Tx9:00:00", None),
-        ("2025-03-03T09:0x:00", None),
-        ("2025-03-03T09:00:x0", None),
-    ] {
+    for (text, want) in READ {
         let read = read_moment(text.as_bytes()).map(|moment| moment.seconds);
-        assert_eq!(rt; read, want);
+        same(&rt, read, want);
     }
     Ok(())
 }
@@ -165,7 +172,7 @@ fn counts_places(rt: HostRuntime) -> Result<(), Fail> {
     ] {
         let manager = manager(&rt, rt.alloc(), shifts)?;
         let seconds = u64::from(MONDAY) * u64::from(DAY) + u64::from(after);
-        assert_eq!(rt; places(&manager, Moment { seconds }), want);
+        same(&rt, places(&manager, Moment { seconds }), want);
     }
     Ok(())
 }

@@ -1,3 +1,4 @@
+use conc_expect::same_at;
 use conc_words::read_command;
 use std::alloc::Global;
 use std::test::Fail;
@@ -129,7 +130,7 @@ fn is_command(alloc: Global, line: &str) -> Result<bool, Fail> {
 #[test]
 fn options_of_a_run_stand_anywhere_behind_it(rt: HostRuntime) -> Result<(), Fail> {
     for (line, wanted) in RUNS {
-        assert_eq!(rt; is_command(rt.alloc(), line)?, wanted, "at {line:?}");
+        same_at(&rt, is_command(rt.alloc(), line)?, wanted, line);
     }
     Ok(())
 }
@@ -137,7 +138,7 @@ fn options_of_a_run_stand_anywhere_behind_it(rt: HostRuntime) -> Result<(), Fail
 #[test]
 fn other_commands_have_no_options(rt: HostRuntime) -> Result<(), Fail> {
     for (line, wanted) in OTHERS {
-        assert_eq!(rt; is_command(rt.alloc(), line)?, wanted, "at {line:?}");
+        same_at(&rt, is_command(rt.alloc(), line)?, wanted, line);
     }
     assert!(rt; read_command(rt.alloc(), &[])?.is_none());
     Ok(())

@@ -1,4 +1,5 @@
 use conc_clock::{Clock, MemClock, SystemClock, SystemZone};
+use conc_expect::same;
 use conc_outside::Failed;
 use conc_types::Moment;
 use std::io;
@@ -11,9 +12,9 @@ fn a_clock_in_memory_gives_its_moments(rt: HostRuntime) -> Result<(), Fail> {
     let mut moments = vec![in alloc; Moment { seconds: 7 }]?;
     moments.push(Moment { seconds: 5 })?;
     let mut clock = MemClock::new(moments);
-    assert_eq!(rt; clock.now(), Ok(Moment { seconds: 7 }));
-    assert_eq!(rt; clock.now(), Ok(Moment { seconds: 5 }));
-    assert_eq!(rt; clock.now(), Err(Failed));
+    same(&rt, clock.now(), Ok(Moment { seconds: 7 }));
+    same(&rt, clock.now(), Ok(Moment { seconds: 5 }));
+    same(&rt, clock.now(), Err(Failed));
     Ok(())
 }
 
@@ -46,6 +47,6 @@ impl time::Clock for Late {
 fn the_clock_of_the_system_ends_with_the_years(rt: HostRuntime) -> Result<(), Fail> {
     let zone = SystemZone::new(rt.alloc(), &rt)?;
     let mut clock = SystemClock::new(&Late, &zone)?;
-    assert_eq!(rt; clock.now(), Err(Failed));
+    same(&rt, clock.now(), Err(Failed));
     Ok(())
 }

@@ -1,11 +1,13 @@
 use conc_disk::{Disk, MemDisk, open_disk};
+use conc_expect::{same, same_at};
 use conc_outside::Failed;
+use std::alloc::Global;
+use std::process::Abort;
 use std::test::Fail;
 use std::{fs, process};
 
-#[test]
-fn a_stop_within_a_write_leaves_all_else(rt: HostRuntime) -> Result<(), Fail> {
-    let alloc = rt.alloc();
+// A disk of six bytes after two writes with a sync between them, and a sync that failed.
+fn written<Rt: Abort>(rt: &Rt, alloc: Global) -> Result<MemDisk, Fail> {
     let fails = vec![in alloc; 4]?;
     let mut disk = MemDisk::new(alloc, b"abcdef".to_vec(alloc)?, fails);
     disk.write_at(2, b"XY")?;
@@ -13,27 +15,35 @@ fn a_stop_within_a_write_leaves_all_else(rt: HostRuntime) -> Result<(), Fail> {
     disk.write_at(4, b"12345")?;
     let mut read = [0u8; 9];
     disk.read(0, &mut read)?;
-    assert_eq!(rt; read, *b"abXY12345");
-    assert_eq!(rt; disk.sync(), Err(Failed));
-    // In the call with this number, and at this choice, a stop leaves these bytes.
-    let images = [
-        (0, 0, b"abcdef".as_slice()),
-        (0, 1, b"abXYef".as_slice()),
-        (1, 0, b"abcdef".as_slice()),
-        (2, 0, b"abXYef".as_slice()),
-        (2, 1, b"abXY12345".as_slice()),
-        (4, 0, b"abXYef".as_slice()),
-    ];
-    for (call, choice, bytes) in images {
+    same(rt, read, *b"abXY12345");
+    same(rt, disk.sync(), Err(Failed));
+    Ok(disk)
+}
+
+// In the call with this number, and at this choice, a stop leaves these bytes.
+static IMAGES: [(u64, u64, &[u8]); 6] = [
+    (0, 0, b"abcdef"),
+    (0, 1, b"abXYef"),
+    (1, 0, b"abcdef"),
+    (2, 0, b"abXYef"),
+    (2, 1, b"abXY12345"),
+    (4, 0, b"abXYef"),
+];
+
+#[test]
+fn a_stop_within_a_write_leaves_all_else(rt: HostRuntime) -> Result<(), Fail> {
+    let alloc = rt.alloc();
+    let disk = written(&rt, alloc)?;
+    for (call, choice, bytes) in IMAGES {
         let image = disk.image(alloc, call, choice)?;
-        assert_eq!(rt; image.as_slice(), bytes, "{call} {choice}");
+        same_at(&rt, image.as_slice(), bytes, (call, choice));
     }
     for choice in 2..20 {
         let image = disk.image(alloc, 2, choice)?;
-        assert_eq!(rt; image.get(..4), Some(b"abXY".as_slice()), "{choice}");
+        same_at(&rt, image.get(..4), Some(b"abXY".as_slice()), choice);
         assert!(rt; image.len() <= 9, "{choice}");
     }
-    assert_eq!(rt; disk.starved(), 0);
+    same(&rt, disk.starved(), 0);
     Ok(())
 }
 
@@ -42,7 +52,7 @@ fn a_disk_over_a_file_keeps_its_bytes(rt: HostRuntime) -> Result<(), Fail> {
     let alloc = rt.alloc();
     let path = format!(in alloc; "/tmp/conc_disk_{}", process::id(rt.process()))?;
     let mut disk = open_disk(&rt, path.as_str())?;
-    assert_eq!(rt; disk.len(), Ok(0));
+    same(&rt, disk.len(), Ok(0));
     disk.write_at(0, b"abcdef")?;
     disk.cut(4)?;
     disk.sync()?;
@@ -50,11 +60,11 @@ fn a_disk_over_a_file_keeps_its_bytes(rt: HostRuntime) -> Result<(), Fail> {
     fs::remove_file(&rt, path.as_str())?;
     let mut read = [0u8; 3];
     again.read(1, &mut read)?;
-    assert_eq!(rt; read, *b"bcd");
+    same(&rt, read, *b"bcd");
     // What does not fit.
-    assert_eq!(rt; again.read(2, &mut read), Err(Failed));
-    assert_eq!(rt; again.write_at(5, b"x"), Err(Failed));
-    assert_eq!(rt; again.cut(5), Err(Failed));
-    assert_eq!(rt; again.len(), Ok(4));
+    same(&rt, again.read(2, &mut read), Err(Failed));
+    same(&rt, again.write_at(5, b"x"), Err(Failed));
+    same(&rt, again.cut(5), Err(Failed));
+    same(&rt, again.len(), Ok(4));
     Ok(())
 }

@@ -3,12 +3,12 @@ ghost use Rattle.conc_journal.specs.Journals.{IsOn, list_of, room_of, stage_of};
 ghost use Rattle.conc_journal.specs.declared.journal.Stage.TheVariants.{Begun};
 
 use conc_disk::{Disk, MemDisk};
+use conc_expect::{same, same_at};
 use conc_image::has_record;
-use conc_journal::{AppendFail, Journal, JournalFail, Silent, Teller};
+use conc_journal::{AppendFail, Journal, JournalFail, Receipt, Silent, Teller};
 use conc_types::{Event, Extent, Moment, Outcome, PlaceId, RequestId};
 use std::alloc::Global;
 use std::process::Abort;
-use std::sync::Wait;
 use std::test::Fail;
 
 const DIGEST: [u8; 32] = *b"abcdefghijklmnopqrstuvwxyz012345";
@@ -19,6 +19,21 @@ const TWO_RECORDS: &[u8; 128] = b"\x01conc journal 1\n\
     \0\0\0\0\0\0\0\0\0\0\0\0\0\0\0\0\
     \x01\x01\0\0\0\0\0\0\0\0\0\0\0\0\0\x0e\xdfWf\x90\0\0\0\0\0\0\0\0\0\0\0\0\
     \x01\x02\0\0\0\0\0\x01\0\0\0\0\0\0\0\0\0\0\0\0\0\0\0\0\0\0\0\0\0\0\0\0";
+
+// The header, the nine records of `in_turn`, one on a line, and the gate of the next one: 353 bytes.
+const NINE_RECORDS: &[u8; 353] = b"\x01conc journal 1\n\
+    abcdefghijklmnopqrstuvwxyz012345\
+    \0\0\0\0\0\0\0\0\0\0\0\0\0\0\0\0\
+    \x01\x01\0\0\0\0\0\0\0\0\0\0\0\0\0\x0e\xdf\x57\x66\x90\0\0\0\0\0\0\0\0\0\0\0\0\
+    \x01\x02\0\0\0\0\0\x01\0\0\0\0\0\0\0\0\0\0\0\0\0\0\0\0\0\0\0\0\0\0\0\0\
+    \x01\x02\0\0\0\0\0\x02\0\0\0\0\0\0\0\0\0\0\0\0\0\0\0\0\0\0\0\0\0\0\0\0\
+    \x01\x06\0\0\0\0\0\x01\0\0\0\0\0\0\0\0\0\0\0\0\0\0\0\0\0\0\0\0\0\0\0\0\
+    \x01\x07\0\0\0\0\0\x01\0\0\0\0\0\0\0\0\0\0\0\0\0\0\0\0\0\0\0\0\0\0\0\0\
+    \x01\x08\x01\0\0\0\0\x01\0\0\0\0\0\0\0\0\0\0\0\0\0\0\0\x27\0\0\0\0\0\0\0\0\
+    \x01\x06\0\0\0\0\0\x02\0\0\0\0\0\0\0\0\0\0\0\0\0\0\0\0\0\0\0\0\0\0\0\0\
+    \x01\x07\0\0\0\0\0\x02\0\0\0\0\0\0\0\0\0\0\0\0\0\0\0\0\0\0\0\0\0\0\0\0\
+    \x01\x08\x01\0\0\0\0\x02\0\0\0\0\0\0\0\0\0\0\0\x27\0\0\0\x27\0\0\0\0\0\0\0\0\
+    \0";
 
 const TICK: Event = Event::Tick {
     moment: Moment {
@@ -50,62 +65,39 @@ fn begun<Rt: Abort>(rt: &Rt, alloc: Global, disk: &mut MemDisk) -> Result<Journa
     Ok(journal)
 }
 
-#[test]
-fn opens_what_stands_there(rt: HostRuntime) -> Result<(), Fail> {
-    let alloc = rt.alloc();
-    let none = (false, 0, None);
-    for (front, rest, want) in [
-        (0, b"".as_slice(), none),
-        (0, b"x".as_slice(), none),
-        (0, b"\0hello".as_slice(), none),
-        (64, b"\0".as_slice(), (true, 0, None)),
-        (128, b"\0".as_slice(), (true, 2, None)),
-        (128, b"\0hello".as_slice(), (true, 2, None)),
-        (96, b"\x01hello".as_slice(), (true, 1, Some(2))),
-        (128, b"".as_slice(), (true, 1, Some(2))),
-        (
-            128,
-            b"\x01\xc8\0\0\0\0\0\0\0\0\0\0\0\0\0\0\0\0\0\0\0\0\0\0\0\0\0\0\0\0\0\0\0".as_slice(),
-            (true, 2, Some(3)),
-        ),
-    ] {
-        let mut bytes = TWO_RECORDS[..front].to_vec(alloc)?;
-        bytes.extend_from_slice(rest)?;
-        let mut disk = disk_of(alloc, &bytes, &[])?;
-        let opened = Journal::open_on(alloc, &mut disk)?;
-        assert_eq!(rt;
-            (opened.digest.is_some(), opened.events.len(), opened.broken),
-            want,
-            "{front} {rest:?}"
-        );
-        assert_eq!(rt; opened.journal.events(), opened.events.as_slice());
-    }
-    for bytes in [b"hello\n".as_slice(), &TWO_RECORDS[..64]] {
-        let mut disk = disk_of(alloc, bytes, &[])?;
-        assert_eq!(rt;
-            Journal::open_on(alloc, &mut disk).err(),
-            Some(JournalFail::NotJournal)
-        );
-    }
-    Ok(())
+// The events of these two records, written to an empty disk, and what is known of the second.
+fn two_events<Rt: Abort>(
+    rt: &Rt,
+    alloc: Global,
+    disk: &mut MemDisk,
+) -> Result<(Journal, Receipt), Fail> {
+    let mut journal = begun(rt, alloc, disk)?;
+    let first = journal.append(disk, TICK)?;
+    same(rt, (first.number(), first.event()), (1, TICK));
+    let second = journal.append(disk, COMMAND)?;
+    same(rt, (second.number(), second.event()), (2, COMMAND));
+    Ok((journal, second))
+}
+
+// What the disk has.
+fn bytes_on(alloc: Global, disk: &mut MemDisk) -> Result<Vec<u8>, Fail> {
+    let length = disk.len()?;
+    let mut bytes = vec![in alloc; 0; length as usize]?;
+    disk.read(0, &mut bytes)?;
+    Ok(bytes)
 }
 
 #[test]
 fn writes_the_format(rt: HostRuntime) -> Result<(), Fail> {
     let alloc = rt.alloc();
     let mut disk = disk_of(alloc, b"", &[])?;
-    let mut journal = begun(&rt, alloc, &mut disk)?;
-    let first = journal.append(&mut disk, TICK)?;
-    assert_eq!(rt; (first.number(), first.event()), (1, TICK));
-    let second = journal.append(&mut disk, COMMAND)?;
-    assert_eq!(rt; (second.number(), second.event()), (2, COMMAND));
+    let (journal, second) = two_events(&rt, alloc, &mut disk)?;
     Silent.tell(&rt, &second)?;
-    assert_eq!(rt; journal.room(), 0);
-    assert_eq!(rt; disk.len(), Ok(129));
-    let mut bytes = [0; 129];
-    disk.read(0, &mut bytes)?;
-    assert_eq!(rt; bytes.get(..128), Some(TWO_RECORDS.as_slice()));
-    assert_eq!(rt; bytes.last(), Some(&0));
+    same(&rt, journal.room(), 0);
+    let bytes = bytes_on(alloc, &mut disk)?;
+    same(&rt, bytes.len(), 129);
+    same(&rt, bytes.get(..128), Some(TWO_RECORDS.as_slice()));
+    same(&rt, bytes.last(), Some(&0));
     Ok(())
 }
 
@@ -120,7 +112,7 @@ fn count_left<Rt: Abort>(
     let image = disk.image(alloc, call, choice)?;
     let mut stopped = MemDisk::new(alloc, image, Vec::new(alloc));
     let opened = Journal::open_on(alloc, &mut stopped)?;
-    assert_eq!(rt; opened.broken, None, "{call} {choice}");
+    same_at(rt, opened.broken, None, (call, choice));
     Ok(opened.events.len())
 }
 
@@ -128,9 +120,7 @@ fn count_left<Rt: Abort>(
 fn a_stop_leaves_the_list_with_the_event_or_without(rt: HostRuntime) -> Result<(), Fail> {
     let alloc = rt.alloc();
     let mut disk = disk_of(alloc, b"", &[])?;
-    let mut journal = begun(&rt, alloc, &mut disk)?;
-    journal.append(&mut disk, TICK)?;
-    journal.append(&mut disk, COMMAND)?;
+    two_events(&rt, alloc, &mut disk)?;
     // In the calls from the first number to before the second.
     for (from, to, least, most) in [
         (0, 11, 0, 0),
@@ -148,42 +138,79 @@ fn a_stop_leaves_the_list_with_the_event_or_without(rt: HostRuntime) -> Result<(
     Ok(())
 }
 
+// Begins a journal and adds to it, where the call with this number fails.
+fn fail_at<Rt: Abort>(rt: &Rt, alloc: Global, disk: &mut MemDisk, call: u64) -> Result<(), Fail> {
+    let mut journal = begun(rt, alloc, disk)?;
+    let failed = journal.append(disk, TICK).err();
+    same_at(rt, failed, Some(AppendFail::DiskFault), call);
+    let after = journal.append(disk, COMMAND).err();
+    same_at(rt, after, Some(AppendFail::Failed), call);
+    assert!(rt; journal.events().is_empty());
+    Ok(())
+}
+
 #[test]
 fn after_a_fault_nothing_is_added(rt: HostRuntime) -> Result<(), Fail> {
     let alloc = rt.alloc();
     for call in 11..15 {
         let mut disk = disk_of(alloc, b"", &[call])?;
-        let mut journal = begun(&rt, alloc, &mut disk)?;
-        let Err(AppendFail::DiskFault) = journal.append(&mut disk, TICK) else {
-            panic!(rt; "{call}");
-        };
-        assert_eq!(rt;
-            journal.append(&mut disk, COMMAND).err(),
-            Some(AppendFail::Failed),
-            "{call}"
-        );
-        assert!(rt; journal.events().is_empty());
+        fail_at(&rt, alloc, &mut disk, call)?;
         let again = Journal::open_on(alloc, &mut disk)?;
-        assert_eq!(rt; again.broken, None);
         // The gate was written before the last call.
-        assert_eq!(rt; again.events.len(), usize::from(call == 14), "{call}");
+        let count = usize::from(call == 14);
+        same_at(&rt, (again.broken, again.events.len()), (None, count), call);
+    }
+    Ok(())
+}
+
+// What is found: whether a journal is begun, how many events it has, and the record that is broken.
+type Told = Result<(bool, usize, Option<u64>), JournalFail>;
+
+fn told<Rt: Abort>(rt: &Rt, alloc: Global, bytes: &[u8]) -> Result<Told, Fail> {
+    let mut disk = disk_of(alloc, bytes, &[])?;
+    Ok(match Journal::open_on(alloc, &mut disk) {
+        Ok(opened) => {
+            same(rt, opened.journal.events(), opened.events.as_slice());
+            Ok((opened.digest.is_some(), opened.events.len(), opened.broken))
+        }
+        Err(fail) => Err(fail),
+    })
+}
+
+// So many bytes of the two records and some others, and what is found there.
+static FOUND: [(usize, &[u8], Told); 11] = [
+    (0, b"", Ok((false, 0, None))),
+    (0, b"x", Ok((false, 0, None))),
+    (0, b"\0hello", Ok((false, 0, None))),
+    (64, b"\0", Ok((true, 0, None))),
+    (128, b"\0", Ok((true, 2, None))),
+    (128, b"\0hello", Ok((true, 2, None))),
+    (96, b"\x01hello", Ok((true, 1, Some(2)))),
+    (128, b"", Ok((true, 1, Some(2)))),
+    (
+        128,
+        b"\x01\xc8\0\0\0\0\0\0\0\0\0\0\0\0\0\0\0\0\0\0\0\0\0\0\0\0\0\0\0\0\0\0\0",
+        Ok((true, 2, Some(3))),
+    ),
+    (0, b"hello\n", Err(JournalFail::NotJournal)),
+    (64, b"", Err(JournalFail::NotJournal)),
+];
+
+#[test]
+fn opens_what_stands_there(rt: HostRuntime) -> Result<(), Fail> {
+    let alloc = rt.alloc();
+    for (front, rest, want) in FOUND {
+        let front = TWO_RECORDS
+            .get(..front)
+            .expect(&rt, "a part of the records");
+        let mut bytes = front.to_vec(alloc)?;
+        bytes.extend_from_slice(rest)?;
+        same_at(&rt, told(&rt, alloc, &bytes)?, want, (front, rest));
     }
     Ok(())
 }
 
 // ---- nine records
-
-// A record behind an open gate, whose numbers are below 256.
-fn record(kind: u8, outcome: u8, first: u8, offset: u8, length: u8) -> [u8; 32] {
-    let mut bytes = [0; 32];
-    bytes[0] = 1;
-    bytes[1] = kind;
-    bytes[2] = outcome;
-    bytes[7] = first;
-    bytes[19] = offset;
-    bytes[23] = length;
-    bytes
-}
 
 // A program that is incompatible with itself is submitted twice, and runs at the one place.
 fn in_turn() -> [Event; 9] {
@@ -214,24 +241,6 @@ fn in_turn() -> [Event; 9] {
     ]
 }
 
-// The journal of these events: 353 bytes.
-fn nine_records(alloc: Global) -> Result<Vec<u8>, Fail> {
-    let mut bytes = TWO_RECORDS.to_vec(alloc)?;
-    for record in [
-        record(2, 0, 2, 0, 0),
-        record(6, 0, 1, 0, 0),
-        record(7, 0, 1, 0, 0),
-        record(8, 1, 1, 0, 39),
-        record(6, 0, 2, 0, 0),
-        record(7, 0, 2, 0, 0),
-        record(8, 1, 2, 39, 39),
-    ] {
-        bytes.extend_from_slice(&record)?;
-    }
-    bytes.push(0)?;
-    Ok(bytes)
-}
-
 fn append_all<Rt: Abort>(
     rt: &Rt,
     journal: &mut Journal,
@@ -256,88 +265,98 @@ fn nine_records_have_353_bytes(rt: HostRuntime) -> Result<(), Fail> {
     assert!(rt; journal.events().is_empty());
     journal.reserve(9)?;
     append_all(&rt, &mut journal, &mut disk, &in_turn())?;
-    assert_eq!(rt; disk.len(), Ok(353));
-    let mut bytes = [0; 353];
-    disk.read(0, &mut bytes)?;
-    assert_eq!(rt; bytes.as_slice(), nine_records(alloc)?.as_slice());
+    let bytes = bytes_on(alloc, &mut disk)?;
+    same(&rt, bytes.len(), 353);
+    same(&rt, bytes.as_slice(), NINE_RECORDS.as_slice());
     let opened = Journal::open_on(alloc, &mut disk)?;
-    assert_eq!(rt; opened.events.as_slice(), in_turn().as_slice());
+    same(&rt, opened.events.as_slice(), in_turn().as_slice());
     Ok(())
 }
 
-// What is found: whether a journal is begun, how many events it has, and the record that is broken.
-type Told = Result<(bool, usize, Option<u64>), JournalFail>;
-
-fn told(alloc: Global, bytes: &[u8]) -> Result<Told, Fail> {
-    let mut disk = disk_of(alloc, bytes, &[])?;
-    Ok(match Journal::open_on(alloc, &mut disk) {
-        Ok(opened) => Ok((opened.digest.is_some(), opened.events.len(), opened.broken)),
-        Err(fail) => Err(fail),
-    })
+// What is to be found of so many bytes of nine records.
+fn wanted(length: usize) -> Told {
+    match length {
+        0..2 => Ok((false, 0, None)),
+        2..65 => Err(JournalFail::NotJournal),
+        65..353 => {
+            let whole = (length - 65) / 32;
+            Ok((true, whole, Some(whole as u64 + 1)))
+        }
+        _ => Ok((true, 9, None)),
+    }
 }
 
 #[test]
 fn each_length_is_told(rt: HostRuntime) -> Result<(), Fail> {
     let alloc = rt.alloc();
-    let bytes = nine_records(alloc)?;
     for length in 0..354 {
-        let want = match length {
-            0..2 => Ok((false, 0, None)),
-            2..65 => Err(JournalFail::NotJournal),
-            65..353 => {
-                let whole = (length - 65) / 32;
-                Ok((true, whole, Some(whole as u64 + 1)))
-            }
-            _ => Ok((true, 9, None)),
-        };
-        assert!(rt; length <= bytes.len());
-        assert_eq!(rt; told(alloc, &bytes[..length])?, want, "{length}");
+        let front = NINE_RECORDS
+            .get(..length)
+            .expect(&rt, "a part of the records");
+        same_at(&rt, told(&rt, alloc, front)?, wanted(length), length);
     }
     Ok(())
+}
+
+// What is found of these bytes with this value in a place.
+fn told_with<Rt: Abort>(
+    rt: &Rt,
+    alloc: Global,
+    bytes: &[u8],
+    at: usize,
+    value: u8,
+) -> Result<Told, Fail> {
+    let mut other = bytes.to_vec(alloc)?;
+    assert!(rt; at < other.len());
+    other[at] = value;
+    told(rt, alloc, &other)
 }
 
 #[test]
 fn each_gate_is_told(rt: HostRuntime) -> Result<(), Fail> {
     let alloc = rt.alloc();
-    let bytes = nine_records(alloc)?;
-    assert_eq!(rt; bytes.len(), 353);
     for value in 0..=255 {
-        let shut = value == 0;
-        let mut last = bytes.clone()?;
-        last[320] = value;
-        let count = if shut { 8 } else { 9 };
-        assert_eq!(rt; told(alloc, &last)?, Ok((true, count, None)), "{value}");
-        let mut header = bytes.clone()?;
-        header[0] = value;
-        let count = if shut { 0 } else { 9 };
-        assert_eq!(rt; told(alloc, &header)?, Ok((!shut, count, None)), "{value}");
+        // What the gate of the last record shuts out, and that of the header.
+        let (last, header) = if value == 0 {
+            ((true, 8, None), (false, 0, None))
+        } else {
+            ((true, 9, None), (true, 9, None))
+        };
+        let found = told_with(&rt, alloc, NINE_RECORDS, 320, value)?;
+        same_at(&rt, found, Ok(last), value);
+        let found = told_with(&rt, alloc, NINE_RECORDS, 0, value)?;
+        same_at(&rt, found, Ok(header), value);
     }
     Ok(())
 }
 
+// A record whose numbers are below 256: its kind, outcome, first number, offset and length.
+type Record = (u8, u8, u8, u8, u8);
+
 // A record of each kind with all that its events use, and where of its bytes behind the gate nothing but 0
 // may stand.
-fn kinds() -> [([u8; 32], &'static [u8; 31]); 11] {
-    [
-        (record(1, 0, 0, 9, 0), b"x..........xxxxxxxx............"),
-        (record(2, 0, 9, 0, 0), b"x..xxxx........................"),
-        (record(3, 0, 9, 0, 0), b"x..xxxx........................"),
-        (record(4, 0, 9, 0, 0), b"x..xxxxxxxx...................."),
-        (record(5, 2, 9, 0, 0), b"xx.xxxx........................"),
-        (record(6, 0, 9, 0, 0), b"x..xxxx........................"),
-        (record(7, 0, 9, 0, 0), b"x..xxxxxxxx...................."),
-        (record(8, 3, 9, 9, 9), b"xx.xxxx....xxxxxxxxxxxx........"),
-        (record(8, 4, 9, 0, 0), b"xx.xxxx........................"),
-        (record(9, 0, 0, 0, 0), b"x.............................."),
-        (record(10, 0, 9, 0, 0), b"x..xxxx........................"),
-    ]
-}
+static KINDS: [(Record, &[u8; 31]); 11] = [
+    ((1, 0, 0, 9, 0), b"x..........xxxxxxxx............"),
+    ((2, 0, 9, 0, 0), b"x..xxxx........................"),
+    ((3, 0, 9, 0, 0), b"x..xxxx........................"),
+    ((4, 0, 9, 0, 0), b"x..xxxxxxxx...................."),
+    ((5, 2, 9, 0, 0), b"xx.xxxx........................"),
+    ((6, 0, 9, 0, 0), b"x..xxxx........................"),
+    ((7, 0, 9, 0, 0), b"x..xxxxxxxx...................."),
+    ((8, 3, 9, 9, 9), b"xx.xxxx....xxxxxxxxxxxx........"),
+    ((8, 4, 9, 0, 0), b"xx.xxxx........................"),
+    ((9, 0, 0, 0, 0), b"x.............................."),
+    ((10, 0, 9, 0, 0), b"x..xxxx........................"),
+];
 
-// The journal of nine events with another third record.
-fn with_third(alloc: Global, third: &[u8; 32]) -> Result<Vec<u8>, Fail> {
+// The journal of nine events with another third record, whose gate is open.
+fn with_third(alloc: Global, third: Record) -> Result<Vec<u8>, Fail> {
+    let (kind, outcome, first, offset, length) = third;
     let mut bytes = TWO_RECORDS.to_vec(alloc)?;
-    bytes.extend_from_slice(third)?;
-    for byte in nine_records(alloc)?.iter().skip(160) {
+    bytes.extend_from_slice(&[1, kind, outcome, 0, 0, 0, 0, first, 0, 0, 0, 0])?;
+    bytes.extend_from_slice(&[0, 0, 0, 0, 0, 0, 0, offset, 0, 0, 0, length])?;
+    bytes.extend_from_slice(&[0; 8])?;
+    for byte in NINE_RECORDS.iter().skip(160) {
         bytes.push(*byte)?;
     }
     Ok(bytes)
@@ -346,41 +365,47 @@ fn with_third(alloc: Global, third: &[u8; 32]) -> Result<Vec<u8>, Fail> {
 #[test]
 fn each_broken_spelling_is_told(rt: HostRuntime) -> Result<(), Fail> {
     let alloc = rt.alloc();
-    for (good, used) in kinds() {
-        let bytes = with_third(alloc, &good)?;
-        assert_eq!(rt; told(alloc, &bytes)?, Ok((true, 9, None)), "{good:?}");
+    for (good, used) in KINDS {
+        let bytes = with_third(alloc, good)?;
+        same_at(&rt, told(&rt, alloc, &bytes)?, Ok((true, 9, None)), good);
         for at in 0..31 {
             if used[at] == b'.' {
-                let mut stray = good;
-                stray[at + 1] = 1;
-                let bytes = with_third(alloc, &stray)?;
-                assert_eq!(rt; told(alloc, &bytes)?, Ok((true, 2, Some(3))), "{stray:?}");
+                let stray = told_with(&rt, alloc, &bytes, 129 + at, 1)?;
+                same_at(&rt, stray, Ok((true, 2, Some(3))), (good, at));
             }
         }
     }
     Ok(())
 }
 
+// Records of which a value is out of its range.
+static OUT_OF_RANGE: [Record; 10] = [
+    (0, 0, 0, 0, 0),
+    (11, 0, 0, 0, 0),
+    (200, 0, 0, 0, 0),
+    // A set closes as Normal, Warning or Error.
+    (5, 0, 9, 0, 0),
+    (5, 4, 9, 0, 0),
+    // An end with a report has one of these outcomes and some bytes.
+    (8, 0, 9, 9, 9),
+    (8, 5, 9, 9, 9),
+    (8, 1, 9, 9, 0),
+    // One without a report has neither.
+    (8, 4, 9, 0, 9),
+    (8, 4, 9, 9, 0),
+];
+
 #[test]
 fn each_value_out_of_range_is_told(rt: HostRuntime) -> Result<(), Fail> {
     let alloc = rt.alloc();
-    for broken in [
-        record(0, 0, 0, 0, 0),
-        record(11, 0, 0, 0, 0),
-        record(200, 0, 0, 0, 0),
-        // A set closes as Normal, Warning or Error.
-        record(5, 0, 9, 0, 0),
-        record(5, 4, 9, 0, 0),
-        // An end with a report has one of these outcomes and some bytes.
-        record(8, 0, 9, 9, 9),
-        record(8, 5, 9, 9, 9),
-        record(8, 1, 9, 9, 0),
-        // One without a report has neither.
-        record(8, 4, 9, 0, 9),
-        record(8, 4, 9, 9, 0),
-    ] {
-        let bytes = with_third(alloc, &broken)?;
-        assert_eq!(rt; told(alloc, &bytes)?, Ok((true, 2, Some(3))), "{broken:?}");
+    for broken in OUT_OF_RANGE {
+        let bytes = with_third(alloc, broken)?;
+        same_at(
+            &rt,
+            told(&rt, alloc, &bytes)?,
+            Ok((true, 2, Some(3))),
+            broken,
+        );
     }
     Ok(())
 }

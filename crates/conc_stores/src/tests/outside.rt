@@ -1,3 +1,4 @@
+use conc_expect::same;
 use conc_outside::{Failed, FileShelf, MemShelf, MemSink, Shelf, ShelfFail, WriterSink, write_all};
 use conc_types::{Name, is_name};
 use std::alloc::Global;
@@ -18,21 +19,25 @@ fn a_shelf_in_memory_tells_its_file(rt: HostRuntime) -> Result<(), Fail> {
     let mut shelf = MemShelf::new(files, vec![in alloc; 2]?);
     let setup = name(&rt, alloc, "setup")?;
     let clock = name(&rt, alloc, "clock")?;
-    assert_eq!(rt;
+    same(
+        &rt,
         shelf.read_file(alloc, &setup)?.as_slice(),
-        b"a b".as_slice()
+        b"a b".as_slice(),
     );
-    assert_eq!(rt;
+    same(
+        &rt,
         shelf.read_file(alloc, &clock).err(),
-        Some(ShelfFail::Absent)
+        Some(ShelfFail::Absent),
     );
-    assert_eq!(rt;
+    same(
+        &rt,
         shelf.read_file(alloc, &setup).err(),
-        Some(ShelfFail::Failed)
+        Some(ShelfFail::Failed),
     );
-    assert_eq!(rt;
+    same(
+        &rt,
         shelf.read_file(alloc, &setup)?.as_slice(),
-        b"a b".as_slice()
+        b"a b".as_slice(),
     );
     Ok(())
 }
@@ -41,13 +46,13 @@ fn a_shelf_in_memory_tells_its_file(rt: HostRuntime) -> Result<(), Fail> {
 fn a_sink_in_memory_takes_all_or_nothing(rt: HostRuntime) -> Result<(), Fail> {
     let alloc = rt.alloc();
     let mut out = MemSink::new(alloc, vec![in alloc; 0]?);
-    assert_eq!(rt; write_all(&mut out, b"one"), Err(Failed));
-    assert_eq!(rt; out.bytes(), b"".as_slice());
+    same(&rt, write_all(&mut out, b"one"), Err(Failed));
+    same(&rt, out.bytes(), b"".as_slice());
     write_all(&mut out, b"two")?;
     write_all(&mut out, b"")?;
     write_all(&mut out, b"three")?;
-    assert_eq!(rt; out.bytes(), b"twothree".as_slice());
-    assert_eq!(rt; out.starved(), 0);
+    same(&rt, out.bytes(), b"twothree".as_slice());
+    same(&rt, out.starved(), 0);
     Ok(())
 }
 
@@ -62,15 +67,17 @@ fn a_shelf_of_files_reads_a_real_one(rt: HostRuntime) -> Result<(), Fail> {
     let mut shelf = FileShelf::new(&rt);
     let read = shelf.read_file(alloc, &file);
     fs::remove_file(&rt, path.as_str())?;
-    assert_eq!(rt; read?.as_slice(), bytes.as_slice());
-    assert_eq!(rt;
+    same(&rt, read?.as_slice(), bytes.as_slice());
+    same(
+        &rt,
         shelf.read_file(alloc, &file).err(),
-        Some(ShelfFail::Absent)
+        Some(ShelfFail::Absent),
     );
     let folder = name(&rt, alloc, "/tmp")?;
-    assert_eq!(rt;
+    same(
+        &rt,
         shelf.read_file(alloc, &folder).err(),
-        Some(ShelfFail::Failed)
+        Some(ShelfFail::Failed),
     );
     Ok(())
 }
@@ -80,14 +87,15 @@ fn a_writer_gets_the_bytes(rt: HostRuntime) -> Result<(), Fail> {
     let alloc = rt.alloc();
     let mut bytes = Vec::new(alloc);
     write_all(&mut WriterSink::new(&mut bytes), b"one")?;
-    assert_eq!(rt; bytes.as_slice(), b"one".as_slice());
+    same(&rt, bytes.as_slice(), b"one".as_slice());
     // A writer with room for two bytes takes these, and then none.
     let mut room = [0u8; 2];
     let mut rest = room.as_mut_slice();
-    assert_eq!(rt;
+    same(
+        &rt,
         write_all(&mut WriterSink::new(&mut rest), b"one"),
-        Err(Failed)
+        Err(Failed),
     );
-    assert_eq!(rt; room, *b"on");
+    same(&rt, room, *b"on");
     Ok(())
 }

@@ -1,8 +1,28 @@
 use conc_disk::Disk;
+use conc_expect::same;
 use conc_outside::Failed;
 use conc_paths::PathDisk;
+use std::os::unix::fs::FileExt;
+use std::process::Abort;
+use std::rt::Files;
 use std::test::Fail;
 use std::{fs, process};
+
+// Leaves four bytes on the disk, and reads three of them by another disk over the same file.
+fn write_and_read<R: Files + Abort>(rt: &R, path: &str, disk: &mut PathDisk<R>) -> Result<(), Fail>
+where
+    R::File: FileExt,
+{
+    disk.write_at(0, b"abcdef")?;
+    disk.cut(4)?;
+    disk.sync()?;
+    let mut again = PathDisk::new(rt, path);
+    let mut read = [0u8; 3];
+    again.read(1, &mut read)?;
+    same(rt, read, *b"bcd");
+    same(rt, again.read(2, &mut read), Err(Failed));
+    Ok(())
+}
 
 #[test]
 fn a_disk_is_opened_at_its_first_use(rt: HostRuntime) -> Result<(), Fail> {
@@ -11,20 +31,13 @@ fn a_disk_is_opened_at_its_first_use(rt: HostRuntime) -> Result<(), Fail> {
     let path = format!(in alloc; "{folder}/disk")?;
     let mut disk = PathDisk::new(&rt, path.as_str());
     // There is no folder yet.
-    assert_eq!(rt; disk.len(), Err(Failed));
+    same(&rt, disk.len(), Err(Failed));
     fs::create_dir(&rt, folder.as_str())?;
     assert!(rt; !fs::exists(&rt, path.as_str())?);
-    assert_eq!(rt; disk.len(), Ok(0));
-    disk.write_at(0, b"abcdef")?;
-    disk.cut(4)?;
-    disk.sync()?;
-    let mut again = PathDisk::new(&rt, path.as_str());
-    let mut read = [0u8; 3];
-    again.read(1, &mut read)?;
-    assert_eq!(rt; read, *b"bcd");
-    assert_eq!(rt; again.read(2, &mut read), Err(Failed));
+    same(&rt, disk.len(), Ok(0));
+    write_and_read(&rt, path.as_str(), &mut disk)?;
     fs::remove_file(&rt, path.as_str())?;
     fs::remove_dir(&rt, folder.as_str())?;
-    assert_eq!(rt; disk.len(), Ok(4));
+    same(&rt, disk.len(), Ok(4));
     Ok(())
 }

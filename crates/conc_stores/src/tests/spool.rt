@@ -1,6 +1,9 @@
 use conc_disk::MemDisk;
+use conc_expect::{same, same_at};
 use conc_outside::Failed;
 use conc_spool::{Spool, SpoolFail};
+use std::alloc::Global;
+use std::process::Abort;
 use std::test::Fail;
 
 #[test]
@@ -10,30 +13,35 @@ fn texts_are_read_back(rt: HostRuntime) -> Result<(), Fail> {
     let mut spool = Spool::open_on(&mut disk, 0)?;
     let first = spool.append(&mut disk, b"abc")?;
     let second = spool.append(&mut disk, b"de")?;
-    assert_eq!(rt; (first.offset, first.length), (0, 3));
-    assert_eq!(rt; (second.offset, second.length), (3, 2));
-    assert_eq!(rt; spool.used(), 5);
+    same(&rt, (first.offset, first.length), (0, 3));
+    same(&rt, (second.offset, second.length), (3, 2));
+    same(&rt, spool.used(), 5);
     let text = spool.read(alloc, &mut disk, second)?;
-    assert_eq!(rt; text.as_slice(), b"de".as_slice());
+    same(&rt, text.as_slice(), b"de".as_slice());
     let text = spool.read(alloc, &mut disk, first)?;
-    assert_eq!(rt; text.as_slice(), b"abc".as_slice());
+    same(&rt, text.as_slice(), b"abc".as_slice());
+    Ok(())
+}
+
+// Fails to add a text, as the call with this number fails, and then adds another one.
+fn add_after_fault<Rt: Abort>(rt: &Rt, alloc: Global, call: u64) -> Result<(), Fail> {
+    let fails = vec![in alloc; call]?;
+    let mut disk = MemDisk::new(alloc, Vec::new(alloc), fails);
+    let mut spool = Spool::open_on(&mut disk, 0)?;
+    let failed = spool.append(&mut disk, b"abc");
+    same_at(rt, failed, Err(Failed), call);
+    same_at(rt, spool.used(), 0, call);
+    let extent = spool.append(&mut disk, b"de")?;
+    let text = spool.read(alloc, &mut disk, extent)?;
+    same_at(rt, text.as_slice(), b"de".as_slice(), call);
     Ok(())
 }
 
 #[test]
 fn a_text_is_added_after_a_fault(rt: HostRuntime) -> Result<(), Fail> {
-    let alloc = rt.alloc();
     // The calls of the first append.
     for call in [2, 3] {
-        let fails = vec![in alloc; call]?;
-        let mut disk = MemDisk::new(alloc, Vec::new(alloc), fails);
-        let mut spool = Spool::open_on(&mut disk, 0)?;
-        let failed = spool.append(&mut disk, b"abc");
-        assert_eq!(rt; failed, Err(Failed), "{call}");
-        assert_eq!(rt; spool.used(), 0, "{call}");
-        let extent = spool.append(&mut disk, b"de")?;
-        let text = spool.read(alloc, &mut disk, extent)?;
-        assert_eq!(rt; text.as_slice(), b"de".as_slice(), "{call}");
+        add_after_fault(&rt, rt.alloc(), call)?;
     }
     Ok(())
 }
@@ -44,10 +52,10 @@ fn a_short_disk_is_not_opened(rt: HostRuntime) -> Result<(), Fail> {
     let mut disk = MemDisk::new(alloc, b"abcd".to_vec(alloc)?, Vec::new(alloc));
     for used in [0, 3, 4] {
         let spool = Spool::open_on(&mut disk, used)?;
-        assert_eq!(rt; spool.used(), used);
+        same(&rt, spool.used(), used);
     }
     let short = Spool::open_on(&mut disk, 5);
-    assert_eq!(rt; short, Err(SpoolFail::Short { len: 4 }));
+    same(&rt, &short, &Err(SpoolFail::Short { len: 4 }));
     Ok(())
 }
 
@@ -60,10 +68,10 @@ fn a_stop_in_an_append_keeps_what_was_there(rt: HostRuntime) -> Result<(), Fail>
     for call in 0..4 {
         for choice in 0..8 {
             let image = disk.image(alloc, call, choice)?;
-            assert_eq!(rt; image.get(..3), Some(b"abc".as_slice()), "{call} {choice}");
+            same_at(&rt, image.get(..3), Some(b"abc".as_slice()), (call, choice));
         }
     }
     let image = disk.image(alloc, 4, 0)?;
-    assert_eq!(rt; image.as_slice(), b"abcdeZ".as_slice());
+    same(&rt, image.as_slice(), b"abcdeZ".as_slice());
     Ok(())
 }
