@@ -44,7 +44,10 @@ fn repeat_from(
     place: u64,
     times: u64,
 ) -> Result<(), Fail> {
-    let piece = bytes.get(place as usize..).expect(rt, "a place in the bytes").to_vec(alloc)?;
+    let piece = bytes
+        .get(place as usize..)
+        .expect(rt, "a place in the bytes")
+        .to_vec(alloc)?;
     for _ in 1..times {
         bytes.extend_from_slice(&piece)?;
     }
@@ -77,7 +80,9 @@ pub(crate) fn change_bytes(
             }
         } else if word == "put" {
             let (number, place) = rest.split_once(" at ").expect(rt, line);
-            let byte = bytes.get_mut(number_of(rt, place) as usize).expect(rt, line);
+            let byte = bytes
+                .get_mut(number_of(rt, place) as usize)
+                .expect(rt, line);
             *byte = number.parse::<u8>().expect(rt, line);
         } else {
             let place = rest.strip_prefix("times from ").expect(rt, line);

@@ -110,8 +110,9 @@ pub(crate) fn call<Rt: Threads + Wait + Sync>(
 ) -> Result<Ended, Fail> {
     let words = words_of(alloc, given.words)?;
     let files = files_of(alloc, given)?;
-    let mut shelf =
-        shelf_with(files, listed(alloc, given.fails.read)?).ok_or("two files have one name")?;
+    let mut shelf = shelf_with(files, listed(alloc, given.fails.read)?).ok_or(
+        "two files have one name",
+    )?;
     let mut out = MemSink::new(alloc, listed(alloc, given.fails.write)?);
     let failing = listed(alloc, given.fails.journal)?;
     let mut journal = MemDisk::new(alloc, journal.to_vec(alloc)?, failing);

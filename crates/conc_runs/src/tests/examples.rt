@@ -198,7 +198,10 @@ fn check_example<Rt: Abort + Threads + Wait + Sync>(
                 let text = str::from_utf8(&ended.text);
                 let line = str::from_utf8(&ended.line);
                 let number = ended.number;
-                assert!(rt; met, "{shows}: {step}: {lines:?}, and not {number} {line:?} {text:?}");
+                assert!(rt;
+                    met,
+                    "{shows}: {step}: {lines:?}, and not {number} {line:?} {text:?}"
+                );
             }
             None => take(rt, alloc, &mut example, step, lines)?,
         }

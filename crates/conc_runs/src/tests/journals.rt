@@ -501,7 +501,8 @@ disk fault: journal
 "#;
 
 // The run after a run in which this call of the journal's disk fails.
-pub(crate) const AFTER_A_FAULT: &str = r#"call CALL of the journal's disk fails, and the next run goes on
+pub(crate) const AFTER_A_FAULT: &str =
+    r#"call CALL of the journal's disk fails, and the next run goes on
 == script
 2025-03-03T09:00:00,submit,P,ann,,,,
 2025-03-03T09:00:00,submit,P,ann,,,,

@@ -1,5 +1,6 @@
 // The words of a call, its clock, each stop, and the listing of a plan.
-pub(crate) const STOPS: &str = r#"the clock of the system is asked by its word: it gives 2025-03-03T10:10:01
+pub(crate) const STOPS: &str =
+    r#"the clock of the system is asked by its word: it gives 2025-03-03T10:10:01
 == moment
 == call run a.toml a.csv system --threads 0
 == ends 0
@@ -214,4 +215,54 @@ stage = [{ name = "A", members = [\
 == call plan a.toml a.csv
 == ends 3
 refused: a.csv: 258: 42
+=====
+what is generated comes to what another program tells, twice the same
+== call make 7 2000
+== ends 0
+== prints
+seed 7
+size 2000
+requests 2750
+events 10501
+normal 2015
+warning 735
+error 0
+cancelled 0
+terminated 0
+== call make 3 20
+== ends 0
+== prints
+seed 3
+size 20
+requests 26
+events 101
+normal 19
+warning 7
+error 0
+cancelled 0
+terminated 0
+== call make 3 20
+== ends 0
+== prints
+seed 3
+size 20
+requests 26
+events 101
+normal 19
+warning 7
+error 0
+cancelled 0
+terminated 0
+== call make 1 4000
+== ends 0
+== prints
+seed 1
+size 4000
+requests 5323
+events 20411
+normal 4003
+warning 1320
+error 0
+cancelled 0
+terminated 0
 "#;

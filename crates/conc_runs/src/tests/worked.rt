@@ -1,5 +1,5 @@
-use super::call::{Given, NO_FAILS, call};
 use super::bytes::number_of;
+use super::call::{Given, NO_FAILS, call};
 use super::examples::RUN;
 use conc_worked::{LIVES, MANAGERS, MONTH_END, PLAIN, SETS, Worked, worked_of};
 use std::alloc::Global;
@@ -27,7 +27,12 @@ fn check_run<Rt: Abort + Threads + Wait + Sync>(
     };
     let ended = call(rt, alloc, given, &[], &[])?;
     assert_eq!(rt; ended.number, 0, "{}", worked.shows);
-    assert_eq!(rt; ended.text.as_slice(), worked.history.as_bytes(), "{}", worked.shows);
+    assert_eq!(rt;
+        ended.text.as_slice(),
+        worked.history.as_bytes(),
+        "{}",
+        worked.shows
+    );
     assert_eq!(rt; ended.line.as_slice(), b"".as_slice());
     Ok(())
 }
@@ -67,7 +72,12 @@ fn check_answer<Rt: Abort + Threads + Wait + Sync>(
     assert_eq!(rt; ended.number, if ended.text.is_empty() { 14 } else { 0 });
     ended.text.extend_from_slice(&ended.line)?;
     assert_eq!(rt; ended.text.pop(), Some(b'\n'));
-    assert_eq!(rt; ended.text.as_slice(), answer.as_bytes(), "{}: {history}", worked.shows);
+    assert_eq!(rt;
+        ended.text.as_slice(),
+        answer.as_bytes(),
+        "{}: {history}",
+        worked.shows
+    );
     Ok(())
 }
 
