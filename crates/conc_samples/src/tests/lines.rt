@@ -100,49 +100,49 @@ fn reads_event_lines(rt: HostRuntime) -> Result<(), Fail> {
 }
 
 // Lines that tell no event.
-static OTHERS: [&str; 41] = [
-    "",
-    "do",
-    "do ",
-    "do  1",
-    " do 1",
-    "do 1 ",
-    "do\t1",
-    "do 1\r",
-    "do 1 2",
-    "do 01",
-    "do +1",
-    "do -1",
-    "do 4294967296",
-    "Do 1",
-    "resume ",
-    "resume 1",
-    "tick 2025-02-30T09:00:00",
-    "tick 2025-03-03T09:00:00 !",
-    "stage 1",
-    "stage 1 0",
-    "close 1",
-    "close 1 Terminated",
-    "start 1 1.0",
-    "start 1 0.1",
-    "start 1 1.3",
-    "start 1 2.2",
-    "start 1 3.1",
-    "start 1 1",
-    "start 1 1.1.1",
-    "start 1 1.01",
-    "start 1 18446744073709551615.1",
-    "start 1 1.18446744073709551615",
-    "end 1",
-    "end 1 Normal",
-    "end 1 Normal 0",
-    "end 1 normal 0 1",
-    "end 1 Cancelled 0 1",
-    "end 1 Terminated 0 1",
-    "end 1 Normal 0 1 2",
-    "end 1 Normal 0 4294967296",
+const OTHERS: &str = concat!(
+    "\n",
+    "do\n",
+    "do \n",
+    "do  1\n",
+    " do 1\n",
+    "do 1 \n",
+    "do\t1\n",
+    "do 1\r\n",
+    "do 1 2\n",
+    "do 01\n",
+    "do +1\n",
+    "do -1\n",
+    "do 4294967296\n",
+    "Do 1\n",
+    "resume \n",
+    "resume 1\n",
+    "tick 2025-02-30T09:00:00\n",
+    "tick 2025-03-03T09:00:00 !\n",
+    "stage 1\n",
+    "stage 1 0\n",
+    "close 1\n",
+    "close 1 Terminated\n",
+    "start 1 1.0\n",
+    "start 1 0.1\n",
+    "start 1 1.3\n",
+    "start 1 2.2\n",
+    "start 1 3.1\n",
+    "start 1 1\n",
+    "start 1 1.1.1\n",
+    "start 1 1.01\n",
+    "start 1 18446744073709551615.1\n",
+    "start 1 1.18446744073709551615\n",
+    "end 1\n",
+    "end 1 Normal\n",
+    "end 1 Normal 0\n",
+    "end 1 normal 0 1\n",
+    "end 1 Cancelled 0 1\n",
+    "end 1 Terminated 0 1\n",
+    "end 1 Normal 0 1 2\n",
+    "end 1 Normal 0 4294967296\n",
     "end 1 Normal 18446744073709551616 1",
-];
+);
 
 // How many events are read of a history of this one line, and which line is bad.
 fn found_of(alloc: Global, line: &str) -> Result<(usize, Option<u64>), Fail> {
@@ -152,7 +152,7 @@ fn found_of(alloc: Global, line: &str) -> Result<(usize, Option<u64>), Fail> {
 
 #[test]
 fn refuses_other_lines(rt: HostRuntime) -> Result<(), Fail> {
-    for line in OTHERS {
+    for line in OTHERS.split('\n') {
         same_at(&rt, found_of(rt.alloc(), line)?, (0, Some(1)), line);
     }
     Ok(())
