@@ -1,3 +1,4 @@
+mod expect;
 mod lines;
 mod make;
 mod plan;

@@ -1,6 +1,7 @@
 mod clock;
 mod digest;
 mod disk;
+mod expect;
 mod image;
 mod journal;
 mod outside;

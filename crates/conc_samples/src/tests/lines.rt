@@ -1,6 +1,6 @@
 ghost use Rattle.std.specs.Prelude.{◌≡◌, [], ◌∷◌, IfOk};
 
-use conc_expect::{same, same_at};
+use super::expect::{same, same_at};
 use conc_lines::{Lines, read_history, starts_of};
 use conc_types::{
     Event, Extent, Manager, Moment, Name, NoMemory, Outcome, PlaceId, Plan, RequestId, Script, Seq,

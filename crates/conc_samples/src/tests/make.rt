@@ -1,4 +1,4 @@
-use conc_expect::same;
+use super::expect::same;
 use conc_make::make;
 use std::test::Fail;
 

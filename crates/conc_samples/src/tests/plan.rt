@@ -1,4 +1,4 @@
-use conc_expect::same;
+use super::expect::same;
 use conc_plan::make_plan;
 use conc_script::read_script;
 use conc_setup::read_setup;

@@ -1,4 +1,4 @@
-use conc_expect::{same, same_at};
+use super::expect::{same, same_at};
 use conc_queue::Queue;
 use std::test::Fail;
 

@@ -1,4 +1,4 @@
-use conc_expect::same;
+use super::expect::same;
 use conc_records::{ByteRecord, Records};
 use conc_types::NoMemory;
 use std::process::Abort;

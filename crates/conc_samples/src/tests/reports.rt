@@ -1,4 +1,4 @@
-use conc_expect::same_at;
+use super::expect::same_at;
 use conc_reports::{Made, report};
 use conc_setup::read_setup;
 use conc_tables::read_table;

@@ -1,4 +1,4 @@
-use conc_expect::{same, same_at};
+use super::expect::{same, same_at};
 use conc_script::{read_clock, read_script};
 use conc_setup::read_setup;
 use conc_types::{

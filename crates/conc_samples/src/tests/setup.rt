@@ -1,4 +1,4 @@
-use conc_expect::{same, same_at};
+use super::expect::{same, same_at};
 use conc_setup::read_setup;
 use conc_types::{Entry, FileKind, Item, Manager, Reach, ReadFail, Refusal, Scope, SetDef, Setup};
 use std::process::Abort;

@@ -1,4 +1,4 @@
-use conc_expect::{same, same_at};
+use super::expect::{same, same_at};
 use conc_tables::read_table;
 use conc_types::{FileKind, ReadFail, Refusal};
 use std::alloc::Global;

@@ -1,7 +1,7 @@
 ghost use Rattle.std.specs.Prelude.{◌≤◌, IsTrue, length};
 ghost use Rattle.conc_types.specs.Fields.{is_shift};
 
-use conc_expect::{same, same_at};
+use super::expect::{same, same_at};
 use conc_time::{places, put_moment, read_moment};
 use conc_types::{Manager, Moment, Name, NoMemory, Seq, Shift, is_name};
 use std::alloc::Global;

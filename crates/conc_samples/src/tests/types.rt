@@ -1,4 +1,4 @@
-use conc_expect::{same, same_at};
+use super::expect::{same, same_at};
 use conc_types::{Cells, is_name, put_decimal, read_decimal};
 use std::test::Fail;
 

@@ -1,4 +1,4 @@
-use conc_expect::same_at;
+use super::expect::same_at;
 use conc_words::read_command;
 use std::alloc::Global;
 use std::process::Abort;

@@ -1,5 +1,5 @@
+use super::expect::same;
 use conc_clock::{Clock, MemClock, SystemClock, SystemZone};
-use conc_expect::same;
 use conc_outside::Failed;
 use conc_types::Moment;
 use std::io;

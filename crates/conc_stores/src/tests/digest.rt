@@ -1,5 +1,5 @@
+use super::expect::same;
 use conc_digest::InputDigest;
-use conc_expect::same;
 
 // `printf` of the message `00 .. 01 s 00 .. 02 ab 00 .. 05 t.csv 00 .. 03 k,v` into sha256sum.
 #[test]

@@ -1,5 +1,5 @@
+use super::expect::{same, same_at};
 use conc_disk::{Disk, MemDisk, open_disk};
-use conc_expect::{same, same_at};
 use conc_outside::Failed;
 use std::alloc::Global;
 use std::process::Abort;

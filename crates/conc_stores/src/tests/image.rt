@@ -1,6 +1,6 @@
 ghost use Rattle.std.specs.Prelude.{◌<◌};
 
-use conc_expect::{same, same_at};
+use super::expect::{same, same_at};
 use conc_image::{
     Header, has_record, header_of, judge_header, read_record, read_records, record_of,
 };

@@ -1,4 +1,4 @@
-use conc_expect::same;
+use super::expect::same;
 use conc_outside::{Failed, FileShelf, MemShelf, MemSink, Shelf, ShelfFail, WriterSink, write_all};
 use conc_types::{Name, is_name};
 use std::alloc::Global;

@@ -1,5 +1,5 @@
+use super::expect::same;
 use conc_disk::Disk;
-use conc_expect::same;
 use conc_outside::Failed;
 use conc_paths::PathDisk;
 use std::os::unix::fs::FileExt;

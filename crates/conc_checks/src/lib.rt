@@ -1,5 +1,0 @@
-//! Trials.
-#![tactic(auto)]
-
-#[cfg(test)]
-mod tests;

@@ -1,0 +1,221 @@
+//! Examples of calls as text. Between two examples stands a line `=====`. An example has lines that say what it
+//! shows, and then its steps, each of them a line `== STEP` and the lines below it. They are done in their order.
+//!
+//! What is given, until it is given anew; before that it is `SETUP`, no record, `CLOCK` and `TABLE`:
+//!
+//! - `setup`, `script`, `clock`, `table`: the lines are the file `a.toml`, the records of `a.csv`, `a.clock`, or
+//!   `t.csv`. Where a line ends with `\` it has no LF, `\r` is CR, and a line behind `COUNT times: ` stands so often.
+//! - `clock-file NAME`: the clock's file has this name in the place of `a.clock`.
+//! - `moment`: the clock of the system gives 2025-03-03T10:10:01 once a call. Else it gives none.
+//!
+//! What is given to the next call alone:
+//!
+//! - `fails read NUMBER`: this read of a file fails, of those that find one, counted from 0; and so do the write of the output behind
+//!   `fails write`, and the call of a disk behind `fails journal` and `fails spool`.
+//! - `journal`, `spool`: the lines change what the disk has (`change_bytes`). The disks have no byte before the first call, and
+//!   then what the last one left.
+//!
+//! What is done: `call WORDS`, or `run`, which is a call with the words `RUN`. The lines say what it shows.
+//!
+//! What the last call has to have ended with:
+//!
+//! - `ends NUMBER`: this status and, where the lines are not empty, with the line that tells the exit. A call whose status is not 0
+//!   printed nothing.
+//! - `prints`: the lines are its output. `prints-lines COUNT`: so many lines.
+//! - `journal-length COUNT`: so many bytes in the journal. `journal-at PLACE`: the bytes that the lines make stand there.
+//! - `spool-text`: the lines are what the spool has.
+//! - `disks-stay`: both disks have what the call found.
+
+use super::bytes::{change_bytes, number_of, text_of};
+use super::call::{Ended, Fails, Given, NO_FAILS, call};
+use std::alloc::Global;
+use std::process::Abort;
+use std::sync::Wait;
+use std::test::Fail;
+use std::thread::Threads;
+
+const SETUP: &str = r#"tables = ["t.csv"]
+[[program]]
+name = "P"
+table = "t.csv"
+group = "k"
+sum = "v"
+[[incompatible]]
+program = "P"
+with = "P"
+[[manager]]
+name = "M"
+"#;
+
+const CLOCK: &str = "2025-03-03T09:00:00\n";
+
+const TABLE: &str = "k,v\na,10\nb,20\na,5\n";
+
+pub(crate) const RUN: &str = "run a.toml a.csv a.clock --threads 0";
+
+// How far an example is: what is given, and what the last call ended with.
+#[derive(Drop)]
+struct Example<'a> {
+    given: Given<'a>,
+    stayed: bool,
+    ended: Ended,
+}
+
+fn begun(alloc: Global) -> Example<'static> {
+    Example {
+        given: Given {
+            words: RUN,
+            setup: SETUP,
+            records: "",
+            clock_file: "a.clock",
+            clock: CLOCK,
+            table: TABLE,
+            history: None,
+            has_moment: false,
+            fails: NO_FAILS,
+        },
+        stayed: true,
+        ended: Ended {
+            number: 0,
+            text: Vec::new(alloc),
+            line: Vec::new(alloc),
+            journal: Vec::new(alloc),
+            spool: Vec::new(alloc),
+        },
+    }
+}
+
+fn do_call<Rt: Abort + Threads + Wait + Sync>(
+    rt: &Rt,
+    alloc: Global,
+    example: &mut Example<'_>,
+) -> Result<(), Fail> {
+    let found = &example.ended;
+    let ended = call(rt, alloc, example.given, &found.journal, &found.spool)?;
+    example.stayed = ended.journal.as_slice() == found.journal.as_slice()
+        && ended.spool.as_slice() == found.spool.as_slice();
+    example.ended = ended;
+    example.given.fails = NO_FAILS;
+    Ok(())
+}
+
+// Has a read, a write or a call of a disk fail.
+fn fail(rt: &impl Abort, fails: &mut Fails, what: &str) {
+    let (word, number) = what.split_once(' ').expect(rt, what);
+    let number = Some(number_of(rt, number));
+    match word {
+        "read" => fails.read = number,
+        "write" => fails.write = number,
+        "journal" => fails.journal = number,
+        _ => {
+            assert_eq!(rt; word, "spool");
+            fails.spool = number;
+        }
+    }
+}
+
+// Whether the last call ended with what a step says; None where it is no such step.
+fn is_met(
+    rt: &impl Abort,
+    alloc: Global,
+    example: &Example<'_>,
+    step: &str,
+    lines: &str,
+) -> Result<Option<bool>, Fail> {
+    let ended = &example.ended;
+    let (word, rest) = step.split_once(' ').unwrap_or((step, ""));
+    Ok(Some(match word {
+        "ends" => {
+            u64::from(ended.number) == number_of(rt, rest)
+                && ended.line.as_slice() == lines.as_bytes()
+                && (ended.number == 0 || ended.text.is_empty())
+        }
+        "prints" => ended.text.as_slice() == text_of(alloc, lines)?.as_bytes(),
+        "prints-lines" => {
+            let count = ended.text.iter().filter(|byte| **byte == b'\n').count();
+            count as u64 == number_of(rt, rest)
+        }
+        "journal-length" => ended.journal.len() as u64 == number_of(rt, rest),
+        "journal-at" => {
+            let mut bytes = Vec::new(alloc);
+            change_bytes(rt, alloc, &mut bytes, lines)?;
+            match ended.journal.get(number_of(rt, rest) as usize..) {
+                Some(found) => found.starts_with(&bytes),
+                None => false,
+            }
+        }
+        "spool-text" => ended.spool.as_slice() == lines.as_bytes(),
+        "disks-stay" => example.stayed,
+        _ => return Ok(None),
+    }))
+}
+
+// Takes in what a step gives or does.
+fn take<'a, Rt: Abort + Threads + Wait + Sync>(
+    rt: &Rt,
+    alloc: Global,
+    example: &mut Example<'a>,
+    step: &'a str,
+    lines: &'a str,
+) -> Result<(), Fail> {
+    let (word, rest) = step.split_once(' ').unwrap_or((step, ""));
+    match word {
+        "setup" => example.given.setup = lines,
+        "script" => example.given.records = lines,
+        "clock" => example.given.clock = lines,
+        "table" => example.given.table = lines,
+        "clock-file" => example.given.clock_file = rest,
+        "moment" => example.given.has_moment = true,
+        "fails" => fail(rt, &mut example.given.fails, rest),
+        "journal" => change_bytes(rt, alloc, &mut example.ended.journal, lines)?,
+        "spool" => change_bytes(rt, alloc, &mut example.ended.spool, lines)?,
+        "run" => {
+            example.given.words = RUN;
+            do_call(rt, alloc, example)?;
+        }
+        _ => {
+            assert_eq!(rt; word, "call");
+            example.given.words = rest;
+            do_call(rt, alloc, example)?;
+        }
+    }
+    Ok(())
+}
+
+// Does each step of an example.
+fn check_example<Rt: Abort + Threads + Wait + Sync>(
+    rt: &Rt,
+    alloc: Global,
+    text: &str,
+) -> Result<(), Fail> {
+    let (shows, steps) = text.split_once("\n== ").expect(rt, text);
+    let mut example = begun(alloc);
+    for step in steps.split("== ") {
+        let (step, lines) = step.split_once('\n').expect(rt, step);
+        match is_met(rt, alloc, &example, step, lines)? {
+            Some(met) => {
+                let ended = &example.ended;
+                let text = str::from_utf8(&ended.text);
+                let line = str::from_utf8(&ended.line);
+                let number = ended.number;
+                assert!(rt;
+                    met,
+                    "{shows}: {step}: {lines:?}, and not {number} {line:?} {text:?}"
+                );
+            }
+            None => take(rt, alloc, &mut example, step, lines)?,
+        }
+    }
+    Ok(())
+}
+
+pub(crate) fn check_examples<Rt: Abort + Threads + Wait + Sync>(
+    rt: &Rt,
+    alloc: Global,
+    examples: &str,
+) -> Result<(), Fail> {
+    for example in examples.split("=====\n") {
+        check_example(rt, alloc, example)?;
+    }
+    Ok(())
+}
