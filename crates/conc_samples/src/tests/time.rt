@@ -138,13 +138,50 @@ fn manager(rt: &impl Abort, alloc: Global, shifts: &[Shift]) -> Result<Manager, 
     })
 }
 
+// So many seconds after the Monday begins, a manager with these shifts has so many places.
+fn has_places(
+    rt: &impl Abort,
+    alloc: Global,
+    shifts: &[Shift],
+    rows: &[(u32, u32)],
+) -> Result<(), NoMemory>
+    requires { length shifts.now ≤ 64 }
+{
+    let manager = manager(rt, alloc, shifts)?;
+    for (after, want) in rows {
+        let seconds = u64::from(MONDAY) * u64::from(DAY) + u64::from(*after);
+        same_at(rt, places(&manager, Moment { seconds }), *want, *after);
+    }
+    Ok(())
+}
+
 #[test]
 fn counts_places(rt: HostRuntime) -> Result<(), Fail> {
+    let alloc = rt.alloc();
+    has_places(&rt, alloc, &[], &[(0, 1)])?;
     let worked = [shift(None, 0, Some((NINE, FIVE)), 1)];
+    let rows = [(NINE - 1, 0), (NINE, 1), (FIVE - 1, 1), (FIVE, 0)];
+    has_places(&rt, alloc, &worked, &rows)?;
     let closed = [
         shift(None, ON_MONDAYS, None, 3),
         shift(Some(MONDAY), 0, None, 0),
     ];
+    let rows = [(TEN, 0), (DAY + TEN, 0), (7 * DAY + TEN, 3)];
+    has_places(&rt, alloc, &closed, &rows)?;
+    let equals = [
+        shift(None, 0, Some((NINE, NOON)), 5),
+        shift(None, 0, Some((NINE, FIVE)), 2),
+    ];
+    has_places(&rt, alloc, &equals, &[(TEN, 5), (NOON, 2)])?;
+    let late = [shift(None, 0, Some((NOON, DAY)), 4)];
+    has_places(&rt, alloc, &late, &[(DAY - 1, 4), (DAY, 0)])?;
+    Ok(())
+}
+
+// Each shift goes before those in front of it.
+#[test]
+fn counts_places_by_the_nearest_shift(rt: HostRuntime) -> Result<(), Fail> {
+    let alloc = rt.alloc();
     let levels = [
         shift(None, 0, None, 6),
         shift(None, 0, Some((NINE, FIVE)), 5),
@@ -153,36 +190,9 @@ fn counts_places(rt: HostRuntime) -> Result<(), Fail> {
         shift(Some(MONDAY), 0, None, 2),
         shift(Some(MONDAY), 0, Some((NINE, FIVE)), 1),
     ];
-    let equals = [
-        shift(None, 0, Some((NINE, NOON)), 5),
-        shift(None, 0, Some((NINE, FIVE)), 2),
-    ];
-    let late = [shift(None, 0, Some((NOON, DAY)), 4)];
-    for (shifts, after, want) in [
-        (&levels[..0], 0, 1),
-        (&worked[..], NINE - 1, 0),
-        (&worked[..], NINE, 1),
-        (&worked[..], FIVE - 1, 1),
-        (&worked[..], FIVE, 0),
-        (&closed[..], TEN, 0),
-        (&closed[..], DAY + TEN, 0),
-        (&closed[..], 7 * DAY + TEN, 3),
-        (&levels[..1], TEN, 6),
-        (&levels[..2], TEN, 5),
-        (&levels[..3], TEN, 4),
-        (&levels[..4], TEN, 3),
-        (&levels[..5], TEN, 2),
-        (&levels[..], TEN, 1),
-        (&levels[..], DAY + TEN, 5),
-        (&levels[..], DAY, 6),
-        (&equals[..], TEN, 5),
-        (&equals[..], NOON, 2),
-        (&late[..], DAY - 1, 4),
-        (&late[..], DAY, 0),
-    ] {
-        let manager = manager(&rt, rt.alloc(), shifts)?;
-        let seconds = u64::from(MONDAY) * u64::from(DAY) + u64::from(after);
-        same(&rt, places(&manager, Moment { seconds }), want);
+    for (count, want) in [(1, 6), (2, 5), (3, 4), (4, 3), (5, 2), (6, 1)] {
+        has_places(&rt, alloc, &levels[..count], &[(TEN, want)])?;
     }
+    has_places(&rt, alloc, &levels, &[(DAY + TEN, 5), (DAY, 6)])?;
     Ok(())
 }
