@@ -1,9 +1,9 @@
 -- The least turn of those that may be let, class by class.
-use Rattle.std.proofs.Common.{◌≡◌, ℕ, ◌+◌, ◌%◌, ◌<◌, ◌≤◌, Bool, true, false, ◌&&◌, ◌||◌, ◌==◌, nat_lt, [], length, Option, None, Some, refl, sym, ◌∙◌, ap, arith}
+use Rattle.std.proofs.Common.{◌≡◌, ℕ, ◌+◌, ◌%◌, ◌<◌, ◌≤◌, Bool, true, false, ◌&&◌, ◌||◌, ◌==◌, nat_lt, List, get_or, length, Option, None, Some, refl, sym, ◌∙◌, ap, arith}
 use Rattle.std.specs.Prelude.{slice_get, unwrap_or}
-use Rattle.std.specs.Option.{option_and_then}
 use Rattle.std.proofs.lemmas.Bool.{and_left, and_parts, both_ways, lt-ltb}
 use Rattle.std.proofs.lemmas.Bool.Decides.{nat_tests}
+use Rattle.std.proofs.lemmas.List.FromFn.{get_or-map-range_with_len, length-map-range_with_len}
 use Rattle.conc_types.specs.declared.facts.Standing.{Standing}
 use Rattle.conc_types.specs.declared.plan.Plan.{Plan}
 use Rattle.conc_types.specs.declared.plan.Req.{Req}
@@ -30,10 +30,14 @@ use Rattle.conc_queue.proofs.LeastTurns.{least-filter, least-or, least_of-none}
 -- ---- what is kept of a class
 
 pub ready-kept : (plan : Plan) (classes : Classes) (s : Standing) (lets : Lets) → AreLets plan classes s lets → (c : ℕ) → c < length classes.sizes
-    → unwrap_or (slice_get lets.ready.items c) [] ≡ turns_of (is_ready plan s) (of_class plan classes c)
-ready-kept plan classes s lets are c within =
-    ap (λ l. unwrap_or (slice_get l c) []) are.ready
-    ∙ ap (λ o. unwrap_or o []) (map_range-get (λ d. turns_of (is_ready plan s) (of_class plan classes d)) 0 (length classes.sizes) c c (omega arith) within)
+    → (d : List (Option ℕ)) → get_or lets.ready.items c d ≡ turns_of (is_ready plan s) (of_class plan classes c)
+ready-kept plan classes s lets are c within d =
+    ap (λ l. get_or l c d) are.ready
+    ∙ get_or-map-range_with_len (λ e. turns_of (is_ready plan s) (of_class plan classes e)) 0 (length classes.sizes) c c d within (omega arith)
+
+pub ready-count : (plan : Plan) (classes : Classes) (s : Standing) (lets : Lets) → AreLets plan classes s lets → length lets.ready.items ≡ length classes.sizes
+ready-count plan classes s lets are =
+    ap length are.ready ∙ length-map-range_with_len (λ e. turns_of (is_ready plan s) (of_class plan classes e)) 0 (length classes.sizes)
 
 pub rivals-kept : (plan : Plan) (classes : Classes) (s : Standing) (lets : Lets) → AreLets plan classes s lets → (c : ℕ) → c < length classes.sizes
     → unwrap_or (slice_get lets.rivals c) 0 ≡ live_rivals plan classes s c
@@ -109,14 +113,13 @@ at_turn plan t r h = h
 
 -- so where it is spared
 pub class-first_spared : (plan : Plan) (classes : Classes) (s : Standing) → AreClasses plan classes → (c rivals : ℕ) → rivals ≡ live_rivals plan classes s c
-    → (first : Option ℕ) → first ≡ least (turns_of (is_ready plan s) (of_class plan classes c))
-    → some_and (is_spared plan classes s c rivals) (option_and_then (request_at_turn plan) first) ≡ true → first ≡ turn_in_class plan classes s c
-class-first_spared plan classes s are c rivals e None is h = cc
-class-first_spared plan classes s are c rivals e (Some t) is h =
+    → (t : ℕ) → least (turns_of (is_ready plan s) (of_class plan classes c)) ≡ Some t
+    → some_and (is_spared plan classes s c rivals) (request_at_turn plan t) ≡ true → Some t ≡ turn_in_class plan classes s c
+class-first_spared plan classes s are c rivals e t is h =
     let r : (r : Req) × (request_at_turn plan t ≡ Some r) × (is_spared plan classes s c rivals r ≡ true) = some_and-some (is_spared plan classes s c rivals) (request_at_turn plan t) h in
     let has : Has plan.requests r.0 = (found plan (record { number = t % 32768 }) r.0 (at_turn plan t r.0 r.1)).1 in
     let spared : ((class_at classes r.0 == c) && may_let plan s r.0) ≡ true = sym (spared-may_let plan classes s are c r.0 has) ∙ ap (λ n. is_spared plan classes s c n r.0) (sym e) ∙ r.2 in
-    class-first plan classes s c t r.0 (sym is) r.1 (and_parts _ _ spared).1
+    class-first plan classes s c t r.0 is r.1 (and_parts _ _ spared).1
 
 -- ---- all classes
 
@@ -140,6 +143,16 @@ below-next plan classes s i =
     ∙ sym (least-or (λ r. nat_lt (class_at classes r) i && may_let plan s r) (λ r. (class_at classes r == i) && may_let plan s r) plan.requests)
     ∙ ap least (turns-same (λ r. (nat_lt (class_at classes r) i && may_let plan s r) || ((class_at classes r == i) && may_let plan s r))
     (λ r. nat_lt (class_at classes r) (i + 1) && may_let plan s r) plan.requests (λ r has. below-more (class_at classes r) i (may_let plan s r)))
+
+-- a class of which none is ready changes nothing
+pub below-skip : (plan : Plan) (classes : Classes) (s : Standing) (i : ℕ) → least (turns_of (is_ready plan s) (of_class plan classes i)) ≡ None
+    → turn_below plan classes s i ≡ turn_below plan classes s (i + 1)
+below-skip plan classes s i none =
+    sym (lesser-none (turn_below plan classes s i)) ∙ ap (lesser (turn_below plan classes s i)) (class-none plan classes s i none) ∙ below-next plan classes s i
+  where
+    lesser-none : (o : Option ℕ) → lesser o None ≡ o
+    lesser-none None = refl
+    lesser-none (Some n) = refl
 
 pub below-end : (plan : Plan) (classes : Classes) (s : Standing) → AreClasses plan classes → (i : ℕ) → length classes.sizes ≤ i
     → turn_below plan classes s i ≡ least (turns_of (may_let plan s) plan.requests)

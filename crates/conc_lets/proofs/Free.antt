@@ -11,9 +11,9 @@ use Rattle.conc_types.specs.declared.plan.Req.{Req}
 use Rattle.conc_types.specs.Plans.{request}
 use Rattle.conc_types.specs.Words.{some_and}
 use Rattle.conc_law.specs.Exclusion.{excludes, is_kin}
-use Rattle.conc_law.specs.Next.{blocks, can_run, is_free, is_ready, may_let}
+use Rattle.conc_law.specs.Next.{blocks, is_free, is_ready, may_let}
 use Rattle.conc_law.specs.Plans.{are_exclusive, parent}
-use Rattle.conc_law.specs.Standing.{facts_at, has_come, is_completed, is_live, is_waiting}
+use Rattle.conc_law.specs.Standing.{facts_at, is_live}
 use Rattle.conc_law.specs.Words.{Has, id_eq}
 use Rattle.conc_law.proofs.Numbering.{found, numbered_plan}
 use Rattle.conc_queue.proofs.Maps.{place_of_request, request_at_place}

@@ -1,16 +1,13 @@
 -- What is kept before the first event.
-use Rattle.std.proofs.Common.{◌≡◌, ℕ, Bool, true, false, ◌&&◌, List, [], ◌∷◌, length, map, None, Some, refl, sym, ◌∙◌, ap, inl, inr, arith}
+use Rattle.std.proofs.Common.{◌≡◌, ℕ, Bool, false, List, [], ◌∷◌, length, map, None, Some, refl, sym, ◌∙◌, ap, inl, inr, arith}
 use Rattle.std.specs.Prelude.{slice_get, unwrap_or}
 use Rattle.std.specs.Bool.{then_some}
 use Rattle.std.specs.List.{range_with_len}
 use Rattle.std.proofs.lemmas.Bool.{and_left}
 use Rattle.conc_types.specs.declared.plan.Plan.{Plan}
 use Rattle.conc_types.specs.declared.plan.Req.{Req}
-use Rattle.conc_law.specs.Facts.{completion, current_stage, facts_of, is_entered, is_held, is_let, is_open, running_place, stages_begun, was_started, was_terminated}
-use Rattle.conc_law.specs.Past.{last_life}
-use Rattle.conc_law.specs.Standing.{facts_at, is_live, no_facts, standing}
-use Rattle.conc_law.specs.Words.{Has, is_set}
-use Rattle.conc_law.proofs.FactsAt.{facts_at-standing}
+use Rattle.conc_law.specs.Standing.{is_live, standing}
+use Rattle.conc_law.specs.Words.{Has}
 use Rattle.conc_queue.specs.Least.{vacant}
 use Rattle.conc_queue.specs.Turns.{turn, turns_of}
 use Rattle.conc_classes.specs.Classes.{AreClasses, of_class}

@@ -1,5 +1,5 @@
 -- What is kept of the requests that wait to be let out.
-use Rattle.std.specs.Prelude.{◌≡◌, ℕ, Bool, not, ◌&&◌, ◌<◌, ◌≤◌, nat_le, List, length, map}
+use Rattle.std.specs.Prelude.{◌≡◌, ℕ, Bool, ◌&&◌, ◌<◌, ◌≤◌, nat_le, List, length, map}
 use Rattle.std.specs.List.{filter, range_with_len}
 use Rattle.conc_types.specs.declared.facts.Standing.{Standing}
 use Rattle.conc_types.specs.declared.plan.Plan.{Plan}

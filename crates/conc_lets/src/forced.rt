@@ -1,4 +1,4 @@
-ghost use Rattle.std.specs.Prelude.{◌≡◌, [], slice_get, unwrap_or};
+ghost use Rattle.std.specs.Prelude.{◌≡◌};
 ghost use Rattle.std.specs.Bool.{then_some};
 ghost use Rattle.std.specs.Option.{option_and_then, option_map};
 ghost use Rattle.conc_types.specs.Words.{some_and};
@@ -11,7 +11,7 @@ ghost use Rattle.conc_lets.specs.Forced.{is_spared as is_spared_of};
 use crate::kin::{live_members, live_parents};
 use conc_classes::Classes;
 use conc_decide::{is_ready, let_event};
-use conc_queue::{Queue, lesser, request_at_turn, turn};
+use conc_queue::{lesser, request_at_turn, turn};
 use conc_reach::Spans;
 use conc_types::{Event, Plan, Req, Standing};
 
@@ -59,16 +59,13 @@ pub(crate) fn is_turn_spared(
     standing: &Standing,
     class: u32,
     rivals: u32,
-    turn: Option<u64>,
+    turn: u64,
 ) -> bool
     requires { AreSpans plan.now spans.now }
-    ensures { result ≡ some_and (is_spared_of plan.now classes.now standing.now class rivals) (option_and_then (request_at_turn_of plan.now) turn) }
+    ensures { result ≡ some_and (is_spared_of plan.now classes.now standing.now class rivals) (request_at_turn_of plan.now turn) }
 {
-    match turn {
-        Some(turn) => match request_at_turn(plan, turn) {
-            Some(r) => is_spared(plan, classes, spans, standing, class, rivals, r),
-            None => false,
-        },
+    match request_at_turn(plan, turn) {
+        Some(r) => is_spared(plan, classes, spans, standing, class, rivals, r),
         None => false,
     }
 }
@@ -93,17 +90,6 @@ pub(crate) fn least_spared(
         );
     }
     best
-}
-
-/// The least key of the queue of a class.
-#[tactic(auto, unfolding(conc_queue::specs::Least::least))]
-pub(crate) fn least_of_class(queues: &Vec<Queue>, class: usize) -> Option<u64>
-    ensures { result ≡ least_of (unwrap_or (slice_get queues.now.items class) []) }
-{
-    match queues.get(class) {
-        Some(queue) => queue.least(),
-        None => None,
-    }
 }
 
 /// The let, or open, of the request that has this turn.

@@ -1,8 +1,8 @@
-ghost use Rattle.std.specs.Prelude.{◌≡◌, ◌<◌, [], IfOk, length, slice_get, unwrap_or};
+ghost use Rattle.std.specs.Prelude.{◌≡◌, ◌<◌, [], IfOk, Some, length, slice_get, unwrap_or};
 ghost use Rattle.conc_types.specs.declared.facts.Standing.{Standing};
-ghost use Rattle.conc_law.specs.Next.{forced_let as forced_let_of, may_let};
+ghost use Rattle.conc_law.specs.Next.{forced_let as forced_let_of, is_ready, may_let};
 ghost use Rattle.conc_law.specs.Standing.{standing};
-ghost use Rattle.conc_classes.specs.Classes.{AreClasses};
+ghost use Rattle.conc_classes.specs.Classes.{AreClasses, of_class};
 ghost use Rattle.conc_queue.specs.Least.{least};
 ghost use Rattle.conc_queue.specs.Turns.{turns_of};
 ghost use Rattle.conc_queue.specs.Written.{IsWritten};
@@ -10,7 +10,7 @@ ghost use Rattle.conc_reach.specs.Spans.{AreSpans};
 ghost use Rattle.conc_lets.specs.Forced.{turn_in_class as turn_in_class_of};
 ghost use Rattle.conc_lets.specs.Lets.{AreLets};
 
-use crate::forced::{event_at, is_turn_spared, least_of_class, least_spared};
+use crate::forced::{event_at, is_turn_spared, least_spared};
 use crate::fresh::{vacant_queues, zeros};
 use crate::refresh::refresh_span;
 use crate::renewal::{recount, renew};
@@ -91,8 +91,9 @@ impl Lets {
         self.rivals.as_slice().get(class).copied().unwrap_or(0)
     }
 
-    // The least turn of those of a class that may be let. Where rivals are live and the class spares
-    // kin, it looks at the first ready one, and through all requests only where that one is excluded.
+    // The least turn of those of a class that may be let, where the first that is ready has this turn.
+    // Where rivals are live and the class spares kin, it looks at that one, and through all requests
+    // only where that one is excluded.
     fn turn_in_class(
         &self,
         plan: &Plan,
@@ -100,23 +101,24 @@ impl Lets {
         spans: &Spans,
         standing: &Standing,
         class: u32,
+        first: u64,
     ) -> Option<u64>
         requires classes { AreClasses plan.now classes.now }
         requires spans { AreSpans plan.now spans.now }
         requires stands { AreLets plan.now classes.now standing.now self.now }
         requires within { class < length classes.now.sizes }
+        requires first { least (turns_of (is_ready plan.now standing.now) (of_class plan.now classes.now class)) ≡ Some first }
         ensures { result ≡ turn_in_class_of plan.now classes.now standing.now class }
     {
-        let first = least_of_class(&self.ready, class as usize);
         let rivals = self.rival_count(class as usize);
-        if first.is_none() || rivals == 0 {
-            return first;
+        if rivals == 0 {
+            return Some(first);
         }
         if !classes.spares(class) {
             return None;
         }
         if is_turn_spared(plan, classes, spans, standing, class, rivals, first) {
-            return first;
+            return Some(first);
         }
         least_spared(plan, classes, spans, standing, class, rivals)
     }
@@ -135,8 +137,11 @@ impl Lets {
         ensures { result ≡ least (turns_of (may_let plan.now standing.now) plan.now.requests) }
     {
         let mut best = None;
-        for class in 0..classes.count() {
-            let turn = self.turn_in_class(plan, classes, spans, standing, class as u32);
+        for (class, queue) in self.ready.iter().enumerate() {
+            let Some(first) = queue.least() else {
+                continue;
+            };
+            let turn = self.turn_in_class(plan, classes, spans, standing, class as u32, first);
             best = lesser(best, turn);
         }
         best

@@ -4,7 +4,7 @@ use Rattle.std.proofs.lemmas.Bool.{cases_eq, cases_lt, le-ltb, lt-ltb}
 use Rattle.std.proofs.lemmas.List.{get_or-drop, get_or-set_other, get_or-set_same}
 use Rattle.std.proofs.Math.ListN.{length-set}
 use Rattle.conc_queue.specs.Least.{least, lesser}
-use Rattle.conc_queue.specs.Tournament.{above, IsTournament, IsTournamentBelow, node, played}
+use Rattle.conc_queue.specs.Tournament.{IsTournament, IsTournamentBut, node, played}
 
 -- ---- a write
 
@@ -15,65 +15,52 @@ played-set_other nodes i j key ne pos =
     let right : node (set nodes i key) (j * 2 + 1) ≡ node nodes (j * 2 + 1) = get_or-set_other nodes i (j * 2 + 1) key None (λ (e : j * 2 + 1 ≡ i). ne (omega arith)) in
     cc
 
--- a seat is written: but above it the tournament stays
+-- a seat is written: but at the node above it the tournament stays
 pub seat_written : (seats : ℕ) (nodes : List (Option ℕ)) (seat : ℕ) (key : Option ℕ) → IsTournament seats nodes
-    → IsTournamentBelow seats (set nodes (seats + seat) key) (seats + seat)
+    → IsTournamentBut seats (set nodes (seats + seat) key) ((seats + seat) / 2)
 seat_written seats nodes seat key t = record {
   size = length-set nodes (seats + seat) key ∙ t.size;
-  inner = λ i pos within. elim (cases_eq i ((seats + seat) / 2)) [
-    | inl e ↦ inr (0, e)
-    | inr ne ↦ inl (
-        get_or-set_other nodes (seats + seat) i key None (λ (e : i ≡ seats + seat). absurd (omega arith))
-        ∙ t.inner i pos within
-        ∙ sym (played-set_other nodes (seats + seat) i key ne pos)
-        )
+  inner = λ i pos within ne.
+      get_or-set_other nodes (seats + seat) i key None (λ (e : i ≡ seats + seat). absurd (omega arith))
+      ∙ t.inner i pos within
+      ∙ sym (played-set_other nodes (seats + seat) i key ne pos);
+}
+
+-- a node is made the lesser of its two: then the node above it is perhaps not
+pub settled : (seats : ℕ) (nodes : List (Option ℕ)) (at : ℕ) → 1 ≤ at → at < length nodes → IsTournamentBut seats nodes at
+    → IsTournamentBut seats (set nodes at (played nodes at)) (at / 2)
+settled seats nodes at pos within t = record {
+  size = length-set nodes at (played nodes at) ∙ t.size;
+  inner = λ i from before ne. elim (cases_eq i at) [
+    | inl e ↦
+        let own : node (set nodes at (played nodes at)) at ≡ played nodes at = get_or-set_same nodes at (played nodes at) None within in
+        let same : played (set nodes at (played nodes at)) at ≡ played nodes at =
+        played-set_other nodes at at (played nodes at) (λ (k : at ≡ at / 2). absurd (omega arith)) pos in
+        ap (node (set nodes at (played nodes at))) e ∙ own ∙ sym same ∙ ap (played (set nodes at (played nodes at))) (sym e)
+    | inr other ↦
+        get_or-set_other nodes at i (played nodes at) None other ∙ t.inner i from before other
+        ∙ sym (played-set_other nodes at i (played nodes at) ne from)
   ];
 }
 
--- the node above is made the lesser of its two
-pub settled : (seats : ℕ) (nodes : List (Option ℕ)) (at : ℕ) → 1 < at → at < length nodes → IsTournamentBelow seats nodes at
-    → IsTournamentBelow seats (set nodes (at / 2) (played nodes (at / 2))) (at / 2)
-settled seats nodes at more within t = record {
-  size = length-set nodes (at / 2) (played nodes (at / 2)) ∙ t.size;
-  inner = λ i pos before. elim (cases_eq i (at / 2)) [
+-- where that changes nothing all is settled
+pub settled_before : (seats : ℕ) (nodes : List (Option ℕ)) (at : ℕ) → at < length nodes → set nodes at (played nodes at) ≡ nodes
+    → IsTournamentBut seats nodes at → IsTournament seats nodes
+settled_before seats nodes at within same t = record {
+  size = t.size;
+  inner = λ i pos before. elim (cases_eq i at) [
     | inl e ↦
-        let half : at / 2 < length nodes = omega arith in
-        let own : node (set nodes (at / 2) (played nodes (at / 2))) (at / 2) ≡ played nodes (at / 2) = get_or-set_same nodes (at / 2) (played nodes (at / 2)) None half in
-        let same : played (set nodes (at / 2) (played nodes (at / 2))) (at / 2) ≡ played nodes (at / 2) =
-        played-set_other nodes (at / 2) (at / 2) (played nodes (at / 2)) (λ (k : at / 2 ≡ at / 2 / 2). absurd (omega arith)) (omega arith) in
-        inl (ap (node (set nodes (at / 2) (played nodes (at / 2)))) e ∙ own ∙ sym same ∙ ap (played (set nodes (at / 2) (played nodes (at / 2)))) (sym e))
-    | inr ne ↦ elim (cases_eq i (at / 2 / 2)) [
-      | inl e ↦ inr (0, e)
-      | inr ne' ↦ elim (t.inner i pos before) [
-        | inl right ↦ inl (
-            get_or-set_other nodes (at / 2) i (played nodes (at / 2)) None ne ∙ right
-            ∙ sym (played-set_other nodes (at / 2) i (played nodes (at / 2)) ne' pos)
-            )
-        | inr wrong ↦ inr (further i ne wrong.0 wrong.1)
-      ]
-    ]
+        let own : node nodes at ≡ played nodes at = ap (λ l. node l at) (sym same) ∙ get_or-set_same nodes at (played nodes at) None within in
+        ap (node nodes) e ∙ own ∙ ap (played nodes) (sym e)
+    | inr other ↦ t.inner i pos before other
   ];
-} where
-  further : (i : ℕ) → (i ≡ at / 2 → ⊥) → (k : ℕ) → i ≡ above (suc k) at → (k' : ℕ) × (i ≡ above (suc k') (at / 2))
-  further i ne zero e = absurd (ne e)
-  further i ne (suc k) e = (k, e)
+}
 
--- nothing stands above the first node
-above-first : (k : ℕ) → above k 0 ≡ 0
-above-first zero = refl
-above-first (suc k) = above-first k
-
--- at the first node all is settled
-pub all_settled : (seats : ℕ) (nodes : List (Option ℕ)) (at : ℕ) → at ≤ 1 → IsTournamentBelow seats nodes at → IsTournament seats nodes
+-- above the first node there is none
+pub all_settled : (seats : ℕ) (nodes : List (Option ℕ)) (at : ℕ) → at ≤ 1 → IsTournamentBut seats nodes (at / 2) → IsTournament seats nodes
 all_settled seats nodes at first t = record {
   size = t.size;
-  inner = λ i pos within. elim (t.inner i pos within) [
-    | inl right ↦ right
-    | inr wrong ↦
-        let half : at / 2 ≡ 0 = omega arith in
-        let none : i ≡ 0 = wrong.1 ∙ ap (above wrong.0) half ∙ above-first wrong.0 in
-        absurd (omega arith)
-  ];
+  inner = λ i pos within. t.inner i pos within (λ (e : i ≡ at / 2). absurd (omega arith));
 }
 
 -- ---- the lesser of two

@@ -1,5 +1,5 @@
 -- Keys as the leaves of a tree of which each inner node is the lesser of the two below it.
-use Rattle.std.specs.Prelude.{◌≡◌, ℕ, zero, suc, ◌+◌, ◌*◌, ◌/◌, ◌<◌, ◌≤◌, ◌⊎◌, List, length, slice_index_or, Option, None}
+use Rattle.std.specs.Prelude.{◌≡◌, ℕ, ◌+◌, ◌*◌, ◌<◌, ◌≤◌, List, length, slice_index_or, Option, None}
 use Rattle.conc_queue.specs.Least.{lesser}
 
 -- the key of a node
@@ -15,12 +15,7 @@ pub record IsTournament (seats : ℕ) (nodes : List (Option ℕ)) : Type 0 where
   pub size : length nodes ≡ seats * 2
   pub inner : (i : ℕ) → 1 ≤ i → i < seats → node nodes i ≡ played nodes i
 
--- the node so many steps above a node
-abbrev pub above : ℕ → ℕ → ℕ
-above zero i = i
-above (suc k) i = above k (i / 2)
-
--- each node before the seats is the lesser of the two below it, but perhaps those above the node at
-pub record IsTournamentBelow (seats : ℕ) (nodes : List (Option ℕ)) (at : ℕ) : Type 0 where
+-- the same, but perhaps for one node
+pub record IsTournamentBut (seats : ℕ) (nodes : List (Option ℕ)) (one : ℕ) : Type 0 where
   pub size : length nodes ≡ seats * 2
-  pub inner : (i : ℕ) → 1 ≤ i → i < seats → (node nodes i ≡ played nodes i) ⊎ ((k : ℕ) × (i ≡ above (suc k) at))
+  pub inner : (i : ℕ) → 1 ≤ i → i < seats → (i ≡ one → ⊥) → node nodes i ≡ played nodes i

@@ -1,6 +1,6 @@
-ghost use Rattle.std.specs.Prelude.{◌≡◌, ◌↔◌, ◌+◌, ◌*◌, ◌<◌, [], IfOk, IsTrue, drop, length, slice_set};
+ghost use Rattle.std.specs.Prelude.{◌≡◌, ◌↔◌, ◌+◌, ◌*◌, ◌/◌, ◌<◌, [], IfOk, IsTrue, true, drop, length, slice_set};
 ghost use Rattle.conc_queue.specs.Least.{least as least_of, lesser as lesser_of, vacant};
-ghost use Rattle.conc_queue.specs.Tournament.{IsTournament, IsTournamentBelow, played};
+ghost use Rattle.conc_queue.specs.Tournament.{IsTournament, IsTournamentBut, played};
 
 use conc_types::NoMemory;
 use std::alloc::Global;
@@ -43,7 +43,7 @@ impl Queue {
     }
 
     /// Gives a seat this key, or none. It takes no memory, and a time that grows with the logarithm
-    /// of the number of seats.
+    /// of the number of seats where the least key changes, and less elsewhere.
     #[tactic(auto, using(crate::proofs::Tournaments::seat_written))]
     pub fn put(&mut self, seat: usize, key: Option<u64>)
         requires { seat < length self.old }
@@ -92,25 +92,33 @@ pub fn lesser(a: Option<u64>, b: Option<u64>) -> Option<u64>
     }
 }
 
-/// Makes a node the lesser of the two below it.
-fn settle(nodes: &mut [Option<u64>], node: usize)
+// Makes a node the lesser of the two below it, and says whether it was that before.
+fn settle(nodes: &mut [Option<u64>], node: usize) -> bool
     requires { node * 2 + 1 < length nodes.old }
-    ensures { nodes.new ≡ slice_set nodes.old node (played nodes.old node) }
+    ensures settled { nodes.new ≡ slice_set nodes.old node (played nodes.old node) }
+    ensures same { result ≡ true → nodes.new ≡ nodes.old }
 {
-    nodes[node] = lesser(nodes[node * 2], nodes[node * 2 + 1]);
+    let key = lesser(nodes[node * 2], nodes[node * 2 + 1]);
+    if nodes[node] == key {
+        return true;
+    }
+    nodes[node] = key;
+    false
 }
 
-/// Makes each node above this one the lesser of the two below it.
+// Makes each node above this one the lesser of the two below it, up to the first that was that before.
 fn settle_above(nodes: &mut [Option<u64>], seats: usize, node: usize)
     requires positive { 0 < node }
     requires within { node < length nodes.old }
-    requires below { IsTournamentBelow seats nodes.old node }
+    requires below { IsTournamentBut seats nodes.old (node / 2) }
     ensures all { IsTournament seats nodes.new }
     ensures same_seats { drop seats nodes.new ≡ drop seats nodes.old }
 {
     let mut at = node;
     while at > 1 {
         at /= 2;
-        settle(nodes, at);
+        if settle(nodes, at) {
+            return;
+        }
     }
 }
