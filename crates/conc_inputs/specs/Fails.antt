@@ -7,7 +7,7 @@ use Rattle.conc_outside.specs.Files.{file_named, Files, Lacks, ShelfState}
 use Rattle.conc_inputs.specs.declared.fail.InputFail.{InputFail}
 use Rattle.conc_inputs.specs.declared.fail.InputFail.TheVariants as input
 use Rattle.conc_inputs.specs.Given.{HasScript, is_system, IsNext, Names, Sources, told_by}
-use Rattle.conc_inputs.specs.Refusals.{IsRefused}
+use Rattle.conc_inputs.specs.Refusals.{IsInputRefused}
 
 -- ---- reading the files
 
@@ -44,7 +44,7 @@ pub record IsClockFault (old new : Sources) (names : Names) : Type 0 where
 
 -- The reading, old before and new after it, ended for this cause. Want of memory is the one that needs none
 abbrev pub StopsAt : Sources → Sources → Names → InputFail → Type 0
-StopsAt old new names (input.Refused refusal name) = IsRefused (told_by old new) names refusal name
+StopsAt old new names (input.Refused refusal name) = IsInputRefused (told_by old new) names refusal name
 StopsAt old new names (input.Absent name) = IsAbsent old new names name
 StopsAt old new names (input.ReadFault name) = IsReadFault old new names name
 StopsAt old new names input.ClockFault = IsClockFault old new names

@@ -44,5 +44,5 @@ pub record IsPlanRefused (told : Told) (names : Names) (refusal : Refusal) (name
   pub fault : plan_fault files.before.before.before.setup files.before.before.script.commands tables ≡ Some (refusal.file, (refusal.line, refusal.kind))
   pub named : name ≡ name_of names.setup names.script refusal.file
 
-abbrev pub IsRefused : Told → Names → Refusal → List ℕ → Type 0
-IsRefused told names refusal name = IsFileRefused told names refusal name ⊎ IsPlanRefused told names refusal name
+abbrev pub IsInputRefused : Told → Names → Refusal → List ℕ → Type 0
+IsInputRefused told names refusal name = IsFileRefused told names refusal name ⊎ IsPlanRefused told names refusal name

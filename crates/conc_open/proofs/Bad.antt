@@ -9,7 +9,7 @@ use Rattle.conc_law.specs.Kinds.{extent_length}
 use Rattle.conc_law.specs.Law.{Past}
 use Rattle.conc_law.proofs.Numbering.{numbered-at}
 use Rattle.conc_law.proofs.Positions.{slice_get-some}
-use Rattle.conc_restart.specs.FirstBad.{IsFirstBad}
+use Rattle.conc_restart.specs.FirstBad.{IsFirstUnlawful}
 use Rattle.conc_work.specs.Judging.{EndsPast, EndWithin, IsBadRecord}
 use Rattle.conc_open.specs.Extents.{counted, IsFirstPast}
 use Rattle.conc_open.specs.Listing.{IsBadEvent}
@@ -55,7 +55,7 @@ bad-past plan len events broken (suc n) first past =
     ]
 
 -- the first that may not follow is bad, where the extents of those before it end within the spool
-pub bad-first : (plan : Plan) (len : ℕ) (events : List Event) (broken : Option ℕ) (number : ℕ) → IsFirstBad plan events number → front (number - 1) events ≤ len → IsBadRecord plan len events broken number
+pub bad-first : (plan : Plan) (len : ℕ) (events : List Event) (broken : Option ℕ) (number : ℕ) → IsFirstUnlawful plan events number → front (number - 1) events ≤ len → IsBadRecord plan len events broken number
 bad-first plan len events broken number first fits = record {
   bad = inr (inl first);
   past = first.before;
@@ -63,7 +63,7 @@ bad-first plan len events broken number first fits = record {
 }
 
 -- the lesser of the two is bad
-pub bad-least : (plan : Plan) (len : ℕ) (events : List Event) (broken : Option ℕ) (position past number : ℕ) → IsFirstPast len events past → IsFirstBad plan events position → number ≡ min position past
+pub bad-least : (plan : Plan) (len : ℕ) (events : List Event) (broken : Option ℕ) (position past number : ℕ) → IsFirstPast len events past → IsFirstUnlawful plan events position → number ≡ min position past
     → IsBadRecord plan len events broken number
 bad-least plan len events broken position past number first refused is = elim (cases_lt past position) [
   | inl less ↦
@@ -75,7 +75,7 @@ bad-least plan len events broken position past number first refused is = elim (c
 ]
 
 -- where the spool has all extents, the first that may not follow is bad
-pub bad-only : (plan : Plan) (len : ℕ) (events : List Event) (broken : Option ℕ) (position : ℕ) → IsFirstBad plan events position → counted events ≤ len → IsBadRecord plan len events broken position
+pub bad-only : (plan : Plan) (len : ℕ) (events : List Event) (broken : Option ℕ) (position : ℕ) → IsFirstUnlawful plan events position → counted events ≤ len → IsBadRecord plan len events broken position
 bad-only plan len events broken position refused all =
     bad-first plan len events broken position refused
     (omega (arith, front-within (position - 1) events, used-few plan (take (position - 1) events) refused.before))
@@ -93,7 +93,7 @@ bad-broken plan len events number past all = record {
 -- ---- of a list alone
 
 -- the first that may not follow is bad
-pub event-first : (plan : Plan) (events : List Event) (broken : Option ℕ) (number : ℕ) → IsFirstBad plan events number → IsBadEvent plan events broken number
+pub event-first : (plan : Plan) (events : List Event) (broken : Option ℕ) (number : ℕ) → IsFirstUnlawful plan events number → IsBadEvent plan events broken number
 event-first plan events broken number first = record { bad = inr first; past = first.before }
 
 -- and where all may follow, a broken record is

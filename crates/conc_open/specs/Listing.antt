@@ -6,7 +6,7 @@ use Rattle.conc_outside.specs.Counts.{Rose}
 use Rattle.conc_disk.specs.Disk.{DiskState}
 use Rattle.conc_law.specs.Law.{Past}
 use Rattle.conc_journal.specs.Opens.{broken_of, events_of, may_open}
-use Rattle.conc_restart.specs.FirstBad.{IsFirstBad}
+use Rattle.conc_restart.specs.FirstBad.{IsFirstUnlawful}
 use Rattle.conc_work.specs.Causes.{IsOther}
 use Rattle.conc_work.specs.Handed.{IsOwnJournal}
 use Rattle.conc_work.specs.declared.fail.Stopped.{Stopped}
@@ -22,7 +22,7 @@ pub record IsListed (plan : Plan) (digest : List ℕ) (disk : DiskState) (events
 
 -- the record with this number, from 1, is broken, or its event may not follow; and each event before it may
 pub record IsBadEvent (plan : Plan) (events : List Event) (broken : Option ℕ) (number : ℕ) : Type 0 where
-  pub bad : (broken ≡ Some number) ⊎ IsFirstBad plan events number
+  pub bad : (broken ≡ Some number) ⊎ IsFirstUnlawful plan events number
   pub past : Past plan (take (number - 1) events)
 
 -- an event is bad, or there is no memory

@@ -11,7 +11,7 @@ use Rattle.conc_law.proofs.Positions.{reverse-push, take-suc_at}
 use Rattle.conc_law.proofs.Prefixes.{is_past-prefix}
 use Rattle.conc_machine.specs.Stands.{plan_of, readings_of, Stands}
 use Rattle.conc_machine.specs.declared.machine.Machine.{Machine}
-use Rattle.conc_restart.specs.FirstBad.{IsFirstBad}
+use Rattle.conc_restart.specs.FirstBad.{IsFirstUnlawful}
 
 -- the machine of the plan stands for the first n events, each of which may follow those before it
 pub record HasRead (plan : Plan) (events : List Event) (machine : Machine) (n : ℕ) : Type 0 where
@@ -53,7 +53,7 @@ read_more plan events old new n e h here may same unknown stands =
 
 -- an event that may not follow is the first that may not
 pub read_bad : (plan : Plan) (events : List Event) (machine : Machine) (n : ℕ) (e : Event) → HasRead plan events machine n → slice_get events n ≡ Some e
-    → may_follow (plan_of machine) (readings_of machine) (reverse (take n events)) e ≡ false → IsFirstBad plan events (n + 1)
+    → may_follow (plan_of machine) (readings_of machine) (reverse (take n events)) e ≡ false → IsFirstUnlawful plan events (n + 1)
 read_bad plan events machine n e h here may =
     let place : n + 1 - 1 ≡ n = omega arith in
     record {
@@ -64,7 +64,7 @@ read_bad plan events machine n e h here may =
     }
 
 -- no list with an event that may not follow is one whose events all may
-pub bad-not_past : (plan : Plan) (events : List Event) (position : ℕ) → IsFirstBad plan events position → Past plan events → ⊥
+pub bad-not_past : (plan : Plan) (events : List Event) (position : ℕ) → IsFirstUnlawful plan events position → Past plan events → ⊥
 unfolding is_past
 bad-not_past plan events zero h past = let none : None ≡ Some h.bad = h.there in cc
 bad-not_past plan events (suc n) h past =

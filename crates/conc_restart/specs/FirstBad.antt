@@ -9,13 +9,13 @@ use Rattle.conc_types.specs.declared.error.CheckFail.TheVariants as fail
 
 -- the event at this position, counted from 1, may not follow those before it, and each of those may follow the ones
 -- before it. Every life is judged as an earlier one
-pub record IsFirstBad (plan : Plan) (events : List Event) (position : ℕ) : Type 0 where
+pub record IsFirstUnlawful (plan : Plan) (events : List Event) (position : ℕ) : Type 0 where
   pub bad : Event
   pub there : numbered events position ≡ Some bad
   pub before : Past plan (take (position - 1) events)
   pub refused : IsFalse (may_follow plan None (reverse (take (position - 1) events)) bad)
 
 -- the failure names that position, or there is no memory
-abbrev pub IsRefused : Plan → List Event → CheckFail → Type 0
-IsRefused plan events (fail.Unlawful position) = IsFirstBad plan events position
-IsRefused plan events fail.NoMemory = ⊤
+abbrev pub IsListRefused : Plan → List Event → CheckFail → Type 0
+IsListRefused plan events (fail.Unlawful position) = IsFirstUnlawful plan events position
+IsListRefused plan events fail.NoMemory = ⊤

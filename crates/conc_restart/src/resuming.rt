@@ -2,7 +2,7 @@ ghost use Rattle.std.specs.Prelude.{◌≡◌, IfErr, IfOk, None, reverse};
 ghost use Rattle.conc_law.specs.Law.{Past};
 ghost use Rattle.conc_machine.specs.Stands.{plan_of, readings_of, Stands};
 ghost use Rattle.conc_types.specs.declared.error.CheckFail.TheVariants as fail;
-ghost use Rattle.conc_restart.specs.FirstBad.{IsRefused};
+ghost use Rattle.conc_restart.specs.FirstBad.{IsListRefused};
 
 use conc_machine::Machine;
 use conc_types::{CheckFail, Event, Plan};
@@ -17,7 +17,7 @@ pub fn resume<'p>(alloc: Global, plan: &'p Plan, events: &[Event]) -> Result<Mac
     ensures stands { IfOk result (λ machine. Stands machine (reverse events.now)) }
     ensures past { IfOk result (λ machine. Past plan.now events.now) }
 
-    ensures unlawful { IfErr result (IsRefused plan.now events.now) }
+    ensures unlawful { IfErr result (IsListRefused plan.now events.now) }
     // A list whose events may all follow is refused only for want of memory.
     ensures lawful { Past plan.now events.now → IfErr result (λ e. e ≡ fail.NoMemory) }
 {

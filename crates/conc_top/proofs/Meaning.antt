@@ -19,7 +19,7 @@ use Rattle.conc_top.specs.Answers.{Around, IsUnplanned}
 use Rattle.conc_top.specs.Checks.{CheckEnds, IsJudged, IsVerdictText}
 use Rattle.conc_top.specs.Meaning.{Means}
 use Rattle.conc_top.specs.Printing.{Sunk, TookNothing}
-use Rattle.conc_top.specs.Shows.{IsUntouched}
+use Rattle.conc_top.specs.Shows.{IsDiskUntouched}
 use Rattle.conc_top.specs.Ways.{exit_for_input}
 use Rattle.conc_words.specs.Words.{command_of}
 use Rattle.conc_words.specs.declared.command.Command.{Command}
@@ -54,7 +54,7 @@ untouched journal spool = record {
   spool_survives = leaves-as spool.seen spool refl;
 }
 
-pub untouched-beside : (old new spool : DiskState) → IsUntouched old new → AreUntouched (disks old new spool spool)
+pub untouched-beside : (old new spool : DiskState) → IsDiskUntouched old new → AreUntouched (disks old new spool spool)
 untouched-beside old new spool journal = record {
   journal = journal.stays;
   journal_survives = journal.survives;

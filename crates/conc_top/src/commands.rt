@@ -8,7 +8,7 @@ ghost use Rattle.conc_work.specs.Disks.{AreUntouched, disks};
 ghost use Rattle.conc_top.specs.Answers.{around};
 ghost use Rattle.conc_top.specs.Meaning.{MeansCheck, MeansMake, MeansOutput, MeansPlan, MeansRun, MeansStatus};
 ghost use Rattle.conc_top.specs.Printing.{sunk};
-ghost use Rattle.conc_top.specs.Shows.{IsUntouched};
+ghost use Rattle.conc_top.specs.Shows.{IsDiskUntouched};
 
 use crate::Exit;
 use crate::checking::check_files;
@@ -109,7 +109,7 @@ pub fn show_status<F: Shelf, O: Sink, D: Disk>(
     ensures means { (clock : ClockState) → MeansStatus (command_of (map string_bytes words.now))
         (around (F.state shelf.old) (F.state shelf.new) clock clock (sunk (O.taken out.old) (O.taken out.new) (O.faults out.old) (O.faults out.new)))
         (D.state journal.old) (D.state journal.new) result }
-    ensures untouched { IsUntouched (D.state journal.old) (D.state journal.new) }
+    ensures untouched { IsDiskUntouched (D.state journal.old) (D.state journal.new) }
 {
     match read_command(alloc, words) {
         Ok(Some(Command::Status { setup, script })) => {

@@ -5,7 +5,7 @@ ghost use Rattle.conc_inputs.specs.Given.{named};
 ghost use Rattle.conc_work.specs.Disks.{AreUntouched, disks};
 ghost use Rattle.conc_top.specs.Answers.{AnswersOutput, AnswersPlan, AnswersStatus, around};
 ghost use Rattle.conc_top.specs.Printing.{Prints, sunk};
-ghost use Rattle.conc_top.specs.Shows.{IsUntouched, OutputEnds, StatusEnds};
+ghost use Rattle.conc_top.specs.Shows.{IsDiskUntouched, OutputEnds, StatusEnds};
 ghost use Rattle.conc_top.specs.Ways.{exit_for_text as exit_for_text_of};
 
 use crate::Exit;
@@ -59,7 +59,7 @@ fn print_table<O: Sink, D: Disk>(
 ) -> Exit
     ensures ends { StatusEnds plan.now digest.now (D.state journal.old) (D.state journal.new)
         (sunk (O.taken out.old) (O.taken out.new) (O.faults out.old) (O.faults out.new)) result }
-    ensures untouched { IsUntouched (D.state journal.old) (D.state journal.new) }
+    ensures untouched { IsDiskUntouched (D.state journal.old) (D.state journal.new) }
 {
     let events = match read_list(alloc, plan, digest, journal) {
         Ok(events) => events,
@@ -84,7 +84,7 @@ pub(crate) fn show_table<F: Shelf, O: Sink, D: Disk>(
     ensures answers { (clock : ClockState) → AnswersStatus (named setup script None)
         (around (F.state shelf.old) (F.state shelf.new) clock clock (sunk (O.taken out.old) (O.taken out.new) (O.faults out.old) (O.faults out.new)))
         (D.state journal.old) (D.state journal.new) result }
-    ensures untouched { IsUntouched (D.state journal.old) (D.state journal.new) }
+    ensures untouched { IsDiskUntouched (D.state journal.old) (D.state journal.new) }
 {
     match accept(alloc, shelf, setup, script) {
         Ok(accepted) => print_table(alloc, &accepted.plan, &accepted.digest, out, journal),

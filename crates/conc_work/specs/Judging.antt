@@ -8,7 +8,7 @@ use Rattle.conc_types.specs.declared.event.RequestId.{RequestId}
 use Rattle.conc_types.specs.declared.plan.Plan.{Plan}
 use Rattle.conc_types.specs.Words.{numbered}
 use Rattle.conc_law.specs.Law.{Past}
-use Rattle.conc_restart.specs.FirstBad.{IsFirstBad}
+use Rattle.conc_restart.specs.FirstBad.{IsFirstUnlawful}
 
 -- each extent of these events ends within so many bytes
 abbrev pub EndWithin : ℕ → List Event → Type 0
@@ -34,6 +34,6 @@ pub record AreGood (plan : Plan) (len : ℕ) (events : List Event) (broken : Opt
 -- the record with this number, from 1, is broken, or its event may not follow, or its extent ends past the spool; and
 -- none before it is so
 pub record IsBadRecord (plan : Plan) (len : ℕ) (events : List Event) (broken : Option ℕ) (number : ℕ) : Type 0 where
-  pub bad : (broken ≡ Some number) ⊎ (IsFirstBad plan events number ⊎ EndsPast len events number)
+  pub bad : (broken ≡ Some number) ⊎ (IsFirstUnlawful plan events number ⊎ EndsPast len events number)
   pub past : Past plan (take (number - 1) events)
   pub within : EndWithin len (take (number - 1) events)

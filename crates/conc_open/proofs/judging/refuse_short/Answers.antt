@@ -1,5 +1,5 @@
 use Rattle.std.proofs.Common.{subst, sym, ◌∙◌, ap, min, ℕ}
-use Rattle.conc_restart.specs.FirstBad.{IsRefused as IsListRefused}
+use Rattle.conc_restart.specs.FirstBad.{IsListRefused}
 use Rattle.conc_open.specs.Hindered.{IsRefused}
 use Rattle.conc_open.proofs.Bad.{bad-least, bad-past}
 use Rattle.conc_open.proofs.Counting.{past-take}
