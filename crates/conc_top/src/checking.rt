@@ -1,4 +1,5 @@
 ghost use Rattle.std.specs.Prelude.{◌≡◌, IfOk, Some};
+ghost use Rattle.conc_outside.specs.Files.{IsLater};
 ghost use Rattle.conc_inputs.specs.Given.{named};
 ghost use Rattle.conc_top.specs.Answers.{AnswersCheck, around};
 ghost use Rattle.conc_top.specs.Checks.{CheckEnds, finished_word as finished_word_of, verdict_text};
@@ -44,8 +45,9 @@ fn judge_and_print<F: Shelf, O: Sink>(
     out: &mut O,
     history: &Name,
 ) -> Exit
-    ensures { CheckEnds (record { plan = plan.now; readings = readings.now.list; name = history.now; before = F.state shelf.old; after = F.state shelf.new })
+    ensures ends { CheckEnds (record { plan = plan.now; readings = readings.now.list; name = history.now; before = F.state shelf.old; after = F.state shelf.new })
         (sunk (O.taken out.old) (O.taken out.new) (O.faults out.old) (O.faults out.new)) result }
+    ensures later { IsLater (F.state shelf.old) (F.state shelf.new) }
 {
     let bytes = match read_file(alloc, shelf, history) {
         Ok(bytes) => bytes,
@@ -74,8 +76,9 @@ pub(crate) fn check_files<F: Shelf, O: Sink, C: Clock>(
     file: Name,
     history: Name,
 ) -> Exit
-    ensures { AnswersCheck (named setup script (Some file)) history
+    ensures answers { AnswersCheck (named setup script (Some file)) history
         (around (F.state shelf.old) (F.state shelf.new) (C.state clock.old) (C.state clock.new) (sunk (O.taken out.old) (O.taken out.new) (O.faults out.old) (O.faults out.new))) result }
+    ensures later { IsLater (F.state shelf.old) (F.state shelf.new) }
 {
     let (accepted, readings) = match accept_timed(alloc, shelf, clock, setup, script, file) {
         Ok(given) => given,

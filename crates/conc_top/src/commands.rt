@@ -3,6 +3,7 @@
 ghost use Rattle.std.specs.Prelude.{map};
 ghost use Rattle.std.specs.String.{string_bytes};
 ghost use Rattle.conc_clock.specs.Clocks.{ClockState};
+ghost use Rattle.conc_outside.specs.Files.{IsLater};
 ghost use Rattle.conc_words.specs.Words.{command_of};
 ghost use Rattle.conc_work.specs.Disks.{AreUntouched, disks};
 ghost use Rattle.conc_top.specs.Answers.{around};
@@ -32,9 +33,10 @@ pub fn run_plain<F: Shelf, O: Sink, D: Disk, E: Disk, C: Clock>(
     spool: &mut E,
     clock: &mut C,
 ) -> Exit
-    ensures { MeansRun (command_of (map string_bytes words.now))
+    ensures means { MeansRun (command_of (map string_bytes words.now))
         (around (F.state shelf.old) (F.state shelf.new) (C.state clock.old) (C.state clock.new) (sunk (O.taken out.old) (O.taken out.new) (O.faults out.old) (O.faults out.new)))
         (disks (D.state journal.old) (D.state journal.new) (E.state spool.old) (E.state spool.new)) result }
+    ensures later { IsLater (F.state shelf.old) (F.state shelf.new) }
 {
     match read_command(alloc, words) {
         Ok(
@@ -60,8 +62,9 @@ pub fn show_plan<F: Shelf, O: Sink>(
     shelf: &mut F,
     out: &mut O,
 ) -> Exit
-    ensures { (clock : ClockState) → MeansPlan (command_of (map string_bytes words.now))
+    ensures means { (clock : ClockState) → MeansPlan (command_of (map string_bytes words.now))
         (around (F.state shelf.old) (F.state shelf.new) clock clock (sunk (O.taken out.old) (O.taken out.new) (O.faults out.old) (O.faults out.new))) result }
+    ensures later { IsLater (F.state shelf.old) (F.state shelf.new) }
 {
     match read_command(alloc, words) {
         Ok(Some(Command::Plan { setup, script })) => list_files(alloc, shelf, out, setup, script),
@@ -78,8 +81,9 @@ pub fn check_history<F: Shelf, O: Sink, C: Clock>(
     out: &mut O,
     clock: &mut C,
 ) -> Exit
-    ensures { MeansCheck (command_of (map string_bytes words.now))
+    ensures means { MeansCheck (command_of (map string_bytes words.now))
         (around (F.state shelf.old) (F.state shelf.new) (C.state clock.old) (C.state clock.new) (sunk (O.taken out.old) (O.taken out.new) (O.faults out.old) (O.faults out.new))) result }
+    ensures later { IsLater (F.state shelf.old) (F.state shelf.new) }
 {
     match read_command(alloc, words) {
         Ok(
@@ -110,6 +114,7 @@ pub fn show_status<F: Shelf, O: Sink, D: Disk>(
         (around (F.state shelf.old) (F.state shelf.new) clock clock (sunk (O.taken out.old) (O.taken out.new) (O.faults out.old) (O.faults out.new)))
         (D.state journal.old) (D.state journal.new) result }
     ensures untouched { IsDiskUntouched (D.state journal.old) (D.state journal.new) }
+    ensures later { IsLater (F.state shelf.old) (F.state shelf.new) }
 {
     match read_command(alloc, words) {
         Ok(Some(Command::Status { setup, script })) => {
@@ -133,6 +138,7 @@ pub fn show_output<F: Shelf, O: Sink, D: Disk, E: Disk>(
         (around (F.state shelf.old) (F.state shelf.new) clock clock (sunk (O.taken out.old) (O.taken out.new) (O.faults out.old) (O.faults out.new)))
         (disks (D.state journal.old) (D.state journal.new) (E.state spool.old) (E.state spool.new)) result }
     ensures untouched { AreUntouched (disks (D.state journal.old) (D.state journal.new) (E.state spool.old) (E.state spool.new)) }
+    ensures later { IsLater (F.state shelf.old) (F.state shelf.new) }
 {
     match read_command(alloc, words) {
         Ok(

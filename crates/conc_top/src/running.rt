@@ -1,4 +1,5 @@
 ghost use Rattle.std.specs.Prelude.{◌≡◌, Some};
+ghost use Rattle.conc_outside.specs.Files.{IsLater};
 ghost use Rattle.conc_inputs.specs.Given.{named};
 ghost use Rattle.conc_work.specs.Disks.{disks};
 ghost use Rattle.conc_work.specs.Handed.{handed};
@@ -58,9 +59,10 @@ pub(crate) fn run_files<F: Shelf, O: Sink, D: Disk, E: Disk, C: Clock>(
     script: Name,
     file: Name,
 ) -> Exit
-    ensures { AnswersRun (named setup script (Some file))
+    ensures answers { AnswersRun (named setup script (Some file))
         (around (F.state shelf.old) (F.state shelf.new) (C.state clock.old) (C.state clock.new) (sunk (O.taken out.old) (O.taken out.new) (O.faults out.old) (O.faults out.new)))
         (disks (D.state journal.old) (D.state journal.new) (E.state spool.old) (E.state spool.new)) result }
+    ensures later { IsLater (F.state shelf.old) (F.state shelf.new) }
 {
     let (accepted, readings) = match accept_timed(alloc, shelf, clock, setup, script, file) {
         Ok(given) => given,

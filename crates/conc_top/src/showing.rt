@@ -1,6 +1,7 @@
 ghost use Rattle.std.specs.Prelude.{◌≡◌, None};
 ghost use Rattle.conc_clock.specs.Clocks.{ClockState};
 ghost use Rattle.conc_history.specs.Listing.{listing};
+ghost use Rattle.conc_outside.specs.Files.{IsLater};
 ghost use Rattle.conc_inputs.specs.Given.{named};
 ghost use Rattle.conc_work.specs.Disks.{AreUntouched, disks};
 ghost use Rattle.conc_top.specs.Answers.{AnswersOutput, AnswersPlan, AnswersStatus, around};
@@ -38,8 +39,9 @@ pub(crate) fn list_files<F: Shelf, O: Sink>(
     setup: Name,
     script: Name,
 ) -> Exit
-    ensures { (clock : ClockState) → AnswersPlan (named setup script None)
+    ensures answers { (clock : ClockState) → AnswersPlan (named setup script None)
         (around (F.state shelf.old) (F.state shelf.new) clock clock (sunk (O.taken out.old) (O.taken out.new) (O.faults out.old) (O.faults out.new))) result }
+    ensures later { IsLater (F.state shelf.old) (F.state shelf.new) }
 {
     match accept(alloc, shelf, setup, script) {
         Ok(accepted) => print_listing(alloc, &accepted.plan, out),
@@ -85,6 +87,7 @@ pub(crate) fn show_table<F: Shelf, O: Sink, D: Disk>(
         (around (F.state shelf.old) (F.state shelf.new) clock clock (sunk (O.taken out.old) (O.taken out.new) (O.faults out.old) (O.faults out.new)))
         (D.state journal.old) (D.state journal.new) result }
     ensures untouched { IsDiskUntouched (D.state journal.old) (D.state journal.new) }
+    ensures later { IsLater (F.state shelf.old) (F.state shelf.new) }
 {
     match accept(alloc, shelf, setup, script) {
         Ok(accepted) => print_table(alloc, &accepted.plan, &accepted.digest, out, journal),
@@ -140,6 +143,7 @@ pub(crate) fn show_report<F: Shelf, O: Sink, D: Disk, E: Disk>(
         (around (F.state shelf.old) (F.state shelf.new) clock clock (sunk (O.taken out.old) (O.taken out.new) (O.faults out.old) (O.faults out.new)))
         (disks (D.state journal.old) (D.state journal.new) (E.state spool.old) (E.state spool.new)) result }
     ensures untouched { AreUntouched (disks (D.state journal.old) (D.state journal.new) (E.state spool.old) (E.state spool.new)) }
+    ensures later { IsLater (F.state shelf.old) (F.state shelf.new) }
 {
     match accept(alloc, shelf, setup, script) {
         Ok(accepted) => print_report(

@@ -1,5 +1,6 @@
 ghost use Rattle.std.specs.Prelude.{map};
 ghost use Rattle.std.specs.String.{string_bytes};
+ghost use Rattle.conc_outside.specs.Files.{IsLater};
 ghost use Rattle.conc_words.specs.Words.{command_of};
 ghost use Rattle.conc_work.specs.Disks.{disks};
 ghost use Rattle.conc_top.specs.Answers.{around};
@@ -53,9 +54,10 @@ pub fn conc<Rt: Threads + Wait + Sync, F: Shelf, O: Sink, D: Disk, E: Disk, C: C
     spool: &mut E,
     clock: &mut C,
 ) -> Exit
-    ensures { Means (command_of (map string_bytes words.now))
+    ensures means { Means (command_of (map string_bytes words.now))
         (around (F.state shelf.old) (F.state shelf.new) (C.state clock.old) (C.state clock.new) (sunk (O.taken out.old) (O.taken out.new) (O.faults out.old) (O.faults out.new)))
         (disks (D.state journal.old) (D.state journal.new) (E.state spool.old) (E.state spool.new)) result }
+    ensures later { IsLater (F.state shelf.old) (F.state shelf.new) }
 {
     let _rt = rt;
     let command = match read_command(alloc, words) {

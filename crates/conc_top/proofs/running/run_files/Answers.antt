@@ -7,8 +7,8 @@ use Rattle.conc_top.specs.Runs.{RunEnds}
 use Rattle.conc_top.proofs.Meaning.{unplanned, untouched}
 use Rattle.conc_top.proofs.running.run_files.Goals as goal
 
-pub returns : goal.returns
-returns g c =
+pub returns-clause-answers : goal.returns-clause-answers
+returns-clause-answers g c =
     let given = c.in-Ok.ensures.ok in
     let journal = g.D.Disk.state in
     let spool = g.E.Disk.state in
@@ -21,8 +21,8 @@ returns g c =
           given.digest c.run_and_print.ensures,
     )
 
-pub returns-in-Err : goal.returns-in-Err
-returns-in-Err g c =
+pub returns-in-Err-clause-answers : goal.returns-in-Err-clause-answers
+returns-in-Err-clause-answers g c =
     let names = named c.args.setup c.args.script (Some c.args.file) in
     let a = around (g.F.Shelf.state c.args.shelf.now) (g.F.Shelf.state c.accept_timed.new.shelf) (g.C.Clock.state c.args.clock.now) (g.C.Clock.state c.accept_timed.new.clock)
     (sunk (g.O.Sink.taken c.args.out.now) (g.O.Sink.taken c.args.out.now) (g.O.Sink.faults c.args.out.now) (g.O.Sink.faults c.args.out.now)) in

@@ -5,12 +5,12 @@ use Rattle.conc_top.specs.Printing.{sunk}
 use Rattle.conc_top.proofs.Meaning.{unplanned}
 use Rattle.conc_top.proofs.showing.list_files.Goals as goal
 
-pub returns-in-Ok : goal.returns-in-Ok
-returns-in-Ok g c clock =
+pub returns-in-Ok-clause-answers : goal.returns-in-Ok-clause-answers
+returns-in-Ok-clause-answers g c clock =
     inl (record { plan = c.in-Ok.accepted.plan; accepted = (c.in-Ok.ensures.ok clock).accepts }, c.print_listing.ensures)
 
-pub returns-in-Err : goal.returns-in-Err
-returns-in-Err g c clock =
+pub returns-in-Err-clause-answers : goal.returns-in-Err-clause-answers
+returns-in-Err-clause-answers g c clock =
     let names = named c.args.setup c.args.script None in
     let a = around (g.F.Shelf.state c.args.shelf.now) (g.F.Shelf.state c.accept.new.shelf) clock clock
     (sunk (g.O.Sink.taken c.args.out.now) (g.O.Sink.taken c.args.out.now) (g.O.Sink.faults c.args.out.now) (g.O.Sink.faults c.args.out.now)) in
