@@ -2,6 +2,11 @@
 //! error, and ends with the exit's number.
 #![tactic(auto)]
 
+ghost use Rattle.std.specs.Prelude.{◌≡◌, ◌≢◌};
+ghost use Rattle.std.specs.IoError.{error_kind};
+ghost use Rattle.std.specs.declared.io.ErrorKind.TheVariants as ErrorKind;
+ghost use Rattle.conc_top.specs.declared.exit.Exit.TheVariants as Exit;
+
 use conc_clock::{SystemClock, SystemZone};
 use conc_outside::{FileShelf, WriterSink};
 use conc_paths::PathDisk;
@@ -23,7 +28,10 @@ fn words(rt: &HostRuntime) -> io::Result<Vec<String>> {
 }
 
 // The exit where the words could not be taken. A word that is not UTF-8 belongs to no command line.
-fn exit_without_words(error: &io::Error) -> Exit {
+fn exit_without_words(error: &io::Error) -> Exit
+    ensures usage { error_kind error.now ≡ ErrorKind.InvalidData → result ≡ Exit.Usage }
+    ensures memory { error_kind error.now ≢ ErrorKind.InvalidData → result ≡ Exit.NoMemory }
+{
     if error.kind() == ErrorKind::InvalidData {
         Exit::Usage
     } else {

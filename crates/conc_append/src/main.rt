@@ -2,12 +2,15 @@
 //! costs on a real disk. `conc_append FILE COUNT`; with 0 it reads the journal alone.
 #![tactic(auto)]
 
-ghost use Rattle.std.specs.Prelude.{◌≤◌, IfOk, IsTrue};
-ghost use Rattle.conc_journal.specs.Journals.{IsOn, room_of, stage_of};
-ghost use Rattle.conc_journal.specs.Stages.{takes_events};
+ghost use Rattle.std.specs.Prelude.{◌≡◌, ◌+◌, ◌<◌, ◌≤◌, IfOk, IfSome, IsErrOf, IsFalse, IsSome, IsTrue, length};
+ghost use Rattle.conc_outside.specs.Counts.{Rose};
+ghost use Rattle.conc_journal.specs.Journals.{IsOn, list_of, room_of, stage_of};
+ghost use Rattle.conc_journal.specs.Opens.{broken_of, events_of, may_open};
+ghost use Rattle.conc_journal.specs.Stages.{has_faulted, takes_events};
+ghost use Rattle.conc_append.specs.declared.Fail.TheVariants as Fail;
 
 use conc_disk::{Disk, open_disk};
-use conc_journal::{Journal, Opened};
+use conc_journal::{Journal, JournalFail};
 use conc_types::{Event, Moment, read_decimal};
 use std::alloc::Global;
 use std::env;
@@ -27,7 +30,9 @@ const MOST_EVENTS: u64 = 1_048_576;
 enum Fail {
     Words,
     File,
-    Journal,
+    NotJournal,
+    Broken,
+    Full,
     Disk,
     NoMemory,
 }
@@ -36,25 +41,32 @@ enum Fail {
 fn begun<D: Disk>(alloc: Global, disk: &mut D, count: u64) -> Result<Journal, Fail>
     ensures on { IfOk result (λ journal. IsOn journal (D.state disk.new)) }
     ensures takes { IfOk result (λ journal. IsTrue (takes_events (stage_of journal))) }
+    ensures sound { IfOk result (λ journal. IsFalse (has_faulted (stage_of journal))) }
     ensures room { IfOk result (λ journal. count ≤ room_of journal) }
+    ensures list { IfOk result (λ journal. IfSome (D.state disk.old).seen (λ image. list_of journal ≡ events_of image)) }
+    ensures faults { (D.state disk.old).faults ≤ (D.state disk.new).faults }
+    ensures words { IsErrOf result Fail.Words → ⊥ }
+    ensures file { IsErrOf result Fail.File → ⊥ }
+    ensures not_journal { IsErrOf result Fail.NotJournal → IfSome (D.state disk.old).seen (λ image. IsFalse (may_open image)) }
+    ensures broken { IsErrOf result Fail.Broken → IfSome (D.state disk.old).seen (λ image. IsSome (broken_of image)) }
+    ensures full { IsErrOf result Fail.Full → IfSome (D.state disk.old).seen (λ image. 1048576 < length (events_of image) + count) }
+    ensures fault { IsErrOf result Fail.Disk → Rose (D.state disk.old).faults (D.state disk.new).faults }
 {
-    let Ok(opened) = Journal::open_on(alloc, disk) else {
-        return Err(Fail::Journal);
+    let opened = match Journal::open_on(alloc, disk) {
+        Ok(opened) => opened,
+        Err(JournalFail::NotJournal) => return Err(Fail::NotJournal),
+        Err(JournalFail::DiskFault) => return Err(Fail::Disk),
+        Err(JournalFail::NoMemory) => return Err(Fail::NoMemory),
     };
-    let Opened {
-        mut journal,
-        broken: None,
-        digest,
-        ..
-    } = opened
-    else {
-        return Err(Fail::Journal);
-    };
-    if digest.is_none() && journal.begin(disk, &[0; 32]).is_err() {
-        return Err(Fail::Disk);
+    if opened.broken.is_some() {
+        return Err(Fail::Broken);
     }
+    let mut journal = opened.journal;
     if count > MOST_EVENTS - journal.events().len() as u64 {
-        return Err(Fail::Journal);
+        return Err(Fail::Full);
+    }
+    if opened.digest.is_none() && journal.begin(disk, &[0; 32]).is_err() {
+        return Err(Fail::Disk);
     }
     match journal.reserve(count) {
         Ok(()) => Ok(journal),
@@ -63,14 +75,22 @@ fn begun<D: Disk>(alloc: Global, disk: &mut D, count: u64) -> Result<Journal, Fa
 }
 
 // Appends so many ticks, and gives how many events the journal then has.
-fn append<D: Disk>(alloc: Global, disk: &mut D, count: u64) -> Result<usize, Fail> {
+fn append<D: Disk>(alloc: Global, disk: &mut D, count: u64) -> Result<usize, Fail>
+    ensures count { IfOk result (λ events. IfSome (D.state disk.old).seen (λ image. events ≡ length (events_of image) + count)) }
+    ensures words { IsErrOf result Fail.Words → ⊥ }
+    ensures file { IsErrOf result Fail.File → ⊥ }
+    ensures not_journal { IsErrOf result Fail.NotJournal → IfSome (D.state disk.old).seen (λ image. IsFalse (may_open image)) }
+    ensures broken { IsErrOf result Fail.Broken → IfSome (D.state disk.old).seen (λ image. IsSome (broken_of image)) }
+    ensures full { IsErrOf result Fail.Full → IfSome (D.state disk.old).seen (λ image. 1048576 < length (events_of image) + count) }
+    ensures fault { IsErrOf result Fail.Disk → Rose (D.state disk.old).faults (D.state disk.new).faults }
+{
     let mut journal = begun(alloc, disk, count)?;
     let mut left = count;
     while left > 0 {
-        if journal.append(disk, TICK).is_err() {
-            return Err(Fail::Disk);
+        match journal.append(disk, TICK) {
+            Ok(_) => left -= 1,
+            Err(_) => return Err(Fail::Disk),
         }
-        left -= 1;
     }
     Ok(journal.events().len())
 }
