@@ -5,10 +5,10 @@
 # apart, and without journal and spool. A program that calls the readers and make_plan, and goes from event to
 # event by the machine and next_event, is written into a copy of the repository, proved and built there; it
 # makes the run REPEATS times (20 if REPEATS is not set), and the time of REPEATS
-# runs less that of none, divided by REPEATS, is the time of one. It prints the median of five such
+# runs less that of none, divided by REPEATS, is the time of one. It prints the least of fifteen such
 # figures in milliseconds, the greatest memory in KB, and the number of events.
 # PEER is a program of the reader's own: called as PEER FOLDER, it prints the milliseconds of its loop as the
-# last line on standard error; the median of five is printed beside.
+# last line on standard error; the least of fifteen is printed beside, the two taken in turn.
 set -euo pipefail
 folders=() peer=
 while [ $# -gt 0 ]; do
@@ -142,12 +142,12 @@ memory() { # FOLDER: the greatest memory of a run in KB
 }
 for folder in "${folders[@]}"; do
   ours=() peers=()
-  for _ in 1 2 3 4 5; do
+  for _ in $(seq 15); do
     none=$(timed "$folder" 0) many=$(timed "$folder" "$repeats")
     ours+=("$(echo "$none $many" | awk -v n="$repeats" '{printf "%.3f", ($3 - $1) * 1000 / n}')")
     [ -z "$peer" ] || peers+=("$("$peer" "$folder" 2>&1 >/dev/null | tail -1)")
   done
-  line="$folder: $(printf '%s\n' "${ours[@]}" | sort -g | sed -n 3p) ms, $(memory "$folder") KB, $(echo "$many" | cut -d' ' -f2) events"
-  [ -z "$peer" ] || line="$line; by hand $(printf '%s\n' "${peers[@]}" | sort -g | sed -n 3p) ms"
+  line="$folder: $(printf '%s\n' "${ours[@]}" | sort -g | head -1) ms, $(memory "$folder") KB, $(echo "$many" | cut -d' ' -f2) events"
+  [ -z "$peer" ] || line="$line; by hand $(printf '%s\n' "${peers[@]}" | sort -g | head -1) ms"
   echo "$line"
 done
