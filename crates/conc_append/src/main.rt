@@ -2,12 +2,11 @@
 //! costs on a real disk. `conc_append FILE COUNT`; with 0 it reads the journal alone.
 #![tactic(auto)]
 
-ghost use Rattle.std.specs.Prelude.{◌≡◌, ◌+◌, ◌<◌, ◌≤◌, IfOk, IfSome, IsErrOf, IsFalse, IsSome, IsTrue, length};
-ghost use Rattle.conc_outside.specs.Counts.{Rose};
+ghost use Rattle.std.specs.Prelude.{◌≡◌, ◌+◌, ◌≤◌, IfErr, IfOk, IfSome, IsFalse, IsTrue, length};
 ghost use Rattle.conc_journal.specs.Journals.{IsOn, list_of, room_of, stage_of};
-ghost use Rattle.conc_journal.specs.Opens.{broken_of, events_of, may_open};
+ghost use Rattle.conc_journal.specs.Opens.{events_of};
 ghost use Rattle.conc_journal.specs.Stages.{has_faulted, takes_events};
-ghost use Rattle.conc_append.specs.declared.Fail.TheVariants as Fail;
+ghost use Rattle.conc_append.specs.Causes.{HasCause};
 
 use conc_disk::{Disk, open_disk};
 use conc_journal::{Journal, JournalFail};
@@ -45,12 +44,7 @@ fn begun<D: Disk>(alloc: Global, disk: &mut D, count: u64) -> Result<Journal, Fa
     ensures room { IfOk result (λ journal. count ≤ room_of journal) }
     ensures list { IfOk result (λ journal. IfSome (D.state disk.old).seen (λ image. list_of journal ≡ events_of image)) }
     ensures faults { (D.state disk.old).faults ≤ (D.state disk.new).faults }
-    ensures words { IsErrOf result Fail.Words → ⊥ }
-    ensures file { IsErrOf result Fail.File → ⊥ }
-    ensures not_journal { IsErrOf result Fail.NotJournal → IfSome (D.state disk.old).seen (λ image. IsFalse (may_open image)) }
-    ensures broken { IsErrOf result Fail.Broken → IfSome (D.state disk.old).seen (λ image. IsSome (broken_of image)) }
-    ensures full { IsErrOf result Fail.Full → IfSome (D.state disk.old).seen (λ image. 1048576 < length (events_of image) + count) }
-    ensures fault { IsErrOf result Fail.Disk → Rose (D.state disk.old).faults (D.state disk.new).faults }
+    ensures cause { IfErr result (HasCause (D.state disk.old) (D.state disk.new) count) }
 {
     let opened = match Journal::open_on(alloc, disk) {
         Ok(opened) => opened,
@@ -77,12 +71,7 @@ fn begun<D: Disk>(alloc: Global, disk: &mut D, count: u64) -> Result<Journal, Fa
 // Appends so many ticks, and gives how many events the journal then has.
 fn append<D: Disk>(alloc: Global, disk: &mut D, count: u64) -> Result<usize, Fail>
     ensures count { IfOk result (λ events. IfSome (D.state disk.old).seen (λ image. events ≡ length (events_of image) + count)) }
-    ensures words { IsErrOf result Fail.Words → ⊥ }
-    ensures file { IsErrOf result Fail.File → ⊥ }
-    ensures not_journal { IsErrOf result Fail.NotJournal → IfSome (D.state disk.old).seen (λ image. IsFalse (may_open image)) }
-    ensures broken { IsErrOf result Fail.Broken → IfSome (D.state disk.old).seen (λ image. IsSome (broken_of image)) }
-    ensures full { IsErrOf result Fail.Full → IfSome (D.state disk.old).seen (λ image. 1048576 < length (events_of image) + count) }
-    ensures fault { IsErrOf result Fail.Disk → Rose (D.state disk.old).faults (D.state disk.new).faults }
+    ensures cause { IfErr result (HasCause (D.state disk.old) (D.state disk.new) count) }
 {
     let mut journal = begun(alloc, disk, count)?;
     let mut left = count;
