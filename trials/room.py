@@ -96,6 +96,8 @@ class Room:
     """The copy. Nobody else uses it while this one stands."""
 
     def __init__(self, name):
+        if not shutil.which("rt"):
+            stop("rt is not on the path")
         home = os.environ.get("TRIALS_ROOM") or Path.home() / ".cache" / "conc-trials"
         self.at = Path(home).absolute() / name
         (self.at / "crates").mkdir(parents=True, exist_ok=True)
