@@ -1,8 +1,8 @@
 """Changes of one thing each in lines of code, for trials/mutate.
 
-A line of code is a line in the body of a function, or a private constant. Signatures, contracts, ghost items, comments, attributes,
-tests and the text of strings are left alone. The layout is that of rt fmt: a body begins with '{' at the end of a
-signature or alone behind the clauses, and ends with '}' at the depth of its function.
+A line of code is a line in the body of a function, or a private constant. Signatures, contracts, ghost items, comments,
+attributes and tests are left alone. The layout is that of rt fmt: a body begins with '{' at the end of a signature, or alone
+behind the clauses, and ends with '}' at the depth of its function.
 """
 
 import re
