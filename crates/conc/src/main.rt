@@ -22,6 +22,7 @@ use std::sync::Wait;
 use std::thread::Threads;
 
 const JOURNAL: &str = "conc.journal";
+
 const SPOOL: &str = "conc.spool";
 
 // Where the system shows what standard output is.

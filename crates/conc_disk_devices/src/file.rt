@@ -37,7 +37,11 @@ fn is_within<F: OpenFile>(file: &F, at: u64, bytes: usize) -> Result<bool, Faile
 }
 
 /// Fills the piece with the bytes from here on.
-pub(crate) fn read_piece<F: FileExt + OpenFile>(file: &F, at: u64, into: &mut [u8]) -> Result<(), Failed> {
+pub(crate) fn read_piece<F: FileExt + OpenFile>(
+    file: &F,
+    at: u64,
+    into: &mut [u8],
+) -> Result<(), Failed> {
     if !is_within(file, at, into.len())? {
         return Err(Failed);
     }

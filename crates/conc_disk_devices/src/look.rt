@@ -15,11 +15,7 @@ use std::rt::Files;
 
 /// Opens the file at this path for reading, which may stand at none of the other paths. There may be
 /// none.
-fn open_to_look<R: Files>(
-    rt: &R,
-    path: &str,
-    others: &[&str],
-) -> Result<Option<R::File>, Failed> {
+fn open_to_look<R: Files>(rt: &R, path: &str, others: &[&str]) -> Result<Option<R::File>, Failed> {
     let opened = open_old(rt, path, false)?;
     if let Some(file) = &opened {
         must_stand_apart(rt, file, others)?;
@@ -160,13 +156,7 @@ fn copy_from(bytes: &[u8], at: u64, into: &mut [u8]) -> Result<(), Failed> {
 impl<'a, R: Files> SnapshotDisk<'a, R> {
     /// A look at the first bytes of the file at this path, up to so many. The file may stand at none of
     /// the other paths. It opens nothing and takes no memory.
-    pub fn new(
-        rt: &'a R,
-        alloc: Global,
-        path: &'a str,
-        others: &'a [&'a str],
-        most: usize,
-    ) -> Self
+    pub fn new(rt: &'a R, alloc: Global, path: &'a str, others: &'a [&'a str], most: usize) -> Self
         ensures { (snapshot_state result).faults ≡ 0 }
     {
         SnapshotDisk {

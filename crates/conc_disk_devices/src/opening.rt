@@ -82,11 +82,7 @@ fn make_new<R: Files>(rt: &R, path: &str) -> Result<R::File, Failed> {
 /// Opens the file at this path as a disk that nobody else has, and makes it where there is none: then
 /// its name is on the disk too. It fails where another opening has the lock on the file, and where the
 /// file stands at one of the other paths too.
-pub fn open_disk<R: Files>(
-    rt: &R,
-    path: &str,
-    others: &[&str],
-) -> Result<FileDisk<R::File>, Failed>
+pub fn open_disk<R: Files>(rt: &R, path: &str, others: &[&str]) -> Result<FileDisk<R::File>, Failed>
 where
     R::File: FileExt + LockFile,
     ensures { IfOk result (λ disk. (file_state disk).faults ≡ 0) }

@@ -60,7 +60,10 @@ where
         ensures failed { OnErr result (Rose self.old.faults.count self.new.faults.count) }
     {
         let (rt, path, others) = (self.rt, self.path, self.others);
-        let done = match self.disk.get_or_try_insert_with(|| open_disk(rt, path, others)) {
+        let done = match self
+            .disk
+            .get_or_try_insert_with(|| open_disk(rt, path, others))
+        {
             Ok(disk) => call(disk),
             Err(error) => Err(error),
         };

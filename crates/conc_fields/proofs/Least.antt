@@ -1,5 +1,5 @@
 -- The least kind of what is wrong, taken from the last on.
-use Rattle.std.proofs.Common.{◌≡◌, ℕ, ◌+◌, ◌-◌, ◌<◌, List, [], length, drop, get_or, Option, None, Result, refl, sym, ap, ◌∙◌, le_refl, arith}
+use Rattle.std.proofs.Common.{◌≡◌, ℕ, ◌+◌, ◌-◌, ◌<◌, List, length, drop, get_or, Option, None, Result, sym, ap, ◌∙◌, le_refl, arith}
 use Rattle.std.proofs.lemmas.List.{at_drop_all, at_drop_more}
 use Rattle.conc_fields.specs.Arrays.{lesser, worst}
 

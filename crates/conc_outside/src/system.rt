@@ -5,12 +5,11 @@ ghost use Rattle.conc_outside.specs.declared.error.ShelfFail.TheVariants.{Absent
 
 use crate::{Failed, ShelfFail};
 use std::alloc::Global;
-use std::fs;
 use std::fs::{Metadata, OpenFile};
-use std::io;
 use std::io::{ErrorKind, Read};
 use std::os::unix::fs::MetadataExt;
 use std::rt::Files;
+use std::{fs, io};
 
 /// How much is asked for at once.
 const PIECE: usize = 65_536;
@@ -31,11 +30,7 @@ fn read_piece<F: Read>(file: &mut F, piece: &mut [u8]) -> Result<usize, ShelfFai
 }
 
 /// Reads to the end, or up to so many bytes.
-pub fn read_up_to<F: Read>(
-    alloc: Global,
-    file: &mut F,
-    most: usize,
-) -> Result<Vec<u8>, ShelfFail>
+pub fn read_up_to<F: Read>(alloc: Global, file: &mut F, most: usize) -> Result<Vec<u8>, ShelfFail>
     ensures few { IfOk result (λ bytes. vec_len bytes ≤ most) }
     ensures not_absent { IsErrOf result Absent → ⊥ }
 {

@@ -64,7 +64,11 @@ fn a_disk_is_opened_at_its_first_use(rt: HostRuntime) -> Result<(), Fail> {
     fs::create_dir(&rt, folder.as_str())?;
     // A look makes no file.
     same(&rt, GrowingDisk::new(&rt, path.as_str(), &[]).len(), Ok(0));
-    same(&rt, SnapshotDisk::new(&rt, alloc, path.as_str(), &[], 9).len(), Ok(0));
+    same(
+        &rt,
+        SnapshotDisk::new(&rt, alloc, path.as_str(), &[], 9).len(),
+        Ok(0),
+    );
     assert!(rt; !fs::exists(&rt, path.as_str())?);
     same(&rt, disk.len(), Ok(0));
     write_alone(&rt, path.as_str(), &mut disk)?;

@@ -1,4 +1,4 @@
-use Rattle.std.proofs.Common.{◌≡◌, ◌<◌, length, arith}
+use Rattle.std.proofs.Common.{◌<◌, length, arith}
 use Rattle.conc_decide.proofs.Greatest.{worst_among-more}
 use Rattle.conc_decide.proofs.stages.worst_member.Goals as goal
 

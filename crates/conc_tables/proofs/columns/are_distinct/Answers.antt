@@ -1,4 +1,4 @@
-use Rattle.std.proofs.Common.{◌≡◌, ◌∙◌, ap, refl, sym, subst, length, List, ℕ, Bor, true, take}
+use Rattle.std.proofs.Common.{◌≡◌, ◌∙◌, ap, sym, subst, Bor, true, take}
 use Rattle.std.specs.Str.{bytes_eq}
 use Rattle.csv.specs.Records.{fields_of, Row}
 use Rattle.conc_types.specs.Words.{are_distinct}
@@ -20,7 +20,7 @@ loop-field-preserved c =
     let (row, field, at) = c.in-Some.ensures.steps in
     let there = field-seen _ _ _ c.in-Some.field.now c.in-Some.field.now before.same field in
     let more = found-new (fields_of c.args.header.now) c.loop-field.seen.keys c.insert.new.self.keys c.in-Some.field c.loop-field.field-iterator.at c.in-Some.field.now there.0
-        there.1 before.distinct before.knows (sym c.if-not-branch.false ∙ c.in_ok-insert.ensures.added) c.in_ok-insert.ensures.keys in
+    there.1 before.distinct before.knows (sym c.if-not-branch.false ∙ c.in_ok-insert.ensures.added) c.in_ok-insert.ensures.keys in
     record {
       same = ap (λ (b : Bor Row). b.now) row ∙ before.same;
       distinct = subst (λ i. are_distinct bytes_eq (take i (fields_of c.args.header.now)) ≡ true) (sym at) more.0;
