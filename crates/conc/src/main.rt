@@ -8,15 +8,39 @@ ghost use Rattle.std.specs.declared.io.ErrorKind.TheVariants as ErrorKind;
 ghost use Rattle.conc_top.specs.declared.exit.Exit.TheVariants as Exit;
 
 use conc_clock::{SystemClock, SystemZone};
+use conc_disk::Disk;
+use conc_disk_devices::{GrowingDisk, PathDisk, SnapshotDisk};
+use conc_image::MOST_BYTES;
 use conc_outside::{FileShelf, WriterSink};
-use conc_paths::PathDisk;
 use conc_top::{Exit, conc, exit_text};
 use conc_types::NoMemory;
 use std::env;
+use std::fs::File;
 use std::io::{self, ErrorKind, Write};
 use std::process::ExitCode;
 use std::sync::Wait;
 use std::thread::Threads;
+
+const JOURNAL: &str = "conc.journal";
+
+const SPOOL: &str = "conc.spool";
+
+// Where the system shows what standard output is.
+const OUTPUT: &str = "/dev/stdout";
+
+// How many descriptors a process has from its beginning: input, output and errors.
+const STANDARD: usize = 3;
+
+// Opens files for reading alone until no standard descriptor is free, so that none of them is handed out
+// for a disk: what is written to one that was closed then fails. The files are to be held to the end.
+fn hold_standard(rt: &HostRuntime) -> io::Result<Vec<File>> {
+    let mut held = Vec::new(rt.alloc());
+    for _ in 0..STANDARD {
+        let file = File::open(rt, "/dev/null").or_else(|_| File::open(rt, "/"))?;
+        held.push(file)?;
+    }
+    Ok(held)
+}
 
 // The words after the program's name.
 fn words(rt: &HostRuntime) -> io::Result<Vec<String>> {
@@ -46,35 +70,67 @@ fn tell(rt: &HostRuntime, exit: &Exit) {
     }
 }
 
-// Does what the words ask for, with the clock of the system in its zone, and with the journal and the
-// spool of the working folder, which are opened at their first use.
-fn run<Rt: Threads + Wait + Sync>(
+// Does what the words ask for over these disks, with the files, the output and the clock of the system.
+fn run_over<Rt: Threads + Wait + Sync, D: Disk, E: Disk>(
     rt: &Rt,
     host: &HostRuntime,
     words: &[String],
+    journal: &mut D,
+    spool: &mut E,
 ) -> Result<Exit, NoMemory> {
     let zone = SystemZone::new(host.alloc(), host)?;
     let mut clock = SystemClock::new(host, &zone)?;
-    let mut shelf = FileShelf::new(host);
+    let mut shelf = FileShelf::new(host, &[JOURNAL, SPOOL]);
     let mut out = WriterSink::new(host.stdout());
-    let mut journal = PathDisk::new(host, "conc.journal");
-    let mut spool = PathDisk::new(host, "conc.spool");
     Ok(conc(
         rt,
         host.alloc(),
         words,
         &mut shelf,
         &mut out,
-        &mut journal,
-        &mut spool,
+        journal,
+        spool,
         &mut clock,
     ))
 }
 
-fn main(rt: HostRuntime) -> ExitCode {
-    let exit = match words(&rt) {
-        Ok(words) => run(&rt, &rt, &words).unwrap_or(Exit::NoMemory),
+// Whether the words ask for a look at what a run left, which may stand beside a run.
+fn looks(words: &[String]) -> bool {
+    matches!(words.first(), Some(word) if matches!(word.as_str(), "status" | "output"))
+}
+
+// Does what the words ask for, with the journal and the spool of the working folder, which are opened at
+// their first use: to look at them alone, or for nobody else.
+fn run<Rt: Threads + Wait + Sync>(
+    rt: &Rt,
+    host: &HostRuntime,
+    words: &[String],
+) -> Result<Exit, NoMemory> {
+    if looks(words) {
+        let most = MOST_BYTES as usize;
+        let mut journal = SnapshotDisk::new(host, host.alloc(), JOURNAL, &[OUTPUT], most);
+        let mut spool = GrowingDisk::new(host, SPOOL, &[JOURNAL, OUTPUT]);
+        run_over(rt, host, words, &mut journal, &mut spool)
+    } else {
+        let mut journal = PathDisk::new(host, JOURNAL, &[OUTPUT]);
+        let mut spool = PathDisk::new(host, SPOOL, &[JOURNAL, OUTPUT]);
+        run_over(rt, host, words, &mut journal, &mut spool)
+    }
+}
+
+// Takes the words and does what they ask for.
+fn exit_of<Rt: Threads + Wait + Sync>(rt: &Rt, host: &HostRuntime) -> Exit {
+    match words(host) {
+        Ok(words) => run(rt, host, &words).unwrap_or(Exit::NoMemory),
         Err(error) => exit_without_words(&error),
+    }
+}
+
+fn main(rt: HostRuntime) -> ExitCode {
+    let held = hold_standard(&rt);
+    let exit = match &held {
+        Ok(_) => exit_of(&rt, &rt),
+        Err(_) => Exit::NoMemory,
     };
     tell(&rt, &exit);
     ExitCode::from(exit.number())

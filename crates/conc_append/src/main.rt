@@ -8,7 +8,8 @@ ghost use Rattle.conc_journal.specs.Opens.{events_of};
 ghost use Rattle.conc_journal.specs.Stages.{has_faulted, takes_events};
 ghost use Rattle.conc_append.specs.Causes.{HasCause};
 
-use conc_disk::{Disk, open_disk};
+use conc_disk::Disk;
+use conc_disk_devices::open_disk;
 use conc_journal::{Journal, JournalFail};
 use conc_types::{Event, Moment, read_decimal};
 use std::alloc::Global;
@@ -107,7 +108,7 @@ fn run(rt: &HostRuntime) -> Result<usize, Fail> {
     let Some(count) = read_decimal(count.as_bytes()) else {
         return Err(Fail::Words);
     };
-    let Ok(mut disk) = open_disk(rt, file.as_str()) else {
+    let Ok(mut disk) = open_disk(rt, file.as_str(), &[]) else {
         return Err(Fail::File);
     };
     append(rt.alloc(), &mut disk, count)

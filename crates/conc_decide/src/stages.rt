@@ -1,9 +1,9 @@
-ghost use Rattle.std.specs.Prelude.{◌≡◌, ◌+◌, ◌<◌, ◌^◌, IfSome, length, map};
+ghost use Rattle.std.specs.Prelude.{◌≡◌, ◌+◌, ◌<◌, ◌^◌, [], ◌∷◌, IfSome, length, map};
 ghost use Rattle.std.specs.List.{enumerate_from, filter, filter_map, list_all};
 ghost use Rattle.conc_types.specs.Words.{greatest, is_empty};
 ghost use Rattle.conc_law.specs.Plans.{is_member as is_member_of};
 ghost use Rattle.conc_law.specs.Stages.{completed_at as completed_at_of, counts_for_set as counts_for_set_of, link as link_of, next_stage as next_stage_of, of_severity as of_severity_of, outcome_at as outcome_at_of, set_outcome as set_outcome_of, set_step as set_step_of, severity as severity_of, worst};
-ghost use Rattle.conc_decide.specs.Members.{AreMembers};
+ghost use Rattle.conc_decide.specs.Members.{AreMembers, worst_among};
 
 use crate::lookup::{facts_at, is_completed};
 use conc_rules::{is_member, stages_of};
@@ -47,32 +47,34 @@ fn outcome_at(standing: &Standing, r: &Req) -> Option<Outcome>
 fn are_members_completed(standing: &Standing, set: RequestId, stage: u32, requests: &[Req]) -> bool
     ensures { result ≡ list_all (completed_at_of standing.now) (filter (is_member_of set stage) requests.now) }
 {
-    match requests.split_first() {
-        None => true,
-        Some((r, rest)) => {
-            (!is_member(set, stage, r) || is_completed_at(standing, r))
-                && are_members_completed(standing, set, stage, rest)
-        }
+    requests
+        .iter()
+        .filter(|r| is_member(set, stage, r))
+        .all(|r| is_completed_at(standing, r))
+}
+
+// The severity of the request's outcome, where it is a completed member of the stage, else 0.
+fn member_severity(standing: &Standing, set: RequestId, stage: u32, r: &Req) -> u32
+    ensures { result ≡ worst_among standing.now set stage (r.now ∷ []) }
+{
+    if !is_member(set, stage, r) {
+        return 0;
+    }
+    match outcome_at(standing, r) {
+        Some(outcome) => severity(outcome),
+        None => 0,
     }
 }
 
 // The worst severity among those of the requests that are members of the stage.
 fn worst_member(standing: &Standing, set: RequestId, stage: u32, requests: &[Req]) -> u32
-    ensures { result ≡ greatest (map severity_of (filter_map (outcome_at_of standing.now) (filter (is_member_of set stage) requests.now))) }
+    ensures { result ≡ worst_among standing.now set stage requests.now }
 {
-    match requests.split_first() {
-        None => 0,
-        Some((r, rest)) => {
-            let below = worst_member(standing, set, stage, rest);
-            if !is_member(set, stage, r) {
-                return below;
-            }
-            match outcome_at(standing, r) {
-                Some(outcome) => severity(outcome).max(below),
-                None => below,
-            }
-        }
+    let mut worst = 0;
+    for r in requests {
+        worst = member_severity(standing, set, stage, r).max(worst);
     }
+    worst
 }
 
 // The worst outcome among those of the requests that are members of the stage.

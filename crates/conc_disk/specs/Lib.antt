@@ -1,9 +1,2 @@
-pub mod Calls
 pub mod Disk
-pub mod Faults
-pub mod Files
-pub mod Grows
-pub mod Laws
 pub mod Left
-pub mod Memory
-pub mod Trace

@@ -2,3 +2,4 @@ pub mod FirstWrong
 pub mod Items
 pub mod Known
 pub mod Proven
+mod Least

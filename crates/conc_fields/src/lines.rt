@@ -16,14 +16,16 @@ fn lesser<T: Drop>(read: &Result<T, u8>, kind: Option<u8>) -> Option<u8>
 }
 
 /// The least kind of what is wrong, if anything is.
-#[tactic(auto, unfolding(crate::specs::Arrays::worst))]
 pub(crate) fn worst<T: Drop>(all: &[Result<T, u8>]) -> Option<u8>
     ensures { result ≡ worst_of all.now }
 {
-    match all.split_first() {
-        None => None,
-        Some((first, rest)) => lesser(first, worst(rest)),
+    let mut least = None;
+    let mut place = all.len();
+    while place > 0 {
+        place -= 1;
+        least = lesser(&all[place], least);
     }
+    least
 }
 
 /// The values of those with which nothing is wrong, in their order.

@@ -4,7 +4,7 @@ ghost use Rattle.conc_work.specs.Causes.{is_refusal};
 ghost use Rattle.conc_work.specs.Works.{list_in};
 
 use crate::generating::Generated;
-use conc_disk::MemDisk;
+use conc_disk_devices::MemDisk;
 use conc_run::run_plan;
 use conc_types::NoMemory;
 use conc_work::{Stopped, Work};

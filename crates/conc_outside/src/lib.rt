@@ -7,6 +7,7 @@ mod memory_sink;
 mod real;
 mod shelf;
 mod sink;
+mod system;
 
 pub use error::{Failed, ShelfFail};
 pub use memory_shelf::MemShelf;
@@ -14,3 +15,4 @@ pub use memory_sink::MemSink;
 pub use real::{FileShelf, WriterSink};
 pub use shelf::Shelf;
 pub use sink::{Sink, write_all};
+pub use system::{metadata_of, read_up_to, stands_at};

@@ -1,5 +1,5 @@
 -- The fields of a record as they are taken one after the other.
-use Rattle.std.proofs.Common.{◌≡◌, ◌+◌, ◌++◌, ℕ, zero, suc, List, [], ◌∷◌, take, Option, None, Some, refl, sym, ap, ◌∙◌, append_assoc, arith}
+use Rattle.std.proofs.Common.{◌≡◌, ◌<◌, ◌+◌, ◌++◌, ℕ, zero, suc, List, [], ◌∷◌, get_or, length, take, Option, None, Some, refl, sym, ap, ◌∙◌, append_assoc, arith}
 use Rattle.csv.specs.Records.{Row, field_at, fields_of}
 
 abbrev field_or : List ℕ → Option (List ℕ) → List ℕ
@@ -36,3 +36,19 @@ pub pushed-all : (row seen : Row) (old now : List (List ℕ)) (i : ℕ) → seen
 pushed-all row seen old now i same none before =
     let none2 = rw same at none in
     before ∙ ap (λ (fields : List (List ℕ)). old ++ fields) (taken-all (fields_of row) i none2)
+
+-- a field by its place
+pub field-there : (fields : List (List ℕ)) (i : ℕ) (field d : List ℕ) → Some field ≡ field_at fields i → (i < length fields) × (field ≡ get_or fields i d)
+unfolding field_at
+field-there [] i field d e = cc e
+field-there (f ∷ fs) zero field d e = (omega arith, ap (field_or f) e)
+field-there (f ∷ fs) (suc i) field d e =
+    let there = field-there fs i field d e in
+    (omega (arith, there.0), there.1)
+
+-- the same, where a row is seen that is this one
+pub field-seen : (row seen : Row) (i : ℕ) (field d : List ℕ) → seen ≡ row → Some field ≡ field_at (fields_of seen) i → (i < length (fields_of row)) × (field ≡ get_or (fields_of row) i d)
+field-seen row seen i field d same found = field-there (fields_of row) i field d (rw same at found)
+
+pub taken-seen : (row seen : Row) (i : ℕ) → seen ≡ row → None ≡ field_at (fields_of seen) i → take i (fields_of row) ≡ fields_of row
+taken-seen row seen i same none = taken-all (fields_of row) i (rw same at none)

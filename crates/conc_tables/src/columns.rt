@@ -19,13 +19,13 @@ pub(crate) fn columns_of(alloc: Global, header: &ByteRecord) -> Result<Seq<Bytes
     Ok(Seq::from_vec(columns))
 }
 
-/// Whether no two names are the same.
-pub(crate) fn are_distinct(alloc: Global, names: &[Bytes]) -> Result<bool, NoMemory>
-    ensures { IfOk result (λ distinct. distinct ≡ are_distinct_of bytes_eq names.now) }
+/// Whether no two fields of a header are the same.
+pub(crate) fn are_distinct(alloc: Global, header: &ByteRecord) -> Result<bool, NoMemory>
+    ensures { IfOk result (λ distinct. distinct ≡ are_distinct_of bytes_eq (fields_of header.now)) }
 {
     let mut seen = BTreeSet::new(alloc);
-    for name in names {
-        if !seen.insert(name.as_slice())? {
+    for field in header.iter() {
+        if !seen.insert(field)? {
             return Ok(false);
         }
     }

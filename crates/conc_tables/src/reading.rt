@@ -86,10 +86,10 @@ pub fn read_table(alloc: Global, bytes: &[u8], number: u32) -> Result<Table, Rea
     if !records.read(&mut record)? {
         return Err(ReadFail::refused(FileKind::Table(number), 1, 30));
     }
-    let columns = columns_of(alloc, &record)?;
-    if !are_distinct(alloc, columns.as_slice())? {
+    if !are_distinct(alloc, &record)? {
         return Err(ReadFail::refused(FileKind::Table(number), 1, 32));
     }
+    let columns = columns_of(alloc, &record)?;
     let mut cells = Cells::with_capacity(alloc, bytes.len(), 0)?;
     read_rows(&mut records, &mut record, columns.len(), number, &mut cells)?;
     Ok(Table::new(columns, cells))

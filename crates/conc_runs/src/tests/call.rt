@@ -1,6 +1,6 @@
 use super::bytes::text_of;
 use conc_clock::MemClock;
-use conc_disk::MemDisk;
+use conc_disk_devices::MemDisk;
 use conc_outside::MemSink;
 use conc_top::{conc, exit_text};
 use conc_types::{Moment, Name, NoMemory};

@@ -1,5 +1,6 @@
 use super::expect::{same, same_at};
-use conc_disk::{Disk, MemDisk, open_disk};
+use conc_disk::Disk;
+use conc_disk_devices::{MemDisk, open_disk};
 use conc_outside::Failed;
 use std::alloc::Global;
 use std::process::Abort;
@@ -51,12 +52,15 @@ fn a_stop_within_a_write_leaves_all_else(rt: HostRuntime) -> Result<(), Fail> {
 fn a_disk_over_a_file_keeps_its_bytes(rt: HostRuntime) -> Result<(), Fail> {
     let alloc = rt.alloc();
     let path = format!(in alloc; "/tmp/conc_disk_{}", process::id(rt.process()))?;
-    let mut disk = open_disk(&rt, path.as_str())?;
+    let mut disk = open_disk(&rt, path.as_str(), &[])?;
     same(&rt, disk.len(), Ok(0));
     disk.write_at(0, b"abcdef")?;
     disk.cut(4)?;
     disk.sync()?;
-    let mut again = open_disk(&rt, path.as_str())?;
+    assert!(rt; open_disk(&rt, path.as_str(), &[]).is_err());
+    drop(disk);
+    assert!(rt; open_disk(&rt, path.as_str(), &[path.as_str()]).is_err());
+    let mut again = open_disk(&rt, path.as_str(), &["/tmp"])?;
     fs::remove_file(&rt, path.as_str())?;
     let mut read = [0u8; 3];
     again.read(1, &mut read)?;

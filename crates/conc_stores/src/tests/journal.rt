@@ -3,7 +3,8 @@ ghost use Rattle.conc_journal.specs.Journals.{IsOn, list_of, room_of, stage_of};
 ghost use Rattle.conc_journal.specs.declared.journal.Stage.TheVariants.{Begun};
 
 use super::expect::{same, same_at};
-use conc_disk::{Disk, MemDisk};
+use conc_disk::Disk;
+use conc_disk_devices::MemDisk;
 use conc_image::has_record;
 use conc_journal::{AppendFail, Journal, JournalFail, Receipt, Silent, Teller};
 use conc_types::{Event, Extent, Moment, Outcome, PlaceId, RequestId};

@@ -64,9 +64,11 @@ fn a_shelf_of_files_reads_a_real_one(rt: HostRuntime) -> Result<(), Fail> {
     // More than one piece.
     let bytes = vec![in alloc; b'x'; 100_000]?;
     fs::write(&rt, path.as_str(), bytes.as_slice())?;
-    let mut shelf = FileShelf::new(&rt);
+    let mut shelf = FileShelf::new(&rt, &["/tmp/no_such_disk"]);
     let read = shelf.read_file(alloc, &file);
+    let of_disk = FileShelf::new(&rt, &[path.as_str()]).read_file(alloc, &file);
     fs::remove_file(&rt, path.as_str())?;
+    same(&rt, of_disk.err(), Some(ShelfFail::Failed));
     same(&rt, read?.as_slice(), bytes.as_slice());
     same(
         &rt,

@@ -1,5 +1,5 @@
 use super::expect::{same, same_at};
-use conc_disk::MemDisk;
+use conc_disk_devices::MemDisk;
 use conc_outside::Failed;
 use conc_spool::{Spool, SpoolFail};
 use std::alloc::Global;

@@ -1,6 +1,6 @@
 use Rattle.std.proofs.Common.{◌∙◌, Some, ap}
 use Rattle.std.specs.Prelude.{ℕ, List}
-use Rattle.conc_disk.specs.Calls.{state_of}
+use Rattle.conc_disk_devices.specs.Calls.{state_of}
 use Rattle.conc_work.specs.Handed.{handed, Handed}
 use Rattle.conc_work.specs.Works.{list_in}
 use Rattle.conc_generated.proofs.EmptyDisks.{ends-alone, fits, not-refused}

@@ -16,15 +16,13 @@ returns-then-not-branch-clause-err c =
 pub returns-then-not-branch-2-clause-err : goal.returns-then-not-branch-2-clause-err
 returns-then-not-branch-2-clause-err c =
     let records = sym c.of_text-records.ensures.all ∙ c.in_ok-read.ensures.some c.if-not-branch.false in
-    let names = c.as_slice.ensures ∙ c.in_ok-columns.ensures in
-    let doubled = sym (rw names at c.in_ok-are_distinct.ensures) ∙ c.if-not-branch-2.true in
+    let doubled = sym c.in_ok-are_distinct.ensures ∙ c.if-not-branch-2.true in
     rw c.refused-then-not-branch-2.ensures (refl, fault-doubled c.args.bytes.now _ _ c.if-bytes-gt-MOST_BYTES.false records doubled)
 
 pub returns-in_err-read_rows-clause-err : goal.returns-in_err-read_rows-clause-err
 returns-in_err-read_rows-clause-err c =
     let records = sym c.of_text-records.ensures.all ∙ c.in_ok-read.ensures.some c.if-not-branch.false in
-    let names = c.as_slice.ensures ∙ c.in_ok-columns.ensures in
-    let distinct = sym (rw names at c.in_ok-are_distinct.ensures) ∙ c.if-not-branch-2.false in
+    let distinct = sym c.in_ok-are_distinct.ensures ∙ c.if-not-branch-2.false in
     let faults = fault-rows c.args.bytes.now _ _ c.if-bytes-gt-MOST_BYTES.false records distinct in
     let failed = rw (c.len.ensures, c.in_ok-columns.ensures, ← faults) at c.in_err-read_rows.ensures.err in
     search rules
@@ -46,8 +44,7 @@ new-requires-clause-few c =
 pub returns-clause-ok : goal.returns-clause-ok
 returns-clause-ok c =
     let records = sym c.of_text-records.ensures.all ∙ c.in_ok-read.ensures.some c.if-not-branch.false in
-    let names = c.as_slice.ensures ∙ c.in_ok-columns.ensures in
-    let distinct = sym (rw names at c.in_ok-are_distinct.ensures) ∙ c.if-not-branch-2.false in
+    let distinct = sym c.in_ok-are_distinct.ensures ∙ c.if-not-branch-2.false in
     let faultless = rw (c.len.ensures, c.in_ok-columns.ensures) at c.in_ok-read_rows.ensures.faultless in
     let cells = rw c.in_ok-cells.ensures at c.in_ok-read_rows.ensures.cells in
     let even : list_all (has_length (length c.in_ok-columns.columns)) c.read.new.self ≡ true = rw c.in_ok-columns.ensures (rows-even (length (fields_of c.read.new.into)) 2 c.read.new.self faultless) in

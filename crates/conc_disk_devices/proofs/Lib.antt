@@ -1,0 +1,6 @@
+mod Begun
+mod Called
+mod Changes
+mod Grown
+mod Moments
+mod Walk

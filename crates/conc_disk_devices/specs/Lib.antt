@@ -1,0 +1,9 @@
+pub mod Calls
+pub mod Faults
+pub mod Files
+pub mod Grows
+pub mod Laws
+pub mod Looks
+pub mod Memory
+pub mod Paths
+pub mod Trace
