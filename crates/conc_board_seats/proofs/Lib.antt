@@ -1,2 +1,4 @@
 pub mod Facts
 pub mod Moves
+pub mod LeadSteps
+pub mod HandSteps
