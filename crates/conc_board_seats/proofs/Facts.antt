@@ -20,8 +20,8 @@ use Rattle.conc_board_seats.specs.declared.views.Stage.{Stage}
 use Rattle.conc_board_seats.specs.declared.views.Stage.TheVariants.{NotLet, Let, Seen, Gone, Got, Done}
 use Rattle.conc_board_seats.specs.declared.views.View.{View}
 use Rattle.conc_board_seats.specs.Rule.{AreApart, Fits, Home, Runs, exclude, home_at, nobody, view_at}
-use Rattle.conc_board_seats.specs.Stages.{IsLet, IsLive, looked, stage_at}
-use Rattle.conc_board_seats.specs.Steps.{LookFits}
+use Rattle.conc_board_seats.specs.Stages.{IsLet, IsLive, WordFits, looked, stage_at}
+use Rattle.conc_board_seats.specs.Steps.{HasPlace, LookFits}
 use Rattle.conc_board_seats.specs.Words.{IsPlace, claimed, place_in, request_of}
 
 -- ---- requests and places
@@ -151,14 +151,40 @@ module _ (plan : Plan) where
   let_free at r few (Got p m) n h is f = absurd is
   let_free at r few (Done m) n h is f = absurd is
 
+  -- the word fits the stage
+  pub word_fits : (at : PlaceId → Doing) (r : RequestId) (st : Stage) (n : ℕ) (h : Home) → Fits plan at r st n h → WordFits st n
+  word_fits at r NotLet n h f = f.0
+  word_fits at r Let n h (inl e, home) = inl e
+  word_fits at r Let n h (inr t, home) = inr (t.0, t.2)
+  word_fits at r (Seen p) n h f = f.1
+  word_fits at r (Gone p true) n h (near, inl e) = inr (inl e.0)
+  word_fits at r (Gone p false) n h (near, inl e) = inl e.0
+  word_fits at r (Gone p m) n h (near, inr e) = inr (inr e.0)
+  word_fits at r (Got p m) n h f = f.1
+  word_fits at r (Done m) n h f = f.0
+
   -- a request that was not seen claimed is Released
+  look_fits-let : (at : PlaceId → Doing) (r : RequestId) → count_of_places plan ≤ 64 → (n : ℕ) (h : Home) → Fits plan at r Let n h → LookFits (looked Let n) n
+  look_fits-let at r few n h (inl e, home) = subst (λ b. LookFits (if b then Seen (place_in 256 n) else Let) n) (sym (ne_eqb (n / 256) 1 (λ x. omega arith))) e
+  look_fits-let at r few n h (inr t, home) = let near = t.1 in let e = t.2 in
+      subst (λ b. LookFits (if b then Seen (place_in 256 n) else Let) n) (sym (eq-eqb (n / 256) 1 (omega arith))) (omega arith)
+
   pub look_fits : (at : PlaceId → Doing) (r : RequestId) → count_of_places plan ≤ 64 → (st : Stage) (n : ℕ) (h : Home) → Fits plan at r st n h → LookFits (looked st n) n
-  look_fits at r few NotLet n h f = tt
-  look_fits at r few Let n h (inl e, home) = subst (λ b. LookFits (if b then Seen (place_in 256 n) else Let) n) (sym (ne_eqb (n / 256) 1 (λ x. omega arith))) e
-  look_fits at r few Let n h (inr t, home) = let near = t.1 in let e = t.2 in
-      subst (λ b. LookFits (if b then Seen (place_in 256 n) else Let) n) (sym (eq-eqb (n / 256) 1 (omega arith))) (omega arith, omega arith)
-  look_fits at r few (Seen p) n h f = let near = f.0 in (omega arith, f.1)
-  look_fits at r few (Gone p m) n h (near, inl e) = (omega arith, inl e.0)
-  look_fits at r few (Gone p m) n h (near, inr e) = (omega arith, inr e.0)
-  look_fits at r few (Got p m) n h f = tt
-  look_fits at r few (Done m) n h f = tt
+  look_fits at r few NotLet n h f = word_fits at r NotLet n h f
+  look_fits at r few Let n h f = look_fits-let at r few n h f
+  look_fits at r few (Seen p) n h f = word_fits at r (Seen p) n h f
+  look_fits at r few (Gone p m) n h f = word_fits at r (Gone p m) n h f
+  look_fits at r few (Got p m) n h f = word_fits at r (Got p m) n h f
+  look_fits at r few (Done m) n h f = word_fits at r (Done m) n h f
+
+  -- its place is one of the plan
+  pub has_place : (at : PlaceId → Doing) (r : RequestId) (known : Option Plan) (st : Stage) (n : ℕ) (h : Home) → known ≡ Some plan → Fits plan at r st n h → HasPlace known st
+  has_place at r known st n h knows f = subst (λ (o : Option Plan). HasPlace o st) (sym knows) (go st f)
+    where
+      go : (st : Stage) → Fits plan at r st n h → HasPlace (Some plan) st
+      go NotLet f = tt
+      go Let f = tt
+      go (Seen p) f = f.0
+      go (Gone p m) f = f.0
+      go (Got p m) f = tt
+      go (Done m) f = tt

@@ -23,7 +23,7 @@ use Rattle.conc_board_seats.specs.Places.{has}
 use Rattle.conc_board_seats.specs.Reports.{MayLeave}
 use Rattle.conc_board_seats.specs.Rule.{Fits, Home, IsServed, Keep, Runs, Works, doing_at, view_at}
 use Rattle.conc_board_seats.specs.Stages.{stage_at}
-use Rattle.conc_board_seats.specs.Steps.{Slot, claim_tells, poll_tells, post_tells, warn_tells, with_doing}
+use Rattle.conc_board_seats.specs.Steps.{ServedFits, Slot, claim_tells, poll_tells, post_tells, warn_tells, with_doing}
 use Rattle.conc_board_seats.specs.Words.{IsPlace, IsRequest, claimed, count_of_requests, ended, place_in, request_of, request_word, run_word, running, stopping}
 use Rattle.conc_board_seats.proofs.Facts.{at_view, fits_on, home_there, no_permit, place_eq, request_eq}
 use Rattle.conc_board_seats.proofs.Moves.{OnlyOn, St, hand_moves, home, own_doing, word}
@@ -290,7 +290,7 @@ module _ (plan : Plan) where
             tt
             (λ a q near other h. absurd (other (ap k.owner (sym (lone_permit stop a p q n few held.2 near held.3 h)) ∙ held.0)))
             (ap (λ (cs : List (ℕ × Slot)). put_back s.homes cs) carries),
-        (refl, refl),
+        (refl, refl, subst (λ (z : Doing). ServedFits z n) (sym serves) held.3),
       )
 
   -- ---- the stop sign
@@ -322,5 +322,5 @@ module _ (plan : Plan) where
             (held.0, held.1, held.2, subst (λ (z : ℕ). Runs t.0 p (word s z)) (let z : i ≡ i + 1 - 1 = omega arith in z) t.2))
             (λ a q near _ h. h)
             (sym (set-get_or s.homes i none)),
-        (refl, refl),
+        (refl, refl, subst (λ (z : Doing). ServedFits z n) (sym serves) held.3),
       )

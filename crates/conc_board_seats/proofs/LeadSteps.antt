@@ -1,5 +1,5 @@
 -- Each step of the lead's keeps the rule, and tells what it is to tell.
-use Rattle.std.proofs.Common.{◌≡◌, ℕ, eqb, ◌+◌, ◌/◌, ◌<◌, ◌≤◌, if◌then◌else◌, Bool, true, false, List, [], ◌∷◌, sym, refl, ap, ◌∙◌, subst, inl, inr, arith, length-set, get_or-set_other, get_or-set_same, eq-eqb, ne_eqb, Option, Some, None}
+use Rattle.std.proofs.Common.{◌≡◌, ℕ, eqb, ◌+◌, ◌/◌, ◌<◌, ◌≤◌, ◌≢◌, ◌⊎◌, if◌then◌else◌, Bool, true, false, List, [], ◌∷◌, sym, refl, ap, ◌∙◌, subst, inl, inr, arith, length-set, get_or-set_other, get_or-set_same, eq-eqb, ne_eqb, Option, Some, None}
 use mathlib.Core.Logic.{dite}
 use mathlib.Core.Option.{none, some}
 use native.Mathlib.Decide.{ℕ_discrete}
@@ -18,9 +18,9 @@ use Rattle.conc_board_seats.specs.declared.views.Stage.TheVariants.{NotLet, Let,
 use Rattle.conc_board_seats.specs.declared.views.View.{View}
 use Rattle.conc_board_seats.specs.Rule.{Fits, HasLeft, Home, Keep, Runs, doing_at, exclude}
 use Rattle.conc_board_seats.specs.Stages.{IsLet, IsLive, cleared, gone, got, is_marked, looked, marked, stage_at}
-use Rattle.conc_board_seats.specs.Steps.{IsTold, Slot, back_tells, clear_tells, go_tells, got_tells, let_out_tells, look_tells, note_tells, noted, stop_tells, switch_tells, with_stage}
+use Rattle.conc_board_seats.specs.Steps.{EndedFits, IsTold, RunFits, Slot, back_tells, clear_tells, go_tells, got_tells, let_out_tells, look_tells, note_tells, noted, stop_tells, switch_tells, with_stage}
 use Rattle.conc_board_seats.specs.Words.{IsPlace, claimed, count_of_requests, count_of_words, ended, request_of, run_word, running, stopping}
-use Rattle.conc_board_seats.proofs.Facts.{apart_more, apart_same, home_there, let_free, look_fits, looked_fits, looked_live, no_permit, place_eq}
+use Rattle.conc_board_seats.proofs.Facts.{apart_more, apart_same, home_there, let_free, has_place, look_fits, looked_fits, looked_live, no_permit, word_fits}
 use Rattle.conc_board_seats.proofs.Moves.{St, home, led, lead_moves, plain_moves, word}
 
 module _ (plan : Plan) where
@@ -44,7 +44,7 @@ module _ (plan : Plan) where
             (λ q other. get_or-set_other v.stages r q Let NotLet other)
             (no_permit plan n 1 few (inl (omega arith)))
             (sym (set-get_or s.homes r none)),
-        (refl, refl, zero_there, get_or-set_same v.stages r Let NotLet (omega arith)),
+        (refl, refl, zero_there),
       )
 
   pub looks : (slots id : ℕ) (me : Me Slot View) (r : ℕ) → me.0.leads ≡ true → r < count_of_requests plan → Allows Rule slots id me r (λ n. n) (look_tells (step slots r 0 0 none) me)
@@ -60,7 +60,7 @@ module _ (plan : Plan) where
             (λ q other. get_or-set_other v.stages r q st NotLet other)
             (λ stop p small h. h)
             (sym (set-get_or s.homes r none)),
-        (refl, refl, look_fits plan (doing_at s.views k.owner) (request_of r) k.few_places (stage_at v.stages r) n (home s r) (l.fits r inside), get_or-set_same v.stages r st NotLet (omega arith)),
+        (refl, refl, has_place plan (doing_at s.views k.owner) (request_of r) v.plan st n (home s r) l.knows_plan (looked_fits plan (doing_at s.views k.owner) (request_of r) k.few_places (stage_at v.stages r) n (home s r) (l.fits r inside)), look_fits plan (doing_at s.views k.owner) (request_of r) k.few_places (stage_at v.stages r) n (home s r) (l.fits r inside)),
       )
 
   pub goes : (slots id : ℕ) (me : Me Slot View) (r : ℕ) (p : PlaceId) → me.0.leads ≡ true → r < count_of_requests plan → stage_at me.0.stages r ≡ Seen p →
@@ -80,7 +80,7 @@ module _ (plan : Plan) where
             (λ q other. get_or-set_other v.stages r q st NotLet other)
             (no_permit plan n (running p) few (inl (omega arith)))
             (sym (set-get_or s.homes r none)),
-        (refl, refl, get_or-set_same v.stages r st NotLet (omega arith)),
+        (refl, refl, word_fits plan (doing_at s.views k.owner) (request_of r) (stage_at v.stages r) n (home s r) (l.fits r inside)),
       )
 
   pub takes_back : (slots id : ℕ) (me : Me Slot View) (r : ℕ) → me.0.leads ≡ true → r < count_of_requests plan → IsLet (stage_at me.0.stages r) → Allows Rule slots id me r (λ _. 0) (back_tells (step slots r 0 0 none) me)
@@ -97,7 +97,7 @@ module _ (plan : Plan) where
             (λ q other. get_or-set_other v.stages r q NotLet NotLet other)
             (no_permit plan n 0 few (inl low))
             (sym (set-get_or s.homes r none)),
-        (refl, refl, get_or-set_same v.stages r NotLet NotLet (omega arith)),
+        (refl, refl, word_fits plan (doing_at s.views k.owner) (request_of r) (stage_at v.stages r) n (home s r) (l.fits r inside)),
       )
 
   ran : (m : Bool) (p : PlaceId) → IsPlace plan p → count_of_places plan ≤ 64 → (run_word m p < 1024) × (512 ≤ run_word m p)
@@ -133,20 +133,25 @@ module _ (plan : Plan) where
             (λ q other. get_or-set_other v.stages r q st NotLet other)
             (stop_permits p n few small hit)
             (sym (set-get_or s.homes r none))),
-        (subst (λ b. w ≡ (if b then w else noted v r n)) (sym (eq-eqb n (running p) hit)) refl, refl),
+        (subst (λ b. w ≡ (if b then w else noted v r n)) (sym (eq-eqb n (running p) hit)) refl, refl, word_fits plan (doing_at s.views k.owner) (request_of r) (stage_at v.stages r) n (home s r) (l.fits r inside)),
       ))
       (λ miss. let w : View = noted v r n in (
         w,
         keeps,
         tt,
         subst (λ b. Rule (stepped s r (either b (stopping p) n) id me.1 w keeps)) (sym (ne_eqb n (running p) miss)) (plain_moves plan s k id r n n me.1 v at (omega arith) (λ _. refl) (λ far. absurd (omega arith))),
-        (subst (λ b. w ≡ (if b then with_stage v r st n else w)) (sym (ne_eqb n (running p) miss)) refl, refl),
+        (subst (λ b. w ≡ (if b then with_stage v r st n else w)) (sym (ne_eqb n (running p) miss)) refl, refl, word_fits plan (doing_at s.views k.owner) (request_of r) (stage_at v.stages r) n (home s r) (l.fits r inside)),
       ))
 
   -- what the lead finds in the slot of a request that ended
   has_ended : (at : PlaceId → Doing) (r : ℕ) (p : PlaceId) (m : Bool) (n : ℕ) (h : Home) → count_of_places plan ≤ 64 → n / 256 ≡ 4 → Fits plan at (request_of r) (Gone p m) n h → (n ≡ ended p) × HasLeft plan (request_of r) m h
   has_ended at r p m n h few four (small, inr e) = e
   has_ended at r p m n h few four (small, inl e) = let x = e.0 in let y = ran m p small few in let lt = y.0 in absurd (omega arith)
+
+  not_ended : (at : PlaceId → Doing) (r : ℕ) (p : PlaceId) (m : Bool) (n : ℕ) (h : Home) → count_of_places plan ≤ 64 → n / 256 ≢ 4 → Fits plan at (request_of r) (Gone p m) n h → (n ≡ running p) ⊎ (n ≡ stopping p)
+  not_ended at r p true n h few not (near, inl e) = inr e.0
+  not_ended at r p false n h few not (near, inl e) = inl e.0
+  not_ended at r p m n h few not (near, inr e) = let x = e.0 in absurd (not (omega arith))
 
   pub collects : (slots id : ℕ) (me : Me Slot View) (r : ℕ) (p : PlaceId) (m : Bool) → me.0.leads ≡ true → r < count_of_requests plan → stage_at me.0.stages r ≡ Gone p m →
       Allows Rule slots id me r (λ n. n) (got_tells (step slots r 0 0 none) me)
@@ -165,14 +170,14 @@ module _ (plan : Plan) where
             (λ q other. get_or-set_other v.stages r q st NotLet other)
             (λ stop q near h. h)
             refl,
-        ((λ _. (refl, get_or-set_same v.stages r st NotLet (omega arith), (x, refl, subst (λ (z : Option Plan × Bool). IsTold z.0 (request_of r) z.1 x) (λ i. (sym l.knows_plan i, ap is_marked (sym is) i)) e.1.2))), (λ not. absurd (not four))),
+        ((λ _. (refl, subst (λ (z : Stage). EndedFits z n) (sym is) e.0, (x, refl, subst (λ (z : Option Plan × Bool). IsTold z.0 (request_of r) z.1 x) (λ i. (sym l.knows_plan i, ap is_marked (sym is) i)) e.1.2))), (λ not. absurd (not four))),
       ))
       (λ not. let w : View = noted v r n in (
         w,
         keeps,
         tt,
         plain_moves plan s k id r n n me.1 v at (omega arith) (λ _. refl) (λ far. absurd (omega arith)),
-        ((λ four. absurd (not four)), (λ _. (refl, refl))),
+        ((λ four. absurd (not four)), (λ _. (refl, refl, subst (λ (z : Stage). RunFits z n) (sym is) (not_ended (doing_at s.views k.owner) r p m n (home s r) few not fit)))),
       ))
 
   pub clears : (slots id : ℕ) (me : Me Slot View) (r : ℕ) (p : PlaceId) (m : Bool) → me.0.leads ≡ true → r < count_of_requests plan → stage_at me.0.stages r ≡ Got p m → me.1 ≡ (r, None) ∷ [] →
@@ -191,7 +196,7 @@ module _ (plan : Plan) where
             (λ q other. get_or-set_other v.stages r q st NotLet other)
             (no_permit plan n 2 few (inr (omega arith)))
             (ap (λ (cs : List (ℕ × Slot)). put_back s.homes cs) carries),
-        (refl, refl, get_or-set_same v.stages r st NotLet (omega arith)),
+        (refl, refl, word_fits plan (doing_at s.views k.owner) (request_of r) (stage_at v.stages r) n (home s r) (l.fits r inside)),
       )
 
   -- a write of the word of a place or of the end, and a load of one, by any seat

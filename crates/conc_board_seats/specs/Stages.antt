@@ -4,11 +4,15 @@ use Rattle.conc_types.specs.declared.event.PlaceId.{PlaceId}
 use Rattle.conc_types.specs.declared.event.RequestId.{RequestId}
 use Rattle.conc_board_seats.specs.declared.views.Stage.{Stage}
 use Rattle.conc_board_seats.specs.declared.views.Stage.TheVariants.{NotLet, Let, Seen, Gone, Got, Done}
-use Rattle.conc_board_seats.specs.Words.{request_word, place_in}
+use Rattle.conc_board_seats.specs.Words.{claimed, done, ended, idle, place_in, released, request_word, running, stopping}
 
 -- the stage of the request with this word
 abbrev pub stage_at : List Stage → ℕ → Stage
 stage_at stages i = slice_index_or stages i NotLet
+
+-- the stage of a request; a number that is no request's has none
+abbrev pub stage_in : List Stage → RequestId → Stage
+stage_in stages r = if r.number == 0 then NotLet else stage_at stages (request_word r)
 
 -- ---- kinds of stage
 
@@ -30,12 +34,32 @@ IsLet (Gone p marked) = ⊥
 IsLet (Got p marked) = ⊥
 IsLet (Done marked) = ⊥
 
+-- with the go, and what is left not with the lead yet
+abbrev pub IsGone : Stage → Type 0
+IsGone NotLet = ⊥
+IsGone Let = ⊥
+IsGone (Seen p) = ⊥
+IsGone (Gone p marked) = Unit {0}
+IsGone (Got p marked) = ⊥
+IsGone (Done marked) = ⊥
+
 -- a stop of the request won
 abbrev pub is_marked : Stage → Bool
 is_marked (Gone p marked) = marked
 is_marked (Got p marked) = marked
 is_marked (Done marked) = marked
 is_marked stage = false
+
+-- ---- words
+
+-- the word of a request at this stage may hold this
+abbrev pub WordFits : Stage → ℕ → Type 0
+WordFits NotLet n = n ≡ idle
+WordFits Let n = (n ≡ released) ⊎ ((p : PlaceId) × (n ≡ claimed p))
+WordFits (Seen p) n = n ≡ claimed p
+WordFits (Gone p marked) n = (n ≡ running p) ⊎ ((n ≡ stopping p) ⊎ (n ≡ ended p))
+WordFits (Got p marked) n = n ≡ ended p
+WordFits (Done marked) n = n ≡ done
 
 -- ---- the next stage
 
