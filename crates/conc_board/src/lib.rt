@@ -1,2 +1,19 @@
-//! x
+//! The board: the lead lets requests out on it, hands claim them, serve them and leave what came of
+//! them. All calls take the board by `&`, wait for nobody, and take no memory but for `new`.
 #![tactic(auto)]
+
+mod bells;
+mod board;
+mod claiming;
+mod ending;
+mod hand;
+mod lead;
+mod numbers;
+mod plays;
+
+pub use board::Board;
+pub use conc_board_seats::{Doing, Posted, Stage, View};
+pub use ending::Words;
+pub use hand::{Claim, Hand, Permit, Polled};
+pub use lead::{Lead, Looked, NotYet};
+pub use plays::Keeping;

@@ -324,3 +324,16 @@ module _ (plan : Plan) where
             (sym (set-get_or s.homes i none)),
         (refl, refl, subst (λ (z : Doing). ServedFits z n) (sym serves) held.3),
       )
+
+  -- ---- the same, where the numbers are called otherwise
+
+  pub claims_by : (slots id : ℕ) (me : Me Slot View) (i : ℕ) (q : PlaceId) (x : ℕ) → x ≡ claimed q → i < count_of_requests plan → IsPlace plan q → has me.0.places q ≡ true →
+      me.0.doing ≡ Idle → Allows Rule slots id me i (λ n. either (eqb n 1) x n) (claim_tells (step slots i 1 x none) me)
+  claims_by slots id me i q x e inside near owns idle = subst (λ (z : ℕ). Allows Rule slots id me i (λ n. either (eqb n 1) z n) (claim_tells (step slots i 1 z none) me)) (sym e)
+      (claims slots id me i q inside near owns idle)
+
+  pub posts_by : (slots id : ℕ) (me : Me Slot View) (i : ℕ) (p : PlaceId) (stop : Bool) (left : Posted) (x : ℕ) → x ≡ ended p → me.0.doing ≡ Serves (request_of i) p stop →
+      me.1 ≡ (i, Some left) ∷ [] → MayLeave plan (request_of i) stop left → i < count_of_requests plan →
+      Allows Rule slots id me i (λ _. x) (post_tells (step slots i x 0 none) me)
+  posts_by slots id me i p stop left x e serves carries may inside = subst (λ (z : ℕ). Allows Rule slots id me i (λ _. z) (post_tells (step slots i z 0 none) me)) (sym e)
+      (posts slots id me i p stop left serves carries may inside)

@@ -215,3 +215,14 @@ module _ (plan : Plan) where
       Allows Rule slots id me i (λ n. n) (note_tells (step slots i 0 0 none) me)
   notes slots id me i inside s k _ at _ = let n : ℕ = word s i in
       (noted me.0 i n, keeps, tt, plain_moves plan s k id i n n me.1 me.0 at (omega arith) (λ _. refl) (λ far. absurd (omega arith)), (refl, refl))
+
+  -- ---- the same, where the numbers are called otherwise
+
+  pub goes_by : (slots id : ℕ) (me : Me Slot View) (i : ℕ) (p : PlaceId) (x : ℕ) → x ≡ running p → me.0.leads ≡ true → i < count_of_requests plan →
+      stage_at me.0.stages i ≡ Seen p → Allows Rule slots id me i (λ _. x) (go_tells (step slots i x 0 none) me)
+  goes_by slots id me i p x e leads inside seen = subst (λ (z : ℕ). Allows Rule slots id me i (λ _. z) (go_tells (step slots i z 0 none) me)) (sym e) (goes slots id me i p leads inside seen)
+
+  pub stops_by : (slots id : ℕ) (me : Me Slot View) (i : ℕ) (p : PlaceId) (m : Bool) (x y : ℕ) → x ≡ running p → y ≡ stopping p → me.0.leads ≡ true → i < count_of_requests plan →
+      stage_at me.0.stages i ≡ Gone p m → Allows Rule slots id me i (λ n. either (eqb n x) y n) (stop_tells (step slots i x y none) me)
+  stops_by slots id me i p m x y e f leads inside is = subst (λ (z : ℕ × ℕ). Allows Rule slots id me i (λ n. either (eqb n z.0) z.1 n) (stop_tells (step slots i z.0 z.1 none) me))
+      (λ k. (sym e k, sym f k)) (stops slots id me i p m leads inside is)

@@ -1,9 +1,16 @@
 -- What a hand does, and the slots that it then has.
 use Rattle.std.specs.Prelude.{ℕ, ◌==◌, Bool, true, false, if◌then◌else◌, List, [], ◌∷◌, Option, None}
+use Rattle.conc_types.specs.declared.plan.Plan.{Plan}
 use Rattle.conc_board_seats.specs.declared.posted.Posted.{Posted}
 use Rattle.conc_board_seats.specs.declared.views.Doing.{Doing}
 use Rattle.conc_board_seats.specs.declared.views.Doing.TheVariants.{Idle, Waits, Serves}
-use Rattle.conc_board_seats.specs.Words.{claimed, running, stopping, request_word}
+use Rattle.conc_board_seats.specs.Words.{IsPlace, IsRequest, claimed, running, stopping, request_word}
+
+-- it is for a request and a place of the plan
+abbrev pub IsWithin : Plan → Doing → Type 0
+IsWithin plan Idle = Unit {0}
+IsWithin plan (Waits r p) = IsRequest plan r × IsPlace plan p
+IsWithin plan (Serves r p stop) = IsRequest plan r × IsPlace plan p
 
 -- after the word that it waits for was loaded as n
 abbrev pub polled : Doing → ℕ → Doing

@@ -5,3 +5,4 @@ pub mod Doings
 pub mod Reports
 pub mod Rule
 pub mod Steps
+pub mod Courses

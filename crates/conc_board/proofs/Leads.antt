@@ -1,0 +1,97 @@
+-- What a step of the lead's changes of what contracts see.
+use Rattle.std.proofs.Common.{◌≡◌, ℕ, ◌+◌, ◌-◌, ◌<◌, ◌≤◌, ◌≢◌, if◌then◌else◌, Bool, true, false, List, [], ◌∷◌, ◌++◌, length, set, sym, refl, ap, ◌∙◌, subst, inl, inr, arith, length-set, get_or-set_other, get_or-set_same, eq-eqb, ne_eqb}
+use mathlib.Core.Logic.{dite}
+use native.Mathlib.Decide.{ℕ_discrete}
+use Rattle.conc_types.specs.declared.event.PlaceId.{PlaceId}
+use Rattle.conc_types.specs.declared.event.RequestId.{RequestId}
+use Rattle.conc_types.specs.declared.plan.Plan.{Plan}
+use Rattle.conc_board_seats.specs.declared.views.Stage.{Stage}
+use Rattle.conc_board_seats.specs.declared.views.Stage.TheVariants.{NotLet, Let, Seen, Gone, Got, Done}
+use Rattle.conc_board_seats.specs.declared.views.View.{View}
+use Rattle.conc_board_seats.specs.Courses.{GoesOn}
+use Rattle.conc_board_seats.specs.Stages.{stage_at, stage_in}
+use Rattle.conc_board_seats.specs.Steps.{noted, with_stage}
+use Rattle.conc_board_seats.specs.Words.{IsRequest, count_of_requests, request_of, request_word}
+use Rattle.conc_board_seats.proofs.Facts.{request_eq}
+use Rattle.conc_board.specs.declared.board.Board.{Board}
+use Rattle.conc_board.specs.declared.lead.Lead.{Lead}
+use Rattle.conc_board.specs.Seats.{AddsOne, Changes, IsLeadOf, KeepsStages, SameStages, plan_of, stage_of}
+
+-- ---- stages of requests
+
+pub stage_in-request : (ss : List Stage) (r : RequestId) → 1 ≤ r.number → stage_in ss r ≡ stage_at ss (request_word r)
+stage_in-request ss r from_one = ap (λ b. if b then NotLet else stage_at ss (request_word r)) (ne_eqb r.number 0 (λ e. omega arith))
+
+stage_in-none : (ss : List Stage) (r : RequestId) → r.number ≡ 0 → stage_in ss r ≡ NotLet
+stage_in-none ss r none = ap (λ b. if b then NotLet else stage_at ss (request_word r)) (eq-eqb r.number 0 none)
+
+pub stage_in-set_other : (ss : List Stage) (r q : RequestId) (st : Stage) → 1 ≤ r.number → q ≢ r → stage_in (set ss (request_word r) st) q ≡ stage_in ss q
+stage_in-set_other ss r q st from_one other = dite (ℕ_discrete q.number 0)
+    (λ none. stage_in-none (set ss (request_word r) st) q none ∙ sym (stage_in-none ss q none))
+    (λ some. let one : 1 ≤ q.number = omega arith in
+    stage_in-request (set ss (request_word r) st) q one
+    ∙ (get_or-set_other ss (request_word r) (request_word q) st NotLet (λ e. other (request_eq q r (omega arith))) ∙ sym (stage_in-request ss q one)))
+
+pub stage_in-set_same : (ss : List Stage) (r : RequestId) (st : Stage) → 1 ≤ r.number → r.number ≤ length ss → stage_in (set ss (request_word r) st) r ≡ st
+stage_in-set_same ss r st from_one within = stage_in-request (set ss (request_word r) st) r from_one ∙ get_or-set_same ss (request_word r) st NotLet (omega arith)
+
+-- the request whose word has this number, and its stage
+pub request_there : (r : RequestId) (i : ℕ) → i ≡ request_word r → 1 ≤ r.number → request_of i ≡ r
+request_there r i word from_one = request_eq (request_of i) r (omega arith)
+
+pub stage_there : (ss : List Stage) (r : RequestId) (i : ℕ) → i ≡ request_word r → 1 ≤ r.number → stage_at ss i ≡ stage_in ss r
+stage_there ss r i word from_one = ap (stage_at ss) word ∙ sym (stage_in-request ss r from_one)
+
+pub stage_in-word : (ss : List Stage) (j : ℕ) → stage_in ss (request_of j) ≡ stage_at ss j
+stage_in-word ss j = sym (stage_there ss (request_of j) j (omega arith) (omega arith))
+
+-- ---- steps that are noted
+
+pub adds_one : (IsSo : ℕ → Type 0) (word i n : ℕ) (old new : List (ℕ × ℕ)) → i ≡ word → IsSo n → new ≡ old ++ (i, n) ∷ [] → AddsOne word IsSo old new
+adds_one IsSo word i n old new there so is = (n, so, is ∙ ap (λ (z : ℕ). old ++ (z, n) ∷ []) there)
+
+-- ---- steps of the lead
+
+-- its view changed at one request
+pub new_stage : (plan : Plan) (r : RequestId) (v w : View) (i : ℕ) (st : Stage) (n : ℕ) → length v.stages ≡ count_of_requests plan → IsRequest plan r → i ≡ request_word r →
+    w ≡ with_stage v i st n → stage_in w.stages r ≡ st
+new_stage plan r v w i st n all of_plan word is =
+    ap (λ (u : View). stage_in u.stages r) is
+    ∙ (ap (λ (z : ℕ). stage_in (set v.stages z st) r) word ∙ stage_in-set_same v.stages r st of_plan.from_one (omega arith))
+
+pub changes : (board : Board) (r : RequestId) (old new : Lead) (i : ℕ) (st : Stage) (n : ℕ) → IsLeadOf board old → IsRequest (plan_of board) r → i ≡ request_word r →
+    new.seat.table_id ≡ old.seat.table_id → new.seat.me.0 ≡ with_stage old.seat.me.0 i st n →
+    GoesOn (stage_of old r) st → Changes board r old new
+changes board r old new i st n lead of_plan word seat is goes_on = record {
+  lead = record {
+    seat = seat ∙ lead.seat;
+    plan = ap (λ (v : View). v.plan) is ∙ lead.plan;
+    stages = ap (λ (v : View). length v.stages) is ∙ (length-set old.seat.me.0.stages i st ∙ lead.stages);
+  };
+  goes_on = subst (GoesOn (stage_of old r)) (sym (new_stage (plan_of board) r old.seat.me.0 new.seat.me.0 i st n lead.stages of_plan word is)) goes_on;
+  others = λ q other. ap (λ (v : View). stage_in v.stages q) is
+      ∙ (ap (λ (z : ℕ). stage_in (set old.seat.me.0.stages z st) q) word ∙ stage_in-set_other old.seat.me.0.stages r q st of_plan.from_one other);
+  places = ap (λ (v : View). v.places) is;
+}
+
+-- its view only notes a step
+pub keeps_stages : (board : Board) (old new : Lead) (i n : ℕ) → IsLeadOf board old → new.seat.table_id ≡ old.seat.table_id →
+    new.seat.me.0 ≡ noted old.seat.me.0 i n → KeepsStages board old new
+keeps_stages board old new i n lead seat is = record {
+  lead = record {
+    seat = seat ∙ lead.seat;
+    plan = ap (λ (v : View). v.plan) is ∙ lead.plan;
+    stages = ap (λ (v : View). length v.stages) is ∙ lead.stages;
+  };
+  stages = record { each = λ r. ap (λ (v : View). stage_in v.stages r) is };
+  places = ap (λ (v : View). v.places) is;
+}
+
+-- a request that keeps its stage
+pub no_change : (board : Board) (r : RequestId) (old new : Lead) → KeepsStages board old new → Changes board r old new
+no_change board r old new kept = record {
+  lead = kept.lead;
+  goes_on = inl (kept.stages.each r);
+  others = λ q _. kept.stages.each q;
+  places = kept.places;
+}
