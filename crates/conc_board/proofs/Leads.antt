@@ -1,5 +1,5 @@
 -- What a step of the lead's changes of what contracts see.
-use Rattle.std.proofs.Common.{◌≡◌, ℕ, ◌+◌, ◌-◌, ◌<◌, ◌≤◌, ◌≢◌, if◌then◌else◌, Bool, true, false, List, [], ◌∷◌, ◌++◌, length, set, sym, refl, ap, ◌∙◌, subst, inl, inr, arith, length-set, get_or-set_other, get_or-set_same, eq-eqb, ne_eqb}
+use Rattle.std.proofs.Common.{◌≡◌, ℕ, ◌+◌, ◌-◌, ◌<◌, ◌≤◌, ◌≢◌, if◌then◌else◌, Bool, true, false, List, [], ◌∷◌, ◌++◌, length, set, sym, refl, ap, ◌∙◌, subst, inl, inr, arith, length-set, get_or-set_other, get_or-set_same, eq-eqb, ne_eqb, append_assoc}
 use mathlib.Core.Logic.{dite}
 use native.Mathlib.Decide.{ℕ_discrete}
 use Rattle.conc_types.specs.declared.event.PlaceId.{PlaceId}
@@ -50,6 +50,11 @@ stage_in-word ss j = sym (stage_there ss (request_of j) j (omega arith) (omega a
 pub adds_one : (IsSo : ℕ → Type 0) (word i n : ℕ) (old new : List (ℕ × ℕ)) → i ≡ word → IsSo n → new ≡ old ++ (i, n) ∷ [] → AddsOne word IsSo old new
 adds_one IsSo word i n old new there so is = (n, so, is ∙ ap (λ (z : ℕ). old ++ (z, n) ∷ []) there)
 
+-- two steps on one word
+pub adds_two : (word i n k : ℕ) (old mid new : List (ℕ × ℕ)) → i ≡ word → mid ≡ old ++ (i, n) ∷ [] → new ≡ mid ++ (word, k) ∷ [] → new ≡ old ++ (word, n) ∷ (word, k) ∷ []
+adds_two word i n k old mid new there one two =
+    two ∙ (ap (λ (z : List (ℕ × ℕ)). z ++ (word, k) ∷ []) (one ∙ ap (λ (z : ℕ). old ++ (z, n) ∷ []) there) ∙ append_assoc old ((word, n) ∷ []) ((word, k) ∷ []))
+
 -- ---- steps of the lead
 
 -- its view changed at one request
@@ -95,3 +100,29 @@ no_change board r old new kept = record {
   others = λ q _. kept.stages.each q;
   places = kept.places;
 }
+
+-- two calls on a request, of which the first keeps its stage
+pub changes_after : (board : Board) (r : RequestId) (old mid new : Lead) → Changes board r old mid → stage_of mid r ≡ stage_of old r → Changes board r mid new → Changes board r old new
+changes_after board r old mid new first same second = record {
+  lead = second.lead;
+  goes_on = subst (λ (z : Stage). GoesOn z (stage_of new r)) same second.goes_on;
+  others = λ q other. second.others q other ∙ first.others q other;
+  places = second.places ∙ first.places;
+}
+
+-- its view changed twice at one request
+pub changes_twice : (board : Board) (r : RequestId) (old new : Lead) (mid : View) (i : ℕ) (one two : Stage) (n k : ℕ) → IsLeadOf board old → IsRequest (plan_of board) r → i ≡ request_word r →
+    new.seat.table_id ≡ old.seat.table_id → mid ≡ with_stage old.seat.me.0 i one n → new.seat.me.0 ≡ with_stage mid i two k → GoesOn (stage_of old r) two → Changes board r old new
+changes_twice board r old new mid i one two n k lead of_plan word seat is next goes_on =
+    let all : length mid.stages ≡ count_of_requests (plan_of board) = ap (λ (v : View). length v.stages) is ∙ (length-set old.seat.me.0.stages i one ∙ lead.stages) in record {
+      lead = record {
+        seat = seat ∙ lead.seat;
+        plan = ap (λ (v : View). v.plan) next ∙ (ap (λ (v : View). v.plan) is ∙ lead.plan);
+        stages = ap (λ (v : View). length v.stages) next ∙ (length-set mid.stages i two ∙ all);
+      };
+      goes_on = subst (GoesOn (stage_of old r)) (sym (new_stage (plan_of board) r mid new.seat.me.0 i two k all of_plan word next)) goes_on;
+      others = λ q other. ap (λ (v : View). stage_in v.stages q) next
+          ∙ (ap (λ (z : ℕ). stage_in (set mid.stages z two) q) word ∙ (stage_in-set_other mid.stages r q two of_plan.from_one other
+          ∙ (ap (λ (v : View). stage_in v.stages q) is ∙ (ap (λ (z : ℕ). stage_in (set old.seat.me.0.stages z one) q) word ∙ stage_in-set_other old.seat.me.0.stages r q one of_plan.from_one other))));
+      places = ap (λ (v : View). v.places) next ∙ ap (λ (v : View). v.places) is;
+    }

@@ -122,11 +122,25 @@ impl Board {
         ensures lead { Changes self.now r lead.old lead.new }
         ensures stopped { StopsAs result r lead.old lead.new }
     {
+        let place = self.place_of_go(lead, r);
+        self.stop_at(lead, r, place)
+    }
+
+    // The place at which a request has the go, by its word.
+    fn place_of_go(&self, lead: &mut Lead, r: RequestId) -> PlaceId
+        requires lead { IsLeadOf self.now lead.old }
+        requires request { IsRequest (plan_of self.now) r }
+        requires stage { IsGone (stage_of lead.old r) }
+        ensures lead { Changes self.now r lead.old lead.new }
+        ensures same { stage_of lead.new r ≡ stage_of lead.old r }
+        ensures place { (marked : Bool) × (stage_of lead.old r ≡ stage.Gone result marked) }
+        ensures found { AddsOne (request_word_of r) (WordFits (stage_of lead.old r)) (found_by_lead lead.old) (found_by_lead lead.new) }
+    {
         let word = self
             .table
             .shared
             .load::<Looks>(&mut lead.seat, request_word(r));
-        self.stop_at(lead, r, place_named(word))
+        place_named(word)
     }
 
     // Tells a request that has the go at this place to stop.
