@@ -1,3 +1,5 @@
 pub mod Leads
 pub mod LookedSo
 pub mod StoppedSo
+pub mod Hands
+pub mod Opened
