@@ -3,3 +3,4 @@ pub mod LookedSo
 pub mod StoppedSo
 pub mod Hands
 pub mod Opened
+pub mod PolledSo

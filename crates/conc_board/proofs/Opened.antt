@@ -10,13 +10,6 @@ use Rattle.conc_board_seats.specs.Stages.{stage_at, stage_in}
 use Rattle.conc_board_seats.specs.Words.{request_word}
 use Rattle.conc_board_seats.proofs.Facts.{replicate_at}
 
-pub none_let : (n : ℕ) (r : RequestId) → stage_in (replicate n NotLet) r ≡ NotLet
-none_let n r = go (r.number == 0)
-  where
-    go : (b : Bool) → (if b then NotLet else stage_at (replicate n NotLet) (request_word r)) ≡ NotLet
-    go true = replicate_at 0 0 NotLet
-    go false = replicate_at n (request_word r) NotLet
-
 pub has-below : (n : ℕ) (p : PlaceId) → p.index < n → has (below n) p ≡ true
 has-below zero p near = absurd (omega arith)
 has-below (suc n) p near = dite (ℕ_discrete n p.index)
