@@ -4,3 +4,5 @@ pub mod StoppedSo
 pub mod Hands
 pub mod Opened
 pub mod PolledSo
+pub mod Scans
+pub mod Ended

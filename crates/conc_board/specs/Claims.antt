@@ -15,7 +15,7 @@ use Rattle.conc_board_seats.specs.declared.views.Doing.{Doing}
 use Rattle.conc_board_seats.specs.declared.views.Doing.TheVariants.{Idle, Waits, Serves}
 use Rattle.conc_board_seats.specs.Reports.{MayLeave}
 use Rattle.conc_board_seats.specs.Rule.{Runs}
-use Rattle.conc_board_seats.specs.Words.{IsRequest, claimed, place_word, released, request_word, run_word, running, stopping}
+use Rattle.conc_board_seats.specs.Words.{IsRequest, claimed, count_of_requests, place_word, released, request_word, run_word, running, stopping}
 use Rattle.conc_board.specs.declared.board.Board.{Board}
 use Rattle.conc_board.specs.declared.hand.Claim.{Claim}
 use Rattle.conc_board.specs.declared.hand.Hand.{Hand}
@@ -109,6 +109,17 @@ pub record ClaimsNone (board : Board) (old new : Hand) (steps : List (ℕ × ℕ
   pub idle : doing_of new ≡ Idle
   pub found : found_by_hand new ≡ found_by_hand old ++ steps
 
+-- it claimed nothing by some steps
+pub record MissesSome (board : Board) (old new : Hand) : Type 0 where
+  pub steps : List (ℕ × ℕ)
+  pub made : ClaimsNone board old new steps
+
+-- each request that the place's manager admits was found as not Released
+pub record MissesAll (board : Board) (place : PlaceId) (old new : Hand) : Type 0 where
+  pub steps : List (ℕ × ℕ)
+  pub made : ClaimsNone board old new steps
+  pub missed : AreMissed (plan_of board) place steps (count_of_requests (plan_of board))
+
 -- No request was claimed: the place was found closed, or each request that its manager admits was
 -- found as not Released.
 pub record FindsNone (board : Board) (place : PlaceId) (old new : Hand) : Type 0 where
@@ -116,7 +127,7 @@ pub record FindsNone (board : Board) (place : PlaceId) (old new : Hand) : Type 0
   pub made : ClaimsNone board old new steps
   pub cause :
     Has steps (place_word (plan_of board) place, 0)
-    ⊎ ((r : RequestId) → IsRequest (plan_of board) r → IsTrue (admits_at (plan_of board) place r) → IsMissed steps r)
+    ⊎ AreMissed (plan_of board) place steps (count_of_requests (plan_of board))
 
 -- ---- a claim is answered
 

@@ -3,7 +3,7 @@ ghost use Rattle.std.specs.Option.{option_copied};
 ghost use Rattle.conc_board_seats.specs.Places.{has};
 ghost use Rattle.conc_board_seats.specs.Words.{count_of_requests, IsPlace, IsRequest};
 ghost use Rattle.conc_board_seats.specs.declared.views.Doing.TheVariants as does;
-ghost use Rattle.conc_board.specs.Claims.{admits_at, admits_request as admits_request_of, AreMissed, ClaimsAt, ClaimsNone, ClaimsOne, FindsNone, manager_at as manager_at_of, MissesOne};
+ghost use Rattle.conc_board.specs.Claims.{admits_at, admits_request as admits_request_of, ClaimsAt, ClaimsOne, FindsNone, manager_at as manager_at_of, MissesAll, MissesOne, MissesSome};
 ghost use Rattle.conc_board.specs.Seats.{doing_of, IsHandOf, places_of_hand, plan_of};
 
 use crate::plays::Claims;
@@ -54,6 +54,25 @@ impl Board {
         if !self.is_open(hand, place) {
             return None;
         }
+        self.claim_open(hand, place, plan, hint)
+    }
+
+    // The same, where the place was found open.
+    fn claim_open(
+        &self,
+        hand: &mut Hand,
+        place: PlaceId,
+        plan: &Plan,
+        hint: Option<RequestId>,
+    ) -> Option<Claim>
+        requires hand { IsHandOf self.now hand.old }
+        requires plan { plan.now ≡ plan_of self.now }
+        requires idle { doing_of hand.old ≡ does.Idle }
+        requires place { IsPlace plan.now place }
+        requires own { IsTrue (has (places_of_hand hand.old) place) }
+        ensures claimed { IfSome result (λ claim. ClaimsAt self.now place hand.old hand.new claim) }
+        ensures none { IfNone result (MissesAll self.now place hand.old hand.new) }
+    {
         let manager = manager_at(plan, place)?;
         match self.claim_hinted(hand, place, plan, manager, hint) {
             Some(claim) => Some(claim),
@@ -77,7 +96,7 @@ impl Board {
         requires own { IsTrue (has (places_of_hand hand.old) place) }
         requires manager { manager_at_of plan.now place ≡ Some manager.now }
         ensures claimed { IfSome result (λ claim. ClaimsAt self.now place hand.old hand.new claim) }
-        ensures none { IfNone result ((steps : List (ℕ × ℕ)) × ClaimsNone self.now hand.old hand.new steps) }
+        ensures none { IfNone result (MissesSome self.now hand.old hand.new) }
     {
         let r = hint?;
         if !admits_request(plan, r, manager) {
@@ -101,7 +120,7 @@ impl Board {
         requires own { IsTrue (has (places_of_hand hand.old) place) }
         requires manager { manager_at_of plan.now place ≡ Some manager.now }
         ensures claimed { IfSome result (λ claim. ClaimsAt self.now place hand.old hand.new claim) }
-        ensures none { IfNone result ((steps : List (ℕ × ℕ)) × ClaimsNone self.now hand.old hand.new steps × AreMissed plan.now place steps (count_of_requests plan.now)) }
+        ensures none { IfNone result (MissesAll self.now place hand.old hand.new) }
     {
         for index in 0..self.requests {
             let r = RequestId {
