@@ -1,5 +1,5 @@
 -- Steps by which a hand looks for a request to claim.
-use Rattle.std.proofs.Common.{◌≡◌, ◌≢◌, ◌==◌, ℕ, ◌+◌, ◌-◌, ◌<◌, ◌≤◌, Bool, true, false, if◌then◌else◌, List, [], ◌∷◌, ◌++◌, length, Option, None, Some, sym, refl, ap, ◌∙◌, subst, inl, inr, arith, append_assoc, append_nil, eq-eqb, ne_eqb, true≢false}
+use Rattle.std.proofs.Common.{◌≡◌, ◌≢◌, ◌==◌, ℕ, ◌+◌, ◌-◌, ◌<◌, ◌≤◌, Bool, true, false, if◌then◌else◌, List, [], ◌∷◌, ◌++◌, length, Option, None, Some, sym, refl, ap, ◌∙◌, subst, inl, inr, arith, append_assoc, append-nil, eq-eqb, ne_eqb, true≢false}
 use Rattle.std.proofs.lemmas.Option.{slice_get_within}
 use mathlib.Core.Logic.{dite}
 use native.Mathlib.Decide.{ℕ_discrete}
@@ -70,10 +70,10 @@ are_missed_same plan place steps count all not r from_one within admitted = dite
 -- ---- calls one after the other
 
 pub nothing_yet : (board : Board) (hand : Hand) → IsHandOf board hand → doing_of hand ≡ Idle → ClaimsNone board hand hand []
-nothing_yet board hand own idle = record { hand = record { hand = own; places = refl }; idle = idle; found = sym (append_nil (found_by_hand hand)) }
+nothing_yet board hand own idle = record { hand = record { hand = own; places = refl }; idle = idle; found = sym (append-nil (found_by_hand hand)) }
 
-pub missed_one : (board : Board) (r : RequestId) (old new : Hand) (m : MissesOne board r old new) → ClaimsNone board old new ((request_word r, m.found.0) ∷ [])
-missed_one board r old new m = record { hand = m.hand; idle = m.idle; found = m.found.2 }
+pub missed_one : (board : Board) (r : RequestId) (i : ℕ) (old new : Hand) (m : MissesOne board r old new) → i ≡ request_word r → ClaimsNone board old new ((i, m.found.0) ∷ [])
+missed_one board r i old new m word = record { hand = m.hand; idle = m.idle; found = m.found.2 ∙ ap (λ (z : ℕ). found_by_hand old ++ (z, m.found.0) ∷ []) (sym word) }
 
 pub none_after : (board : Board) (old mid new : Hand) (xs ys : List (ℕ × ℕ)) → ClaimsNone board old mid xs → ClaimsNone board mid new ys → ClaimsNone board old new (xs ++ ys)
 none_after board old mid new xs ys first second = record {
