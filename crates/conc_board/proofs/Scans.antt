@@ -1,9 +1,9 @@
 -- Steps by which a hand looks for a request to claim.
-use Rattle.std.proofs.Common.{◌≡◌, ◌≢◌, ◌==◌, ℕ, ◌+◌, ◌-◌, ◌<◌, ◌≤◌, Bool, true, false, if◌then◌else◌, List, [], ◌∷◌, ◌++◌, length, Option, None, Some, sym, refl, ap, ◌∙◌, subst, inl, inr, arith, append_assoc, append-nil, eq-eqb, ne_eqb, true≢false}
+use Rattle.std.proofs.Common.{◌≡◌, ◌≢◌, ◌==◌, ℕ, zero, suc, ◌+◌, ◌-◌, ◌<◌, ◌≤◌, Bool, true, false, if◌then◌else◌, List, [], ◌∷◌, ◌++◌, length, Option, None, Some, sym, refl, ap, ◌∙◌, subst, inl, inr, arith, append_assoc, append-nil, eq-eqb, ne_eqb, true≢false}
 use Rattle.std.proofs.lemmas.Option.{slice_get_within}
 use mathlib.Core.Logic.{dite}
 use native.Mathlib.Decide.{ℕ_discrete}
-use Rattle.std.specs.Prelude.{slice_get}
+use Rattle.std.specs.Prelude.{IfNone, IfSome, slice_get}
 use Rattle.conc_types.specs.declared.event.PlaceId.{PlaceId}
 use Rattle.conc_types.specs.declared.event.RequestId.{RequestId}
 use Rattle.conc_types.specs.declared.manager.Manager.{Manager}
@@ -14,13 +14,13 @@ use Rattle.conc_law.specs.Managers.{admits}
 use Rattle.conc_law.specs.Words.{Has}
 use Rattle.conc_law.proofs.Options.{some_and-some}
 use Rattle.conc_board_seats.specs.declared.views.Doing.TheVariants.{Idle}
-use Rattle.conc_board_seats.specs.Words.{IsRequest, place_word, released, request_of, request_word}
+use Rattle.conc_board_seats.specs.Words.{IsRequest, count_of_requests, place_word, released, request_of, request_word}
 use Rattle.conc_board_seats.proofs.Facts.{request_eq}
 use Rattle.conc_board.specs.declared.board.Board.{Board}
 use Rattle.conc_board.specs.declared.hand.Claim.{Claim}
 use Rattle.conc_board.specs.declared.hand.Hand.{Hand}
-use Rattle.conc_board.specs.Claims.{AreMissed, ClaimsAt, ClaimsNone, ClaimsOne, IsMissed, MissesOne, MissesSome, admits_at, admits_request, claim_request, manager_at}
-use Rattle.conc_board.specs.Seats.{IsHandOf, Stays, doing_of, found_by_hand, plan_of}
+use Rattle.conc_board.specs.Claims.{AreMissed, ClaimsAt, ClaimsNone, ClaimsOne, FindsNone, IsMissed, MissesAll, MissesOne, MissesSome, admits_at, admits_request, claim_request, manager_at}
+use Rattle.conc_board.specs.Seats.{AddsOne, IsHandOf, Stays, doing_of, found_by_hand, plan_of}
 use Rattle.conc_board.proofs.Hands.{stays_after}
 
 -- ---- lists of steps
@@ -106,3 +106,33 @@ claims_after board place old mid new claim xs first second = let last : List (�
   found = second.found ∙ (ap (λ (z : List (ℕ × ℕ)). z ++ (second.steps ++ last)) first.found ∙ (append_assoc (found_by_hand old) xs (second.steps ++ last)
       ∙ ap (λ (z : List (ℕ × ℕ)). found_by_hand old ++ z) (sym (append_assoc xs second.steps last))));
 }
+
+-- what a later call answers is answered by both calls
+pub claimed_after : (board : Board) (place : PlaceId) (old mid new : Hand) (xs : List (ℕ × ℕ)) → ClaimsNone board old mid xs → (o : Option Claim) →
+    IfSome o (λ claim. ClaimsAt board place mid new claim) → IfSome o (λ claim. ClaimsAt board place old new claim)
+claimed_after board place old mid new xs first None h = tt
+claimed_after board place old mid new xs first (Some claim) h = claims_after board place old mid new claim xs first h
+
+pub missed_after : (board : Board) (place : PlaceId) (old mid new : Hand) (xs : List (ℕ × ℕ)) → ClaimsNone board old mid xs → (o : Option Claim) →
+    IfNone o (MissesAll board place mid new) → IfNone o (MissesAll board place old new)
+missed_after board place old mid new xs first None h = record {
+  steps = xs ++ h.steps;
+  made = none_after board old mid new xs h.steps first h.made;
+  missed = are_missed_back (plan_of board) place xs h.steps (count_of_requests (plan_of board)) h.missed;
+}
+missed_after board place old mid new xs first (Some claim) h = tt
+
+pub none_found : (board : Board) (place : PlaceId) (old new : Hand) (o : Option Claim) → IfNone o (MissesAll board place old new) → IfNone o (FindsNone board place old new)
+none_found board place old new None h = record { steps = h.steps; made = h.made; cause = inr h.missed }
+none_found board place old new (Some claim) h = tt
+
+-- a step on another word
+pub one_step : (board : Board) (word : ℕ) (IsSo : ℕ → Type 0) (old new : Hand) → Stays board old new → doing_of old ≡ Idle → doing_of new ≡ doing_of old →
+    (a : AddsOne word IsSo (found_by_hand old) (found_by_hand new)) → ClaimsNone board old new ((word, a.0) ∷ [])
+one_step board word IsSo old new stays idle same a = record { hand = stays; idle = same ∙ idle; found = a.2 }
+
+-- a switch that is not found on is found off
+pub found_off : (n : ℕ) → n ≤ 1 → (n == 1) ≡ false → n ≡ 0
+found_off zero l e = refl
+found_off (suc zero) l e = absurd (cc)
+found_off (suc (suc n)) l e = absurd (omega arith)
