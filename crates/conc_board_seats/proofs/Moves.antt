@@ -15,7 +15,7 @@ use Rattle.conc_board_seats.specs.declared.views.Doing.TheVariants.{Idle, Waits,
 use Rattle.conc_board_seats.specs.declared.views.Stage.{Stage}
 use Rattle.conc_board_seats.specs.declared.views.View.{View}
 use Rattle.conc_board_seats.specs.Places.{has}
-use Rattle.conc_board_seats.specs.Rule.{AreApart, Fits, Home, Keep, Runs, Works, doing_at, home_at, nobody, view_at}
+use Rattle.conc_board_seats.specs.Rule.{AreApart, Fits, Home, IsAtOwn, Keep, Runs, Works, doing_at, home_at, nobody, view_at}
 use Rattle.conc_board_seats.specs.Stages.{stage_at}
 use Rattle.conc_board_seats.specs.Steps.{Slot, noted}
 use Rattle.conc_board_seats.specs.Words.{IsPlace, IsRequest, count_of_requests, count_of_words, request_of, request_word}
@@ -105,9 +105,11 @@ module _ (plan : Plan) where
         all_words = length-set s.words i n ∙ wide;
         all_slots = ap (λ (xs : List Home). length xs) homes ∙ (length-set s.homes i h ∙ deep);
         all_stages = ap (λ (ss : List Stage). length ss) (sym stages) ∙ (same_length ∙ l.all_stages);
+        leads = same_part (λ u. u.leads) s.views id v w at same_leads k.lead ∙ k.leads;
         one_lead = λ j e. k.one_lead j (sym (same_part (λ u. u.leads) s.views id v w at same_leads j) ∙ e);
         knows_plan = ap (λ (u : View). u.plan) now ∙ (same_plan ∙ l.knows_plan);
         one_owner = λ j p e. k.one_owner j p (sym (ap (λ (ps : List PlaceId). has ps p) (same_part (λ u. u.places) s.views id v w at same_places j)) ∙ e);
+        at_own = λ j. subst (λ (z : List PlaceId × Doing). IsAtOwn z.0 z.1) (λ x. (sym (same_part (λ u. u.places) s.views id v w at same_places j) x, doings j x)) (k.at_own j);
         apart = subst (AreApart plan) stages apart;
         each_request = λ j near. dite (ℕ_discrete j i)
             (λ e. subst (λ (z : ℕ × (PlaceId → Doing) × Stage × ℕ × Home). Fits plan z.1 (request_of z.0) z.2 z.3 z.4)
@@ -146,7 +148,7 @@ module _ (plan : Plan) where
   -- a step of a hand on the word i, which becomes n
   pub hand_moves : (s : St) (k : Keep plan s) (id i n : ℕ) (cs : List (ℕ × Slot)) (v w : View) (a : Act Slot) (h : Home) →
       get_elem? s.views id ≡ some v → i < count_of_requests plan →
-      w.leads ≡ v.leads → w.plan ≡ v.plan → w.places ≡ v.places → w.stages ≡ v.stages → OnlyOn i v.doing →
+      w.leads ≡ v.leads → w.plan ≡ v.plan → w.places ≡ v.places → w.stages ≡ v.stages → OnlyOn i v.doing → IsAtOwn v.places w.doing →
       ((at' : PlaceId → Doing) → ((p : PlaceId) → k.owner p ≡ id → at' p ≡ w.doing) →
       ((p : PlaceId) → k.owner p ≢ id → at' p ≡ doing_at s.views k.owner p) → (st : Stage) →
       Fits plan (doing_at s.views k.owner) (request_of i) st (word s i) (home s i) → Fits plan at' (request_of i) st n h) →
@@ -154,7 +156,7 @@ module _ (plan : Plan) where
       ((stop : Bool) (p : PlaceId) → IsPlace plan p → k.owner p ≢ id → Runs stop p (word s i) → Runs stop p n) →
       homes_after s.homes cs a ≡ set s.homes i h →
       Keep plan (stepped s i n id cs w a)
-  hand_moves s k id i n cs v w a h at inside same_leads same_plan same_places same_stages on fits own stays homes =
+  hand_moves s k id i n cs v w a h at inside same_leads same_plan same_places same_stages on at_own fits own stays homes =
       let here = at_view s.views id v at in
       let wide = k.all_words in let deep = k.all_slots in
       let ws : List ℕ = set s.words i n in
@@ -175,9 +177,13 @@ module _ (plan : Plan) where
         all_words = length-set s.words i n ∙ wide;
         all_slots = ap (λ (xs : List Home). length xs) homes ∙ (length-set s.homes i h ∙ deep);
         all_stages = ap (λ (ss : List Stage). length ss) (sym stages) ∙ k.all_stages;
+        leads = same_part (λ u. u.leads) s.views id v w at same_leads k.lead ∙ k.leads;
         one_lead = λ j e. k.one_lead j (sym (same_part (λ u. u.leads) s.views id v w at same_leads j) ∙ e);
         knows_plan = same_part (λ u. u.plan) s.views id v w at same_plan k.lead ∙ k.knows_plan;
         one_owner = λ j p e. k.one_owner j p (sym (ap (λ (ps : List PlaceId). has ps p) (same_part (λ u. u.places) s.views id v w at same_places j)) ∙ e);
+        at_own = λ j. dite (ℕ_discrete j id)
+            (λ e. subst (λ (u : View). IsAtOwn u.places u.doing) (sym (ap (view_at vs) e ∙ now)) (subst (λ (ps : List PlaceId). IsAtOwn ps w.doing) (sym same_places) at_own))
+            (λ other. subst (λ (u : View). IsAtOwn u.places u.doing) (sym (get_or-set_other s.views id j w nobody other)) (k.at_own j));
         apart = subst (AreApart plan) stages k.apart;
         each_request = λ j near. let st : Stage = stage_at (view_at s.views k.lead).stages j in dite (ℕ_discrete j i)
             (λ e. subst (λ (z : ℕ × Stage × ℕ × Home). Fits plan at' (request_of z.0) z.1 z.2 z.3)
@@ -229,9 +235,11 @@ module _ (plan : Plan) where
         all_words = length-set s.words i n ∙ wide;
         all_slots = k.all_slots;
         all_stages = ap (λ (ss : List Stage). length ss) (sym stages) ∙ k.all_stages;
+        leads = sym (part Bool (λ u. u.leads) refl k.lead) ∙ k.leads;
         one_lead = λ j e. k.one_lead j (part Bool (λ u. u.leads) refl j ∙ e);
         knows_plan = sym (part (Option Plan) (λ u. u.plan) refl k.lead) ∙ k.knows_plan;
         one_owner = λ j p e. k.one_owner j p (ap (λ (ps : List PlaceId). has ps p) (part (List PlaceId) (λ u. u.places) refl j) ∙ e);
+        at_own = λ j. subst (λ (z : List PlaceId × Doing). IsAtOwn z.0 z.1) (λ x. (part (List PlaceId) (λ u. u.places) refl j x, part Doing (λ u. u.doing) refl j x)) (k.at_own j);
         apart = subst (AreApart plan) stages k.apart;
         each_request = λ j near. subst (λ (z : (PlaceId → Doing) × Stage × ℕ). Fits plan z.0 (request_of j) z.1 z.2 (home s j))
             (λ x. ((λ p. part Doing (λ u. u.doing) refl (k.owner p) x), ap (λ (ss : List Stage). stage_at ss j) stages x, words j near x)) (k.each_request j near);

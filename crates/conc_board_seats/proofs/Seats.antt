@@ -14,7 +14,7 @@ use Rattle.conc_board_seats.specs.declared.views.Stage.{Stage}
 use Rattle.conc_board_seats.specs.declared.views.Stage.TheVariants.{NotLet}
 use Rattle.conc_board_seats.specs.declared.views.View.{View}
 use Rattle.conc_board_seats.specs.Places.{has, without}
-use Rattle.conc_board_seats.specs.Rule.{AreApart, Fits, Keep, Works, doing_at, first_view, home_at, nobody, view_at}
+use Rattle.conc_board_seats.specs.Rule.{AreApart, Fits, IsAtOwn, Keep, Works, doing_at, first_view, home_at, nobody, view_at}
 use Rattle.conc_board_seats.specs.Stages.{IsLive, stage_at}
 use Rattle.conc_board_seats.specs.Steps.{Slot, given, joined, kept}
 use Rattle.conc_board_seats.specs.Words.{count_of_requests, count_of_words, request_of}
@@ -94,9 +94,11 @@ module _ (plan : Plan) where
     all_words = ap (λ (l : List ℕ). length l) zeros ∙ length-replicate (count_of_words plan) 0;
     all_slots = length_homes (count_of_requests plan);
     all_stages = length-replicate (count_of_requests plan) NotLet;
+    leads = refl;
     one_lead = λ j e. dite (ℕ_discrete j 0) (λ z. z) (λ other. absurd (cc (sym (ap (λ (u : View). u.leads) (beyond j other)) ∙ e)));
     knows_plan = refl;
     one_owner = λ j p e. dite (ℕ_discrete j 0) (λ z. sym z) (λ other. absurd (cc (sym (ap (λ (u : View). has u.places p) (beyond j other)) ∙ e)));
+    at_own = λ j. subst (IsAtOwn (view_at (first_view plan ∷ []) j).places) (sym (idle j)) tt;
     apart = λ x y ne lx ly. absurd (subst IsLive (replicate_at (count_of_requests plan) x NotLet) lx);
     each_request = λ r l. subst (λ (z : Stage). Fits plan (doing_at (first_view plan ∷ []) (λ _. 0)) (request_of r) z (get_or ws r 0) (home_at (map some (nones (count_of_requests plan))) r)) (sym (replicate_at (count_of_requests plan) r NotLet)) (zero_word r, homes_at (count_of_requests plan) r l);
     each_seat = λ j. subst (Works plan (λ _. 0) ws j) (sym (idle j)) tt;
@@ -146,6 +148,7 @@ module _ (plan : Plan) where
         all_words = k.all_words;
         all_slots = k.all_slots;
         all_stages = ap (λ (ss : List Stage). length ss) stages ∙ k.all_stages;
+        leads = part Bool (λ u. u.leads) refl refl k.lead ∙ k.leads;
         one_lead = λ j e. k.one_lead j (sym (part Bool (λ u. u.leads) refl refl j) ∙ e);
         knows_plan = part (Option Plan) (λ u. u.plan) refl refl k.lead ∙ k.knows_plan;
         one_owner = λ j p e. dite (ℕ_discrete j new)
@@ -155,6 +158,12 @@ module _ (plan : Plan) where
             let t = has_without v.places ps p g in moved_else ps new k.owner p t.1 ∙ (k.one_owner id p (ap (λ (u : View). has u.places p) here.1 ∙ t.0) ∙ sym is))
             (λ apart. let g : k.owner p ≡ j = k.one_owner j p (sym (ap (λ (u : View). has u.places p) (get_or-set_other s.views id j left nobody apart)) ∙ f) in
             ⊎_elim (λ h. absurd (apart (sym g ∙ owns p h))) (λ h. moved_else ps new k.owner p h ∙ g) (either_is (has ps p))));
+        at_own = λ j. dite (ℕ_discrete j new)
+            (λ e. subst (IsAtOwn (view_at vs j).places) (sym (ap (λ (q : ℕ). (view_at vs q).doing) e ∙ ap (λ (u : View). u.doing) (last_view mid right))) tt)
+            (λ other. subst (λ (u : View). IsAtOwn u.places u.doing) (sym (front_view mid right j other))
+            (dite (ℕ_discrete j id)
+            (λ e. subst (λ (u : View). IsAtOwn u.places u.doing) (sym (ap (view_at mid) e ∙ get_or-set_same s.views id left nobody here.0)) (subst (IsAtOwn left.places) (sym idle) tt))
+            (λ apart. subst (λ (u : View). IsAtOwn u.places u.doing) (sym (get_or-set_other s.views id j left nobody apart)) (k.at_own j))));
         apart = subst (AreApart plan) (sym stages) k.apart;
         each_request = λ r l. subst (λ (z : (PlaceId → Doing) × Stage). Fits plan z.0 (request_of r) z.1 (word s r) (home s r)) (λ i. ((λ p. at_same p i), ap (λ (ss : List Stage). stage_at ss r) (sym stages) i)) (k.each_request r l);
         each_seat = λ j. subst (Works plan owner' s.words j) (sym (doing_same j)) (works_moved (view_at s.views j).doing k.owner owner' s.words j
@@ -192,6 +201,7 @@ module _ (plan : Plan) where
         all_words = k.all_words;
         all_slots = k.all_slots;
         all_stages = ap (λ (ss : List Stage). length ss) stages ∙ l.all_stages;
+        leads = ap (λ (u : View). u.leads) now ∙ leads;
         one_lead = λ j e. dite (ℕ_discrete j other)
             (λ is. absurd (cc (sym (ap (λ (q : ℕ). (view_at vs q).leads) is ∙ ap (λ (u : View). u.leads) at_other) ∙ e)))
             (λ a. dite (ℕ_discrete j id) (λ is. is ∙ l.is) (λ b. k.one_lead j (sym (ap (λ (u : View). u.leads) (at_else j a b)) ∙ e)));
@@ -203,6 +213,11 @@ module _ (plan : Plan) where
             ⊎_elim (λ h. moved_there w.places id k.owner p h ∙ sym is) (λ h. moved_else w.places id k.owner p h ∙ (k.one_owner id p (ap (λ (u : View). has u.places p) here.1 ∙ (sym (has_append w.places v.places p h) ∙ f)) ∙ sym is)) (either_is (has w.places p)))
             (λ b. let g : k.owner p ≡ j = k.one_owner j p (sym (ap (λ (u : View). has u.places p) (at_else j a b)) ∙ e) in
             ⊎_elim (λ h. absurd (a (sym g ∙ owns p h))) (λ h. moved_else w.places id k.owner p h ∙ g) (either_is (has w.places p))));
+        at_own = λ j. dite (ℕ_discrete j other)
+            (λ e. subst (λ (u : View). IsAtOwn u.places u.doing) (sym (ap (view_at vs) e ∙ at_other)) tt)
+            (λ a. dite (ℕ_discrete j id)
+            (λ e. subst (λ (u : View). IsAtOwn u.places u.doing) (sym (ap (view_at vs) e ∙ at_id)) (subst (IsAtOwn both.places) (sym idle) tt))
+            (λ b. subst (λ (u : View). IsAtOwn u.places u.doing) (sym (at_else j a b)) (k.at_own j)));
         apart = subst (AreApart plan) (sym stages) l.apart;
         each_request = λ r near. subst (λ (z : (PlaceId → Doing) × Stage). Fits plan z.0 (request_of r) z.1 (word s r) (home s r)) (λ i. ((λ p. at_same p i), ap (λ (ss : List Stage). stage_at ss r) (sym stages) i)) (l.fits r near);
         each_seat = λ j. subst (Works plan owner' s.words j) (sym (doing_same j)) (works_moved (view_at s.views j).doing k.owner owner' s.words j

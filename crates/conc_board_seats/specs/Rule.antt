@@ -1,5 +1,5 @@
 -- The rule of the board, over the words, the slots at home and all views.
-use Rattle.std.specs.Prelude.{◌≡◌, ◌≢◌, ◌⊎◌, ℕ, ◌<◌, ◌≤◌, Bool, true, false, List, [], length, replicate, slice_index, slice_index_or, Option, Some, None}
+use Rattle.std.specs.Prelude.{◌≡◌, ◌≢◌, ◌⊎◌, ℕ, ◌<◌, ◌≤◌, Bool, true, false, List, [], length, replicate, slice_index, slice_index_or, Option, Some, None, IsTrue}
 use mathlib.Core.Option as maybe
 use mathlib.Core.Option.{none, some}
 use Rattle.atomic_table.specs.Table.{State}
@@ -111,6 +111,12 @@ Works plan owner words j (Waits r p) = (owner p ≡ j) × IsRequest plan r × Is
 Works plan owner words j (Serves r p stop) =
     (owner p ≡ j) × IsRequest plan r × IsPlace plan p × Runs stop p (slice_index words (request_word r))
 
+-- the place at which a seat has something to do is one of its own
+abbrev pub IsAtOwn : List PlaceId → Doing → Type 0
+IsAtOwn places Idle = Unit {0}
+IsAtOwn places (Waits r p) = IsTrue (has places p)
+IsAtOwn places (Serves r p stop) = IsTrue (has places p)
+
 -- ---- the rule
 
 -- It holds between any two steps. `lead` is the number of the lead's seat, and `owner` gives the
@@ -122,9 +128,11 @@ pub record Keep (plan : Plan) (s : State (Option Posted) View) : Type 0 where
   pub all_words : length s.words ≡ count_of_words plan
   pub all_slots : length s.homes ≡ count_of_requests plan
   pub all_stages : length (view_at s.views lead).stages ≡ count_of_requests plan
+  pub leads : (view_at s.views lead).leads ≡ true
   pub one_lead : (j : ℕ) → (view_at s.views j).leads ≡ true → j ≡ lead
   pub knows_plan : (view_at s.views lead).plan ≡ Some plan
   pub one_owner : (j : ℕ) (p : PlaceId) → has (view_at s.views j).places p ≡ true → owner p ≡ j
+  pub at_own : (j : ℕ) → IsAtOwn (view_at s.views j).places (view_at s.views j).doing
   pub apart : AreApart plan (view_at s.views lead).stages
   pub each_request : (i : ℕ) → i < count_of_requests plan →
     Fits plan (doing_at s.views owner) (request_of i)
