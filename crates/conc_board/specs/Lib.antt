@@ -4,3 +4,6 @@ pub mod Looks
 pub mod Stops
 pub mod Claims
 pub mod Ends
+pub mod Permits
+pub mod Points
+pub mod Counts

@@ -1,5 +1,5 @@
 -- Views looked up, the stages of the lead, and what the facts of one request rest on.
-use Rattle.std.proofs.Common.{◌≡◌, ℕ, zero, suc, ◌+◌, ◌-◌, ◌/◌, ◌<◌, ◌≤◌, ◌≢◌, ◌⊎◌, if◌then◌else◌, Bool, true, false, List, [], ◌∷◌, length, get_or, set, sym, refl, ap, ◌∙◌, subst, inl, inr, ⊎_elim, arith, replicate, get_or-set_other, get_or-set_same, eq-eqb, ne_eqb, Option, Some, None}
+use Rattle.std.proofs.Common.{◌≡◌, ℕ, zero, suc, ◌+◌, ◌-◌, ◌/◌, ◌<◌, ◌≤◌, ◌≢◌, ◌⊎◌, ◌==◌, ◌&&◌, ◌||◌, not, if◌then◌else◌, Bool, true, false, List, [], ◌∷◌, length, get_or, set, sym, refl, ap, ◌∙◌, subst, inl, inr, ⊎_elim, arith, replicate, get_or-set_other, get_or-set_same, eq-eqb, ne_eqb, Option, Some, None}
 use mathlib.Core.Logic.{dite}
 use mathlib.Core.Option.{some, some-ne-none, some-injective}
 use native.Mathlib.Decide.{ℕ_discrete}
@@ -10,6 +10,7 @@ use Rattle.conc_types.specs.declared.plan.Plan.{Plan}
 use Rattle.conc_types.specs.declared.plan.Req.{Req}
 use Rattle.conc_types.specs.Plans.{request}
 use Rattle.conc_types.specs.Words.{some_and}
+use Rattle.conc_law.specs.Exclusion.{excludes, excludes_from, is_kin}
 use Rattle.conc_law.specs.Places.{count_of_places}
 use Rattle.conc_law.specs.Plans.{are_exclusive, parent_item}
 use Rattle.conc_law.proofs.Symmetry.{excludes_comm}
@@ -51,6 +52,21 @@ both_comm f comm (Some x) (Some y) = comm x y
 
 pub exclude_comm : (plan : Plan) (r q : RequestId) → exclude plan r q ≡ exclude plan q r
 exclude_comm plan r q = both_comm (are_exclusive plan) (are_exclusive_comm plan) (request plan r) (request plan q)
+
+-- no request excludes itself
+same_number : (n : ℕ) → (n == n) ≡ true
+same_number n = eq-eqb n n refl
+
+not_itself : (plan : Plan) (x : Req) → are_exclusive plan x x ≡ false
+unfolding are_exclusive excludes
+not_itself plan x = ap (λ b. not b && (not (is_kin x x) && (excludes_from plan.setup x x (parent_item plan x) || excludes_from plan.setup x x (parent_item plan x)))) (same_number x.number.number)
+
+pub exclude-self : (plan : Plan) (r : RequestId) → exclude plan r r ≡ false
+exclude-self plan r = go (request plan r)
+  where
+    go : (o : Option Req) → some_and (λ x. some_and (λ y. are_exclusive plan x y) o) o ≡ false
+    go None = refl
+    go (Some x) = not_itself plan x
 
 -- ---- views
 

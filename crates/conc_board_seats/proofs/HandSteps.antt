@@ -85,7 +85,7 @@ module _ (plan : Plan) where
   -- ---- the answer to a claim
 
   -- a word that runs at two places names one
-  one_place : (m : Bool) (q : PlaceId) (n : ℕ) (p : PlaceId) → count_of_places plan ≤ 64 → IsPlace plan q → IsPlace plan p →
+  one_place : (m : Bool) (q : PlaceId) (n : ℕ) (p : PlaceId) → count_of_places plan ≤ 64 → IsPlace plan q → p.index < 64 →
       n ≡ run_word m q → (n ≡ running p) ⊎ (n ≡ stopping p) → q ≡ p
   one_place true q n p few near there e (inl x) = absurd (omega arith)
   one_place true q n p few near there e (inr x) = place_eq q p (omega arith)
@@ -93,31 +93,31 @@ module _ (plan : Plan) where
   one_place false q n p few near there e (inr x) = absurd (omega arith)
 
   -- the word is neither of these two
-  neither : (n : ℕ) (p : PlaceId) → (n ≡ running p) ⊎ (n ≡ stopping p) → count_of_places plan ≤ 64 → IsPlace plan p → (n < 512) ⊎ (1024 ≤ n) → ⊥
-  neither n p (inl x) few near (inl l) = omega arith
-  neither n p (inl x) few near (inr l) = omega arith
-  neither n p (inr x) few near (inl l) = omega arith
-  neither n p (inr x) few near (inr l) = omega arith
+  neither : (n : ℕ) (p : PlaceId) → (n ≡ running p) ⊎ (n ≡ stopping p) → p.index < 64 → (n < 512) ⊎ (1024 ≤ n) → ⊥
+  neither n p (inl x) near (inl l) = omega arith
+  neither n p (inl x) near (inr l) = omega arith
+  neither n p (inr x) near (inl l) = omega arith
+  neither n p (inr x) near (inr l) = omega arith
 
   -- a request whose word runs at p has the go there
-  gone_at : (at : PlaceId → Doing) (r : RequestId) (p : PlaceId) (st : Stage) (n : ℕ) (h : Home) → count_of_places plan ≤ 64 → IsPlace plan p →
+  pub gone_at : (at : PlaceId → Doing) (r : RequestId) (p : PlaceId) (st : Stage) (n : ℕ) (h : Home) → count_of_places plan ≤ 64 → p.index < 64 →
       (n ≡ running p) ⊎ (n ≡ stopping p) → Fits plan at r st n h →
       (m : Bool) × (st ≡ Gone p m) × (n ≡ run_word m p) × IsServed (at p) r p h
-  gone_at at r p NotLet n h few near is f = let e = f.0 in absurd (neither n p is few near (inl (omega arith)))
-  gone_at at r p Let n h few near is (inl e, _) = absurd (neither n p is few near (inl (omega arith)))
-  gone_at at r p Let n h few near is (inr t, _) = let a = t.1 in let b = t.2 in absurd (neither n p is few near (inl (omega arith)))
-  gone_at at r p (Seen q) n h few near is f = let a = f.0 in let b = f.1 in absurd (neither n p is few near (inl (omega arith)))
-  gone_at at r p (Gone q m) n h few near is (there, inr e) = let b = e.0 in absurd (neither n p is few near (inr (omega arith)))
+  gone_at at r p NotLet n h few near is f = let e = f.0 in absurd (neither n p is near (inl (omega arith)))
+  gone_at at r p Let n h few near is (inl e, _) = absurd (neither n p is near (inl (omega arith)))
+  gone_at at r p Let n h few near is (inr t, _) = let a = t.1 in let b = t.2 in absurd (neither n p is near (inl (omega arith)))
+  gone_at at r p (Seen q) n h few near is f = let a = f.0 in let b = f.1 in absurd (neither n p is near (inl (omega arith)))
+  gone_at at r p (Gone q m) n h few near is (there, inr e) = let b = e.0 in absurd (neither n p is near (inr (omega arith)))
   gone_at at r p (Gone q m) n h few near is (there, inl (e, d)) = let same = one_place m q n p few there near e is in
       (m, (λ i. Gone (same i) m), e ∙ ap (run_word m) same, subst (λ (z : PlaceId). IsServed (at z) r z h) same d)
-  gone_at at r p (Got q m) n h few near is f = let a = f.0 in let b = f.1 in absurd (neither n p is few near (inr (omega arith)))
-  gone_at at r p (Done m) n h few near is f = let a = f.0 in absurd (neither n p is few near (inl (omega arith)))
+  gone_at at r p (Got q m) n h few near is f = let a = f.0 in let b = f.1 in absurd (neither n p is near (inr (omega arith)))
+  gone_at at r p (Done m) n h few near is f = let a = f.0 in absurd (neither n p is near (inl (omega arith)))
 
   -- the hand at its place waits, so its slot is at home
   runs : (at : PlaceId → Doing) (r : RequestId) (p : PlaceId) (st : Stage) (n : ℕ) (h : Home) → count_of_places plan ≤ 64 → IsPlace plan p →
       (n ≡ running p) ⊎ (n ≡ stopping p) → at p ≡ Waits r p → Fits plan at r st n h →
       (m : Bool) × (st ≡ Gone p m) × (n ≡ run_word m p) × (h ≡ some None)
-  runs at r p st n h few near is waits f = let t = gone_at at r p st n h few near is f in
+  runs at r p st n h few near is waits f = let t = gone_at at r p st n h few (omega arith) is f in
       (t.0, t.1, t.2, ⊎_elim (λ x. x.1) (λ x. absurd (let a : Serves r p x.0 ≡ Waits r p = sym x.1 ∙ waits in cc)) t.3)
 
   -- the hand takes the permit and the slot
@@ -255,7 +255,7 @@ module _ (plan : Plan) where
   -- a request that is served at p has the go there, and where it is served with the stop sign it is marked
   pub has_permit : (at : PlaceId → Doing) (r : RequestId) (p : PlaceId) (stop : Bool) (st : Stage) (n : ℕ) (h : Home) → count_of_places plan ≤ 64 → IsPlace plan p →
       Runs stop p n → Fits plan at r st n h → (m : Bool) × (st ≡ Gone p m) × (n ≡ run_word m p) × (stop ≡ true → m ≡ true)
-  has_permit at r p stop st n h few near fits f = let t = gone_at at r p st n h few near (either_word stop p n fits) f in
+  has_permit at r p stop st n h few near fits f = let t = gone_at at r p st n h few (omega arith) (either_word stop p n fits) f in
       (t.0, t.1, t.2, marks t.0 stop p n t.2 fits)
 
   -- a word at which p is served serves no other place

@@ -119,9 +119,13 @@ IsAtOwn places (Serves r p stop) = IsTrue (has places p)
 
 -- ---- the rule
 
+-- words, what is at home in the slots, and what each seat knows
+abbrev pub BoardState : Type 0
+BoardState = State (Option Posted) View
+
 -- It holds between any two steps. `lead` is the number of the lead's seat, and `owner` gives the
 -- number of the seat that owns a place.
-pub record Keep (plan : Plan) (s : State (Option Posted) View) : Type 0 where
+pub record Keep (plan : Plan) (s : BoardState) : Type 0 where
   pub lead : ℕ
   pub owner : PlaceId → ℕ
   pub few_places : count_of_places plan ≤ 64
