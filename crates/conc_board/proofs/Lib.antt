@@ -6,3 +6,7 @@ pub mod Opened
 pub mod PolledSo
 pub mod Scans
 pub mod Ended
+pub mod PermitsHeld
+pub mod PointsHold
+pub mod Courses
+pub mod Recorded

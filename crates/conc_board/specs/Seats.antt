@@ -1,8 +1,9 @@
 -- Boards, leads and hands as contracts speak of them.
-use Rattle.std.specs.Prelude.{◌≡◌, ◌≢◌, ℕ, List, [], ◌∷◌, ◌++◌, length, Some, IsTrue}
+use Rattle.std.specs.Prelude.{◌≡◌, ◌≢◌, ℕ, List, [], ◌∷◌, ◌++◌, length, Option, Some, IsTrue}
 use Rattle.conc_types.specs.declared.event.PlaceId.{PlaceId}
 use Rattle.conc_types.specs.declared.event.RequestId.{RequestId}
 use Rattle.conc_types.specs.declared.plan.Plan.{Plan}
+use Rattle.conc_board_seats.specs.declared.posted.Posted.{Posted}
 use Rattle.conc_board_seats.specs.declared.views.Doing.{Doing}
 use Rattle.conc_board_seats.specs.declared.views.Stage.{Stage}
 use Rattle.conc_board_seats.specs.Courses.{GoesOn}
@@ -77,6 +78,10 @@ places_of_hand hand = hand.seat.me.0.places
 -- what its steps found, in order
 abbrev pub found_by_hand : Hand → List (ℕ × ℕ)
 found_by_hand hand = hand.seat.me.0.found
+
+-- the slots that are out with it
+abbrev pub slots_of : Hand → List (ℕ × Option Posted)
+slots_of hand = hand.seat.me.1
 
 -- the hand is one of this board, and what it does is for a request and a place of the board's plan
 pub record IsHandOf (board : Board) (hand : Hand) : Type 0 where
