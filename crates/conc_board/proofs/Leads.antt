@@ -9,7 +9,7 @@ use Rattle.conc_board_seats.specs.declared.views.Stage.{Stage}
 use Rattle.conc_board_seats.specs.declared.views.Stage.TheVariants.{NotLet, Let, Seen, Gone, Got, Done}
 use Rattle.conc_board_seats.specs.declared.views.View.{View}
 use Rattle.conc_board_seats.specs.Courses.{GoesOn}
-use Rattle.conc_board_seats.specs.Stages.{stage_at, stage_in}
+use Rattle.conc_board_seats.specs.Stages.{IsGone, IsLet, IsLetOrGone, IsLive, IsSettled, stage_at, stage_in}
 use Rattle.conc_board_seats.specs.Steps.{noted, with_stage}
 use Rattle.conc_board_seats.specs.Words.{IsRequest, count_of_requests, request_of, request_word}
 use Rattle.conc_board_seats.proofs.Facts.{request_eq}
@@ -64,14 +64,24 @@ new_stage plan r v w i st n all of_plan word is =
     ap (λ (u : View). stage_in u.stages r) is
     ∙ (ap (λ (z : ℕ). stage_in (set v.stages z st) r) word ∙ stage_in-set_same v.stages r st of_plan.from_one (omega arith))
 
+-- each stage is settled still
+settled_by : (board : Board) (r : RequestId) (old new : Lead) (st : Stage) → IsLeadOf board old → stage_of new r ≡ st → ((q : RequestId) → q ≢ r → stage_of new q ≡ stage_of old q) → IsSettled st →
+    (q : RequestId) → IsSettled (stage_of new q)
+settled_by board r old new st lead now others calm q = dite (ℕ_discrete q.number r.number)
+    (λ e. subst IsSettled (sym (ap (stage_of new) (request_eq q r e) ∙ now)) calm)
+    (λ other. subst IsSettled (sym (others q (λ e. other (ap (λ (z : RequestId). z.number) e)))) (lead.settled q))
+
 pub changes : (board : Board) (r : RequestId) (old new : Lead) (i : ℕ) (st : Stage) (n : ℕ) → IsLeadOf board old → IsRequest (plan_of board) r → i ≡ request_word r →
     new.seat.table_id ≡ old.seat.table_id → new.seat.me.0 ≡ with_stage old.seat.me.0 i st n →
-    GoesOn (stage_of old r) st → Changes board r old new
-changes board r old new i st n lead of_plan word seat is goes_on = record {
+    GoesOn (stage_of old r) st → IsSettled st → Changes board r old new
+changes board r old new i st n lead of_plan word seat is goes_on calm = record {
   lead = record {
     seat = seat ∙ lead.seat;
     plan = ap (λ (v : View). v.plan) is ∙ lead.plan;
     stages = ap (λ (v : View). length v.stages) is ∙ (length-set old.seat.me.0.stages i st ∙ lead.stages);
+    settled = settled_by board r old new st lead (new_stage (plan_of board) r old.seat.me.0 new.seat.me.0 i st n lead.stages of_plan word is)
+        (λ q other. ap (λ (v : View). stage_in v.stages q) is
+        ∙ (ap (λ (z : ℕ). stage_in (set old.seat.me.0.stages z st) q) word ∙ stage_in-set_other old.seat.me.0.stages r q st of_plan.from_one other)) calm;
   };
   goes_on = subst (GoesOn (stage_of old r)) (sym (new_stage (plan_of board) r old.seat.me.0 new.seat.me.0 i st n lead.stages of_plan word is)) goes_on;
   others = λ q other. ap (λ (v : View). stage_in v.stages q) is
@@ -87,6 +97,7 @@ keeps_stages board old new i n lead seat is = record {
     seat = seat ∙ lead.seat;
     plan = ap (λ (v : View). v.plan) is ∙ lead.plan;
     stages = ap (λ (v : View). length v.stages) is ∙ lead.stages;
+    settled = λ r. subst IsSettled (sym (ap (λ (v : View). stage_in v.stages r) is)) (lead.settled r);
   };
   stages = record { each = λ r. ap (λ (v : View). stage_in v.stages r) is };
   places = ap (λ (v : View). v.places) is;
@@ -112,13 +123,17 @@ changes_after board r old mid new first same second = record {
 
 -- its view changed twice at one request
 pub changes_twice : (board : Board) (r : RequestId) (old new : Lead) (mid : View) (i : ℕ) (one two : Stage) (n k : ℕ) → IsLeadOf board old → IsRequest (plan_of board) r → i ≡ request_word r →
-    new.seat.table_id ≡ old.seat.table_id → mid ≡ with_stage old.seat.me.0 i one n → new.seat.me.0 ≡ with_stage mid i two k → GoesOn (stage_of old r) two → Changes board r old new
-changes_twice board r old new mid i one two n k lead of_plan word seat is next goes_on =
+    new.seat.table_id ≡ old.seat.table_id → mid ≡ with_stage old.seat.me.0 i one n → new.seat.me.0 ≡ with_stage mid i two k → GoesOn (stage_of old r) two → IsSettled two → Changes board r old new
+changes_twice board r old new mid i one two n k lead of_plan word seat is next goes_on calm =
     let all : length mid.stages ≡ count_of_requests (plan_of board) = ap (λ (v : View). length v.stages) is ∙ (length-set old.seat.me.0.stages i one ∙ lead.stages) in record {
       lead = record {
         seat = seat ∙ lead.seat;
         plan = ap (λ (v : View). v.plan) next ∙ (ap (λ (v : View). v.plan) is ∙ lead.plan);
         stages = ap (λ (v : View). length v.stages) next ∙ (length-set mid.stages i two ∙ all);
+        settled = settled_by board r old new two lead (new_stage (plan_of board) r mid new.seat.me.0 i two k all of_plan word next)
+            (λ q other. ap (λ (v : View). stage_in v.stages q) next
+            ∙ (ap (λ (z : ℕ). stage_in (set mid.stages z two) q) word ∙ (stage_in-set_other mid.stages r q two of_plan.from_one other
+            ∙ (ap (λ (v : View). stage_in v.stages q) is ∙ (ap (λ (z : ℕ). stage_in (set old.seat.me.0.stages z one) q) word ∙ stage_in-set_other old.seat.me.0.stages r q one of_plan.from_one other))))) calm;
       };
       goes_on = subst (GoesOn (stage_of old r)) (sym (new_stage (plan_of board) r mid new.seat.me.0 i two k all of_plan word next)) goes_on;
       others = λ q other. ap (λ (v : View). stage_in v.stages q) next
@@ -126,3 +141,12 @@ changes_twice board r old new mid i one two n k lead of_plan word seat is next g
           ∙ (ap (λ (v : View). stage_in v.stages q) is ∙ (ap (λ (z : ℕ). stage_in (set old.seat.me.0.stages z one) q) word ∙ stage_in-set_other old.seat.me.0.stages r q one of_plan.from_one other))));
       places = ap (λ (v : View). v.places) next ∙ ap (λ (v : View). v.places) is;
     }
+
+-- a settled stage that is live is let out or has the go
+pub let_or_gone : (st : Stage) → IsSettled st → IsLive st → IsLetOrGone st
+let_or_gone NotLet calm live = absurd live
+let_or_gone Let calm live = inl tt
+let_or_gone (Seen p) calm live = inl tt
+let_or_gone (Gone p m) calm live = inr tt
+let_or_gone (Got p m) calm live = absurd calm
+let_or_gone (Done m) calm live = absurd live

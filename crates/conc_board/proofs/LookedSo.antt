@@ -8,13 +8,13 @@ use Rattle.conc_law.specs.Places.{count_of_places}
 use Rattle.conc_board_seats.specs.declared.views.Stage.{Stage}
 use Rattle.conc_board_seats.specs.declared.views.Stage.TheVariants.{NotLet, Let, Seen, Gone, Got, Done}
 use Rattle.conc_board_seats.specs.Courses.{GoesOn}
-use Rattle.conc_board_seats.specs.Stages.{IsLet, WordFits, looked}
+use Rattle.conc_board_seats.specs.Stages.{IsLet, IsLetOrGone, IsSettled, WordFits, looked}
 use Rattle.conc_board_seats.specs.Steps.{HasPlace, LookFits}
 use Rattle.conc_board_seats.specs.Words.{IsPlace, claimed, place_in, released}
 use Rattle.conc_board_seats.proofs.Facts.{place_eq}
 use Rattle.conc_board.specs.declared.lead.Looked.{Looked}
 use Rattle.conc_board.specs.declared.lead.Looked.TheVariants.{Free, Claimed, Running, Ended}
-use Rattle.conc_board.specs.Looks.{IsLetOrGone, LookedBy, Looks, Shows}
+use Rattle.conc_board.specs.Looks.{LookedBy, Looks, Shows}
 
 -- ---- the stage goes on
 
@@ -29,6 +29,18 @@ looked_goes_on (Seen p) n = inl refl
 looked_goes_on (Gone p m) n = inl refl
 looked_goes_on (Got p m) n = inl refl
 looked_goes_on (Done m) n = inl refl
+
+pub looked_settled : (st : Stage) (n : ℕ) → IsSettled st → IsSettled (looked st n)
+looked_settled NotLet n calm = tt
+looked_settled Let n calm = go (n / 256 == 1)
+  where
+    go : (b : Bool) → IsSettled (if b then Seen (place_in 256 n) else Let)
+    go true = tt
+    go false = tt
+looked_settled (Seen p) n calm = tt
+looked_settled (Gone p m) n calm = tt
+looked_settled (Got p m) n calm = calm
+looked_settled (Done m) n calm = tt
 
 pub back_goes_on : (st : Stage) → IsLet st → GoesOn st NotLet
 back_goes_on NotLet is = absurd is

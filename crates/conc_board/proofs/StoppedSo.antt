@@ -58,5 +58,5 @@ pub stop_changes : (board : Board) (r : RequestId) (old new : Lead) (i : ℕ) (p
 stop_changes board r old new i p m n lead of_plan word seat was is = go (n == running p) is
   where
     go : (b : Bool) → new.seat.me.0 ≡ (if b then with_stage old.seat.me.0 i (Gone p true) n else noted old.seat.me.0 i n) → Changes board r old new
-    go true is = changes board r old new i (Gone p true) n lead of_plan word seat is (subst (λ (z : Stage). GoesOn z (Gone p true)) (sym was) (inr (inl refl)))
+    go true is = changes board r old new i (Gone p true) n lead of_plan word seat is (subst (λ (z : Stage). GoesOn z (Gone p true)) (sym was) (inr (inl refl))) tt
     go false is = no_change board r old new (keeps_stages board old new i n lead seat is)

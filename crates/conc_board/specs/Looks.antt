@@ -3,14 +3,10 @@ use Rattle.std.specs.Prelude.{◌≡◌, ◌⊎◌, ℕ, ◌<◌, ◌≤◌, Boo
 use Rattle.conc_types.specs.declared.plan.Plan.{Plan}
 use Rattle.conc_board_seats.specs.declared.views.Stage.{Stage}
 use Rattle.conc_board_seats.specs.declared.views.Stage.TheVariants.{Let, Seen, Gone}
-use Rattle.conc_board_seats.specs.Stages.{IsGone, IsLet}
+use Rattle.conc_board_seats.specs.Stages.{IsLet}
 use Rattle.conc_board_seats.specs.Words.{IsPlace, claimed, ended, released, running, stopping}
 use Rattle.conc_board.specs.declared.lead.Looked.{Looked}
 use Rattle.conc_board.specs.declared.lead.Looked.TheVariants.{Free, Claimed, Running, Ended}
-
--- the request is let out, or has the go
-abbrev pub IsLetOrGone : Stage → Type 0
-IsLetOrGone stage = IsLet stage ⊎ IsGone stage
 
 -- the word that the answer shows
 abbrev pub Shows : Looked → ℕ → Type 0

@@ -1,5 +1,5 @@
 -- Boards, leads and hands as contracts speak of them.
-use Rattle.std.specs.Prelude.{◌≡◌, ◌≢◌, ℕ, List, [], ◌∷◌, ◌++◌, length, Option, Some, IsTrue}
+use Rattle.std.specs.Prelude.{◌≡◌, ◌≢◌, ℕ, ◌≤◌, ◌==◌, Bool, List, [], ◌∷◌, ◌++◌, length, Option, Some, IsFalse, IsTrue}
 use Rattle.conc_types.specs.declared.event.PlaceId.{PlaceId}
 use Rattle.conc_types.specs.declared.event.RequestId.{RequestId}
 use Rattle.conc_types.specs.declared.plan.Plan.{Plan}
@@ -9,7 +9,8 @@ use Rattle.conc_board_seats.specs.declared.views.Stage.{Stage}
 use Rattle.conc_board_seats.specs.Courses.{GoesOn}
 use Rattle.conc_board_seats.specs.Doings.{IsWithin}
 use Rattle.conc_board_seats.specs.Places.{has}
-use Rattle.conc_board_seats.specs.Stages.{stage_in}
+use Rattle.conc_board_seats.specs.Rule.{exclude}
+use Rattle.conc_board_seats.specs.Stages.{IsLetOrGone, IsSettled, stage_in}
 use Rattle.conc_board_seats.specs.Words.{IsPlace, count_of_requests}
 use Rattle.conc_board.specs.declared.board.Board.{Board}
 use Rattle.conc_board.specs.declared.hand.Hand.{Hand}
@@ -22,6 +23,14 @@ plan_of board = board.table.shared.key
 -- one step found this in the word, and added it to what the seat found
 abbrev pub AddsOne : ℕ → (ℕ → Type 0) → List (ℕ × ℕ) → List (ℕ × ℕ) → Type 0
 AddsOne word IsSo old new = (n : ℕ) × IsSo n × (new ≡ old ++ (word, n) ∷ [])
+
+-- the word of a place or of the end
+abbrev pub IsFlag : ℕ → Type 0
+IsFlag n = n ≤ 1
+
+-- it is seen as set, or not
+abbrev pub IsFlagSeen : Bool → ℕ → Type 0
+IsFlagSeen answer n = (n ≤ 1) × (answer ≡ (n == 1))
 
 -- ---- leads
 
@@ -37,11 +46,21 @@ places_of_lead lead = lead.seat.me.0.places
 abbrev pub found_by_lead : Lead → List (ℕ × ℕ)
 found_by_lead lead = lead.seat.me.0.found
 
+-- one step of the lead's found this in the word
+abbrev pub LeadFinds : ℕ → (ℕ → Type 0) → Lead → Lead → Type 0
+LeadFinds word IsSo old new = AddsOne word IsSo (found_by_lead old) (found_by_lead new)
+
 -- the lead is the one of this board, and knows its plan
 pub record IsLeadOf (board : Board) (lead : Lead) : Type 0 where
   pub seat : lead.seat.table_id ≡ board.table.shared.table_id
   pub plan : lead.seat.me.0.plan ≡ Some (plan_of board)
   pub stages : length lead.seat.me.0.stages ≡ count_of_requests (plan_of board)
+  pub settled : (r : RequestId) → IsSettled (stage_of lead r)
+
+-- the request excludes none that is let out or has the go
+abbrev pub IsApart : Board → RequestId → Lead → Type 0
+IsApart board r lead =
+    (q : RequestId) → IsLetOrGone (stage_of lead q) → IsFalse (exclude (plan_of board) r q)
 
 -- each place of the board is the lead's
 pub record HasAllPlaces (board : Board) (lead : Lead) : Type 0 where
@@ -78,6 +97,10 @@ places_of_hand hand = hand.seat.me.0.places
 -- what its steps found, in order
 abbrev pub found_by_hand : Hand → List (ℕ × ℕ)
 found_by_hand hand = hand.seat.me.0.found
+
+-- one step of the hand's found this in the word
+abbrev pub HandFinds : ℕ → (ℕ → Type 0) → Hand → Hand → Type 0
+HandFinds word IsSo old new = AddsOne word IsSo (found_by_hand old) (found_by_hand new)
 
 -- the slots that are out with it
 abbrev pub slots_of : Hand → List (ℕ × Option Posted)

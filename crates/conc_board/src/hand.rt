@@ -86,7 +86,7 @@ impl Board {
     ghost use Rattle.conc_board_seats.specs.Words.{end_word, IsPlace, place_word, request_word as request_word_of};
     ghost use Rattle.conc_board_seats.specs.declared.views.Doing.TheVariants as does;
     ghost use Rattle.conc_board.specs.Claims.{HasClaim, HasPermit, MayPost, permit_place, permit_request, Polls as PollsAs, Warned};
-    ghost use Rattle.conc_board.specs.Seats.{AddsOne, doing_of, found_by_hand, IsHandOf, plan_of, Stays};
+    ghost use Rattle.conc_board.specs.Seats.{doing_of, HandFinds, IsFlagSeen, IsHandOf, plan_of, Stays};
 
     /// Looks for the answer to a claim. After `Withdrawn` the hand does nothing.
     pub fn poll(&self, hand: &mut Hand, claim: Claim) -> Polled
@@ -124,7 +124,7 @@ impl Board {
         requires permit { MayPost (plan_of self.now) hand.old permit posted }
         ensures hand { Stays self.now hand.old hand.new }
         ensures idle { doing_of hand.new ≡ does.Idle }
-        ensures found { AddsOne (request_word_of (permit_request permit)) (Runs false (permit_place permit)) (found_by_hand hand.old) (found_by_hand hand.new) }
+        ensures found { HandFinds (request_word_of (permit_request permit)) (Runs false (permit_place permit)) hand.old hand.new }
     {
         let shared = &self.table.shared;
         let word = request_word(permit.request);
@@ -138,7 +138,7 @@ impl Board {
         requires hand { IsHandOf self.now hand.old }
         ensures hand { Stays self.now hand.old hand.new }
         ensures same { doing_of hand.new ≡ doing_of hand.old }
-        ensures found { AddsOne (end_word (plan_of self.now)) (λ n. (n ≤ 1) × (result ≡ (n == 1))) (found_by_hand hand.old) (found_by_hand hand.new) }
+        ensures found { HandFinds (end_word (plan_of self.now)) (IsFlagSeen result) hand.old hand.new }
     {
         let word = self.requests + self.places;
         self.table.shared.load::<Switches>(&mut hand.seat, word) == 1
@@ -150,7 +150,7 @@ impl Board {
         requires place { IsPlace (plan_of self.now) place }
         ensures hand { Stays self.now hand.old hand.new }
         ensures same { doing_of hand.new ≡ doing_of hand.old }
-        ensures found { AddsOne (place_word (plan_of self.now) place) (λ n. (n ≤ 1) × (result ≡ (n == 1))) (found_by_hand hand.old) (found_by_hand hand.new) }
+        ensures found { HandFinds (place_word (plan_of self.now) place) (IsFlagSeen result) hand.old hand.new }
     {
         let word = self.requests + place.index as usize;
         self.table.shared.load::<Switches>(&mut hand.seat, word) == 1

@@ -40,12 +40,11 @@ pub struct NotYet;
 impl Board {
     ghost use Rattle.std.specs.Prelude.{◌<◌, ◌≤◌, ◌+◌, ◌++◌, ℕ, Bool, IfOk, IsFalse, OnErr, OnOk, false};
     ghost use Rattle.conc_board_seats.specs.Reports.{MayLeave};
-    ghost use Rattle.conc_board_seats.specs.Rule.{exclude};
-    ghost use Rattle.conc_board_seats.specs.Stages.{is_marked, IsGone, IsLet, IsLive, WordFits};
+    ghost use Rattle.conc_board_seats.specs.Stages.{is_marked, IsGone, IsLet, IsLetOrGone, WordFits};
     ghost use Rattle.conc_board_seats.specs.Words.{end_word, IsPlace, IsRequest, place_word, request_word as request_word_of};
     ghost use Rattle.conc_board_seats.specs.declared.views.Stage.TheVariants as stage;
-    ghost use Rattle.conc_board.specs.Looks.{IsLetOrGone, Looks as LooksAt, Shows};
-    ghost use Rattle.conc_board.specs.Seats.{AddsOne, Changes, found_by_lead, IsLeadOf, KeepsStages, plan_of, stage_of};
+    ghost use Rattle.conc_board.specs.Looks.{Looks as LooksAt, Shows};
+    ghost use Rattle.conc_board.specs.Seats.{Changes, IsApart, IsFlag, IsLeadOf, KeepsStages, LeadFinds, plan_of, stage_of};
     ghost use Rattle.conc_board.specs.Stops.{Collects, FindsRunning, Stops as StopsAs, StopsAt};
 
     /// Lets a request out that is not on the board and excludes none that is.
@@ -53,10 +52,10 @@ impl Board {
         requires lead { IsLeadOf self.now lead.old }
         requires request { IsRequest (plan_of self.now) r }
         requires stage { stage_of lead.old r ≡ stage.NotLet }
-        requires apart { (q : RequestId) → IsLive (stage_of lead.old q) → IsFalse (exclude (plan_of self.now) r q) }
+        requires apart { IsApart self.now r lead.old }
         ensures lead { Changes self.now r lead.old lead.new }
         ensures stage { stage_of lead.new r ≡ stage.Let }
-        ensures found { AddsOne (request_word_of r) (WordFits stage.NotLet) (found_by_lead lead.old) (found_by_lead lead.new) }
+        ensures found { LeadFinds (request_word_of r) (WordFits stage.NotLet) lead.old lead.new }
     {
         self.table
             .shared
@@ -72,7 +71,7 @@ impl Board {
         requires stage { IsLetOrGone (stage_of lead.old r) }
         ensures lead { Changes self.now r lead.old lead.new }
         ensures stage { LooksAt (plan_of self.now) result (stage_of lead.old r) (stage_of lead.new r) }
-        ensures found { AddsOne (request_word_of r) (Shows result) (found_by_lead lead.old) (found_by_lead lead.new) }
+        ensures found { LeadFinds (request_word_of r) (Shows result) lead.old lead.new }
     {
         let word = self
             .table
@@ -89,7 +88,7 @@ impl Board {
         requires stage { stage_of lead.old r ≡ stage.Seen place }
         ensures lead { Changes self.now r lead.old lead.new }
         ensures stage { stage_of lead.new r ≡ stage.Gone place false }
-        ensures found { AddsOne (request_word_of r) (WordFits (stage.Seen place)) (found_by_lead lead.old) (found_by_lead lead.new) }
+        ensures found { LeadFinds (request_word_of r) (WordFits (stage.Seen place)) lead.old lead.new }
     {
         self.table
             .shared
@@ -104,7 +103,7 @@ impl Board {
         requires stage { IsLet (stage_of lead.old r) }
         ensures lead { Changes self.now r lead.old lead.new }
         ensures stage { stage_of lead.new r ≡ stage.NotLet }
-        ensures found { AddsOne (request_word_of r) (WordFits (stage_of lead.old r)) (found_by_lead lead.old) (found_by_lead lead.new) }
+        ensures found { LeadFinds (request_word_of r) (WordFits (stage_of lead.old r)) lead.old lead.new }
     {
         self.table
             .shared
@@ -134,7 +133,7 @@ impl Board {
         ensures lead { Changes self.now r lead.old lead.new }
         ensures same { stage_of lead.new r ≡ stage_of lead.old r }
         ensures place { (marked : Bool) × (stage_of lead.old r ≡ stage.Gone result marked) }
-        ensures found { AddsOne (request_word_of r) (WordFits (stage_of lead.old r)) (found_by_lead lead.old) (found_by_lead lead.new) }
+        ensures found { LeadFinds (request_word_of r) (WordFits (stage_of lead.old r)) lead.old lead.new }
     {
         let word = self
             .table
@@ -187,7 +186,7 @@ impl Board {
         requires lead { IsLeadOf self.now lead.old }
         requires place { IsPlace (plan_of self.now) place }
         ensures lead { KeepsStages self.now lead.old lead.new }
-        ensures found { AddsOne (place_word (plan_of self.now) place) (λ n. n ≤ 1) (found_by_lead lead.old) (found_by_lead lead.new) }
+        ensures found { LeadFinds (place_word (plan_of self.now) place) IsFlag lead.old lead.new }
     {
         self.set_place(lead, place, 1);
         self.bells.hands.notify_all();
@@ -198,7 +197,7 @@ impl Board {
         requires lead { IsLeadOf self.now lead.old }
         requires place { IsPlace (plan_of self.now) place }
         ensures lead { KeepsStages self.now lead.old lead.new }
-        ensures found { AddsOne (place_word (plan_of self.now) place) (λ n. n ≤ 1) (found_by_lead lead.old) (found_by_lead lead.new) }
+        ensures found { LeadFinds (place_word (plan_of self.now) place) IsFlag lead.old lead.new }
     {
         self.set_place(lead, place, 0);
     }
@@ -208,7 +207,7 @@ impl Board {
         requires place { IsPlace (plan_of self.now) place }
         requires switch { switch ≤ 1 }
         ensures lead { KeepsStages self.now lead.old lead.new }
-        ensures found { AddsOne (place_word (plan_of self.now) place) (λ n. n ≤ 1) (found_by_lead lead.old) (found_by_lead lead.new) }
+        ensures found { LeadFinds (place_word (plan_of self.now) place) IsFlag lead.old lead.new }
     {
         let word = self.requests + place.index as usize;
         self.table
@@ -220,7 +219,7 @@ impl Board {
     pub fn finish_all(&self, lead: &mut Lead)
         requires lead { IsLeadOf self.now lead.old }
         ensures lead { KeepsStages self.now lead.old lead.new }
-        ensures found { AddsOne (end_word (plan_of self.now)) (λ n. n ≤ 1) (found_by_lead lead.old) (found_by_lead lead.new) }
+        ensures found { LeadFinds (end_word (plan_of self.now)) IsFlag lead.old lead.new }
     {
         let word = self.requests + self.places;
         self.table.shared.swap::<Switches>(&mut lead.seat, word, 1);

@@ -43,6 +43,14 @@ IsGone (Gone p marked) = Unit {0}
 IsGone (Got p marked) = ⊥
 IsGone (Done marked) = ⊥
 
+abbrev pub IsLetOrGone : Stage → Type 0
+IsLetOrGone stage = IsLet stage ⊎ IsGone stage
+
+-- what was left is not on its way to the lead
+abbrev pub IsSettled : Stage → Type 0
+IsSettled (Got p marked) = ⊥
+IsSettled stage = Unit {0}
+
 -- a stop of the request won
 abbrev pub is_marked : Stage → Bool
 is_marked (Gone p marked) = marked

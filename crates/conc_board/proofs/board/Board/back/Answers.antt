@@ -20,7 +20,7 @@ swap-requires c =
 
 pub returns-clause-lead : goal.returns-clause-lead
 returns-clause-lead c = changes _ _ _ _ c.request_word.result NotLet c.swap.result c.requires.lead c.requires.request c.request_word.ensures c.swap.ensures.0 c.swap.ensures.2.0
-    (back_goes_on (stage_of c.args.lead.now c.args.r) c.requires.stage)
+    (back_goes_on (stage_of c.args.lead.now c.args.r) c.requires.stage) tt
 
 pub returns-clause-stage : goal.returns-clause-stage
 returns-clause-stage c = new_stage _ c.args.r _ _ c.request_word.result NotLet c.swap.result c.requires.lead.stages c.requires.request c.request_word.ensures c.swap.ensures.2.0

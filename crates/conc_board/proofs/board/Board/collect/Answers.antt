@@ -81,7 +81,7 @@ returns-clause-lead c =
     changes_twice _ _ _ _ mid i (got (stage_at v.stages i)) (Done g.1) c.load.result c.swap.result c.requires.lead c.requires.request c.request_word-word.ensures
     (c.swap.ensures.0 ∙ (c.exchange.ensures.0 ∙ c.load.ensures.0)) one
     (done_then plan c.args.r v mid w i g.0 g.1 c.load.result c.swap.result c.requires.lead.stages c.requires.request c.request_word-word.ensures g.2 one c.swap.ensures.2.0)
-    (subst (λ (z : Stage). GoesOn z (Done g.1)) (sym g.2) (inr (inr refl)))
+    (subst (λ (z : Stage). GoesOn z (Done g.1)) (sym g.2) (inr (inr refl))) tt
 
 pub returns-clause-collected : goal.returns-clause-collected
 returns-clause-collected c =

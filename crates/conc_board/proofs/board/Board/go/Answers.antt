@@ -24,7 +24,7 @@ swap-requires c =
 pub returns-clause-lead : goal.returns-clause-lead
 returns-clause-lead c = changes _ _ _ _ c.request_word.result (Gone c.args.place false) c.swap.result c.requires.lead c.requires.request c.request_word.ensures c.swap.ensures.0
     (c.swap.ensures.2.0 ∙ ap (λ (z : Stage). with_stage c.args.lead.now.seat.me.0 c.request_word.result (gone z) c.swap.result) (stage_there c.args.lead.now.seat.me.0.stages c.args.r c.request_word.result c.request_word.ensures c.requires.request.from_one ∙ c.requires.stage))
-    (subst (λ (z : Stage). GoesOn z (Gone c.args.place false)) (sym c.requires.stage) (inr (inr refl)))
+    (subst (λ (z : Stage). GoesOn z (Gone c.args.place false)) (sym c.requires.stage) (inr (inr refl))) tt
 
 pub returns-clause-stage : goal.returns-clause-stage
 returns-clause-stage c = new_stage _ c.args.r _ _ c.request_word.result (Gone c.args.place false) c.swap.result c.requires.lead.stages c.requires.request c.request_word.ensures

@@ -8,7 +8,7 @@ use Rattle.conc_board_seats.proofs.LeadSteps.{looks}
 use Rattle.conc_board.specs.Looks.{Looks, Shows}
 use Rattle.conc_board.specs.Seats.{plan_of, stage_of}
 use Rattle.conc_board.proofs.Leads.{adds_one, changes, new_stage, stage_there}
-use Rattle.conc_board.proofs.LookedSo.{looked_goes_on, looked_so}
+use Rattle.conc_board.proofs.LookedSo.{looked_goes_on, looked_settled, looked_so}
 use Rattle.conc_board.proofs.board.Board.look.Goals as goal
 
 pub load-word-requires : goal.load-word-requires
@@ -22,7 +22,7 @@ returns-clause-lead c =
     let n = c.load-word.result in
     changes _ _ _ _ c.request_word.result (looked (stage_of c.args.lead.now c.args.r) n) n c.requires.lead c.requires.request c.request_word.ensures c.load-word.ensures.0
     (c.load-word.ensures.2.0 ∙ ap (λ (z : Stage). with_stage c.args.lead.now.seat.me.0 c.request_word.result (looked z n) n) there)
-    (looked_goes_on (stage_of c.args.lead.now c.args.r) n)
+    (looked_goes_on (stage_of c.args.lead.now c.args.r) n) (looked_settled (stage_of c.args.lead.now c.args.r) n (c.requires.lead.settled c.args.r))
 
 pub returns-clause-stage : goal.returns-clause-stage
 returns-clause-stage c =

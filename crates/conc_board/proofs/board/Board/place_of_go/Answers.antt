@@ -26,7 +26,7 @@ loaded c = let t = gone_place (stage_of c.args.lead.now c.args.r) c.requires.sta
 
 pub returns-clause-lead : goal.returns-clause-lead
 returns-clause-lead c = let t = gone_place (stage_of c.args.lead.now c.args.r) c.requires.stage in
-    changes _ _ _ _ c.request_word.result (Gone t.0 t.1) c.load-word.result c.requires.lead c.requires.request c.request_word.ensures c.load-word.ensures.0 (loaded c) (inl (sym t.2))
+    changes _ _ _ _ c.request_word.result (Gone t.0 t.1) c.load-word.result c.requires.lead c.requires.request c.request_word.ensures c.load-word.ensures.0 (loaded c) (inl (sym t.2)) tt
 
 pub returns-clause-same : goal.returns-clause-same
 returns-clause-same c = let t = gone_place (stage_of c.args.lead.now c.args.r) c.requires.stage in
