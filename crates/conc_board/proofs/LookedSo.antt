@@ -14,7 +14,8 @@ use Rattle.conc_board_seats.specs.Words.{IsPlace, claimed, place_in, released}
 use Rattle.conc_board_seats.proofs.Facts.{place_eq}
 use Rattle.conc_board.specs.declared.lead.Looked.{Looked}
 use Rattle.conc_board.specs.declared.lead.Looked.TheVariants.{Free, Claimed, Running, Ended}
-use Rattle.conc_board.specs.Looks.{LookedBy, Looks, Shows}
+use Rattle.conc_board.specs.Answers.{LookedBy}
+use Rattle.conc_board.specs.Looks.{Looks, Shows}
 
 -- ---- the stage goes on
 

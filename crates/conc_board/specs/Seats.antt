@@ -1,5 +1,5 @@
 -- Boards, leads and hands as contracts speak of them.
-use Rattle.std.specs.Prelude.{◌≡◌, ◌≢◌, ℕ, ◌≤◌, ◌==◌, Bool, List, [], ◌∷◌, ◌++◌, length, Option, Some, IsFalse, IsTrue}
+use Rattle.std.specs.Prelude.{◌≡◌, ◌≢◌, ℕ, ◌≤◌, ◌==◌, Bool, false, List, [], ◌∷◌, ◌++◌, length, Option, Some, IsFalse, IsTrue}
 use Rattle.conc_types.specs.declared.event.PlaceId.{PlaceId}
 use Rattle.conc_types.specs.declared.event.RequestId.{RequestId}
 use Rattle.conc_types.specs.declared.plan.Plan.{Plan}
@@ -9,9 +9,10 @@ use Rattle.conc_board_seats.specs.declared.views.Stage.{Stage}
 use Rattle.conc_board_seats.specs.Courses.{GoesOn}
 use Rattle.conc_board_seats.specs.Doings.{IsWithin}
 use Rattle.conc_board_seats.specs.Places.{has}
-use Rattle.conc_board_seats.specs.Rule.{exclude}
-use Rattle.conc_board_seats.specs.Stages.{IsLetOrGone, IsSettled, stage_in}
-use Rattle.conc_board_seats.specs.Words.{IsPlace, count_of_requests}
+use Rattle.conc_board_seats.specs.Reports.{MayLeave}
+use Rattle.conc_board_seats.specs.Rule.{Runs, exclude}
+use Rattle.conc_board_seats.specs.Stages.{IsLetOrGone, IsSettled, WordFits, is_marked, stage_in}
+use Rattle.conc_board_seats.specs.Words.{IsPlace, count_of_requests, place_word, request_word}
 use Rattle.conc_board.specs.declared.board.Board.{Board}
 use Rattle.conc_board.specs.declared.hand.Hand.{Hand}
 use Rattle.conc_board.specs.declared.lead.Lead.{Lead}
@@ -50,6 +51,14 @@ found_by_lead lead = lead.seat.me.0.found
 abbrev pub LeadFinds : ℕ → (ℕ → Type 0) → Lead → Lead → Type 0
 LeadFinds word IsSo old new = AddsOne word IsSo (found_by_lead old) (found_by_lead new)
 
+-- it found the word of the request as its stage has it
+abbrev pub FindsFitting : RequestId → Lead → Lead → Type 0
+FindsFitting r old new = LeadFinds (request_word r) (WordFits (stage_of old r)) old new
+
+-- this may be left for the request, by its mark
+abbrev pub IsLeftFor : Board → Lead → RequestId → Posted → Type 0
+IsLeftFor board lead r posted = MayLeave (plan_of board) r (is_marked (stage_of lead r)) posted
+
 -- the lead is the one of this board, and knows its plan
 pub record IsLeadOf (board : Board) (lead : Lead) : Type 0 where
   pub seat : lead.seat.table_id ≡ board.table.shared.table_id
@@ -70,8 +79,8 @@ pub record HasAllPlaces (board : Board) (lead : Lead) : Type 0 where
 pub record SameStages (old new : Lead) : Type 0 where
   pub each : (r : RequestId) → stage_of new r ≡ stage_of old r
 
--- a call on a request: its stage goes on, other requests are at the stages that they were at, and the
--- lead has the places that it had
+-- a call on a request: its stage goes on, other requests are at the stages that they were at, and
+-- the lead has the places that it had
 pub record Changes (board : Board) (r : RequestId) (old new : Lead) : Type 0 where
   pub lead : IsLeadOf board new
   pub goes_on : GoesOn (stage_of old r) (stage_of new r)
@@ -101,6 +110,14 @@ found_by_hand hand = hand.seat.me.0.found
 -- one step of the hand's found this in the word
 abbrev pub HandFinds : ℕ → (ℕ → Type 0) → Hand → Hand → Type 0
 HandFinds word IsSo old new = AddsOne word IsSo (found_by_hand old) (found_by_hand new)
+
+-- it found the word of the request running at the place
+abbrev pub FindsRunningAt : RequestId → PlaceId → Hand → Hand → Type 0
+FindsRunningAt r place old new = HandFinds (request_word r) (Runs false place) old new
+
+-- it found the place open, or not
+abbrev pub FindsOpen : Board → PlaceId → Bool → Hand → Hand → Type 0
+FindsOpen board place answer old new = HandFinds (place_word (plan_of board) place) (IsFlagSeen answer) old new
 
 -- the slots that are out with it
 abbrev pub slots_of : Hand → List (ℕ × Option Posted)

@@ -82,11 +82,10 @@ impl Board {
     ghost use Rattle.std.specs.Prelude.{◌<◌, ◌≤◌, ◌≢◌, ◌+◌, ◌==◌, ◌⊎◌, ℕ, Bool};
     ghost use Rattle.conc_board_seats.specs.Doings.{IsWithin};
     ghost use Rattle.conc_board_seats.specs.Reports.{MayLeave};
-    ghost use Rattle.conc_board_seats.specs.Rule.{Runs};
-    ghost use Rattle.conc_board_seats.specs.Words.{end_word, IsPlace, place_word, request_word as request_word_of};
+    ghost use Rattle.conc_board_seats.specs.Words.{end_word, IsPlace};
     ghost use Rattle.conc_board_seats.specs.declared.views.Doing.TheVariants as does;
     ghost use Rattle.conc_board.specs.Claims.{HasClaim, HasPermit, MayPost, permit_place, permit_request, Polls as PollsAs, Warned};
-    ghost use Rattle.conc_board.specs.Seats.{doing_of, HandFinds, IsFlagSeen, IsHandOf, plan_of, Stays};
+    ghost use Rattle.conc_board.specs.Seats.{doing_of, FindsOpen, FindsRunningAt, HandFinds, IsFlagSeen, IsHandOf, plan_of, Stays};
 
     /// Looks for the answer to a claim. After `Withdrawn` the hand does nothing.
     pub fn poll(&self, hand: &mut Hand, claim: Claim) -> Polled
@@ -124,7 +123,7 @@ impl Board {
         requires permit { MayPost (plan_of self.now) hand.old permit posted }
         ensures hand { Stays self.now hand.old hand.new }
         ensures idle { doing_of hand.new ≡ does.Idle }
-        ensures found { HandFinds (request_word_of (permit_request permit)) (Runs false (permit_place permit)) hand.old hand.new }
+        ensures found { FindsRunningAt (permit_request permit) (permit_place permit) hand.old hand.new }
     {
         let shared = &self.table.shared;
         let word = request_word(permit.request);
@@ -150,7 +149,7 @@ impl Board {
         requires place { IsPlace (plan_of self.now) place }
         ensures hand { Stays self.now hand.old hand.new }
         ensures same { doing_of hand.new ≡ doing_of hand.old }
-        ensures found { HandFinds (place_word (plan_of self.now) place) (IsFlagSeen result) hand.old hand.new }
+        ensures found { FindsOpen self.now place result hand.old hand.new }
     {
         let word = self.requests + place.index as usize;
         self.table.shared.load::<Switches>(&mut hand.seat, word) == 1

@@ -1,6 +1,6 @@
 ghost use Rattle.std.specs.Prelude.{◌≡◌, ◌∷◌, [], true};
 ghost use Rattle.conc_board_seats.specs.declared.views.Doing.TheVariants as does;
-ghost use Rattle.conc_board.specs.Looks.{LookedBy};
+ghost use Rattle.conc_board.specs.Answers.{LookedBy};
 
 use crate::Board;
 use crate::plays::{Clears, Gets, Goes, LetsOut, Looks, Stops, Switches, TakesBack};
@@ -39,12 +39,11 @@ pub struct NotYet;
 
 impl Board {
     ghost use Rattle.std.specs.Prelude.{◌<◌, ◌≤◌, ◌+◌, ◌++◌, ℕ, Bool, IfOk, IsFalse, OnErr, OnOk, false};
-    ghost use Rattle.conc_board_seats.specs.Reports.{MayLeave};
-    ghost use Rattle.conc_board_seats.specs.Stages.{is_marked, IsGone, IsLet, IsLetOrGone, WordFits};
+    ghost use Rattle.conc_board_seats.specs.Stages.{IsGone, IsLet, IsLetOrGone};
     ghost use Rattle.conc_board_seats.specs.Words.{end_word, IsPlace, IsRequest, place_word, request_word as request_word_of};
     ghost use Rattle.conc_board_seats.specs.declared.views.Stage.TheVariants as stage;
-    ghost use Rattle.conc_board.specs.Looks.{Looks as LooksAt, Shows};
-    ghost use Rattle.conc_board.specs.Seats.{Changes, IsApart, IsFlag, IsLeadOf, KeepsStages, LeadFinds, plan_of, stage_of};
+    ghost use Rattle.conc_board.specs.Looks.{SeesStage, Shows};
+    ghost use Rattle.conc_board.specs.Seats.{Changes, FindsFitting, IsApart, IsFlag, IsLeadOf, IsLeftFor, KeepsStages, LeadFinds, plan_of, stage_of};
     ghost use Rattle.conc_board.specs.Stops.{Collects, FindsRunning, Stops as StopsAs, StopsAt};
 
     /// Lets a request out that is not on the board and excludes none that is.
@@ -55,7 +54,7 @@ impl Board {
         requires apart { IsApart self.now r lead.old }
         ensures lead { Changes self.now r lead.old lead.new }
         ensures stage { stage_of lead.new r ≡ stage.Let }
-        ensures found { LeadFinds (request_word_of r) (WordFits stage.NotLet) lead.old lead.new }
+        ensures found { FindsFitting r lead.old lead.new }
     {
         self.table
             .shared
@@ -70,7 +69,7 @@ impl Board {
         requires request { IsRequest (plan_of self.now) r }
         requires stage { IsLetOrGone (stage_of lead.old r) }
         ensures lead { Changes self.now r lead.old lead.new }
-        ensures stage { LooksAt (plan_of self.now) result (stage_of lead.old r) (stage_of lead.new r) }
+        ensures stage { SeesStage self.now r result lead.old lead.new }
         ensures found { LeadFinds (request_word_of r) (Shows result) lead.old lead.new }
     {
         let word = self
@@ -88,7 +87,7 @@ impl Board {
         requires stage { stage_of lead.old r ≡ stage.Seen place }
         ensures lead { Changes self.now r lead.old lead.new }
         ensures stage { stage_of lead.new r ≡ stage.Gone place false }
-        ensures found { LeadFinds (request_word_of r) (WordFits (stage.Seen place)) lead.old lead.new }
+        ensures found { FindsFitting r lead.old lead.new }
     {
         self.table
             .shared
@@ -103,7 +102,7 @@ impl Board {
         requires stage { IsLet (stage_of lead.old r) }
         ensures lead { Changes self.now r lead.old lead.new }
         ensures stage { stage_of lead.new r ≡ stage.NotLet }
-        ensures found { LeadFinds (request_word_of r) (WordFits (stage_of lead.old r)) lead.old lead.new }
+        ensures found { FindsFitting r lead.old lead.new }
     {
         self.table
             .shared
@@ -133,7 +132,7 @@ impl Board {
         ensures lead { Changes self.now r lead.old lead.new }
         ensures same { stage_of lead.new r ≡ stage_of lead.old r }
         ensures place { (marked : Bool) × (stage_of lead.old r ≡ stage.Gone result marked) }
-        ensures found { LeadFinds (request_word_of r) (WordFits (stage_of lead.old r)) lead.old lead.new }
+        ensures found { FindsFitting r lead.old lead.new }
     {
         let word = self
             .table
@@ -165,7 +164,7 @@ impl Board {
         requires request { IsRequest (plan_of self.now) r }
         requires stage { IsGone (stage_of lead.old r) }
         ensures lead { Changes self.now r lead.old lead.new }
-        ensures posted { IfOk result (λ x. MayLeave (plan_of self.now) r (is_marked (stage_of lead.old r)) x) }
+        ensures posted { IfOk result (IsLeftFor self.now lead.old r) }
         ensures collected { OnOk result (Collects r lead.old lead.new) }
         ensures not_yet { OnErr result (FindsRunning r lead.old lead.new) }
     {

@@ -2,6 +2,7 @@
 #![tactic(auto)]
 
 mod error;
+mod gate;
 mod memory_shelf;
 mod memory_sink;
 mod real;
@@ -9,6 +10,7 @@ mod shelf;
 mod sink;
 
 pub use error::{Failed, ShelfFail};
+pub use gate::{FreeGate, Gate, PairGate};
 pub use memory_shelf::MemShelf;
 pub use memory_sink::MemSink;
 pub use real::{FileShelf, WriterSink};

@@ -6,6 +6,7 @@ use Rattle.conc_board_seats.specs.Courses.{GoesOn}
 use Rattle.conc_board_seats.specs.Stages.{WordFits, gone, stage_at}
 use Rattle.conc_board_seats.specs.Steps.{with_stage}
 use Rattle.conc_board_seats.proofs.LeadSteps.{goes_by}
+use Rattle.conc_board.specs.Seats.{stage_of}
 use Rattle.conc_board.proofs.Leads.{adds_one, changes, new_stage, stage_there}
 use Rattle.conc_board.proofs.board.Board.go.Goals as goal
 
@@ -31,6 +32,6 @@ returns-clause-stage c = new_stage _ c.args.r _ _ c.request_word.result (Gone c.
     (c.swap.ensures.2.0 ∙ ap (λ (z : Stage). with_stage c.args.lead.now.seat.me.0 c.request_word.result (gone z) c.swap.result) (stage_there c.args.lead.now.seat.me.0.stages c.args.r c.request_word.result c.request_word.ensures c.requires.request.from_one ∙ c.requires.stage))
 
 pub returns-clause-found : goal.returns-clause-found
-returns-clause-found c = adds_one (WordFits (Seen c.args.place)) _ c.request_word.result c.swap.result _ _ c.request_word.ensures
-    (subst (λ (z : Stage). WordFits z c.swap.result) (stage_there c.args.lead.now.seat.me.0.stages c.args.r c.request_word.result c.request_word.ensures c.requires.request.from_one ∙ c.requires.stage) c.swap.ensures.2.2)
+returns-clause-found c = adds_one (WordFits (stage_of c.args.lead.now c.args.r)) _ c.request_word.result c.swap.result _ _ c.request_word.ensures
+    (subst (λ (z : Stage). WordFits z c.swap.result) (stage_there c.args.lead.now.seat.me.0.stages c.args.r c.request_word.result c.request_word.ensures c.requires.request.from_one) c.swap.ensures.2.2)
     (ap (λ (v : View). v.found) c.swap.ensures.2.0)

@@ -32,4 +32,5 @@ pub returns-clause-stage : goal.returns-clause-stage
 returns-clause-stage c = new_stage _ c.args.r _ _ c.request_word.result Let c.swap.result c.requires.lead.stages c.requires.request c.request_word.ensures c.swap.ensures.2.0
 
 pub returns-clause-found : goal.returns-clause-found
-returns-clause-found c = adds_one (WordFits NotLet) _ c.request_word.result c.swap.result _ _ c.request_word.ensures c.swap.ensures.2.2 (ap (λ (v : View). v.found) c.swap.ensures.2.0)
+returns-clause-found c = adds_one (WordFits (stage_of c.args.lead.now c.args.r)) _ c.request_word.result c.swap.result _ _ c.request_word.ensures
+    (subst (λ (z : Stage). WordFits z c.swap.result) (sym c.requires.stage) c.swap.ensures.2.2) (ap (λ (v : View). v.found) c.swap.ensures.2.0)
