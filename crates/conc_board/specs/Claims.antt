@@ -92,7 +92,7 @@ pub record ClaimsAt (board : Board) (place : PlaceId) (old new : Hand) (claim : 
   pub waits : HasClaim new claim
   pub steps : List (ℕ × ℕ)
   pub found :
-    found_by_hand new ≡ found_by_hand old ++ (steps ++ (request_word (claim_request claim), released) ∷ [])
+      found_by_hand new ≡ found_by_hand old ++ (steps ++ (request_word (claim_request claim), released) ∷ [])
 
 -- in these steps the request was found as not Released
 abbrev pub IsMissed : List (ℕ × ℕ) → RequestId → Type 0
@@ -126,8 +126,8 @@ pub record FindsNone (board : Board) (place : PlaceId) (old new : Hand) : Type 0
   pub steps : List (ℕ × ℕ)
   pub made : ClaimsNone board old new steps
   pub cause :
-    Has steps (place_word (plan_of board) place, 0)
-    ⊎ AreMissed (plan_of board) place steps (count_of_requests (plan_of board))
+      Has steps (place_word (plan_of board) place, 0)
+      ⊎ AreMissed (plan_of board) place steps (count_of_requests (plan_of board))
 
 -- ---- a claim is answered
 

@@ -21,5 +21,5 @@ EndFits (Done marked) n = n ≡ done
 pub record Ends (board : Board) (lead : Lead) (words : List ℕ) : Type 0 where
   pub all : length words ≡ count_of_words (plan_of board)
   pub requests : (r : RequestId) → IsRequest (plan_of board) r →
-    EndFits (stage_of lead r) (slice_index words (request_word r))
+      EndFits (stage_of lead r) (slice_index words (request_word r))
   pub switches : (i : ℕ) → count_of_requests (plan_of board) ≤ i → slice_index words i ≤ 1

@@ -48,29 +48,29 @@ pub record PlacesHaveOneOwner (s : BoardState) : Type 0 where
 -- waits or has the permit
 pub record ClaimsAreWaitedFor (plan : Plan) (s : BoardState) : Type 0 where
   pub claimed : (i : ℕ) (p : PlaceId) → i < count_of_requests plan → p.index < 64 → slice_index s.words i ≡ claimed p →
-    (j : ℕ) × Owns s j p × ((view_at s.views j).doing ≡ Waits (request_of i) p)
+      (j : ℕ) × Owns s j p × ((view_at s.views j).doing ≡ Waits (request_of i) p)
   pub running : (i : ℕ) (p : PlaceId) → i < count_of_requests plan → p.index < 64 → Runs false p (slice_index s.words i) →
-    (j : ℕ) × Owns s j p × (((view_at s.views j).doing ≡ Waits (request_of i) p) ⊎ ((stop : Bool) × ((view_at s.views j).doing ≡ Serves (request_of i) p stop)))
+      (j : ℕ) × Owns s j p × (((view_at s.views j).doing ≡ Waits (request_of i) p) ⊎ ((stop : Bool) × ((view_at s.views j).doing ≡ Serves (request_of i) p stop)))
 
 -- where a seat has a permit, the word is Running or Stopping at its place, with the stop sign Stopping
 pub record PermitsRun (plan : Plan) (s : BoardState) : Type 0 where
   pub each : (j : ℕ) (r : RequestId) (p : PlaceId) (stop : Bool) → (view_at s.views j).doing ≡ Serves r p stop →
-    IsRequest plan r × Runs stop p (slice_index s.words (request_word r))
+      IsRequest plan r × Runs stop p (slice_index s.words (request_word r))
 
 -- a slot is out with the hand that has the permit, or with the lead that got what was left; where a
 -- request ended and has the go, what may be left for it is at home; else the slot is at home and empty
 pub record SlotsAreWhereTheyBelong (plan : Plan) (s : BoardState) : Type 0 where
   pub with_hand : (j : ℕ) (r : RequestId) (p : PlaceId) (stop : Bool) → (view_at s.views j).doing ≡ Serves r p stop →
-    home_at s.homes (request_word r) ≡ none
+      home_at s.homes (request_word r) ≡ none
   pub with_lead : (lead i : ℕ) (p : PlaceId) (marked : Bool) → Leads s lead → i < count_of_requests plan →
-    stage_by s lead i ≡ Got p marked → home_at s.homes i ≡ none
+      stage_by s lead i ≡ Got p marked → home_at s.homes i ≡ none
   pub left : (lead i : ℕ) (p : PlaceId) (marked : Bool) → Leads s lead → i < count_of_requests plan →
-    stage_by s lead i ≡ Gone p marked → slice_index s.words i ≡ ended p → HasLeft plan (request_of i) marked (home_at s.homes i)
+      stage_by s lead i ≡ Gone p marked → slice_index s.words i ≡ ended p → HasLeft plan (request_of i) marked (home_at s.homes i)
   pub empty : (lead i : ℕ) → Leads s lead → i < count_of_requests plan →
-    ((j : ℕ) (p : PlaceId) (stop : Bool) → (view_at s.views j).doing ≢ Serves (request_of i) p stop) →
-    ((p : PlaceId) (marked : Bool) → stage_by s lead i ≢ Got p marked) →
-    ((p : PlaceId) (marked : Bool) → stage_by s lead i ≡ Gone p marked → slice_index s.words i ≢ ended p) →
-    home_at s.homes i ≡ some None
+      ((j : ℕ) (p : PlaceId) (stop : Bool) → (view_at s.views j).doing ≢ Serves (request_of i) p stop) →
+      ((p : PlaceId) (marked : Bool) → stage_by s lead i ≢ Got p marked) →
+      ((p : PlaceId) (marked : Bool) → stage_by s lead i ≡ Gone p marked → slice_index s.words i ≢ ended p) →
+      home_at s.homes i ≡ some None
 
 -- the words of places and of the end are 0 or 1
 pub record FlagsAreBits (plan : Plan) (s : BoardState) : Type 0 where
@@ -79,9 +79,9 @@ pub record FlagsAreBits (plan : Plan) (s : BoardState) : Type 0 where
 -- no request whose word is Running is marked, and each whose word is Stopping is
 pub record MarksStop (plan : Plan) (s : BoardState) : Type 0 where
   pub running : (lead i : ℕ) (p : PlaceId) → Leads s lead → i < count_of_requests plan → p.index < 64 →
-    slice_index s.words i ≡ running p → is_marked (stage_by s lead i) ≡ false
+      slice_index s.words i ≡ running p → is_marked (stage_by s lead i) ≡ false
   pub stopping : (lead i : ℕ) (p : PlaceId) → Leads s lead → i < count_of_requests plan → p.index < 64 →
-    slice_index s.words i ≡ stopping p → is_marked (stage_by s lead i) ≡ true
+      slice_index s.words i ≡ stopping p → is_marked (stage_by s lead i) ≡ true
 
 pub record Points (plan : Plan) (s : BoardState) : Type 0 where
   pub stages : LeadStagesExclude plan s

@@ -31,7 +31,7 @@ pub record Stops (answer : Bool) (r : RequestId) (old new : Lead) : Type 0 where
   pub answers : answer ≡ (exchanged == running place)
   pub fits : WordFits (Gone place marked) exchanged
   pub found :
-    found_by_lead new ≡ found_by_lead old ++ (request_word r, loaded) ∷ (request_word r, exchanged) ∷ []
+      found_by_lead new ≡ found_by_lead old ++ (request_word r, loaded) ∷ (request_word r, exchanged) ∷ []
 
 -- what was left for the request was taken: its word was found Ended, and is Done then
 pub record Collects (r : RequestId) (old new : Lead) : Type 0 where
@@ -40,7 +40,7 @@ pub record Collects (r : RequestId) (old new : Lead) : Type 0 where
   pub was : stage_of old r ≡ Gone place marked
   pub now : stage_of new r ≡ Done marked
   pub found :
-    found_by_lead new ≡ found_by_lead old ++ (request_word r, ended place) ∷ (request_word r, ended place) ∷ []
+      found_by_lead new ≡ found_by_lead old ++ (request_word r, ended place) ∷ (request_word r, ended place) ∷ []
 
 -- nothing was taken: the word was found Running or Stopping
 pub record FindsRunning (r : RequestId) (old new : Lead) : Type 0 where

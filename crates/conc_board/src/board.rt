@@ -90,10 +90,7 @@ impl Board {
         ensures passed { places_of_hand result ≡ places.now }
         ensures nothing_found { found_by_hand result ≡ [] }
     {
-        let seat = self
-            .table
-            .shared
-            .split_seat::<SplitsOff<J>>(&mut lead.seat);
+        let seat = self.table.shared.split_seat::<SplitsOff<J>>(&mut lead.seat);
         Hand { seat }
     }
 
@@ -109,9 +106,7 @@ impl Board {
         ensures found { found_by_lead lead.new ≡ found_by_lead lead.old }
     {
         let Hand { seat } = hand;
-        self.table
-            .shared
-            .join_seat::<TakesIn>(&mut lead.seat, seat);
+        self.table.shared.join_seat::<TakesIn>(&mut lead.seat, seat);
     }
 
     /// The bell at which hands may sleep. It is rung after `let_out`, `go`, `back`, `open_place` and

@@ -6,8 +6,8 @@ ghost use Rattle.conc_board_seats.specs.declared.views.Doing.TheVariants as does
 ghost use Rattle.conc_board.specs.Claims.{admits_at, admits_request as admits_request_of, ClaimsAt, ClaimsOne, FindsNone, manager_at as manager_at_of, MissesAll, MissesOne, MissesSome};
 ghost use Rattle.conc_board.specs.Seats.{doing_of, IsHandOf, places_of_hand, plan_of};
 
-use crate::plays::Claims;
 use crate::numbers::{RELEASED, claimed, request_word};
+use crate::plays::Claims;
 use crate::{Board, Claim, Hand};
 use conc_rules::admits;
 use conc_time::place_of;
@@ -146,12 +146,10 @@ impl Board {
         ensures claimed { IfSome result (λ claim. ClaimsOne self.now r place hand.old hand.new claim) }
         ensures none { IfNone result (MissesOne self.now r hand.old hand.new) }
     {
-        let word = self.table.shared.compare_exchange::<Claims>(
-            &mut hand.seat,
-            request_word(r),
-            RELEASED,
-            claimed(place),
-        );
+        let word = self
+            .table
+            .shared
+            .compare_exchange::<Claims>(&mut hand.seat, request_word(r), RELEASED, claimed(place));
         if word != RELEASED {
             return None;
         }

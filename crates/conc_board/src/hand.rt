@@ -3,8 +3,8 @@ ghost use Rattle.conc_board_seats.specs.Doings.{carried_by};
 ghost use Rattle.conc_board.specs.Answers.{PolledBy};
 
 use crate::Board;
-use crate::plays::{Polls, Posts, SeesStop, Switches};
 use crate::numbers::{claimed, ended, request_word, running, stopping};
+use crate::plays::{Polls, Posts, SeesStop, Switches};
 use atomic_table::Seat;
 use conc_board_seats::{Posted, View};
 use conc_types::{PlaceId, RequestId};

@@ -3,10 +3,8 @@ ghost use Rattle.conc_board_seats.specs.declared.views.Doing.TheVariants as does
 ghost use Rattle.conc_board.specs.Answers.{LookedBy};
 
 use crate::Board;
+use crate::numbers::{DONE, IDLE, RELEASED, STATE, place_named, request_word, running, stopping};
 use crate::plays::{Clears, Gets, Goes, LetsOut, Looks, Stops, Switches, TakesBack};
-use crate::numbers::{
-    DONE, IDLE, RELEASED, STATE, place_named, request_word, running, stopping,
-};
 use atomic_table::Seat;
 use conc_board_seats::{Posted, View};
 use conc_types::{PlaceId, RequestId};

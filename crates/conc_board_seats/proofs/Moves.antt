@@ -57,7 +57,7 @@ module _ (plan : Plan) where
   pub record Led (s : St) (k : Keep plan s) (id : ℕ) (v : View) : Type 0 where
     pub all_stages : length v.stages ≡ count_of_requests plan
     pub fits : (i : ℕ) → i < count_of_requests plan →
-      Fits plan (doing_at s.views k.owner) (request_of i) (stage_at v.stages i) (word s i) (home s i)
+        Fits plan (doing_at s.views k.owner) (request_of i) (stage_at v.stages i) (word s i) (home s i)
     pub apart : AreApart plan v.stages
     pub knows_plan : v.plan ≡ Some plan
     pub is : id ≡ k.lead

@@ -139,7 +139,7 @@ pub record Keep (plan : Plan) (s : BoardState) : Type 0 where
   pub at_own : (j : ℕ) → IsAtOwn (view_at s.views j).places (view_at s.views j).doing
   pub apart : AreApart plan (view_at s.views lead).stages
   pub each_request : (i : ℕ) → i < count_of_requests plan →
-    Fits plan (doing_at s.views owner) (request_of i)
-    (stage_at (view_at s.views lead).stages i) (slice_index s.words i) (home_at s.homes i)
+      Fits plan (doing_at s.views owner) (request_of i)
+      (stage_at (view_at s.views lead).stages i) (slice_index s.words i) (home_at s.homes i)
   pub each_seat : (j : ℕ) → Works plan owner s.words j (view_at s.views j).doing
   pub switches : (i : ℕ) → count_of_requests plan ≤ i → slice_index s.words i ≤ 1

@@ -6,7 +6,7 @@ use Rattle.conc_board.proofs.Leads.{adds_one}
 use Rattle.conc_board.proofs.board.Board.finished.Goals as goal
 
 pub load-requires : goal.load-requires
-load-requires c = let b = c.args.self.now in 
+load-requires c = let b = c.args.self.now in
     (c.requires.hand.seat, omega (arith, b.words, b.request_count, b.place_count), sees b.table.shared.key _ _ _ _ (omega (arith, b.request_count)) (omega (arith, b.request_count, b.place_count)))
 
 pub returns-clause-hand : goal.returns-clause-hand
