@@ -16,9 +16,9 @@ use Rattle.conc_board.specs.Seats.{IsHandOf, IsLeadOf, doing_of, places_of_hand,
 
 -- the hand does nothing, and the place is one of its own
 pub record IsFree (board : Board) (place : PlaceId) (hand : Hand) : Type 0 where
-  pub hand : IsHandOf board hand
+  pub of_board : IsHandOf board hand
   pub idle : doing_of hand ≡ Idle
-  pub place : IsPlace (plan_of board) place
+  pub of_plan : IsPlace (plan_of board) place
   pub own : IsTrue (has (places_of_hand hand) place)
 
 -- calls on one request alone

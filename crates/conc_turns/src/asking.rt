@@ -1,6 +1,8 @@
-ghost use Rattle.std.specs.Prelude.{◌≡◌, ℕ, IfOk, IsFalse, IsTrue};
+ghost use Rattle.std.specs.Prelude.{◌≡◌, ℕ, IfOk, IsFalse, IsTrue, not};
+ghost use Rattle.std.specs.List.{list_all};
 ghost use Rattle.std.specs.Option.{option_map};
 ghost use Rattle.conc_types.specs.declared.event.RequestId.{RequestId};
+ghost use Rattle.conc_law.specs.Plans.{are_exclusive as are_exclusive_of};
 ghost use Rattle.conc_board_seats.specs.Reports.{as_report, report_for as report_for_of};
 ghost use Rattle.conc_board_seats.specs.Rule.{exclude};
 ghost use Rattle.conc_board_seats.specs.Stages.{IsGone, IsLet};
@@ -12,20 +14,23 @@ ghost use Rattle.conc_turns.specs.Rounds.{IsSeen, OnlyOne};
 use conc_board::{Board, Lead, Looked};
 use conc_reports::{Made, report};
 use conc_rules::{are_exclusive, program_of};
-use conc_types::{NoMemory, Plan, RequestId};
+use conc_types::{NoMemory, Plan, Req, RequestId};
 use std::alloc::Global;
 use std::process::Abort;
+
+// Whether the request excludes none of these.
+fn excludes_no_other(plan: &Plan, x: &Req, others: &[Req]) -> bool
+    ensures { result ≡ list_all (λ y. not (are_exclusive_of plan.now x.now y)) others.now }
+{
+    others.iter().all(|y| !are_exclusive(plan, x, y))
+}
 
 /// Whether the request excludes none of the plan.
 pub fn excludes_none(plan: &Plan, r: RequestId) -> bool
     ensures { IsTrue result → (q : RequestId) → IsFalse (exclude plan.now r q) }
 {
     match plan.request(r) {
-        Some(x) => plan
-            .requests
-            .as_slice()
-            .iter()
-            .all(|y| !are_exclusive(plan, x, y)),
+        Some(x) => excludes_no_other(plan, x, plan.requests.as_slice()),
         None => true,
     }
 }
