@@ -1,4 +1,4 @@
-ghost use Rattle.std.specs.Prelude.{◌≡◌, ℕ, ◌<◌, false, List, length, slice_get, slice_index_or};
+ghost use Rattle.std.specs.Prelude.{◌≡◌, ◌↔◌, ℕ, ◌<◌, [], false, List, length, slice_get, slice_index_or, IsTrue};
 ghost use Rattle.std.specs.Slots.{IsFull, slots_filled, slots_items, slots_len};
 
 use crate::{Board, Lead};
@@ -25,6 +25,33 @@ impl Drop for Words {
     fn drop(self) {
         let Words { closed } = self;
         closed.free();
+    }
+}
+
+impl Words {
+    /// How many words there are.
+    pub fn len(&self) -> usize
+        ensures { result ≡ length self.now }
+    {
+        self.closed.words.len()
+    }
+
+    /// Whether there is no word.
+    pub fn is_empty(&self) -> bool
+        ensures { IsTrue result ↔ (self.now ≡ []) }
+    {
+        self.len() == 0
+    }
+
+    /// The word at an index.
+    pub fn get(&self, index: usize) -> Option<u64>
+        ensures { result ≡ slice_get self.now index }
+    {
+        if index < self.len() {
+            Some(self.closed.word(index))
+        } else {
+            None
+        }
     }
 }
 

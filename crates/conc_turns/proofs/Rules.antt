@@ -1,5 +1,5 @@
 -- What the calls of a trial rest on.
-use Rattle.std.proofs.Common.{◌≡◌, ◌≢◌, ℕ, zero, suc, ◌-◌, ◌≤◌, ◌==◌, ◌&&◌, ◌⊎◌, not, if◌then◌else◌, Bool, true, false, List, [], ◌∷◌, Option, None, Some, sym, refl, ap, ◌∙◌, subst, inl, inr, ⊎_elim}
+use Rattle.std.proofs.Common.{◌≡◌, ◌≢◌, ℕ, zero, suc, ◌-◌, ◌<◌, ◌≤◌, ◌==◌, ◌&&◌, ◌||◌, ◌⊎◌, not, if◌then◌else◌, Bool, true, false, true≢false, arith, eq-eqb, ne_eqb, List, [], ◌∷◌, ◌++◌, Option, None, Some, sym, refl, ap, ◌∙◌, subst, inl, inr, ⊎_elim}
 use mathlib.Core.Logic.{dite}
 use native.Mathlib.Decide.{ℕ_discrete}
 use Rattle.std.specs.List.{list_all, slice_get}
@@ -12,8 +12,10 @@ use Rattle.conc_types.specs.Words.{numbered, some_and}
 use Rattle.conc_law.specs.Plans.{are_exclusive}
 use Rattle.conc_board_seats.specs.declared.views.Stage.{Stage}
 use Rattle.conc_board_seats.specs.declared.views.Stage.TheVariants.{NotLet, Let, Seen, Gone, Got, Done}
+use Rattle.conc_board_seats.specs.Places.{has, without}
 use Rattle.conc_board_seats.specs.Rule.{exclude}
 use Rattle.conc_board_seats.specs.Stages.{IsGone, IsLet}
+use Rattle.conc_board_seats.proofs.Facts.{place_eq}
 use Rattle.conc_board.specs.declared.board.Board.{Board}
 use Rattle.conc_board.specs.declared.lead.Lead.{Lead}
 use Rattle.conc_board.specs.declared.lead.Looked.{Looked}
@@ -85,3 +87,47 @@ only_one board r old new c = record { lead = c.lead; others = c.others }
 
 pub only_one_after : (board : Board) (r : RequestId) (old mid new : Lead) → OnlyOne board r old mid → OnlyOne board r mid new → OnlyOne board r old new
 only_one_after board r old mid new first second = record { lead = second.lead; others = λ q other. second.others q other ∙ first.others q other }
+
+-- ---- three places
+
+has_front : (ps qs : List PlaceId) (p : PlaceId) → has ps p ≡ true → has (ps ++ qs) p ≡ true
+has_front [] qs p e = absurd (cc)
+has_front (a ∷ ps) qs p e = go (a.index == p.index) e
+  where
+    go : (b : Bool) → b || has ps p ≡ true → b || has (ps ++ qs) p ≡ true
+    go true e = refl
+    go false e = has_front ps qs p e
+
+has_back : (ps qs : List PlaceId) (p : PlaceId) → has qs p ≡ true → has (ps ++ qs) p ≡ true
+has_back [] qs p e = e
+has_back (a ∷ ps) qs p e = go (a.index == p.index)
+  where
+    go : (b : Bool) → b || has (ps ++ qs) p ≡ true
+    go true = refl
+    go false = has_back ps qs p e
+
+-- a place that is not passed on stays
+pub has_without : (qs ps : List PlaceId) (p : PlaceId) → has qs p ≡ true → has ps p ≡ false → has (without qs ps) p ≡ true
+has_without [] ps p e not = absurd (cc)
+has_without (q ∷ qs) ps p e not = go (has ps q) refl
+  where
+    go : (b : Bool) → has ps q ≡ b → has (if b then without qs ps else q ∷ without qs ps) p ≡ true
+    go true is = dite (ℕ_discrete q.index p.index)
+        (λ same. absurd (true≢false (sym is ∙ (ap (has ps) (place_eq q p same) ∙ not))))
+        (λ other. has_without qs ps p (subst (λ b. b || has qs p ≡ true) (ne_eqb q.index p.index other) e) not)
+    go false is = dite (ℕ_discrete q.index p.index)
+        (λ same. ap (λ b. b || has (without qs ps) p) (eq-eqb q.index p.index same))
+        (λ other. ap (λ b. b || has (without qs ps) p) (ne_eqb q.index p.index other) ∙ has_without qs ps p (subst (λ b. b || has qs p ≡ true) (ne_eqb q.index p.index other) e) not)
+
+-- three lists with one of the places 0, 1 and 2 each have them all
+pub three_have : (one two three rest : List PlaceId) → has one (record { index = 0 }) ≡ true → has two (record { index = 1 }) ≡ true → has three (record { index = 2 }) ≡ true →
+    (p : PlaceId) → p.index < 3 → has (three ++ (two ++ (one ++ rest))) p ≡ true
+three_have one two three rest a b c p small = dite (ℕ_discrete p.index 0)
+    (λ e. has_back three (two ++ (one ++ rest)) p (has_back two (one ++ rest) p (has_front one rest p (ap (has one) (place_eq p (record { index = 0 }) e) ∙ a))))
+    (λ more. dite (ℕ_discrete p.index 1)
+    (λ e. has_back three (two ++ (one ++ rest)) p (has_front two (one ++ rest) p (ap (has two) (place_eq p (record { index = 1 }) e) ∙ b)))
+    (λ yet. has_front three (two ++ (one ++ rest)) p (ap (has three) (place_eq p (record { index = 2 }) (omega arith)) ∙ c)))
+
+-- requests with two numbers are two
+pub two_requests : (r q : RequestId) → r.number ≢ q.number → r ≢ q
+two_requests r q other e = other (ap (λ (z : RequestId). z.number) e)

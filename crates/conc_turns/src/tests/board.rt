@@ -7,7 +7,7 @@ ghost use Rattle.conc_board_seats.specs.Stages.{IsGone, is_marked};
 ghost use Rattle.conc_board_seats.specs.declared.views.Doing.TheVariants as does;
 ghost use Rattle.conc_board_seats.specs.declared.views.Stage.TheVariants as stage;
 ghost use Rattle.conc_board.specs.Claims.{HasClaim, HasPermit};
-ghost use Rattle.conc_board.specs.Seats.{doing_of, IsHandOf, IsLeadOf, plan_of, places_of_lead, SameStages, stage_of, Stays};
+ghost use Rattle.conc_board.specs.Seats.{doing_of, HasAllPlaces, IsHandOf, IsLeadOf, plan_of, places_of_lead, SameStages, stage_of, Stays};
 ghost use Rattle.conc_turns.specs.Rounds.{IsFree, OnlyOne};
 
 use crate::{
@@ -333,14 +333,110 @@ fn hints_are_followed<Rt: Abort>(
 
 // ---- the trial
 
-fn place(index: u32) -> PlaceId
-    ensures { result.index ≡ index }
+// Three hands that do nothing, each with a place of its own.
+fn three_hands(board: &Board, lead: &mut Lead) -> (Hand, Hand, Hand)
+    requires lead { IsLeadOf board.now lead.old }
+    requires places { HasAllPlaces board.now lead.old }
+    requires three { count_of_places (plan_of board.now) ≡ 3 }
+    ensures lead { IsLeadOf board.now lead.new }
+    ensures stages { SameStages lead.old lead.new }
+    ensures first { IsFree board.now (record { index = 0 }) result.0 }
+    ensures second { IsFree board.now (record { index = 1 }) result.1 }
+    ensures third { IsFree board.now (record { index = 2 }) result.2 }
 {
-    PlaceId { index }
+    let first = hand_at(board, lead, PlaceId { index: 0 });
+    let second = hand_at(board, lead, PlaceId { index: 1 });
+    let third = hand_at(board, lead, PlaceId { index: 2 });
+    (first, second, third)
 }
 
-fn request(number: u32) -> RequestId
-    ensures { result.number ≡ number }
+// Takes the hands in again.
+fn join_three(board: &Board, lead: &mut Lead, first: Hand, second: Hand, third: Hand)
+    requires lead { IsLeadOf board.now lead.old }
+    requires three { count_of_places (plan_of board.now) ≡ 3 }
+    requires first { IsFree board.now (record { index = 0 }) first }
+    requires second { IsFree board.now (record { index = 1 }) second }
+    requires third { IsFree board.now (record { index = 2 }) third }
+    ensures lead { IsLeadOf board.now lead.new }
+    ensures places { HasAllPlaces board.now lead.new }
 {
-    RequestId { number }
+    board.join(lead, first);
+    board.join(lead, second);
+    board.join(lead, third);
+}
+
+fn open_all(board: &Board, lead: &mut Lead)
+    requires lead { IsLeadOf board.now lead.old }
+    requires three { count_of_places (plan_of board.now) ≡ 3 }
+    ensures lead { IsLeadOf board.now lead.new }
+    ensures stages { SameStages lead.old lead.new }
+{
+    board.open_place(lead, PlaceId { index: 0 });
+    board.open_place(lead, PlaceId { index: 1 });
+    board.open_place(lead, PlaceId { index: 2 });
+}
+
+// All rounds, each with requests that are not let out.
+fn take_turns<Rt: Abort>(
+    rt: &Rt,
+    alloc: Global,
+    board: &Board,
+    plan: &Plan,
+    lead: &mut Lead,
+    first: &mut Hand,
+    second: &mut Hand,
+    third: &mut Hand,
+) -> Result<(), NoMemory>
+    requires plan { plan.now ≡ plan_of board.now }
+    requires four { count_of_requests (plan_of board.now) ≡ 4 }
+    requires lead { IsLeadOf board.now lead.old }
+    requires stages { (r : RequestId) → stage_of lead.old r ≡ stage.NotLet }
+    requires first { IsFree board.now (record { index = 0 }) first.old }
+    requires second { IsFree board.now (record { index = 1 }) second.old }
+    requires third { IsFree board.now (record { index = 2 }) third.old }
+    ensures lead { OnOk result (IsLeadOf board.now lead.new) }
+    ensures first { OnOk result (IsFree board.now (record { index = 0 }) first.new) }
+    ensures second { OnOk result (IsFree board.now (record { index = 1 }) second.new) }
+    ensures third { OnOk result (IsFree board.now (record { index = 2 }) third.new) }
+{
+    let one = RequestId { number: 1 };
+    let two = RequestId { number: 2 };
+    let three = RequestId { number: 3 };
+    let four = RequestId { number: 4 };
+    let here = PlaceId { index: 0 };
+    let there = PlaceId { index: 1 };
+    claim_is_taken_back(rt, board, plan, lead, first, here, one);
+    stop_comes_before_the_post(rt, board, plan, lead, second, there, two);
+    stop_comes_after_the_post(rt, alloc, board, plan, lead, third, PlaceId { index: 2 }, four)?;
+    place_is_closed(rt, board, plan, lead, first, here, three);
+    hints_are_followed(rt, board, plan, lead, second, there, one, three, four);
+    Ok(())
+}
+
+#[test]
+fn a_lead_and_three_hands_take_turns(rt: HostRuntime) -> Result<(), Fail> {
+    let plan = plan_of_four(&rt, rt.alloc())?;
+    let (board, mut lead) = Board::new(rt.alloc(), &plan)?;
+    let (mut first, mut second, mut third) = three_hands(&board, &mut lead);
+    open_all(&board, &mut lead);
+    same(&rt, board.finished(&mut first), false);
+    take_turns(
+        &rt,
+        rt.alloc(),
+        &board,
+        &plan,
+        &mut lead,
+        &mut first,
+        &mut second,
+        &mut third,
+    )?;
+    board.finish_all(&mut lead);
+    same(&rt, board.finished(&mut first), true);
+    join_three(&board, &mut lead, first, second, third);
+    let words = board.close(lead);
+    for (index, word) in [0, 2, 0, 2, 1, 1, 1, 1].into_iter().enumerate() {
+        same(&rt, words.get(index), Some(word));
+    }
+    same(&rt, words.len(), 8);
+    Ok(())
 }
