@@ -90,34 +90,36 @@ only_one_after board r old mid new first second = record { lead = second.lead; o
 
 -- ---- three places
 
+either_front : (b c d : Bool) → (c ≡ true → d ≡ true) → b || c ≡ true → b || d ≡ true
+either_front true c d more e = refl
+either_front false c d more e = more e
+
+either_back : (b d : Bool) → d ≡ true → b || d ≡ true
+either_back true d e = refl
+either_back false d e = e
+
 has_front : (ps qs : List PlaceId) (p : PlaceId) → has ps p ≡ true → has (ps ++ qs) p ≡ true
 has_front [] qs p e = absurd (cc)
-has_front (a ∷ ps) qs p e = go (a.index == p.index) e
-  where
-    go : (b : Bool) → b || has ps p ≡ true → b || has (ps ++ qs) p ≡ true
-    go true e = refl
-    go false e = has_front ps qs p e
+has_front (a ∷ ps) qs p e = either_front (a.index == p.index) (has ps p) (has (ps ++ qs) p) (has_front ps qs p) e
 
 has_back : (ps qs : List PlaceId) (p : PlaceId) → has qs p ≡ true → has (ps ++ qs) p ≡ true
 has_back [] qs p e = e
-has_back (a ∷ ps) qs p e = go (a.index == p.index)
-  where
-    go : (b : Bool) → b || has (ps ++ qs) p ≡ true
-    go true = refl
-    go false = has_back ps qs p e
+has_back (a ∷ ps) qs p e = either_back (a.index == p.index) (has (ps ++ qs) p) (has_back ps qs p e)
+
+-- one place is kept, or passed on
+kept_or_passed : (q : PlaceId) (qs ps : List PlaceId) (p : PlaceId) → ((has qs p ≡ true) → has (without qs ps) p ≡ true) → has (q ∷ qs) p ≡ true → has ps p ≡ false → (b : Bool) → has ps q ≡ b →
+    has (if b then without qs ps else q ∷ without qs ps) p ≡ true
+kept_or_passed q qs ps p more e away true is = dite (ℕ_discrete q.index p.index)
+    (λ same. absurd (true≢false (sym is ∙ (ap (has ps) (place_eq q p same) ∙ away))))
+    (λ other. more (sym (ap (λ b. b || has qs p) (ne_eqb q.index p.index other)) ∙ e))
+kept_or_passed q qs ps p more e away false is = dite (ℕ_discrete q.index p.index)
+    (λ same. ap (λ b. b || has (without qs ps) p) (eq-eqb q.index p.index same))
+    (λ other. ap (λ b. b || has (without qs ps) p) (ne_eqb q.index p.index other) ∙ more (sym (ap (λ b. b || has qs p) (ne_eqb q.index p.index other)) ∙ e))
 
 -- a place that is not passed on stays
 pub has_without : (qs ps : List PlaceId) (p : PlaceId) → has qs p ≡ true → has ps p ≡ false → has (without qs ps) p ≡ true
-has_without [] ps p e not = absurd (cc)
-has_without (q ∷ qs) ps p e not = go (has ps q) refl
-  where
-    go : (b : Bool) → has ps q ≡ b → has (if b then without qs ps else q ∷ without qs ps) p ≡ true
-    go true is = dite (ℕ_discrete q.index p.index)
-        (λ same. absurd (true≢false (sym is ∙ (ap (has ps) (place_eq q p same) ∙ not))))
-        (λ other. has_without qs ps p (subst (λ b. b || has qs p ≡ true) (ne_eqb q.index p.index other) e) not)
-    go false is = dite (ℕ_discrete q.index p.index)
-        (λ same. ap (λ b. b || has (without qs ps) p) (eq-eqb q.index p.index same))
-        (λ other. ap (λ b. b || has (without qs ps) p) (ne_eqb q.index p.index other) ∙ has_without qs ps p (subst (λ b. b || has qs p ≡ true) (ne_eqb q.index p.index other) e) not)
+has_without [] ps p e away = absurd (cc)
+has_without (q ∷ qs) ps p e away = kept_or_passed q qs ps p (λ h. has_without qs ps p h away) e away (has ps q) refl
 
 -- three lists with one of the places 0, 1 and 2 each have them all
 pub three_have : (one two three rest : List PlaceId) → has one (record { index = 0 }) ≡ true → has two (record { index = 1 }) ≡ true → has three (record { index = 2 }) ≡ true →
