@@ -1,5 +1,5 @@
 -- The words of a board at its end.
-use Rattle.std.proofs.Common.{◌≡◌, ℕ, ◌+◌, ◌-◌, ◌<◌, ◌≤◌, Bool, true, List, length, get_or, sym, ap, ◌∙◌, subst, inl, inr, arith}
+use Rattle.std.proofs.Common.{◌≡◌, ℕ, ◌≤◌, List, length, get_or, sym, ap, ◌∙◌, subst, inl, inr, arith}
 use Rattle.atomic_table.specs.Table.{Seen as SeenBy, Final}
 use Rattle.conc_types.specs.declared.event.PlaceId.{PlaceId}
 use Rattle.conc_types.specs.declared.event.RequestId.{RequestId}
@@ -13,7 +13,7 @@ use Rattle.conc_board_seats.specs.Places.{has}
 use Rattle.conc_board_seats.specs.Rule.{Fits, Home, Keep, doing_at, view_at}
 use Rattle.conc_board_seats.specs.Stages.{stage_at, stage_in}
 use Rattle.conc_board_seats.specs.Steps.{Slot}
-use Rattle.conc_board_seats.specs.Words.{IsPlace, IsRequest, count_of_requests, count_of_words, request_of, request_word}
+use Rattle.conc_board_seats.specs.Words.{IsPlace, request_of, request_word}
 use Rattle.conc_board_seats.proofs.Facts.{at_view}
 use Rattle.conc_board_seats.proofs.Moves.{home, led, word}
 use Rattle.conc_board.specs.declared.board.Board.{Board}

@@ -1,21 +1,20 @@
 -- What a step of the lead's changes of what contracts see.
-use Rattle.std.proofs.Common.{◌≡◌, ℕ, ◌+◌, ◌-◌, ◌<◌, ◌≤◌, ◌≢◌, if◌then◌else◌, Bool, true, false, List, [], ◌∷◌, ◌++◌, length, set, sym, refl, ap, ◌∙◌, subst, inl, inr, arith, length-set, get_or-set_other, get_or-set_same, eq-eqb, ne_eqb, append_assoc}
+use Rattle.std.proofs.Common.{◌≡◌, ℕ, ◌≤◌, ◌≢◌, if◌then◌else◌, List, [], ◌∷◌, ◌++◌, length, set, sym, ap, ◌∙◌, subst, inl, inr, arith, length-set, get_or-set_other, get_or-set_same, eq-eqb, ne_eqb, append_assoc}
 use mathlib.Core.Logic.{dite}
 use native.Mathlib.Decide.{ℕ_discrete}
-use Rattle.conc_types.specs.declared.event.PlaceId.{PlaceId}
 use Rattle.conc_types.specs.declared.event.RequestId.{RequestId}
 use Rattle.conc_types.specs.declared.plan.Plan.{Plan}
 use Rattle.conc_board_seats.specs.declared.views.Stage.{Stage}
 use Rattle.conc_board_seats.specs.declared.views.Stage.TheVariants.{NotLet, Let, Seen, Gone, Got, Done}
 use Rattle.conc_board_seats.specs.declared.views.View.{View}
 use Rattle.conc_board_seats.specs.Courses.{GoesOn}
-use Rattle.conc_board_seats.specs.Stages.{IsGone, IsLet, IsLetOrGone, IsLive, IsSettled, stage_at, stage_in}
+use Rattle.conc_board_seats.specs.Stages.{IsLetOrGone, IsLive, IsSettled, stage_at, stage_in}
 use Rattle.conc_board_seats.specs.Steps.{noted, with_stage}
 use Rattle.conc_board_seats.specs.Words.{IsRequest, count_of_requests, request_of, request_word}
 use Rattle.conc_board_seats.proofs.Facts.{request_eq}
 use Rattle.conc_board.specs.declared.board.Board.{Board}
 use Rattle.conc_board.specs.declared.lead.Lead.{Lead}
-use Rattle.conc_board.specs.Seats.{AddsOne, Changes, IsLeadOf, KeepsStages, SameStages, plan_of, stage_of}
+use Rattle.conc_board.specs.Seats.{AddsOne, Changes, IsLeadOf, KeepsStages, plan_of, stage_of}
 
 -- ---- stages of requests
 

@@ -1,18 +1,16 @@
 -- What the rule says of two permits.
-use Rattle.std.proofs.Common.{◌≡◌, ◌≢◌, ℕ, ◌+◌, ◌-◌, ◌<◌, ◌≤◌, Bool, true, false, List, sym, ap, ◌∙◌, subst, arith}
+use Rattle.std.proofs.Common.{◌≡◌, ℕ, Bool, false, sym, ap, ◌∙◌, subst, arith}
 use mathlib.Core.Logic.{dite}
 use native.Mathlib.Decide.{ℕ_discrete}
 use Rattle.conc_types.specs.declared.event.PlaceId.{PlaceId}
 use Rattle.conc_types.specs.declared.event.RequestId.{RequestId}
 use Rattle.conc_types.specs.declared.plan.Plan.{Plan}
-use Rattle.conc_board_seats.specs.declared.views.Doing.{Doing}
 use Rattle.conc_board_seats.specs.declared.views.Doing.TheVariants.{Serves}
-use Rattle.conc_board_seats.specs.declared.views.Stage.{Stage}
 use Rattle.conc_board_seats.specs.declared.views.Stage.TheVariants.{Gone}
-use Rattle.conc_board_seats.specs.Rule.{BoardState, Fits, Keep, Runs, Works, doing_at, exclude, view_at}
+use Rattle.conc_board_seats.specs.Rule.{BoardState, Keep, Runs, Works, doing_at, exclude, view_at}
 use Rattle.conc_board_seats.specs.Stages.{IsLive, stage_at}
-use Rattle.conc_board_seats.specs.Words.{IsPlace, IsRequest, request_of, request_word, run_word}
-use Rattle.conc_board_seats.proofs.Facts.{exclude-self, request_eq}
+use Rattle.conc_board_seats.specs.Words.{IsPlace, IsRequest, request_of, request_word}
+use Rattle.conc_board_seats.proofs.Facts.{exclude-self}
 use Rattle.conc_board_seats.proofs.HandSteps.{has_permit}
 use Rattle.conc_board_seats.proofs.Moves.{home, word}
 use Rattle.conc_board.specs.Permits.{HaveApart, IsServing}

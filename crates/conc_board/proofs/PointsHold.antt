@@ -1,12 +1,12 @@
 -- The rule has its points, and does not read what was found.
-use Rattle.std.proofs.Common.{◌≡◌, ◌≢◌, ◌⊎◌, ℕ, ◌+◌, ◌-◌, ◌<◌, ◌≤◌, Bool, true, false, List, length, get_or, sym, refl, ap, ◌∙◌, subst, inl, inr, ⊎_elim, arith, Option, Some, None}
+use Rattle.std.proofs.Common.{◌≡◌, ◌≢◌, ◌⊎◌, ℕ, ◌<◌, ◌≤◌, Bool, true, false, List, length, sym, refl, ap, ◌∙◌, subst, inl, inr, ⊎_elim, arith, None}
 use mathlib.Core.Option.{none, some}
 use Rattle.conc_types.specs.declared.event.PlaceId.{PlaceId}
 use Rattle.conc_types.specs.declared.event.RequestId.{RequestId}
 use Rattle.conc_types.specs.declared.plan.Plan.{Plan}
 use Rattle.conc_law.specs.Places.{count_of_places}
 use Rattle.conc_board_seats.specs.declared.views.Doing.{Doing}
-use Rattle.conc_board_seats.specs.declared.views.Doing.TheVariants.{Idle, Waits, Serves}
+use Rattle.conc_board_seats.specs.declared.views.Doing.TheVariants.{Waits, Serves}
 use Rattle.conc_board_seats.specs.declared.views.Stage.{Stage}
 use Rattle.conc_board_seats.specs.declared.views.Stage.TheVariants.{NotLet, Let, Seen, Gone, Got, Done}
 use Rattle.conc_board_seats.specs.declared.views.View.{View}

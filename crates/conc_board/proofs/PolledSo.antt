@@ -1,5 +1,5 @@
 -- What the calls of a hand that has a claim or a permit answer.
-use Rattle.std.proofs.Common.{◌≡◌, ◌≢◌, ◌⊎◌, ◌==◌, ◌||◌, ℕ, Bool, true, false, if◌then◌else◌, List, [], ◌∷◌, ◌++◌, sym, refl, ap, ◌∙◌, subst, inl, inr, arith}
+use Rattle.std.proofs.Common.{◌≡◌, ◌≢◌, ◌==◌, ◌||◌, ℕ, Bool, true, false, if◌then◌else◌, [], ◌∷◌, ◌++◌, sym, refl, ap, ◌∙◌, subst, inl, inr, arith}
 use Rattle.conc_types.specs.declared.event.PlaceId.{PlaceId}
 use Rattle.conc_types.specs.declared.event.RequestId.{RequestId}
 use Rattle.conc_types.specs.declared.plan.Plan.{Plan}
@@ -9,7 +9,7 @@ use Rattle.conc_board_seats.specs.declared.views.View.{View}
 use Rattle.conc_board_seats.specs.Doings.{IsWithin, polled, warned}
 use Rattle.conc_board_seats.specs.Rule.{Runs}
 use Rattle.conc_board_seats.specs.Steps.{with_doing}
-use Rattle.conc_board_seats.specs.Words.{IsPlace, IsRequest, claimed, request_word, run_word, running, stopping}
+use Rattle.conc_board_seats.specs.Words.{IsPlace, IsRequest, claimed, request_word, running, stopping}
 use Rattle.conc_board_seats.proofs.HandSteps.{polled_cases, warned_cases}
 use Rattle.conc_board.specs.declared.hand.Claim.{Claim}
 use Rattle.conc_board.specs.declared.hand.Hand.{Hand}

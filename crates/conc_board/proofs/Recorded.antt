@@ -1,5 +1,5 @@
 -- Each step is recorded.
-use Rattle.std.proofs.Common.{◌≡◌, ◌∙◌, ◌==◌, ◌/◌, ◌≢◌, ℕ, Bool, true, false, if◌then◌else◌, [], ◌∷◌, ◌++◌, ap, refl}
+use Rattle.std.proofs.Common.{◌≡◌, ◌∙◌, ◌==◌, ◌/◌, ℕ, Bool, true, false, if◌then◌else◌, [], ◌∷◌, ◌++◌, ap, refl}
 use mathlib.Core.Logic.{dite}
 use native.Mathlib.Decide.{ℕ_discrete}
 use Rattle.conc_board_seats.specs.declared.views.Stage.{Stage}

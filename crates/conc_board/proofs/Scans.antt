@@ -1,5 +1,5 @@
 -- Steps by which a hand looks for a request to claim.
-use Rattle.std.proofs.Common.{◌≡◌, ◌≢◌, ◌==◌, ℕ, zero, suc, ◌+◌, ◌-◌, ◌<◌, ◌≤◌, Bool, true, false, if◌then◌else◌, List, [], ◌∷◌, ◌++◌, length, Option, None, Some, sym, refl, ap, ◌∙◌, subst, inl, inr, arith, append_assoc, append-nil, eq-eqb, ne_eqb, true≢false}
+use Rattle.std.proofs.Common.{◌≡◌, ◌≢◌, ◌==◌, ℕ, zero, suc, ◌+◌, ◌-◌, ◌≤◌, true, false, if◌then◌else◌, List, [], ◌∷◌, ◌++◌, Option, None, Some, sym, refl, ap, ◌∙◌, subst, inl, inr, arith, append_assoc, append-nil, eq-eqb, ne_eqb, true≢false}
 use Rattle.std.proofs.lemmas.Option.{slice_get_within}
 use mathlib.Core.Logic.{dite}
 use native.Mathlib.Decide.{ℕ_discrete}
@@ -14,12 +14,12 @@ use Rattle.conc_law.specs.Managers.{admits}
 use Rattle.conc_law.specs.Words.{Has}
 use Rattle.conc_law.proofs.Options.{some_and-some}
 use Rattle.conc_board_seats.specs.declared.views.Doing.TheVariants.{Idle}
-use Rattle.conc_board_seats.specs.Words.{IsRequest, count_of_requests, place_word, released, request_of, request_word}
+use Rattle.conc_board_seats.specs.Words.{IsRequest, count_of_requests, released, request_of, request_word}
 use Rattle.conc_board_seats.proofs.Facts.{request_eq}
 use Rattle.conc_board.specs.declared.board.Board.{Board}
 use Rattle.conc_board.specs.declared.hand.Claim.{Claim}
 use Rattle.conc_board.specs.declared.hand.Hand.{Hand}
-use Rattle.conc_board.specs.Claims.{AreMissed, ClaimsAt, ClaimsNone, ClaimsOne, FindsNone, IsMissed, MissesAll, MissesOne, MissesSome, admits_at, admits_request, claim_request, manager_at}
+use Rattle.conc_board.specs.Claims.{AreMissed, ClaimsAt, ClaimsNone, ClaimsOne, FindsNone, IsMissed, MissesAll, MissesOne, admits_at, admits_request, claim_request, manager_at}
 use Rattle.conc_board.specs.Seats.{AddsOne, IsHandOf, Stays, doing_of, found_by_hand, plan_of}
 use Rattle.conc_board.proofs.Hands.{stays_after}
 

@@ -1,7 +1,7 @@
 -- How often a request is given the go, and how often what was left for it is taken.
-use Rattle.std.specs.Prelude.{◌≡◌, ℕ, ◌+◌, Bool, true, List, [], ◌∷◌}
+use Rattle.std.specs.Prelude.{◌≡◌, ℕ, ◌+◌, true, List, [], ◌∷◌}
 use Rattle.conc_board_seats.specs.declared.views.Stage.{Stage}
-use Rattle.conc_board_seats.specs.declared.views.Stage.TheVariants.{NotLet, Let, Seen, Gone, Got, Done}
+use Rattle.conc_board_seats.specs.declared.views.Stage.TheVariants.{Seen, Gone, Got, Done}
 use Rattle.conc_board_seats.specs.Stages.{is_marked}
 
 -- 1 where the go was given from one stage to the next, else 0

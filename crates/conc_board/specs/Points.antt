@@ -1,5 +1,5 @@
 -- The rule of the board, point by point: what holds of every state that it allows, and of every step.
-use Rattle.std.specs.Prelude.{◌≡◌, ◌≢◌, ◌⊎◌, ℕ, ◌<◌, ◌≤◌, Bool, true, false, List, [], ◌∷◌, ◌++◌, slice_index, Some, None, IsTrue}
+use Rattle.std.specs.Prelude.{◌≡◌, ◌≢◌, ◌⊎◌, ℕ, ◌<◌, ◌≤◌, Bool, true, false, List, [], ◌∷◌, ◌++◌, slice_index, None, IsTrue}
 use mathlib.Core.Option.{none, some}
 use Rattle.atomic_table.specs.Table.{Me, Step}
 use Rattle.conc_types.specs.declared.event.PlaceId.{PlaceId}

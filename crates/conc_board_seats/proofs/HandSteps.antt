@@ -6,7 +6,7 @@ use native.Mathlib.Decide.{ℕ_discrete}
 use lib.ListN.{get_elem?}
 use lib.Seq.{set-get_or}
 use prog.Atomic.{either}
-use Rattle.atomic_table.specs.Table.{State, Me, Act, Valid, carried_after, step, keeps, takes, gives, put_back, stepped, Allows}
+use Rattle.atomic_table.specs.Table.{Me, Act, Valid, carried_after, step, keeps, takes, gives, put_back, stepped, Allows}
 use Rattle.conc_types.specs.declared.event.PlaceId.{PlaceId}
 use Rattle.conc_types.specs.declared.event.RequestId.{RequestId}
 use Rattle.conc_types.specs.declared.plan.Plan.{Plan}
@@ -24,8 +24,8 @@ use Rattle.conc_board_seats.specs.Reports.{MayLeave}
 use Rattle.conc_board_seats.specs.Rule.{Fits, Home, IsAtOwn, IsServed, Keep, Runs, Works, doing_at, view_at}
 use Rattle.conc_board_seats.specs.Stages.{stage_at}
 use Rattle.conc_board_seats.specs.Steps.{ServedFits, Slot, claim_tells, poll_tells, post_tells, warn_tells, with_doing}
-use Rattle.conc_board_seats.specs.Words.{IsPlace, IsRequest, claimed, count_of_requests, ended, place_in, request_of, request_word, run_word, running, stopping}
-use Rattle.conc_board_seats.proofs.Facts.{at_view, fits_on, home_there, no_permit, place_eq, request_eq}
+use Rattle.conc_board_seats.specs.Words.{IsPlace, IsRequest, claimed, count_of_requests, ended, place_in, request_of, run_word, running, stopping}
+use Rattle.conc_board_seats.proofs.Facts.{at_view, fits_on, home_there, no_permit, place_eq}
 use Rattle.conc_board_seats.proofs.Moves.{OnlyOn, St, hand_moves, home, own_doing, word}
 
 module _ (plan : Plan) where

@@ -1,15 +1,12 @@
 -- A step of the lead, of a hand, or on a word that is no request's keeps the rule.
-use Rattle.std.proofs.Common.{◌≡◌, ℕ, ◌+◌, ◌-◌, ◌<◌, ◌≤◌, ◌≢◌, Bool, true, List, length, get_or, set, sym, refl, ap, ◌∙◌, subst, arith, length-set, get_or-set_other, get_or-set_same, Option, Some}
+use Rattle.std.proofs.Common.{◌≡◌, ℕ, ◌<◌, ◌≤◌, ◌≢◌, Bool, true, List, length, get_or, set, sym, refl, ap, ◌∙◌, subst, arith, length-set, get_or-set_other, get_or-set_same, Option, Some}
 use mathlib.Core.Logic.{dite}
 use mathlib.Core.Option.{none, some}
 use native.Mathlib.Decide.{ℕ_discrete}
 use lib.ListN.{get_elem?}
 use Rattle.atomic_table.specs.Table.{State, Act, keeps, homes_after, stepped}
 use Rattle.conc_types.specs.declared.event.PlaceId.{PlaceId}
-use Rattle.conc_types.specs.declared.event.RequestId.{RequestId}
 use Rattle.conc_types.specs.declared.plan.Plan.{Plan}
-use Rattle.conc_law.specs.Places.{count_of_places}
-use Rattle.conc_board_seats.specs.declared.posted.Posted.{Posted}
 use Rattle.conc_board_seats.specs.declared.views.Doing.{Doing}
 use Rattle.conc_board_seats.specs.declared.views.Doing.TheVariants.{Idle, Waits, Serves}
 use Rattle.conc_board_seats.specs.declared.views.Stage.{Stage}
@@ -18,7 +15,7 @@ use Rattle.conc_board_seats.specs.Places.{has}
 use Rattle.conc_board_seats.specs.Rule.{AreApart, Fits, Home, IsAtOwn, Keep, Runs, Works, doing_at, home_at, nobody, view_at}
 use Rattle.conc_board_seats.specs.Stages.{stage_at}
 use Rattle.conc_board_seats.specs.Steps.{Slot, noted}
-use Rattle.conc_board_seats.specs.Words.{IsPlace, IsRequest, count_of_requests, count_of_words, request_of, request_word}
+use Rattle.conc_board_seats.specs.Words.{IsPlace, count_of_requests, count_of_words, request_of, request_word}
 use Rattle.conc_board_seats.proofs.Facts.{at_view, fits_on, request_of-ne, same_part}
 
 abbrev pub St : Type 0

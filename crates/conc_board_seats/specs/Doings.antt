@@ -1,5 +1,5 @@
 -- What a hand does, and the slots that it then has.
-use Rattle.std.specs.Prelude.{ℕ, ◌==◌, Bool, true, false, if◌then◌else◌, List, [], ◌∷◌, Option, None}
+use Rattle.std.specs.Prelude.{ℕ, ◌==◌, true, false, if◌then◌else◌, List, [], ◌∷◌, Option, None}
 use Rattle.conc_types.specs.declared.plan.Plan.{Plan}
 use Rattle.conc_board_seats.specs.declared.posted.Posted.{Posted}
 use Rattle.conc_board_seats.specs.declared.views.Doing.{Doing}

@@ -1,6 +1,5 @@
-use Rattle.std.proofs.Common.{◌∙◌, arith, ap, subst, sym}
+use Rattle.std.proofs.Common.{arith}
 use Rattle.conc_board_seats.proofs.HandSteps.{claims_by}
-use Rattle.conc_board.proofs.Hands.{stays_doing}
 use Rattle.conc_board.proofs.board.Board.claim_one.Goals as goal
 
 pub compare_exchange-word-requires : goal.compare_exchange-word-requires

@@ -1,4 +1,4 @@
-use Rattle.std.proofs.Common.{◌≡◌, ◌∙◌, ◌-◌, ◌≤◌, ℕ, Bool, List, length, sym, refl, ap, inr, subst, ◌∷◌, ◌++◌, [], Some, None, Option, get_or-set_same, length-set, arith}
+use Rattle.std.proofs.Common.{◌≡◌, ◌∙◌, ℕ, Bool, List, length, sym, refl, ap, inr, subst, ◌∷◌, ◌++◌, [], Some, None, Option, get_or-set_same, length-set, arith}
 use Rattle.atomic_table.specs.Table.{rest}
 use Rattle.conc_types.specs.declared.event.PlaceId.{PlaceId}
 use Rattle.conc_types.specs.declared.event.RequestId.{RequestId}

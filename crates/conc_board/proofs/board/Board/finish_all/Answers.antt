@@ -1,4 +1,4 @@
-use Rattle.std.proofs.Common.{◌≤◌, ◌+◌, ap, arith, rules}
+use Rattle.std.proofs.Common.{◌≤◌, ◌+◌, ap, arith}
 use Rattle.conc_board_seats.specs.declared.views.View.{View}
 use Rattle.conc_board_seats.proofs.LeadSteps.{switches}
 use Rattle.conc_board.proofs.Leads.{adds_one, keeps_stages}

@@ -1,4 +1,4 @@
-use Rattle.std.proofs.Common.{◌∙◌, ap, arith, rules}
+use Rattle.std.proofs.Common.{◌∙◌, ap, arith}
 use Rattle.conc_board_seats.specs.Doings.{carried_by}
 use Rattle.conc_board_seats.proofs.Seats.{joins}
 use Rattle.conc_board.proofs.board.Board.join.Goals as goal

@@ -1,7 +1,7 @@
 use Rattle.std.proofs.Common.{◌∙◌, arith, ap, inr, refl, subst, sym}
 use Rattle.conc_types.specs.declared.event.RequestId.{RequestId}
 use Rattle.conc_board_seats.specs.declared.views.Stage.{Stage}
-use Rattle.conc_board_seats.specs.declared.views.Stage.TheVariants.{Let, NotLet}
+use Rattle.conc_board_seats.specs.declared.views.Stage.TheVariants.{Let}
 use Rattle.conc_board_seats.specs.declared.views.View.{View}
 use Rattle.conc_board_seats.specs.Courses.{GoesOn}
 use Rattle.conc_board_seats.specs.Rule.{exclude}

@@ -1,8 +1,8 @@
-use Rattle.std.proofs.Common.{◌≡◌, ◌∙◌, Option, Some, arith, ap, subst, sym}
+use Rattle.std.proofs.Common.{◌∙◌, Option, arith, ap, subst, sym}
 use Rattle.conc_types.specs.declared.plan.Plan.{Plan}
 use Rattle.conc_board_seats.specs.declared.views.Stage.{Stage}
 use Rattle.conc_board_seats.specs.declared.views.View.{View}
-use Rattle.conc_board_seats.specs.Stages.{looked, stage_at}
+use Rattle.conc_board_seats.specs.Stages.{looked}
 use Rattle.conc_board_seats.specs.Steps.{HasPlace, LookFits, with_stage}
 use Rattle.conc_board_seats.proofs.LeadSteps.{looks}
 use Rattle.conc_board.specs.Looks.{Looks, Shows}

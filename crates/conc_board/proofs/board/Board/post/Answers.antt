@@ -1,4 +1,4 @@
-use Rattle.std.proofs.Common.{◌≡◌, ◌∙◌, ℕ, List, ◌∷◌, [], Option, Some, None, arith, ap, false, subst, sym}
+use Rattle.std.proofs.Common.{◌∙◌, ℕ, List, ◌∷◌, [], Option, Some, None, arith, ap, false, subst, sym}
 use Rattle.atomic_table.specs.Table.{rest}
 use Rattle.conc_types.specs.declared.event.RequestId.{RequestId}
 use Rattle.conc_board_seats.specs.declared.posted.Posted.{Posted}

@@ -1,4 +1,4 @@
-use Rattle.std.proofs.Common.{◌∙◌, ap, arith, rules}
+use Rattle.std.proofs.Common.{◌∙◌, ap, arith}
 use Rattle.conc_board_seats.specs.Places.{has}
 use Rattle.conc_board_seats.proofs.Seats.{splits}
 use Rattle.conc_board.proofs.board.Board.split_off.Goals as goal

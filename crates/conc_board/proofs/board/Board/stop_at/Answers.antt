@@ -1,9 +1,7 @@
-use Rattle.std.proofs.Common.{◌≡◌, ◌∙◌, ◌==◌, ◌∷◌, ◌++◌, [], ℕ, arith, ap, if◌then◌else◌, subst, sym, true}
+use Rattle.std.proofs.Common.{◌≡◌, ◌∙◌, ◌==◌, ◌∷◌, ◌++◌, [], ℕ, arith, ap, if◌then◌else◌, subst}
 use Rattle.conc_board_seats.specs.declared.views.Stage.{Stage}
-use Rattle.conc_board_seats.specs.declared.views.Stage.TheVariants.{Gone}
-use Rattle.conc_board_seats.specs.Stages.{WordFits, marked, stage_at}
+use Rattle.conc_board_seats.specs.Stages.{WordFits, marked}
 use Rattle.conc_board_seats.specs.Steps.{noted, with_stage}
-use Rattle.conc_board_seats.specs.Words.{running}
 use Rattle.conc_board_seats.proofs.LeadSteps.{stops_by}
 use Rattle.conc_board.proofs.Leads.{stage_there}
 use Rattle.conc_board.proofs.StoppedSo.{exchanged, stop_changes, stop_found, stop_stage}

@@ -1,4 +1,4 @@
-use Rattle.std.proofs.Common.{◌≡◌, ◌∙◌, ◌==◌, ◌||◌, ◌∷◌, ◌++◌, [], ℕ, arith, ap, subst, sym}
+use Rattle.std.proofs.Common.{◌∙◌, ◌==◌, ◌||◌, ◌∷◌, ◌++◌, [], ℕ, arith, ap, subst, sym}
 use Rattle.conc_types.specs.declared.event.RequestId.{RequestId}
 use Rattle.conc_board_seats.specs.declared.views.Doing.{Doing}
 use Rattle.conc_board_seats.specs.declared.views.Doing.TheVariants.{Serves}
