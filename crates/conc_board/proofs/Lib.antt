@@ -1,0 +1,12 @@
+pub mod Leads
+pub mod LookedSo
+pub mod StoppedSo
+pub mod Hands
+pub mod Opened
+pub mod PolledSo
+pub mod Scans
+pub mod Ended
+pub mod PermitsHeld
+pub mod PointsHold
+pub mod Courses
+pub mod Recorded

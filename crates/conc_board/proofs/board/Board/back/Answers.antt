@@ -1,0 +1,31 @@
+use Rattle.std.proofs.Common.{arith, ap, subst, sym}
+use Rattle.conc_board_seats.specs.declared.views.Stage.{Stage}
+use Rattle.conc_board_seats.specs.declared.views.Stage.TheVariants.{NotLet}
+use Rattle.conc_board_seats.specs.declared.views.View.{View}
+use Rattle.conc_board_seats.specs.Stages.{IsLet, WordFits}
+use Rattle.conc_board_seats.proofs.LeadSteps.{takes_back}
+use Rattle.conc_board.specs.Seats.{stage_of}
+use Rattle.conc_board.proofs.Leads.{adds_one, changes, new_stage, stage_there}
+use Rattle.conc_board.proofs.LookedSo.{back_goes_on}
+use Rattle.conc_board.proofs.board.Board.back.Goals as goal
+
+pub swap-requires : goal.swap-requires
+swap-requires c =
+    let b = c.args.self.now in let q = c.requires.request in let word = c.request_word.ensures in (
+      c.requires.lead.seat,
+      omega (arith, b.words),
+      takes_back b.table.shared.key _ _ _ c.request_word.result c.args.lead.now.leads (omega arith)
+          (subst IsLet (sym (stage_there c.args.lead.now.seat.me.0.stages c.args.r c.request_word.result word q.from_one)) c.requires.stage),
+    )
+
+pub returns-clause-lead : goal.returns-clause-lead
+returns-clause-lead c = changes _ _ _ _ c.request_word.result NotLet c.swap.result c.requires.lead c.requires.request c.request_word.ensures c.swap.ensures.0 c.swap.ensures.2.0
+    (back_goes_on (stage_of c.args.lead.now c.args.r) c.requires.stage) tt
+
+pub returns-clause-stage : goal.returns-clause-stage
+returns-clause-stage c = new_stage _ c.args.r _ _ c.request_word.result NotLet c.swap.result c.requires.lead.stages c.requires.request c.request_word.ensures c.swap.ensures.2.0
+
+pub returns-clause-found : goal.returns-clause-found
+returns-clause-found c = adds_one (WordFits (stage_of c.args.lead.now c.args.r)) _ c.request_word.result c.swap.result _ _ c.request_word.ensures
+    (subst (λ (z : Stage). WordFits z c.swap.result) (stage_there c.args.lead.now.seat.me.0.stages c.args.r c.request_word.result c.request_word.ensures c.requires.request.from_one) c.swap.ensures.2.2)
+    (ap (λ (v : View). v.found) c.swap.ensures.2.0)

@@ -1,0 +1,9 @@
+pub mod Answers
+pub mod Seats
+pub mod Looks
+pub mod Stops
+pub mod Claims
+pub mod Ends
+pub mod Permits
+pub mod Points
+pub mod Counts

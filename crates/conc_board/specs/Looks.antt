@@ -1,0 +1,32 @@
+-- What a look at a request answers.
+use Rattle.std.specs.Prelude.{◌≡◌, ◌⊎◌, ℕ, Bool}
+use Rattle.conc_types.specs.declared.event.RequestId.{RequestId}
+use Rattle.conc_types.specs.declared.plan.Plan.{Plan}
+use Rattle.conc_board_seats.specs.declared.views.Stage.{Stage}
+use Rattle.conc_board_seats.specs.declared.views.Stage.TheVariants.{Let, Seen, Gone}
+use Rattle.conc_board_seats.specs.Stages.{IsLet}
+use Rattle.conc_board_seats.specs.Words.{IsPlace, claimed, ended, released, running, stopping}
+use Rattle.conc_board.specs.declared.board.Board.{Board}
+use Rattle.conc_board.specs.declared.lead.Lead.{Lead}
+use Rattle.conc_board.specs.declared.lead.Looked.{Looked}
+use Rattle.conc_board.specs.declared.lead.Looked.TheVariants.{Free, Claimed, Running, Ended}
+use Rattle.conc_board.specs.Seats.{plan_of, stage_of}
+
+-- the word that the answer shows
+abbrev pub Shows : Looked → ℕ → Type 0
+Shows Free n = n ≡ released
+Shows (Claimed p) n = n ≡ claimed p
+Shows (Running p) n = (n ≡ running p) ⊎ (n ≡ stopping p)
+Shows (Ended p) n = n ≡ ended p
+
+-- What is answered of a request at a stage, and its stage then. A place that is answered is one of
+-- the plan; where the request has the go, it is the place of the go.
+abbrev pub Looks : Plan → Looked → Stage → Stage → Type 0
+Looks plan Free old new = (old ≡ Let) × (new ≡ Let)
+Looks plan (Claimed p) old new = IsPlace plan p × IsLet old × (new ≡ Seen p)
+Looks plan (Running p) old new = IsPlace plan p × ((marked : Bool) × (old ≡ Gone p marked) × (new ≡ old))
+Looks plan (Ended p) old new = IsPlace plan p × ((marked : Bool) × (old ≡ Gone p marked) × (new ≡ old))
+
+-- the same of a request in the lead's view
+abbrev pub SeesStage : Board → RequestId → Looked → Lead → Lead → Type 0
+SeesStage board r answer old new = Looks (plan_of board) answer (stage_of old r) (stage_of new r)

@@ -1,0 +1,132 @@
+-- The rule of the board, point by point: what holds of every state that it allows, and of every step.
+use Rattle.std.specs.Prelude.{◌≡◌, ◌≢◌, ◌⊎◌, ℕ, ◌<◌, ◌≤◌, Bool, true, false, List, [], ◌∷◌, ◌++◌, slice_index, None, IsTrue}
+use mathlib.Core.Option.{none, some}
+use Rattle.atomic_table.specs.Table.{Me, Step}
+use Rattle.conc_types.specs.declared.event.PlaceId.{PlaceId}
+use Rattle.conc_types.specs.declared.event.RequestId.{RequestId}
+use Rattle.conc_types.specs.declared.plan.Plan.{Plan}
+use Rattle.conc_board_seats.specs.declared.views.Doing.TheVariants.{Idle, Waits, Serves}
+use Rattle.conc_board_seats.specs.declared.views.Stage.{Stage}
+use Rattle.conc_board_seats.specs.declared.views.Stage.TheVariants.{Gone, Got}
+use Rattle.conc_board_seats.specs.declared.views.View.{View}
+use Rattle.conc_board_seats.specs.Places.{has}
+use Rattle.conc_board_seats.specs.Rule.{AreApart, BoardState, HasLeft, IsAtOwn, Runs, home_at, nobody, first_view, view_at}
+use Rattle.conc_board_seats.specs.Stages.{WordFits, is_marked, stage_at}
+use Rattle.conc_board_seats.specs.Steps.{Slot, Tells, back_tells, claim_tells, clear_tells, given, go_tells, got_tells, joined, kept, let_out_tells, look_tells, poll_tells, post_tells, stop_tells, switch_tells, warn_tells}
+use Rattle.conc_board_seats.specs.Words.{IsRequest, claimed, count_of_requests, ended, request_of, request_word, running, stopping}
+
+-- ---- states
+
+abbrev pub Leads : BoardState → ℕ → Type 0
+Leads s j = (view_at s.views j).leads ≡ true
+
+-- the stage that the seat with this number knows
+abbrev pub stage_by : BoardState → ℕ → ℕ → Stage
+stage_by s lead i = stage_at (view_at s.views lead).stages i
+
+-- the place is one of the seat's
+abbrev pub Owns : BoardState → ℕ → PlaceId → Type 0
+Owns s j p = IsTrue (has (view_at s.views j).places p)
+
+-- one seat leads, and of the requests that are live in its view no two exclude each other
+pub record LeadStagesExclude (plan : Plan) (s : BoardState) : Type 0 where
+  pub some_lead : (lead : ℕ) × Leads s lead
+  pub one_lead : (lead other : ℕ) → Leads s lead → Leads s other → lead ≡ other
+  pub apart : (lead : ℕ) → Leads s lead → AreApart plan (view_at s.views lead).stages
+
+-- the word of each request fits its stage
+pub record WordsFitStages (plan : Plan) (s : BoardState) : Type 0 where
+  pub each : (lead i : ℕ) → Leads s lead → i < count_of_requests plan → WordFits (stage_by s lead i) (slice_index s.words i)
+
+-- a place belongs to one seat, and what a hand does is at a place of its own
+pub record PlacesHaveOneOwner (s : BoardState) : Type 0 where
+  pub one_owner : (j k : ℕ) (p : PlaceId) → Owns s j p → Owns s k p → j ≡ k
+  pub at_own : (j : ℕ) → IsAtOwn (view_at s.views j).places (view_at s.views j).doing
+  pub left : (nobody.places ≡ []) × (nobody.doing ≡ Idle)
+
+-- where a word is Claimed by a place, its owner waits; where it is Running or Stopping at one, its owner
+-- waits or has the permit
+pub record ClaimsAreWaitedFor (plan : Plan) (s : BoardState) : Type 0 where
+  pub claimed : (i : ℕ) (p : PlaceId) → i < count_of_requests plan → p.index < 64 → slice_index s.words i ≡ claimed p →
+      (j : ℕ) × Owns s j p × ((view_at s.views j).doing ≡ Waits (request_of i) p)
+  pub running : (i : ℕ) (p : PlaceId) → i < count_of_requests plan → p.index < 64 → Runs false p (slice_index s.words i) →
+      (j : ℕ) × Owns s j p × (((view_at s.views j).doing ≡ Waits (request_of i) p) ⊎ ((stop : Bool) × ((view_at s.views j).doing ≡ Serves (request_of i) p stop)))
+
+-- where a seat has a permit, the word is Running or Stopping at its place, with the stop sign Stopping
+pub record PermitsRun (plan : Plan) (s : BoardState) : Type 0 where
+  pub each : (j : ℕ) (r : RequestId) (p : PlaceId) (stop : Bool) → (view_at s.views j).doing ≡ Serves r p stop →
+      IsRequest plan r × Runs stop p (slice_index s.words (request_word r))
+
+-- a slot is out with the hand that has the permit, or with the lead that got what was left; where a
+-- request ended and has the go, what may be left for it is at home; else the slot is at home and empty
+pub record SlotsAreWhereTheyBelong (plan : Plan) (s : BoardState) : Type 0 where
+  pub with_hand : (j : ℕ) (r : RequestId) (p : PlaceId) (stop : Bool) → (view_at s.views j).doing ≡ Serves r p stop →
+      home_at s.homes (request_word r) ≡ none
+  pub with_lead : (lead i : ℕ) (p : PlaceId) (marked : Bool) → Leads s lead → i < count_of_requests plan →
+      stage_by s lead i ≡ Got p marked → home_at s.homes i ≡ none
+  pub left : (lead i : ℕ) (p : PlaceId) (marked : Bool) → Leads s lead → i < count_of_requests plan →
+      stage_by s lead i ≡ Gone p marked → slice_index s.words i ≡ ended p → HasLeft plan (request_of i) marked (home_at s.homes i)
+  pub empty : (lead i : ℕ) → Leads s lead → i < count_of_requests plan →
+      ((j : ℕ) (p : PlaceId) (stop : Bool) → (view_at s.views j).doing ≢ Serves (request_of i) p stop) →
+      ((p : PlaceId) (marked : Bool) → stage_by s lead i ≢ Got p marked) →
+      ((p : PlaceId) (marked : Bool) → stage_by s lead i ≡ Gone p marked → slice_index s.words i ≢ ended p) →
+      home_at s.homes i ≡ some None
+
+-- the words of places and of the end are 0 or 1
+pub record FlagsAreBits (plan : Plan) (s : BoardState) : Type 0 where
+  pub each : (i : ℕ) → count_of_requests plan ≤ i → slice_index s.words i ≤ 1
+
+-- no request whose word is Running is marked, and each whose word is Stopping is
+pub record MarksStop (plan : Plan) (s : BoardState) : Type 0 where
+  pub running : (lead i : ℕ) (p : PlaceId) → Leads s lead → i < count_of_requests plan → p.index < 64 →
+      slice_index s.words i ≡ running p → is_marked (stage_by s lead i) ≡ false
+  pub stopping : (lead i : ℕ) (p : PlaceId) → Leads s lead → i < count_of_requests plan → p.index < 64 →
+      slice_index s.words i ≡ stopping p → is_marked (stage_by s lead i) ≡ true
+
+pub record Points (plan : Plan) (s : BoardState) : Type 0 where
+  pub stages : LeadStagesExclude plan s
+  pub words : WordsFitStages plan s
+  pub places : PlacesHaveOneOwner s
+  pub claims : ClaimsAreWaitedFor plan s
+  pub permits : PermitsRun plan s
+  pub slots : SlotsAreWhereTheyBelong plan s
+  pub flags : FlagsAreBits plan s
+  pub marks : MarksStop plan s
+
+-- ---- steps
+
+-- the step adds to what its seat found the number of the word and what stood there, and nothing else
+abbrev pub Records : Tells → Type 0
+Records tells =
+    (st : Step Slot) (before : Me Slot View) (n : ℕ) (after : Me Slot View) → tells st before n after
+    → after.0.found ≡ before.0.found ++ (st.word, n) ∷ []
+
+-- each kind of step does; and what is found is empty at first, in a new hand and in the view that is left
+-- when a hand is taken in, and neither a split nor a join changes what the lead found
+pub record StepsAreRecorded : Type 0 where
+  pub let_out : Records let_out_tells
+  pub look : Records look_tells
+  pub go : Records go_tells
+  pub back : Records back_tells
+  pub stop : Records stop_tells
+  pub get : Records got_tells
+  pub clear : Records clear_tells
+  pub switch : Records switch_tells
+  pub claim : Records claim_tells
+  pub poll : Records poll_tells
+  pub see_stop : Records warn_tells
+  pub post : Records post_tells
+  pub first : (plan : Plan) → (first_view plan).found ≡ []
+  pub new_hand : (ps : List PlaceId) (v : View) → (given ps v).found ≡ []
+  pub split : (ps : List PlaceId) (v : View) → (kept ps v).found ≡ v.found
+  pub join : (v w : View) → (joined v w).found ≡ v.found
+  pub left : nobody.found ≡ []
+
+-- ---- what was found is not read
+
+abbrev pub without_finds : View → View
+without_finds v = record v { found = [] }
+
+-- the views of the second list are those of the first, but for what was found
+abbrev pub DifferInFinds : List View → List View → Type 0
+DifferInFinds views others = (j : ℕ) → without_finds (view_at others j) ≡ without_finds (view_at views j)

@@ -1,0 +1,134 @@
+-- Boards, leads and hands as contracts speak of them.
+use Rattle.std.specs.Prelude.{◌≡◌, ◌≢◌, ℕ, ◌≤◌, ◌==◌, Bool, false, List, [], ◌∷◌, ◌++◌, length, Option, Some, IsFalse, IsTrue}
+use Rattle.conc_types.specs.declared.event.PlaceId.{PlaceId}
+use Rattle.conc_types.specs.declared.event.RequestId.{RequestId}
+use Rattle.conc_types.specs.declared.plan.Plan.{Plan}
+use Rattle.conc_board_seats.specs.declared.posted.Posted.{Posted}
+use Rattle.conc_board_seats.specs.declared.views.Doing.{Doing}
+use Rattle.conc_board_seats.specs.declared.views.Stage.{Stage}
+use Rattle.conc_board_seats.specs.Courses.{GoesOn}
+use Rattle.conc_board_seats.specs.Doings.{IsWithin}
+use Rattle.conc_board_seats.specs.Places.{has}
+use Rattle.conc_board_seats.specs.Reports.{MayLeave}
+use Rattle.conc_board_seats.specs.Rule.{Runs, exclude}
+use Rattle.conc_board_seats.specs.Stages.{IsLetOrGone, IsSettled, WordFits, is_marked, stage_in}
+use Rattle.conc_board_seats.specs.Words.{IsPlace, count_of_requests, place_word, request_word}
+use Rattle.conc_board.specs.declared.board.Board.{Board}
+use Rattle.conc_board.specs.declared.hand.Hand.{Hand}
+use Rattle.conc_board.specs.declared.lead.Lead.{Lead}
+
+-- the plan of a board
+abbrev pub plan_of : Board → Plan
+plan_of board = board.table.shared.key
+
+-- one step found this in the word, and added it to what the seat found
+abbrev pub AddsOne : ℕ → (ℕ → Type 0) → List (ℕ × ℕ) → List (ℕ × ℕ) → Type 0
+AddsOne word IsSo old new = (n : ℕ) × IsSo n × (new ≡ old ++ (word, n) ∷ [])
+
+-- the word of a place or of the end
+abbrev pub IsFlag : ℕ → Type 0
+IsFlag n = n ≤ 1
+
+-- it is seen as set, or not
+abbrev pub IsFlagSeen : Bool → ℕ → Type 0
+IsFlagSeen answer n = (n ≤ 1) × (answer ≡ (n == 1))
+
+-- ---- leads
+
+-- the stage of a request in the lead's view
+abbrev pub stage_of : Lead → RequestId → Stage
+stage_of lead r = stage_in lead.seat.me.0.stages r
+
+-- the places that are the lead's
+abbrev pub places_of_lead : Lead → List PlaceId
+places_of_lead lead = lead.seat.me.0.places
+
+-- what its steps found, in order: the number of the word, and what stood there
+abbrev pub found_by_lead : Lead → List (ℕ × ℕ)
+found_by_lead lead = lead.seat.me.0.found
+
+-- one step of the lead's found this in the word
+abbrev pub LeadFinds : ℕ → (ℕ → Type 0) → Lead → Lead → Type 0
+LeadFinds word IsSo old new = AddsOne word IsSo (found_by_lead old) (found_by_lead new)
+
+-- it found the word of the request as its stage has it
+abbrev pub FindsFitting : RequestId → Lead → Lead → Type 0
+FindsFitting r old new = LeadFinds (request_word r) (WordFits (stage_of old r)) old new
+
+-- this may be left for the request, by its mark
+abbrev pub IsLeftFor : Board → Lead → RequestId → Posted → Type 0
+IsLeftFor board lead r posted = MayLeave (plan_of board) r (is_marked (stage_of lead r)) posted
+
+-- the lead is the one of this board, and knows its plan
+pub record IsLeadOf (board : Board) (lead : Lead) : Type 0 where
+  pub seat : lead.seat.table_id ≡ board.table.shared.table_id
+  pub plan : lead.seat.me.0.plan ≡ Some (plan_of board)
+  pub stages : length lead.seat.me.0.stages ≡ count_of_requests (plan_of board)
+  pub settled : (r : RequestId) → IsSettled (stage_of lead r)
+
+-- the request excludes none that is let out or has the go
+abbrev pub IsApart : Board → RequestId → Lead → Type 0
+IsApart board r lead =
+    (q : RequestId) → IsLetOrGone (stage_of lead q) → IsFalse (exclude (plan_of board) r q)
+
+-- each place of the board is the lead's
+pub record HasAllPlaces (board : Board) (lead : Lead) : Type 0 where
+  pub each : (p : PlaceId) → IsPlace (plan_of board) p → IsTrue (has (places_of_lead lead) p)
+
+-- each request is at the stage that it was at
+pub record SameStages (old new : Lead) : Type 0 where
+  pub each : (r : RequestId) → stage_of new r ≡ stage_of old r
+
+-- a call on a request: its stage goes on, other requests are at the stages that they were at, and
+-- the lead has the places that it had
+pub record Changes (board : Board) (r : RequestId) (old new : Lead) : Type 0 where
+  pub lead : IsLeadOf board new
+  pub goes_on : GoesOn (stage_of old r) (stage_of new r)
+  pub others : (q : RequestId) → q ≢ r → stage_of new q ≡ stage_of old q
+  pub places : places_of_lead new ≡ places_of_lead old
+
+-- a call on no request
+pub record KeepsStages (board : Board) (old new : Lead) : Type 0 where
+  pub lead : IsLeadOf board new
+  pub stages : SameStages old new
+  pub places : places_of_lead new ≡ places_of_lead old
+
+-- ---- hands
+
+-- what a hand does
+abbrev pub doing_of : Hand → Doing
+doing_of hand = hand.seat.me.0.doing
+
+-- the places that are the hand's
+abbrev pub places_of_hand : Hand → List PlaceId
+places_of_hand hand = hand.seat.me.0.places
+
+-- what its steps found, in order
+abbrev pub found_by_hand : Hand → List (ℕ × ℕ)
+found_by_hand hand = hand.seat.me.0.found
+
+-- one step of the hand's found this in the word
+abbrev pub HandFinds : ℕ → (ℕ → Type 0) → Hand → Hand → Type 0
+HandFinds word IsSo old new = AddsOne word IsSo (found_by_hand old) (found_by_hand new)
+
+-- it found the word of the request running at the place
+abbrev pub FindsRunningAt : RequestId → PlaceId → Hand → Hand → Type 0
+FindsRunningAt r place old new = HandFinds (request_word r) (Runs false place) old new
+
+-- it found the place open, or not
+abbrev pub FindsOpen : Board → PlaceId → Bool → Hand → Hand → Type 0
+FindsOpen board place answer old new = HandFinds (place_word (plan_of board) place) (IsFlagSeen answer) old new
+
+-- the slots that are out with it
+abbrev pub slots_of : Hand → List (ℕ × Option Posted)
+slots_of hand = hand.seat.me.1
+
+-- the hand is one of this board, and what it does is for a request and a place of the board's plan
+pub record IsHandOf (board : Board) (hand : Hand) : Type 0 where
+  pub seat : hand.seat.table_id ≡ board.table.shared.table_id
+  pub within : IsWithin (plan_of board) (doing_of hand)
+
+-- it is one still, and has the places that it had
+pub record Stays (board : Board) (old new : Hand) : Type 0 where
+  pub hand : IsHandOf board new
+  pub places : places_of_hand new ≡ places_of_hand old

@@ -1,0 +1,122 @@
+ghost use Rattle.std.specs.Prelude.{◌≡◌, ◌+◌, ◌≤◌, [], ◌++◌, IfOk, None};
+ghost use Rattle.conc_types.specs.declared.event.RequestId.{RequestId};
+ghost use Rattle.conc_law.specs.Places.{count_of_places};
+ghost use Rattle.conc_board_seats.specs.Places.{AreAmong, without};
+ghost use Rattle.conc_board_seats.specs.Words.{count_of_requests, count_of_words};
+ghost use Rattle.conc_board_seats.specs.declared.views.Doing.TheVariants as does;
+ghost use Rattle.conc_board_seats.specs.declared.views.Stage.TheVariants as stage;
+
+use crate::bells::Bells;
+use crate::hand::Hand;
+use crate::lead::Lead;
+use crate::plays::{Keeping, Passing, SplitsOff, TakesIn};
+use atomic_table::Table;
+use conc_board_seats::{Posted, View};
+use conc_time::place_count;
+use conc_types::{NoMemory, PlaceId, Plan};
+use crossbeam_utils::sync::EventCount;
+use std::alloc::Global;
+use std::marker::Brand;
+
+/// A board for the requests and places of a plan: a word for each, one for the end, and a slot for
+/// each request, which all seats share.
+#[derive(Drop)]
+pub struct Board {
+    pub(crate) table: Table<Option<Posted>, View, Plan, Keeping, Global>,
+    pub(crate) requests: usize,
+    pub(crate) places: usize,
+    pub(crate) bells: Bells,
+    ghost words: { table.shared.table_id.words ≡ count_of_words table.shared.key },
+    ghost slots: { table.shared.table_id.slots ≡ count_of_requests table.shared.key },
+    ghost request_count: { requests ≡ count_of_requests table.shared.key },
+    ghost place_count: { places ≡ count_of_places table.shared.key },
+    ghost few_places: { places ≤ 64 },
+}
+
+impl Board {
+    ghost use Rattle.conc_board.specs.Seats.{doing_of, found_by_hand, found_by_lead, HasAllPlaces, IsHandOf, IsLeadOf, plan_of, places_of_hand, places_of_lead, SameStages, stage_of};
+
+    /// A board on which nothing is let out. The lead has all places.
+    pub fn new(alloc: Global, plan: &Plan) -> Result<(Board, Lead), NoMemory>
+        ensures plan { IfOk result (λ made. plan_of made.0 ≡ plan.now) }
+        ensures lead { IfOk result (λ made. IsLeadOf made.0 made.1) }
+        ensures stages { IfOk result (λ made. (r : RequestId) → stage_of made.1 r ≡ stage.NotLet) }
+        ensures places { IfOk result (λ made. HasAllPlaces made.0 made.1) }
+        ensures found { IfOk result (λ made. found_by_lead made.1 ≡ []) }
+    {
+        let requests = plan.requests.len();
+        let places = place_count(plan) as usize;
+        let words = vec![in alloc; 0u64; requests + places + 1]?;
+        let (table, seat) = Table::vacant(alloc, words.as_slice(), requests, plan)?;
+        let board = Board {
+            table,
+            requests,
+            places,
+            bells: Bells::new(),
+        };
+        Ok((board, Lead { seat }))
+    }
+
+    /// A new hand, which does nothing, and to which these places of the lead's pass.
+    pub fn split(&self, lead: &mut Lead, places: &[PlaceId]) -> Hand
+        requires lead { IsLeadOf self.now lead.old }
+        requires places { AreAmong places.now (places_of_lead lead.old) }
+
+        ensures lead { IsLeadOf self.now lead.new }
+        ensures stages { SameStages lead.old lead.new }
+        ensures left { places_of_lead lead.new ≡ without (places_of_lead lead.old) places.now }
+        ensures found { found_by_lead lead.new ≡ found_by_lead lead.old }
+
+        ensures hand { IsHandOf self.now result }
+        ensures idle { doing_of result ≡ does.Idle }
+        ensures passed { places_of_hand result ≡ places.now }
+        ensures nothing_found { found_by_hand result ≡ [] }
+    {
+        self.split_off::<Brand>(lead, places)
+    }
+
+    fn split_off<J: Passing>(&self, lead: &mut Lead, places: &[PlaceId]) -> Hand
+        requires pick { places.now ≡ J.passes }
+        requires lead { IsLeadOf self.now lead.old }
+        requires places { AreAmong places.now (places_of_lead lead.old) }
+
+        ensures lead { IsLeadOf self.now lead.new }
+        ensures stages { SameStages lead.old lead.new }
+        ensures left { places_of_lead lead.new ≡ without (places_of_lead lead.old) places.now }
+        ensures found { found_by_lead lead.new ≡ found_by_lead lead.old }
+
+        ensures hand { IsHandOf self.now result }
+        ensures idle { doing_of result ≡ does.Idle }
+        ensures passed { places_of_hand result ≡ places.now }
+        ensures nothing_found { found_by_hand result ≡ [] }
+    {
+        let seat = self.table.shared.split_seat::<SplitsOff<J>>(&mut lead.seat);
+        Hand { seat }
+    }
+
+    /// Takes in a hand that does nothing. Its places are the lead's again.
+    pub fn join(&self, lead: &mut Lead, hand: Hand)
+        requires lead { IsLeadOf self.now lead.old }
+        requires hand { IsHandOf self.now hand }
+        requires idle { doing_of hand ≡ does.Idle }
+
+        ensures lead { IsLeadOf self.now lead.new }
+        ensures stages { SameStages lead.old lead.new }
+        ensures places { places_of_lead lead.new ≡ places_of_hand hand ++ places_of_lead lead.old }
+        ensures found { found_by_lead lead.new ≡ found_by_lead lead.old }
+    {
+        let Hand { seat } = hand;
+        self.table.shared.join_seat::<TakesIn>(&mut lead.seat, seat);
+    }
+
+    /// The bell at which hands may sleep. It is rung after `let_out`, `go`, `back`, `open_place` and
+    /// `finish_all`.
+    pub fn hands_bell(&self) -> &EventCount {
+        &self.bells.hands
+    }
+
+    /// The bell at which the lead may sleep. It is rung after a claim that won and after `post`.
+    pub fn lead_bell(&self) -> &EventCount {
+        &self.bells.lead
+    }
+}

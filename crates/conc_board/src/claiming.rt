@@ -1,0 +1,159 @@
+ghost use Rattle.std.specs.Prelude.{◌≡◌, ◌≤◌, ℕ, true, List, IfNone, IfSome, IsTrue};
+ghost use Rattle.std.specs.Option.{option_copied};
+ghost use Rattle.conc_board_seats.specs.Places.{has};
+ghost use Rattle.conc_board_seats.specs.Words.{count_of_requests, IsPlace, IsRequest};
+ghost use Rattle.conc_board_seats.specs.declared.views.Doing.TheVariants as does;
+ghost use Rattle.conc_board.specs.Claims.{admits_at, admits_request as admits_request_of, ClaimsAt, ClaimsOne, FindsNone, manager_at as manager_at_of, MissesAll, MissesOne, MissesSome};
+ghost use Rattle.conc_board.specs.Seats.{doing_of, IsHandOf, places_of_hand, plan_of};
+
+use crate::numbers::{RELEASED, claimed, request_word};
+use crate::plays::Claims;
+use crate::{Board, Claim, Hand};
+use conc_rules::admits;
+use conc_time::place_of;
+use conc_types::{Manager, PlaceId, Plan, RequestId};
+
+fn manager_at(plan: &Plan, place: PlaceId) -> Option<&Manager>
+    ensures { option_copied result ≡ manager_at_of plan.now place }
+{
+    match place_of(plan, place) {
+        Some((_, manager, _)) => Some(manager),
+        None => None,
+    }
+}
+
+// Whether the manager admits the request with this number.
+fn admits_request(plan: &Plan, r: RequestId, manager: &Manager) -> bool
+    ensures { result ≡ admits_request_of plan.now r manager.now }
+{
+    match plan.request(r) {
+        Some(request) => admits(manager, request),
+        None => false,
+    }
+}
+
+impl Board {
+    /// Claims a request for a place of the hand's, one that the place's manager admits: the hinted one
+    /// where it is admitted and let out, else the first that is. `None` only where the place was
+    /// found closed, or each request that its manager admits was found not let out or claimed already.
+    pub fn claim(
+        &self,
+        hand: &mut Hand,
+        place: PlaceId,
+        plan: &Plan,
+        hint: Option<RequestId>,
+    ) -> Option<Claim>
+        requires hand { IsHandOf self.now hand.old }
+        requires plan { plan.now ≡ plan_of self.now }
+        requires idle { doing_of hand.old ≡ does.Idle }
+        requires place { IsPlace plan.now place }
+        requires own { IsTrue (has (places_of_hand hand.old) place) }
+        ensures claimed { IfSome result (λ claim. ClaimsAt self.now place hand.old hand.new claim) }
+        ensures none { IfNone result (FindsNone self.now place hand.old hand.new) }
+    {
+        if !self.is_open(hand, place) {
+            return None;
+        }
+        self.claim_open(hand, place, plan, hint)
+    }
+
+    // The same, where the place was found open.
+    fn claim_open(
+        &self,
+        hand: &mut Hand,
+        place: PlaceId,
+        plan: &Plan,
+        hint: Option<RequestId>,
+    ) -> Option<Claim>
+        requires hand { IsHandOf self.now hand.old }
+        requires plan { plan.now ≡ plan_of self.now }
+        requires idle { doing_of hand.old ≡ does.Idle }
+        requires place { IsPlace plan.now place }
+        requires own { IsTrue (has (places_of_hand hand.old) place) }
+        ensures claimed { IfSome result (λ claim. ClaimsAt self.now place hand.old hand.new claim) }
+        ensures none { IfNone result (MissesAll self.now place hand.old hand.new) }
+    {
+        let manager = manager_at(plan, place)?;
+        match self.claim_hinted(hand, place, plan, manager, hint) {
+            Some(claim) => Some(claim),
+            None => self.claim_any(hand, place, plan, manager),
+        }
+    }
+
+    // Claims the hinted request, if there is one and the manager admits it.
+    fn claim_hinted(
+        &self,
+        hand: &mut Hand,
+        place: PlaceId,
+        plan: &Plan,
+        manager: &Manager,
+        hint: Option<RequestId>,
+    ) -> Option<Claim>
+        requires hand { IsHandOf self.now hand.old }
+        requires plan { plan.now ≡ plan_of self.now }
+        requires idle { doing_of hand.old ≡ does.Idle }
+        requires place { IsPlace plan.now place }
+        requires own { IsTrue (has (places_of_hand hand.old) place) }
+        requires manager { manager_at_of plan.now place ≡ Some manager.now }
+        ensures claimed { IfSome result (λ claim. ClaimsAt self.now place hand.old hand.new claim) }
+        ensures none { IfNone result (MissesSome self.now hand.old hand.new) }
+    {
+        let r = hint?;
+        if !admits_request(plan, r, manager) {
+            return None;
+        }
+        self.claim_one(hand, r, place)
+    }
+
+    // Claims the first request that the manager admits and that is let out.
+    fn claim_any(
+        &self,
+        hand: &mut Hand,
+        place: PlaceId,
+        plan: &Plan,
+        manager: &Manager,
+    ) -> Option<Claim>
+        requires hand { IsHandOf self.now hand.old }
+        requires plan { plan.now ≡ plan_of self.now }
+        requires idle { doing_of hand.old ≡ does.Idle }
+        requires place { IsPlace plan.now place }
+        requires own { IsTrue (has (places_of_hand hand.old) place) }
+        requires manager { manager_at_of plan.now place ≡ Some manager.now }
+        ensures claimed { IfSome result (λ claim. ClaimsAt self.now place hand.old hand.new claim) }
+        ensures none { IfNone result (MissesAll self.now place hand.old hand.new) }
+    {
+        for index in 0..self.requests {
+            let r = RequestId {
+                number: index as u32 + 1,
+            };
+            if admits_request(plan, r, manager) {
+                match self.claim_one(hand, r, place) {
+                    Some(claim) => return Some(claim),
+                    None => {}
+                }
+            }
+        }
+        None
+    }
+
+    // Claims this request, if it is let out.
+    fn claim_one(&self, hand: &mut Hand, r: RequestId, place: PlaceId) -> Option<Claim>
+        requires hand { IsHandOf self.now hand.old }
+        requires request { IsRequest (plan_of self.now) r }
+        requires idle { doing_of hand.old ≡ does.Idle }
+        requires place { IsPlace (plan_of self.now) place }
+        requires own { IsTrue (has (places_of_hand hand.old) place) }
+        ensures claimed { IfSome result (λ claim. ClaimsOne self.now r place hand.old hand.new claim) }
+        ensures none { IfNone result (MissesOne self.now r hand.old hand.new) }
+    {
+        let word = self
+            .table
+            .shared
+            .compare_exchange::<Claims>(&mut hand.seat, request_word(r), RELEASED, claimed(place));
+        if word != RELEASED {
+            return None;
+        }
+        self.bells.lead.notify_all();
+        Some(Claim { request: r, place })
+    }
+}

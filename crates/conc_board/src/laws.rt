@@ -1,0 +1,64 @@
+// Laws on a board: over every state that its rule allows, every step and every course of stages. Each
+// function here has an empty body; its contract is the law.
+ghost use Rattle.std.specs.Prelude.{◌≡◌, ◌≤◌, ℕ, List, IsTrue};
+ghost use Rattle.conc_types.specs.declared.plan.Plan.{Plan};
+ghost use Rattle.conc_board_seats.specs.declared.views.Stage.{Stage};
+ghost use Rattle.conc_board_seats.specs.declared.views.Stage.TheVariants.{NotLet};
+ghost use Rattle.conc_board_seats.specs.declared.views.View.{View};
+ghost use Rattle.conc_board_seats.specs.Courses.{IsCourse};
+ghost use Rattle.conc_board_seats.specs.Doings.{carried_by};
+ghost use Rattle.conc_board_seats.specs.Rule.{BoardState, Keep};
+ghost use Rattle.conc_board_seats.specs.Stages.{is_marked};
+ghost use Rattle.conc_board.specs.Counts.{AreMarked, count_of_goes, count_of_takes};
+ghost use Rattle.conc_board.specs.Permits.{HaveApart};
+ghost use Rattle.conc_board.specs.Points.{DifferInFinds, Points, StepsAreRecorded};
+ghost use Rattle.conc_board.specs.Seats.{doing_of, slots_of};
+
+use crate::Hand;
+
+// ---- every state
+
+/// Two permits for requests that exclude each other never exist at one moment, nor two for one
+/// request, nor two for one place.
+pub fn permits_are_apart()
+    ensures { (plan : Plan) (s : BoardState) → Keep plan s →
+        (i j : ℕ) → HaveApart plan s.views i j }
+{}
+
+/// What the rule says of every state, point by point.
+pub fn rule_has_points()
+    ensures { (plan : Plan) (s : BoardState) → Keep plan s → Points plan s }
+{}
+
+/// The rule does not read what the seats found.
+pub fn rule_reads_no_finds()
+    ensures { (plan : Plan) (s : BoardState) (others : List View) → Keep plan s →
+        DifferInFinds s.views others → Keep plan (record { words = s.words; homes = s.homes; views = others }) }
+{}
+
+/// A hand has the slot of the request that it has the permit for, and no other slot.
+pub fn permit_has_its_slot(hand: &Hand)
+    ensures { slots_of hand.now ≡ carried_by (doing_of hand.now) }
+{}
+
+// ---- every step
+
+/// Each step adds what it found to what its seat found.
+pub fn steps_are_recorded()
+    ensures { StepsAreRecorded }
+{}
+
+// ---- every course of the stages of one request, from one call of the lead's to the next
+
+/// What was left for a request is taken at most once for each go, and at most once in all.
+pub fn reports_come_once()
+    ensures goes { (stages : List Stage) → IsCourse NotLet stages →
+        count_of_takes NotLet stages ≤ count_of_goes NotLet stages }
+    ensures once { (stages : List Stage) → IsCourse NotLet stages → count_of_goes NotLet stages ≤ 1 }
+{}
+
+/// A mark stays.
+pub fn marks_stay()
+    ensures { (stage : Stage) (stages : List Stage) → IsCourse stage stages → IsTrue (is_marked stage) →
+        AreMarked stages }
+{}

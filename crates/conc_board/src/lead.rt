@@ -1,0 +1,237 @@
+ghost use Rattle.std.specs.Prelude.{◌≡◌, ◌∷◌, [], true};
+ghost use Rattle.conc_board_seats.specs.declared.views.Doing.TheVariants as does;
+ghost use Rattle.conc_board.specs.Answers.{LookedBy};
+
+use crate::Board;
+use crate::numbers::{DONE, IDLE, RELEASED, STATE, place_named, request_word, running, stopping};
+use crate::plays::{Clears, Gets, Goes, LetsOut, Looks, Stops, Switches, TakesBack};
+use atomic_table::Seat;
+use conc_board_seats::{Posted, View};
+use conc_types::{PlaceId, RequestId};
+
+/// The seat of the one that lets requests out. There is one for each board, and it cannot be copied.
+#[derive(Drop)]
+pub struct Lead {
+    pub(crate) seat: Seat<Option<Posted>, View>,
+    ghost leads: { seat.me.0.leads ≡ true },
+    ghost idle: { seat.me.0.doing ≡ does.Idle },
+    ghost empty: { seat.me.1 ≡ [] },
+}
+
+/// What the word of a request held.
+#[derive(Clone, Copy, Debug, PartialEq, Eq)]
+pub enum Looked {
+    /// No hand claims it.
+    Free,
+    /// A hand claims it for this place, and waits.
+    Claimed(PlaceId),
+    /// It runs at this place, or was told to stop there.
+    Running(PlaceId),
+    /// At this place something was left for it.
+    Ended(PlaceId),
+}
+
+/// Nothing was left for the request yet.
+#[derive(Clone, Copy, Debug, PartialEq, Eq)]
+pub struct NotYet;
+
+impl Board {
+    ghost use Rattle.std.specs.Prelude.{◌<◌, ◌≤◌, ◌+◌, ◌++◌, ℕ, Bool, IfOk, IsFalse, OnErr, OnOk, false};
+    ghost use Rattle.conc_board_seats.specs.Stages.{IsGone, IsLet, IsLetOrGone};
+    ghost use Rattle.conc_board_seats.specs.Words.{end_word, IsPlace, IsRequest, place_word, request_word as request_word_of};
+    ghost use Rattle.conc_board_seats.specs.declared.views.Stage.TheVariants as stage;
+    ghost use Rattle.conc_board.specs.Looks.{SeesStage, Shows};
+    ghost use Rattle.conc_board.specs.Seats.{Changes, FindsFitting, IsApart, IsFlag, IsLeadOf, IsLeftFor, KeepsStages, LeadFinds, plan_of, stage_of};
+    ghost use Rattle.conc_board.specs.Stops.{Collects, FindsRunning, Stops as StopsAs, StopsAt};
+
+    /// Lets a request out that is not on the board and excludes none that is.
+    pub fn let_out(&self, lead: &mut Lead, r: RequestId)
+        requires lead { IsLeadOf self.now lead.old }
+        requires request { IsRequest (plan_of self.now) r }
+        requires stage { stage_of lead.old r ≡ stage.NotLet }
+        requires apart { IsApart self.now r lead.old }
+        ensures lead { Changes self.now r lead.old lead.new }
+        ensures stage { stage_of lead.new r ≡ stage.Let }
+        ensures found { FindsFitting r lead.old lead.new }
+    {
+        self.table
+            .shared
+            .swap::<LetsOut>(&mut lead.seat, request_word(r), RELEASED);
+        self.bells.hands.notify_all();
+    }
+
+    /// Looks at the word of a request that is let out or has the go. A request that is told to stop
+    /// still runs.
+    pub fn look(&self, lead: &mut Lead, r: RequestId) -> Looked
+        requires lead { IsLeadOf self.now lead.old }
+        requires request { IsRequest (plan_of self.now) r }
+        requires stage { IsLetOrGone (stage_of lead.old r) }
+        ensures lead { Changes self.now r lead.old lead.new }
+        ensures stage { SeesStage self.now r result lead.old lead.new }
+        ensures found { LeadFinds (request_word_of r) (Shows result) lead.old lead.new }
+    {
+        let word = self
+            .table
+            .shared
+            .load::<Looks>(&mut lead.seat, request_word(r));
+        looked_by(word)
+    }
+
+    /// Gives the go to a request at the place that was seen to claim it. What was seen may be stale:
+    /// the claim stands.
+    pub fn go(&self, lead: &mut Lead, r: RequestId, place: PlaceId)
+        requires lead { IsLeadOf self.now lead.old }
+        requires request { IsRequest (plan_of self.now) r }
+        requires stage { stage_of lead.old r ≡ stage.Seen place }
+        ensures lead { Changes self.now r lead.old lead.new }
+        ensures stage { stage_of lead.new r ≡ stage.Gone place false }
+        ensures found { FindsFitting r lead.old lead.new }
+    {
+        self.table
+            .shared
+            .swap::<Goes>(&mut lead.seat, request_word(r), running(place));
+        self.bells.hands.notify_all();
+    }
+
+    /// Takes a request back that is let out and has no go. It may be let out again.
+    pub fn back(&self, lead: &mut Lead, r: RequestId)
+        requires lead { IsLeadOf self.now lead.old }
+        requires request { IsRequest (plan_of self.now) r }
+        requires stage { IsLet (stage_of lead.old r) }
+        ensures lead { Changes self.now r lead.old lead.new }
+        ensures stage { stage_of lead.new r ≡ stage.NotLet }
+        ensures found { FindsFitting r lead.old lead.new }
+    {
+        self.table
+            .shared
+            .swap::<TakesBack>(&mut lead.seat, request_word(r), IDLE);
+        self.bells.hands.notify_all();
+    }
+
+    /// Tells a request that has the go to stop. True exactly where this call's exchange found it
+    /// running; else it was told before, or something was left for it already. Where it is true the
+    /// request is marked from then on.
+    pub fn stop(&self, lead: &mut Lead, r: RequestId) -> bool
+        requires lead { IsLeadOf self.now lead.old }
+        requires request { IsRequest (plan_of self.now) r }
+        requires stage { IsGone (stage_of lead.old r) }
+        ensures lead { Changes self.now r lead.old lead.new }
+        ensures stopped { StopsAs result r lead.old lead.new }
+    {
+        let place = self.place_of_go(lead, r);
+        self.stop_at(lead, r, place)
+    }
+
+    // The place at which a request has the go, by its word.
+    fn place_of_go(&self, lead: &mut Lead, r: RequestId) -> PlaceId
+        requires lead { IsLeadOf self.now lead.old }
+        requires request { IsRequest (plan_of self.now) r }
+        requires stage { IsGone (stage_of lead.old r) }
+        ensures lead { Changes self.now r lead.old lead.new }
+        ensures same { stage_of lead.new r ≡ stage_of lead.old r }
+        ensures place { (marked : Bool) × (stage_of lead.old r ≡ stage.Gone result marked) }
+        ensures found { FindsFitting r lead.old lead.new }
+    {
+        let word = self
+            .table
+            .shared
+            .load::<Looks>(&mut lead.seat, request_word(r));
+        place_named(word)
+    }
+
+    // Tells a request that has the go at this place to stop.
+    fn stop_at(&self, lead: &mut Lead, r: RequestId, place: PlaceId) -> bool
+        requires lead { IsLeadOf self.now lead.old }
+        requires request { IsRequest (plan_of self.now) r }
+        requires stage { (marked : Bool) × (stage_of lead.old r ≡ stage.Gone place marked) }
+        ensures lead { Changes self.now r lead.old lead.new }
+        ensures stopped { StopsAt place result r lead.old lead.new }
+    {
+        self.table.shared.compare_exchange::<Stops>(
+            &mut lead.seat,
+            request_word(r),
+            running(place),
+            stopping(place),
+        ) == running(place)
+    }
+
+    /// Takes what was left for a request that has the go, once. `NotYet` only where its word was found
+    /// to run still.
+    pub fn collect(&self, lead: &mut Lead, r: RequestId) -> Result<Posted, NotYet>
+        requires lead { IsLeadOf self.now lead.old }
+        requires request { IsRequest (plan_of self.now) r }
+        requires stage { IsGone (stage_of lead.old r) }
+        ensures lead { Changes self.now r lead.old lead.new }
+        ensures posted { IfOk result (IsLeftFor self.now lead.old r) }
+        ensures collected { OnOk result (Collects r lead.old lead.new) }
+        ensures not_yet { OnErr result (FindsRunning r lead.old lead.new) }
+    {
+        let shared = &self.table.shared;
+        let word = request_word(r);
+        if shared.load::<Gets>(&mut lead.seat, word) / STATE != 4 {
+            return Err(NotYet);
+        }
+        let Some(posted) = shared.exchange(&mut lead.seat, word, None) else {
+            unreachable!()
+        };
+        shared.swap::<Clears>(&mut lead.seat, word, DONE);
+        Ok(posted)
+    }
+
+    /// Opens a place.
+    pub fn open_place(&self, lead: &mut Lead, place: PlaceId)
+        requires lead { IsLeadOf self.now lead.old }
+        requires place { IsPlace (plan_of self.now) place }
+        ensures lead { KeepsStages self.now lead.old lead.new }
+        ensures found { LeadFinds (place_word (plan_of self.now) place) IsFlag lead.old lead.new }
+    {
+        self.set_place(lead, place, 1);
+        self.bells.hands.notify_all();
+    }
+
+    /// Closes a place. Who claimed a request for it before still does.
+    pub fn close_place(&self, lead: &mut Lead, place: PlaceId)
+        requires lead { IsLeadOf self.now lead.old }
+        requires place { IsPlace (plan_of self.now) place }
+        ensures lead { KeepsStages self.now lead.old lead.new }
+        ensures found { LeadFinds (place_word (plan_of self.now) place) IsFlag lead.old lead.new }
+    {
+        self.set_place(lead, place, 0);
+    }
+
+    fn set_place(&self, lead: &mut Lead, place: PlaceId, switch: u64)
+        requires lead { IsLeadOf self.now lead.old }
+        requires place { IsPlace (plan_of self.now) place }
+        requires switch { switch ≤ 1 }
+        ensures lead { KeepsStages self.now lead.old lead.new }
+        ensures found { LeadFinds (place_word (plan_of self.now) place) IsFlag lead.old lead.new }
+    {
+        let word = self.requests + place.index as usize;
+        self.table
+            .shared
+            .swap::<Switches>(&mut lead.seat, word, switch);
+    }
+
+    /// Tells all hands that there is no more to come.
+    pub fn finish_all(&self, lead: &mut Lead)
+        requires lead { IsLeadOf self.now lead.old }
+        ensures lead { KeepsStages self.now lead.old lead.new }
+        ensures found { LeadFinds (end_word (plan_of self.now)) IsFlag lead.old lead.new }
+    {
+        let word = self.requests + self.places;
+        self.table.shared.swap::<Switches>(&mut lead.seat, word, 1);
+        self.bells.hands.notify_all();
+    }
+}
+
+// What a word shows.
+fn looked_by(word: u64) -> Looked
+    ensures { LookedBy result word }
+{
+    match word / STATE {
+        1 => Looked::Claimed(place_named(word)),
+        2 | 3 => Looked::Running(place_named(word)),
+        4 => Looked::Ended(place_named(word)),
+        _ => Looked::Free,
+    }
+}

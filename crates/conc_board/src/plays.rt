@@ -1,0 +1,126 @@
+// The rule of the board, and what each step tells.
+ghost use Rattle.std.specs.Prelude.{List, []};
+ghost use Rattle.conc_types.specs.declared.event.PlaceId.{PlaceId};
+ghost use Rattle.conc_board_seats.specs.Rule.{first_view, Keep, nobody};
+ghost use Rattle.conc_board_seats.specs.Steps.{back_tells, claim_tells, clear_tells, given, go_tells, got_tells, joined, kept, let_out_tells, look_tells, poll_tells, post_tells, stop_tells, switch_tells, warn_tells};
+
+use atomic_table::{Join, Play, Split, TableRule};
+use conc_board_seats::{Posted, View};
+use conc_types::Plan;
+use std::marker::{Brand, PhantomData};
+
+/// The rule that holds between any two steps on a board.
+pub struct Keeping;
+
+impl TableRule<Option<Posted>, View, Plan> for Keeping {
+    ghost holds = { Keep };
+
+    ghost first = { first_view };
+}
+
+// ---- the lead's steps
+
+pub(crate) struct LetsOut;
+
+impl Play<Option<Posted>, View> for LetsOut {
+    ghost then = { let_out_tells };
+}
+
+pub(crate) struct Looks;
+
+impl Play<Option<Posted>, View> for Looks {
+    ghost then = { look_tells };
+}
+
+pub(crate) struct Goes;
+
+impl Play<Option<Posted>, View> for Goes {
+    ghost then = { go_tells };
+}
+
+pub(crate) struct TakesBack;
+
+impl Play<Option<Posted>, View> for TakesBack {
+    ghost then = { back_tells };
+}
+
+pub(crate) struct Stops;
+
+impl Play<Option<Posted>, View> for Stops {
+    ghost then = { stop_tells };
+}
+
+pub(crate) struct Gets;
+
+impl Play<Option<Posted>, View> for Gets {
+    ghost then = { got_tells };
+}
+
+pub(crate) struct Clears;
+
+impl Play<Option<Posted>, View> for Clears {
+    ghost then = { clear_tells };
+}
+
+// ---- a hand's steps
+
+pub(crate) struct Claims;
+
+impl Play<Option<Posted>, View> for Claims {
+    ghost then = { claim_tells };
+}
+
+pub(crate) struct Polls;
+
+impl Play<Option<Posted>, View> for Polls {
+    ghost then = { poll_tells };
+}
+
+pub(crate) struct SeesStop;
+
+impl Play<Option<Posted>, View> for SeesStop {
+    ghost then = { warn_tells };
+}
+
+pub(crate) struct Posts;
+
+impl Play<Option<Posted>, View> for Posts {
+    ghost then = { post_tells };
+}
+
+// ---- steps on the words of places and of the end
+
+pub(crate) struct Switches;
+
+impl Play<Option<Posted>, View> for Switches {
+    ghost then = { switch_tells };
+}
+
+// ---- seats that are split off and taken in
+
+/// The places that pass from the lead to a hand. Each split picks them.
+pub trait Passing {
+    ghost passes: { List PlaceId };
+}
+
+impl Passing for Brand {
+    ghost passes = { [] };
+}
+
+pub(crate) struct SplitsOff<J: Passing> {
+    of: PhantomData<J>,
+}
+
+impl<J: Passing> Split<View> for SplitsOff<J> {
+    ghost left = { kept J.passes };
+
+    ghost right = { given J.passes };
+}
+
+pub(crate) struct TakesIn;
+
+impl Join<View> for TakesIn {
+    ghost both = { joined };
+
+    ghost spent = { nobody };
+}

@@ -1,0 +1,8 @@
+pub mod Words
+pub mod Places
+pub mod Stages
+pub mod Doings
+pub mod Reports
+pub mod Rule
+pub mod Steps
+pub mod Courses

@@ -1,0 +1,146 @@
+-- What each step tells of the seat that makes it.
+use Rattle.std.specs.Prelude.{◌≡◌, ◌≢◌, ◌⊎◌, ℕ, ◌/◌, ◌≤◌, ◌==◌, Bool, false, List, [], ◌∷◌, ◌++◌, if◌then◌else◌, slice_set, Option, Some, None}
+use Rattle.atomic_table.specs.Table.{Me, Step, rest}
+use Rattle.conc_types.specs.declared.event.PlaceId.{PlaceId}
+use Rattle.conc_types.specs.declared.event.RequestId.{RequestId}
+use Rattle.conc_types.specs.declared.plan.Plan.{Plan}
+use Rattle.conc_board_seats.specs.declared.posted.Posted.{Posted}
+use Rattle.conc_board_seats.specs.declared.views.Doing.{Doing}
+use Rattle.conc_board_seats.specs.declared.views.Doing.TheVariants.{Idle, Waits, Serves}
+use Rattle.conc_board_seats.specs.declared.views.Stage.{Stage}
+use Rattle.conc_board_seats.specs.declared.views.Stage.TheVariants.{NotLet, Let, Seen, Gone}
+use Rattle.conc_board_seats.specs.declared.views.View.{View}
+use Rattle.conc_board_seats.specs.Doings.{carried_by, polled, warned}
+use Rattle.conc_board_seats.specs.Places.{without}
+use Rattle.conc_board_seats.specs.Reports.{MayLeave}
+use Rattle.conc_board_seats.specs.Rule.{Runs}
+use Rattle.conc_board_seats.specs.Stages.{WordFits, cleared, gone, got, is_marked, looked, marked, stage_at}
+use Rattle.conc_board_seats.specs.Words.{IsPlace, ended, idle, place_in, released, request_of, running, stopping}
+
+-- ---- the view after a step
+
+-- of a seat that found n in the word i
+abbrev pub noted : View → ℕ → ℕ → View
+noted v i n = record v { found = v.found ++ (i, n) ∷ [] }
+
+-- of the lead, where the request with this word is then at the stage
+abbrev pub with_stage : View → ℕ → Stage → ℕ → View
+with_stage v i stage n = record v { stages = slice_set v.stages i stage; found = v.found ++ (i, n) ∷ [] }
+
+-- of a hand, which then does this
+abbrev pub with_doing : View → Doing → ℕ → ℕ → View
+with_doing v doing i n = record v { doing = doing; found = v.found ++ (i, n) ∷ [] }
+
+-- of the lead, which passes places on, and of the hand that gets them
+abbrev pub kept : List PlaceId → View → View
+kept ps v = record v { places = without v.places ps }
+
+abbrev pub given : List PlaceId → View → View
+given ps v = record { leads = false; plan = None; stages = []; places = ps; doing = Idle; found = [] }
+
+-- of the lead, which takes in a hand with the view w
+abbrev pub joined : View → View → View
+joined v w = record v { places = w.places ++ v.places }
+
+-- ---- the steps: each tells the seat after it, by the number n that it found
+
+abbrev pub Slot : Type 0
+Slot = Option Posted
+
+abbrev pub Tells : Type 1
+Tells = Step Slot → Me Slot View → ℕ → Me Slot View → Type 0
+
+abbrev pub let_out_tells : Tells
+let_out_tells st m n m' =
+    (m'.0 ≡ with_stage m.0 st.word Let n) × (m'.1 ≡ m.1) × (n ≡ idle)
+
+-- what a word that the lead loaded as n says of the stage that it then knows
+abbrev pub LookFits : Stage → ℕ → Type 0
+LookFits Let n = n ≡ released
+LookFits stage n = WordFits stage n
+
+-- the place of the stage is one of the plan that the lead knows
+abbrev pub HasPlace : Option Plan → Stage → Type 0
+HasPlace None stage = ⊥
+HasPlace (Some plan) (Seen p) = IsPlace plan p
+HasPlace (Some plan) (Gone p marked) = IsPlace plan p
+HasPlace (Some plan) stage = Unit {0}
+
+abbrev pub look_tells : Tells
+look_tells st m n m' =
+    (m'.0 ≡ with_stage m.0 st.word (looked (stage_at m.0.stages st.word) n) n) × (m'.1 ≡ m.1)
+    × HasPlace m.0.plan (looked (stage_at m.0.stages st.word) n)
+    × LookFits (looked (stage_at m.0.stages st.word) n) n
+
+abbrev pub go_tells : Tells
+go_tells st m n m' =
+    (m'.0 ≡ with_stage m.0 st.word (gone (stage_at m.0.stages st.word)) n) × (m'.1 ≡ m.1)
+    × WordFits (stage_at m.0.stages st.word) n
+
+abbrev pub back_tells : Tells
+back_tells st m n m' =
+    (m'.0 ≡ with_stage m.0 st.word NotLet n) × (m'.1 ≡ m.1) × WordFits (stage_at m.0.stages st.word) n
+
+abbrev pub stop_tells : Tells
+stop_tells st m n m' =
+    (m'.0 ≡ (if n == st.first then with_stage m.0 st.word (marked (stage_at m.0.stages st.word)) n else noted m.0 st.word n))
+    × (m'.1 ≡ m.1) × WordFits (stage_at m.0.stages st.word) n
+
+-- what was left may be, by the plan that the lead knows
+abbrev pub IsTold : Option Plan → RequestId → Bool → Posted → Type 0
+IsTold None r marked x = ⊥
+IsTold (Some plan) r marked x = MayLeave plan r marked x
+
+-- the word of a request that has the go, where it ended and where it did not
+abbrev pub EndedFits : Stage → ℕ → Type 0
+EndedFits (Gone p marked) n = n ≡ ended p
+EndedFits stage n = Unit {0}
+
+abbrev pub RunFits : Stage → ℕ → Type 0
+RunFits (Gone p marked) n = (n ≡ running p) ⊎ (n ≡ stopping p)
+RunFits stage n = Unit {0}
+
+-- the lead's load that takes the slot where the word is Ended
+abbrev pub got_tells : Tells
+got_tells st m n m' =
+    (n / 256 ≡ 4 →
+    (m'.0 ≡ with_stage m.0 st.word (got (stage_at m.0.stages st.word)) n)
+    × EndedFits (stage_at m.0.stages st.word) n
+    × ((x : Posted) × (m'.1 ≡ (st.word, Some x) ∷ m.1)
+    × IsTold m.0.plan (request_of st.word) (is_marked (stage_at m.0.stages st.word)) x))
+    × (n / 256 ≢ 4 → (m'.0 ≡ noted m.0 st.word n) × (m'.1 ≡ m.1) × RunFits (stage_at m.0.stages st.word) n)
+
+abbrev pub clear_tells : Tells
+clear_tells st m n m' =
+    (m'.0 ≡ with_stage m.0 st.word (cleared (stage_at m.0.stages st.word)) n) × (m'.1 ≡ rest m.1)
+    × WordFits (stage_at m.0.stages st.word) n
+
+-- a step on a word by which a seat learns nothing but what it found
+abbrev pub note_tells : Tells
+note_tells st m n m' = (m'.0 ≡ noted m.0 st.word n) × (m'.1 ≡ m.1)
+
+-- the same on the word of a place or of the end
+abbrev pub switch_tells : Tells
+switch_tells st m n m' = (m'.0 ≡ noted m.0 st.word n) × (m'.1 ≡ m.1) × (n ≤ 1)
+
+abbrev pub claim_tells : Tells
+claim_tells st m n m' =
+    (m'.0 ≡ with_doing m.0 (if n == released then Waits (request_of st.word) (place_in 256 st.second) else Idle) st.word n)
+    × (m'.1 ≡ m.1)
+
+abbrev pub poll_tells : Tells
+poll_tells st m n m' =
+    (m'.0 ≡ with_doing m.0 (polled m.0.doing n) st.word n) × (m'.1 ≡ carried_by (polled m.0.doing n))
+
+-- the word of a request that the hand serves
+abbrev pub ServedFits : Doing → ℕ → Type 0
+ServedFits (Serves r p stop) n = Runs stop p n
+ServedFits doing n = Unit {0}
+
+abbrev pub warn_tells : Tells
+warn_tells st m n m' =
+    (m'.0 ≡ with_doing m.0 (warned m.0.doing n) st.word n) × (m'.1 ≡ m.1) × ServedFits m.0.doing n
+
+abbrev pub post_tells : Tells
+post_tells st m n m' =
+    (m'.0 ≡ with_doing m.0 Idle st.word n) × (m'.1 ≡ rest m.1) × ServedFits m.0.doing n

@@ -1,0 +1,32 @@
+-- What one request, the lead and a hand are before a call, and what a call leaves as it was.
+use Rattle.std.specs.Prelude.{◌≡◌, ◌≢◌, IsTrue}
+use Rattle.conc_types.specs.declared.event.PlaceId.{PlaceId}
+use Rattle.conc_types.specs.declared.event.RequestId.{RequestId}
+use Rattle.conc_board_seats.specs.declared.views.Doing.TheVariants.{Idle}
+use Rattle.conc_board_seats.specs.declared.views.Stage.{Stage}
+use Rattle.conc_board_seats.specs.declared.views.Stage.TheVariants.{Seen}
+use Rattle.conc_board_seats.specs.Places.{has}
+use Rattle.conc_board_seats.specs.Words.{IsPlace}
+use Rattle.conc_board.specs.declared.board.Board.{Board}
+use Rattle.conc_board.specs.declared.hand.Hand.{Hand}
+use Rattle.conc_board.specs.declared.lead.Lead.{Lead}
+use Rattle.conc_board.specs.declared.lead.Looked.{Looked}
+use Rattle.conc_board.specs.declared.lead.Looked.TheVariants.{Claimed}
+use Rattle.conc_board.specs.Seats.{IsHandOf, IsLeadOf, doing_of, places_of_hand, plan_of, stage_of}
+
+-- the hand does nothing, and the place is one of its own
+pub record IsFree (board : Board) (place : PlaceId) (hand : Hand) : Type 0 where
+  pub of_board : IsHandOf board hand
+  pub idle : doing_of hand ≡ Idle
+  pub of_plan : IsPlace (plan_of board) place
+  pub own : IsTrue (has (places_of_hand hand) place)
+
+-- calls on one request alone
+pub record OnlyOne (board : Board) (r : RequestId) (old new : Lead) : Type 0 where
+  pub lead : IsLeadOf board new
+  pub others : (q : RequestId) → q ≢ r → stage_of new q ≡ stage_of old q
+
+-- where a claim was seen, the lead knows its place
+abbrev pub IsSeen : Looked → Stage → Type 0
+IsSeen (Claimed p) stage = stage ≡ Seen p
+IsSeen answer stage = Unit {0}

@@ -1,0 +1,95 @@
+ghost use Rattle.std.specs.Prelude.{◌≡◌, ℕ, IfOk, IsFalse, IsTrue, not};
+ghost use Rattle.std.specs.List.{list_all};
+ghost use Rattle.std.specs.Option.{option_map};
+ghost use Rattle.conc_types.specs.declared.event.RequestId.{RequestId};
+ghost use Rattle.conc_law.specs.Plans.{are_exclusive as are_exclusive_of};
+ghost use Rattle.conc_board_seats.specs.Reports.{as_report, report_for as report_for_of};
+ghost use Rattle.conc_board_seats.specs.Rule.{exclude};
+ghost use Rattle.conc_board_seats.specs.Stages.{IsGone, IsLet};
+ghost use Rattle.conc_board_seats.specs.Words.{IsRequest};
+ghost use Rattle.conc_board_seats.specs.declared.views.Stage.TheVariants as stage;
+ghost use Rattle.conc_board.specs.Seats.{IsLeadOf, plan_of, stage_of};
+ghost use Rattle.conc_test_board.specs.Rounds.{IsSeen, OnlyOne};
+
+use conc_board::{Board, Lead, Looked};
+use conc_reports::{Made, report};
+use conc_rules::{are_exclusive, program_of};
+use conc_types::{NoMemory, Plan, Req, RequestId};
+use std::alloc::Global;
+use std::process::Abort;
+
+// Whether the request excludes none of these.
+fn excludes_no_other(plan: &Plan, x: &Req, others: &[Req]) -> bool
+    ensures { result ≡ list_all (λ y. not (are_exclusive_of plan.now x.now y)) others.now }
+{
+    others.iter().all(|y| !are_exclusive(plan, x, y))
+}
+
+/// Whether the request excludes none of the plan.
+pub fn excludes_none(plan: &Plan, r: RequestId) -> bool
+    ensures { IsTrue result → (q : RequestId) → IsFalse (exclude plan.now r q) }
+{
+    match plan.request(r) {
+        Some(x) => excludes_no_other(plan, x, plan.requests.as_slice()),
+        None => true,
+    }
+}
+
+/// Lets out a request, which has to exclude none of the plan.
+pub fn let_out_apart<Rt: Abort>(rt: &Rt, board: &Board, plan: &Plan, lead: &mut Lead, r: RequestId)
+    requires plan { plan.now ≡ plan_of board.now }
+    requires lead { IsLeadOf board.now lead.old }
+    requires request { IsRequest (plan_of board.now) r }
+    requires stage { stage_of lead.old r ≡ stage.NotLet }
+    ensures lead { OnlyOne board.now r lead.old lead.new }
+    ensures stage { stage_of lead.new r ≡ stage.Let }
+{
+    assert!(rt; excludes_none(plan, r));
+    board.let_out(lead, r);
+}
+
+/// Looks at a request that is let out.
+pub fn look_let(board: &Board, lead: &mut Lead, r: RequestId) -> Looked
+    requires lead { IsLeadOf board.now lead.old }
+    requires request { IsRequest (plan_of board.now) r }
+    requires stage { IsLet (stage_of lead.old r) }
+    ensures lead { OnlyOne board.now r lead.old lead.new }
+    ensures stage { IsLet (stage_of lead.new r) }
+    ensures seen { IsSeen result (stage_of lead.new r) }
+{
+    board.look(lead, r)
+}
+
+/// Looks at a request that has the go.
+pub fn look_gone(board: &Board, lead: &mut Lead, r: RequestId) -> Looked
+    requires lead { IsLeadOf board.now lead.old }
+    requires request { IsRequest (plan_of board.now) r }
+    requires stage { IsGone (stage_of lead.old r) }
+    ensures lead { OnlyOne board.now r lead.old lead.new }
+    ensures stage { stage_of lead.new r ≡ stage_of lead.old r }
+{
+    board.look(lead, r)
+}
+
+/// The report of a request.
+#[tactic(auto, unfolding(conc_law::specs::Alone::report_of))]
+pub fn report_for(alloc: Global, plan: &Plan, r: RequestId) -> Result<Option<Made>, NoMemory>
+    ensures { IfOk result (λ made. option_map as_report made ≡ report_for_of plan.now r) }
+{
+    let Some(request) = plan.request(r) else {
+        return Ok(None);
+    };
+    let Some(program) = program_of(plan, request) else {
+        return Ok(None);
+    };
+    match plan
+        .setup
+        .table_named(plan.tables.as_slice(), &program.job.table)
+    {
+        Some(table) => {
+            let made = report(alloc, &program.job, request.argument.as_slice(), table)?;
+            Ok(Some(made))
+        }
+        None => Ok(None),
+    }
+}

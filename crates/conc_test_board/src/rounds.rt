@@ -1,0 +1,74 @@
+ghost use Rattle.std.specs.Prelude.{◌≡◌, ℕ, Bool, false};
+ghost use Rattle.conc_board_seats.specs.Stages.{IsGone, IsLet, is_marked};
+ghost use Rattle.conc_board_seats.specs.Words.{IsRequest};
+ghost use Rattle.conc_board_seats.specs.declared.views.Doing.TheVariants as does;
+ghost use Rattle.conc_board_seats.specs.declared.views.Stage.TheVariants as stage;
+ghost use Rattle.conc_board.specs.Claims.{HasClaim, HasPermit};
+ghost use Rattle.conc_board.specs.Seats.{IsHandOf, IsLeadOf, plan_of, places_of_hand, stage_of, Stays};
+ghost use Rattle.conc_test_board.specs.Rounds.{IsFree, OnlyOne};
+
+use crate::asking::look_let;
+use conc_board::{Board, Claim, Hand, Lead, Looked, Permit, Polled, Posted};
+use conc_types::{PlaceId, Plan, RequestId};
+use std::process::Abort;
+
+/// Claims a request, which has to be there.
+pub fn claim_some<Rt: Abort>(
+    rt: &Rt,
+    board: &Board,
+    plan: &Plan,
+    hand: &mut Hand,
+    place: PlaceId,
+    hint: Option<RequestId>,
+) -> Claim
+    requires plan { plan.now ≡ plan_of board.now }
+    requires free { IsFree board.now place hand.old }
+    ensures hand { Stays board.now hand.old hand.new }
+    ensures claim { HasClaim hand.new result }
+{
+    board.claim(hand, place, plan, hint).expect(rt, "a claim")
+}
+
+/// Gives the go to a request that has to be claimed, and answers the place.
+pub fn go_where_claimed<Rt: Abort>(rt: &Rt, board: &Board, lead: &mut Lead, r: RequestId) -> PlaceId
+    requires lead { IsLeadOf board.now lead.old }
+    requires request { IsRequest (plan_of board.now) r }
+    requires stage { IsLet (stage_of lead.old r) }
+    ensures lead { OnlyOne board.now r lead.old lead.new }
+    ensures stage { stage_of lead.new r ≡ stage.Gone result false }
+{
+    match look_let(board, lead, r) {
+        Looked::Claimed(place) => {
+            board.go(lead, r, place);
+            place
+        }
+        _ => panic!(rt; "the request is not claimed"),
+    }
+}
+
+/// The permit that has to answer a claim.
+pub fn permit_for<Rt: Abort>(rt: &Rt, board: &Board, hand: &mut Hand, claim: Claim) -> Permit
+    requires hand { IsHandOf board.now hand.old }
+    requires claim { HasClaim hand.old claim }
+    ensures hand { Stays board.now hand.old hand.new }
+    ensures permit { HasPermit hand.new result }
+{
+    match board.poll(hand, claim) {
+        Polled::Go(permit) => permit,
+        _ => panic!(rt; "the request has no go"),
+    }
+}
+
+/// Takes what has to be left for a request.
+pub fn collect_some<Rt: Abort>(rt: &Rt, board: &Board, lead: &mut Lead, r: RequestId) -> Posted
+    requires lead { IsLeadOf board.now lead.old }
+    requires request { IsRequest (plan_of board.now) r }
+    requires stage { IsGone (stage_of lead.old r) }
+    ensures lead { OnlyOne board.now r lead.old lead.new }
+    ensures stage { stage_of lead.new r ≡ stage.Done (is_marked (stage_of lead.old r)) }
+{
+    match board.collect(lead, r) {
+        Ok(posted) => posted,
+        Err(_) => panic!(rt; "nothing was left"),
+    }
+}
