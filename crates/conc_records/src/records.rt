@@ -46,8 +46,8 @@ impl<'a> Records<'a> {
         }
     }
 
-    /// Reads the next record into `into`, whose old fields go, and says whether there was one. A
-    /// record has a field at least. After `NoMemory` there is no record.
+    /// Reads the next record into `into`, and says whether there was one. A record has a field at
+    /// least. After `NoMemory` there is no record.
     pub fn read(&mut self, into: &mut ByteRecord) -> Result<bool, NoMemory>
         ensures some { IfOk result (λ found. found ≡ true → self.old ≡ fields_of into.new ∷ self.new) }
         ensures fields { IfOk result (λ found. found ≡ true → 0 < length (fields_of into.new)) }
@@ -55,7 +55,6 @@ impl<'a> Records<'a> {
         ensures ends { OnErr result (self.new ≡ []) }
     {
         if self.ended {
-            into.clear();
             return Ok(false);
         }
         let Ok(found) = self.reader.read_byte_record(into) else {
