@@ -10,10 +10,8 @@ ghost use Rattle.conc_board.specs.Claims.{HasClaim, HasPermit};
 ghost use Rattle.conc_board.specs.Seats.{doing_of, HasAllPlaces, IsHandOf, IsLeadOf, plan_of, places_of_lead, SameStages, stage_of, Stays};
 ghost use Rattle.conc_turns.specs.Rounds.{IsFree, OnlyOne};
 
-use crate::{
-    claim_some, collect_some, go_where_claimed, let_out_apart, look_gone, look_let, permit_for,
-    report_for,
-};
+use super::rounds::{claim_some, collect_some, go_where_claimed, let_out_apart, permit_for};
+use crate::{look_gone, look_let, report_for};
 use conc_board::{Board, Claim, Hand, Lead, Looked, NotYet, Permit, Polled, Posted};
 use conc_plan::make_plan;
 use conc_script::read_script;
@@ -407,7 +405,16 @@ fn take_turns<Rt: Abort>(
     let there = PlaceId { index: 1 };
     claim_is_taken_back(rt, board, plan, lead, first, here, one);
     stop_comes_before_the_post(rt, board, plan, lead, second, there, two);
-    stop_comes_after_the_post(rt, alloc, board, plan, lead, third, PlaceId { index: 2 }, four)?;
+    stop_comes_after_the_post(
+        rt,
+        alloc,
+        board,
+        plan,
+        lead,
+        third,
+        PlaceId { index: 2 },
+        four,
+    )?;
     place_is_closed(rt, board, plan, lead, first, here, three);
     hints_are_followed(rt, board, plan, lead, second, there, one, three, four);
     Ok(())
