@@ -16,7 +16,6 @@ use conc_reports::{Made, report};
 use conc_rules::{are_exclusive, program_of};
 use conc_types::{NoMemory, Plan, Req, RequestId};
 use std::alloc::Global;
-use std::process::Abort;
 
 // Whether the request excludes none of these.
 fn excludes_no_other(plan: &Plan, x: &Req, others: &[Req]) -> bool
@@ -35,17 +34,20 @@ pub fn excludes_none(plan: &Plan, r: RequestId) -> bool
     }
 }
 
-/// Lets out a request, which has to exclude none of the plan.
-pub fn let_out_apart<Rt: Abort>(rt: &Rt, board: &Board, plan: &Plan, lead: &mut Lead, r: RequestId)
+/// Lets out a request that excludes none of the plan, and says whether it does.
+pub fn let_out_if_apart(board: &Board, plan: &Plan, lead: &mut Lead, r: RequestId) -> bool
     requires plan { plan.now ≡ plan_of board.now }
     requires lead { IsLeadOf board.now lead.old }
     requires request { IsRequest (plan_of board.now) r }
     requires stage { stage_of lead.old r ≡ stage.NotLet }
-    ensures lead { OnlyOne board.now r lead.old lead.new }
-    ensures stage { stage_of lead.new r ≡ stage.Let }
+    ensures lead { IsTrue result → OnlyOne board.now r lead.old lead.new }
+    ensures stage { IsTrue result → stage_of lead.new r ≡ stage.Let }
 {
-    assert!(rt; excludes_none(plan, r));
+    if !excludes_none(plan, r) {
+        return false;
+    }
     board.let_out(lead, r);
+    true
 }
 
 /// Looks at a request that is let out.

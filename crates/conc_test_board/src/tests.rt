@@ -1,2 +1,3 @@
 mod board;
 mod gate;
+mod rounds;

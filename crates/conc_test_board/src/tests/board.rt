@@ -10,10 +10,8 @@ ghost use Rattle.conc_board.specs.Claims.{HasClaim, HasPermit};
 ghost use Rattle.conc_board.specs.Seats.{doing_of, HasAllPlaces, IsHandOf, IsLeadOf, plan_of, places_of_lead, SameStages, stage_of, Stays};
 ghost use Rattle.conc_test_board.specs.Rounds.{IsFree, OnlyOne};
 
-use crate::{
-    claim_some, collect_some, go_where_claimed, let_out_apart, look_gone, look_let, permit_for,
-    report_for,
-};
+use super::rounds::{claim_some, collect_some, go_where_claimed, let_out_apart, permit_for};
+use crate::{look_gone, look_let, report_for};
 use conc_board::{Board, Claim, Hand, Lead, Looked, NotYet, Permit, Polled, Posted};
 use conc_plan::make_plan;
 use conc_script::read_script;

@@ -7,13 +7,33 @@ ghost use Rattle.conc_board.specs.Claims.{HasClaim, HasPermit};
 ghost use Rattle.conc_board.specs.Seats.{IsHandOf, IsLeadOf, plan_of, places_of_hand, stage_of, Stays};
 ghost use Rattle.conc_test_board.specs.Rounds.{IsFree, OnlyOne};
 
-use crate::asking::look_let;
+use crate::{let_out_if_apart, look_let};
 use conc_board::{Board, Claim, Hand, Lead, Looked, Permit, Polled, Posted};
 use conc_types::{PlaceId, Plan, RequestId};
 use std::process::Abort;
 
+/// Lets out a request, which has to exclude none of the plan.
+pub(crate) fn let_out_apart<Rt: Abort>(
+    rt: &Rt,
+    board: &Board,
+    plan: &Plan,
+    lead: &mut Lead,
+    r: RequestId,
+)
+    requires plan { plan.now ≡ plan_of board.now }
+    requires lead { IsLeadOf board.now lead.old }
+    requires request { IsRequest (plan_of board.now) r }
+    requires stage { stage_of lead.old r ≡ stage.NotLet }
+    ensures lead { OnlyOne board.now r lead.old lead.new }
+    ensures stage { stage_of lead.new r ≡ stage.Let }
+{
+    if !let_out_if_apart(board, plan, lead, r) {
+        panic!(rt; "the request excludes another one");
+    }
+}
+
 /// Claims a request, which has to be there.
-pub fn claim_some<Rt: Abort>(
+pub(crate) fn claim_some<Rt: Abort>(
     rt: &Rt,
     board: &Board,
     plan: &Plan,
@@ -30,7 +50,12 @@ pub fn claim_some<Rt: Abort>(
 }
 
 /// Gives the go to a request that has to be claimed, and answers the place.
-pub fn go_where_claimed<Rt: Abort>(rt: &Rt, board: &Board, lead: &mut Lead, r: RequestId) -> PlaceId
+pub(crate) fn go_where_claimed<Rt: Abort>(
+    rt: &Rt,
+    board: &Board,
+    lead: &mut Lead,
+    r: RequestId,
+) -> PlaceId
     requires lead { IsLeadOf board.now lead.old }
     requires request { IsRequest (plan_of board.now) r }
     requires stage { IsLet (stage_of lead.old r) }
@@ -47,7 +72,7 @@ pub fn go_where_claimed<Rt: Abort>(rt: &Rt, board: &Board, lead: &mut Lead, r: R
 }
 
 /// The permit that has to answer a claim.
-pub fn permit_for<Rt: Abort>(rt: &Rt, board: &Board, hand: &mut Hand, claim: Claim) -> Permit
+pub(crate) fn permit_for<Rt: Abort>(rt: &Rt, board: &Board, hand: &mut Hand, claim: Claim) -> Permit
     requires hand { IsHandOf board.now hand.old }
     requires claim { HasClaim hand.old claim }
     ensures hand { Stays board.now hand.old hand.new }
@@ -60,7 +85,12 @@ pub fn permit_for<Rt: Abort>(rt: &Rt, board: &Board, hand: &mut Hand, claim: Cla
 }
 
 /// Takes what has to be left for a request.
-pub fn collect_some<Rt: Abort>(rt: &Rt, board: &Board, lead: &mut Lead, r: RequestId) -> Posted
+pub(crate) fn collect_some<Rt: Abort>(
+    rt: &Rt,
+    board: &Board,
+    lead: &mut Lead,
+    r: RequestId,
+) -> Posted
     requires lead { IsLeadOf board.now lead.old }
     requires request { IsRequest (plan_of board.now) r }
     requires stage { IsGone (stage_of lead.old r) }
