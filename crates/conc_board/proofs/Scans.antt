@@ -14,12 +14,12 @@ use Rattle.conc_law.specs.Managers.{admits}
 use Rattle.conc_law.specs.Words.{Has}
 use Rattle.conc_law.proofs.Options.{some_and-some}
 use Rattle.conc_board_seats.specs.declared.views.Doing.TheVariants.{Idle}
-use Rattle.conc_board_seats.specs.Words.{IsRequest, count_of_requests, released, request_of, request_word}
+use Rattle.conc_board_seats.specs.Words.{IsRequest, count_of_requests, place_word, released, request_of, request_word}
 use Rattle.conc_board_seats.proofs.Facts.{request_eq}
 use Rattle.conc_board.specs.declared.board.Board.{Board}
 use Rattle.conc_board.specs.declared.hand.Claim.{Claim}
 use Rattle.conc_board.specs.declared.hand.Hand.{Hand}
-use Rattle.conc_board.specs.Claims.{AreMissed, ClaimsAt, ClaimsNone, ClaimsOne, FindsNone, IsMissed, MissesAll, MissesOne, admits_at, admits_request, claim_request, manager_at}
+use Rattle.conc_board.specs.Claims.{AreMissed, ClaimsAt, ClaimsNone, ClaimsOne, FindsNone, FollowsHint, IsMissed, LooksNextAt, LooksNextAtHint, MissesAll, MissesOne, admits_at, admits_request, claim_request, manager_at}
 use Rattle.conc_board.specs.Seats.{AddsOne, IsHandOf, Stays, doing_of, found_by_hand, plan_of}
 use Rattle.conc_board.proofs.Hands.{stays_after}
 
@@ -136,3 +136,41 @@ pub found_off : (n : ℕ) → n ≤ 1 → (n == 1) ≡ false → n ≡ 0
 found_off zero l e = refl
 found_off (suc zero) l e = absurd (cc)
 found_off (suc (suc n)) l e = absurd (omega arith)
+
+-- ---- hints
+
+-- one exchange on the word of a request, whatever it answers
+pub next_one : (board : Board) (place : PlaceId) (r : RequestId) (old new : Hand) (o : Option Claim) →
+    IfSome o (λ claim. ClaimsOne board r place old new claim) → IfNone o (MissesOne board r old new) → LooksNextAt r old new
+next_one board place r old new None a b = (b.found.0, [], b.found.2)
+next_one board place r old new (Some claim) a b = (released, [], a.found)
+
+-- what comes after a step
+after_next : (r : RequestId) (old mid new : Hand) (ys : List (ℕ × ℕ)) → LooksNextAt r old mid → found_by_hand new ≡ found_by_hand mid ++ ys → LooksNextAt r old new
+after_next r old mid new ys next is = (next.0, next.1 ++ ys, is ∙ (ap (λ (z : List (ℕ × ℕ)). z ++ ys) next.2 ∙ append_assoc (found_by_hand old) ((request_word r, next.0) ∷ next.1) ys))
+
+pub next_then_any : (board : Board) (place : PlaceId) (r : RequestId) (old mid new : Hand) (o : Option Claim) → LooksNextAt r old mid →
+    IfSome o (λ claim. ClaimsAt board place mid new claim) → IfNone o (MissesAll board place mid new) → LooksNextAt r old new
+next_then_any board place r old mid new None next a b = after_next r old mid new b.steps next b.made.found
+next_then_any board place r old mid new (Some claim) next a b = after_next r old mid new (a.steps ++ (request_word (claim_request claim), released) ∷ []) next a.found
+
+pub hint_then_any : (board : Board) (plan : Plan) (place : PlaceId) (hint : Option RequestId) (old mid new : Hand) (o : Option Claim) → LooksNextAtHint plan place hint old mid →
+    IfSome o (λ claim. ClaimsAt board place mid new claim) → IfNone o (MissesAll board place mid new) → LooksNextAtHint plan place hint old new
+hint_then_any board plan place None old mid new o next a b = tt
+hint_then_any board plan place (Some r) old mid new o next a b = λ admitted. next_then_any board place r old mid new o (next admitted) a b
+
+-- no manager admits it
+pub no_manager : (plan : Plan) (place : PlaceId) (hint : Option RequestId) (old new : Hand) → manager_at plan place ≡ None → LooksNextAtHint plan place hint old new
+no_manager plan place None old new none = tt
+no_manager plan place (Some r) old new none = λ admitted. absurd (true≢false (sym admitted ∙ ap (some_and (admits_request plan r)) none))
+
+-- the place was found closed, or open
+pub closed_hint : (board : Board) (place : PlaceId) (hint : Option RequestId) (old new : Hand) → found_by_hand new ≡ found_by_hand old ++ (place_word (plan_of board) place, 0) ∷ [] → FollowsHint board place hint old new
+closed_hint board place None old new is = tt
+closed_hint board place (Some r) old new is = λ _. inl is
+
+pub open_hint : (board : Board) (place : PlaceId) (hint : Option RequestId) (old mid new : Hand) → found_by_hand mid ≡ found_by_hand old ++ (place_word (plan_of board) place, 1) ∷ [] →
+    LooksNextAtHint (plan_of board) place hint mid new → FollowsHint board place hint old new
+open_hint board place None old mid new is next = tt
+open_hint board place (Some r) old mid new is next = λ admitted. let t = next admitted in
+    inr (t.0, t.1, t.2 ∙ (ap (λ (z : List (ℕ × ℕ)). z ++ (request_word r, t.0) ∷ t.1) is ∙ append_assoc (found_by_hand old) ((place_word (plan_of board) place, 1) ∷ []) ((request_word r, t.0) ∷ t.1)))

@@ -1,5 +1,5 @@
 -- Claims and permits, and what a hand's calls answer.
-use Rattle.std.specs.Prelude.{◌≡◌, ◌≢◌, ◌⊎◌, ℕ, ◌≤◌, ◌==◌, ◌||◌, Bool, List, [], ◌∷◌, ◌++◌, Option, IsTrue}
+use Rattle.std.specs.Prelude.{◌≡◌, ◌≢◌, ◌⊎◌, ℕ, ◌≤◌, ◌==◌, ◌||◌, Bool, List, [], ◌∷◌, ◌++◌, Option, IsTrue, IfSome}
 use Rattle.std.specs.Option.{option_map}
 use Rattle.conc_types.specs.declared.event.PlaceId.{PlaceId}
 use Rattle.conc_types.specs.declared.event.RequestId.{RequestId}
@@ -127,6 +127,23 @@ pub record FindsNone (board : Board) (place : PlaceId) (old new : Hand) : Type 0
   pub cause :
       Has steps (place_word (plan_of board) place, 0)
       ⊎ AreMissed (plan_of board) place steps (count_of_requests (plan_of board))
+
+-- the next step was on the word of this request
+abbrev pub LooksNextAt : RequestId → Hand → Hand → Type 0
+LooksNextAt r old new =
+    (n : ℕ) × (rest : List (ℕ × ℕ)) × (found_by_hand new ≡ found_by_hand old ++ (request_word r, n) ∷ rest)
+
+-- the hint, where the place's manager admits it, was looked at next
+abbrev pub LooksNextAtHint : Plan → PlaceId → Option RequestId → Hand → Hand → Type 0
+LooksNextAtHint plan place hint old new = IfSome hint (λ r. IsTrue (admits_at plan place r) → LooksNextAt r old new)
+
+-- The place was found closed, and nothing else was looked at; or it was found open, and the hint, where the
+-- place's manager admits it, was looked at before any other request.
+abbrev pub FollowsHint : Board → PlaceId → Option RequestId → Hand → Hand → Type 0
+FollowsHint board place hint old new = IfSome hint (λ r. IsTrue (admits_at (plan_of board) place r) →
+    (found_by_hand new ≡ found_by_hand old ++ (place_word (plan_of board) place, 0) ∷ [])
+    ⊎ ((n : ℕ) × (rest : List (ℕ × ℕ))
+    × (found_by_hand new ≡ found_by_hand old ++ (place_word (plan_of board) place, 1) ∷ (request_word r, n) ∷ rest)))
 
 -- ---- a claim is answered
 

@@ -3,7 +3,7 @@ ghost use Rattle.std.specs.Option.{option_copied};
 ghost use Rattle.conc_board_seats.specs.Places.{has};
 ghost use Rattle.conc_board_seats.specs.Words.{count_of_requests, IsPlace, IsRequest};
 ghost use Rattle.conc_board_seats.specs.declared.views.Doing.TheVariants as does;
-ghost use Rattle.conc_board.specs.Claims.{admits_at, admits_request as admits_request_of, ClaimsAt, ClaimsOne, FindsNone, manager_at as manager_at_of, MissesAll, MissesOne, MissesSome};
+ghost use Rattle.conc_board.specs.Claims.{admits_at, admits_request as admits_request_of, ClaimsAt, ClaimsOne, FindsNone, FollowsHint, LooksNextAtHint, manager_at as manager_at_of, MissesAll, MissesOne, MissesSome};
 ghost use Rattle.conc_board.specs.Seats.{doing_of, IsHandOf, places_of_hand, plan_of};
 
 use crate::numbers::{RELEASED, claimed, request_word};
@@ -35,7 +35,8 @@ fn admits_request(plan: &Plan, r: RequestId, manager: &Manager) -> bool
 impl Board {
     /// Claims a request for a place of the hand's, one that the place's manager admits: the hinted one
     /// where it is admitted and let out, else the first that is. `None` only where the place was
-    /// found closed, or each request that its manager admits was found not let out or claimed already.
+    /// found closed, or each request that its manager admits was found not let out or claimed already. An
+    /// admitted hint is looked at before any other request.
     pub fn claim(
         &self,
         hand: &mut Hand,
@@ -50,6 +51,7 @@ impl Board {
         requires own { IsTrue (has (places_of_hand hand.old) place) }
         ensures claimed { IfSome result (λ claim. ClaimsAt self.now place hand.old hand.new claim) }
         ensures none { IfNone result (FindsNone self.now place hand.old hand.new) }
+        ensures hint { FollowsHint self.now place hint hand.old hand.new }
     {
         if !self.is_open(hand, place) {
             return None;
@@ -72,6 +74,7 @@ impl Board {
         requires own { IsTrue (has (places_of_hand hand.old) place) }
         ensures claimed { IfSome result (λ claim. ClaimsAt self.now place hand.old hand.new claim) }
         ensures none { IfNone result (MissesAll self.now place hand.old hand.new) }
+        ensures hint { LooksNextAtHint plan.now place hint hand.old hand.new }
     {
         let manager = manager_at(plan, place)?;
         match self.claim_hinted(hand, place, plan, manager, hint) {
@@ -97,6 +100,7 @@ impl Board {
         requires manager { manager_at_of plan.now place ≡ Some manager.now }
         ensures claimed { IfSome result (λ claim. ClaimsAt self.now place hand.old hand.new claim) }
         ensures none { IfNone result (MissesSome self.now hand.old hand.new) }
+        ensures hint { LooksNextAtHint plan.now place hint hand.old hand.new }
     {
         let r = hint?;
         if !admits_request(plan, r, manager) {

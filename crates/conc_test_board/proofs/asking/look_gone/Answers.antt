@@ -1,4 +1,3 @@
-use Rattle.std.proofs.Common.{inr}
 use Rattle.conc_board.specs.Seats.{plan_of, stage_of}
 use Rattle.conc_test_board.proofs.Rules.{gone_still, only_one}
 use Rattle.conc_test_board.proofs.asking.look_gone.Goals as goal
