@@ -8,17 +8,20 @@ use crate::faults::Faults;
 use crate::file::{length_of, read_piece};
 use crate::opening::{must_stand_apart, open_old};
 use conc_disk::Disk;
-use conc_outside::{Failed, read_up_to};
+use conc_outside::{Failed, metadata_of, read_up_to};
 use std::alloc::Global;
 use std::os::unix::fs::FileExt;
 use std::rt::Files;
 
-/// Opens the file at this path for reading, which may stand at none of the other paths. There may be
-/// none.
+/// Opens the file at this path for reading, which may stand at none of the other paths and is no
+/// folder. There may be none.
 fn open_to_look<R: Files>(rt: &R, path: &str, others: &[&str]) -> Result<Option<R::File>, Failed> {
     let opened = open_old(rt, path, false)?;
     if let Some(file) = &opened {
         must_stand_apart(rt, file, others)?;
+        if metadata_of(file)?.is_dir() {
+            return Err(Failed);
+        }
     }
     Ok(opened)
 }

@@ -62,7 +62,12 @@ fn a_disk_is_opened_at_its_first_use(rt: HostRuntime) -> Result<(), Fail> {
     // There is no folder yet.
     same(&rt, disk.len(), Err(Failed));
     fs::create_dir(&rt, folder.as_str())?;
-    // A look makes no file.
+    // A look makes no file, and a folder is none.
+    same(
+        &rt,
+        GrowingDisk::new(&rt, folder.as_str(), &[]).len(),
+        Err(Failed),
+    );
     same(&rt, GrowingDisk::new(&rt, path.as_str(), &[]).len(), Ok(0));
     same(
         &rt,
