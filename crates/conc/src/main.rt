@@ -7,11 +7,11 @@ ghost use Rattle.std.specs.IoError.{error_kind};
 ghost use Rattle.std.specs.declared.io.ErrorKind.TheVariants as ErrorKind;
 ghost use Rattle.conc_top.specs.declared.exit.Exit.TheVariants as Exit;
 
-use conc_clock::{SystemClock, SystemZone};
 use conc_disk::Disk;
 use conc_disk_devices::{GrowingDisk, PathDisk, SnapshotDisk};
-use conc_image::MOST_BYTES;
+use conc_journal_image::MOST_BYTES;
 use conc_outside::{FileShelf, WriterSink};
+use conc_outside_clock::{SystemClock, SystemZone};
 use conc_top::{Exit, conc, exit_text};
 use conc_types::NoMemory;
 use std::env;

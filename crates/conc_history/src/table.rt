@@ -3,8 +3,8 @@ ghost use Rattle.conc_law.specs.Text.{id_word, phase_word, spaced, status_word, 
 ghost use Rattle.conc_history.specs.Table.{line_at, line_with, table_at};
 
 use crate::words::{item_name, phase_bytes, put_bytes, status_bytes};
-use conc_decide::status;
-use conc_replay::standing_after;
+use conc_history_replay::standing_after;
+use conc_law_decisions::status;
 use conc_types::{Event, NoMemory, Phase, Plan, Req, RequestId, Standing, Status, put_decimal};
 use std::alloc::Global;
 

@@ -4,7 +4,7 @@ ghost use Rattle.conc_law.specs.Text.{text_of};
 use crate::lines::put_events;
 use crate::table::put_table;
 use crate::words::put_bytes;
-use conc_replay::standing_after;
+use conc_history_replay::standing_after;
 use conc_types::{Event, NoMemory, Plan};
 use std::alloc::Global;
 

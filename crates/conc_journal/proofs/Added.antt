@@ -2,8 +2,8 @@
 use Rattle.std.proofs.Common.{◌≡◌, ◌⊎◌, inl, inr, ℕ, ◌+◌, ◌*◌, ◌<◌, List, [], ◌∷◌, ◌++◌, length, drop, sym, subst, ◌∙◌, ap, arith}
 use Rattle.conc_types.specs.declared.event.Event.{Event}
 use Rattle.conc_disk.specs.Disk.{written}
-use Rattle.conc_image.specs.Image.{HasNext, IsJournal}
-use Rattle.conc_image.proofs.Appends.{gate-either, gate-written, record-written, written-stays}
+use Rattle.conc_journal_image.specs.Image.{HasNext, IsJournal}
+use Rattle.conc_journal_image.proofs.Appends.{gate-either, gate-written, record-written, written-stays}
 use Rattle.conc_journal.specs.Left.{AddsTo}
 use Rattle.conc_journal.specs.Records.{IsSpelled}
 

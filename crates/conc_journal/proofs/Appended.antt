@@ -2,7 +2,7 @@
 use Rattle.std.proofs.Common.{◌≡◌, ◌⊎◌, ℕ, ◌+◌, ◌*◌, ◌<◌, List, [], ◌∷◌, ◌++◌, length, is_some, IfSome, subst, arith}
 use Rattle.conc_types.specs.declared.event.Event.{Event}
 use Rattle.conc_disk.specs.Disk.{DiskState, Reaches, written}
-use Rattle.conc_image.specs.Image.{IsJournal}
+use Rattle.conc_journal_image.specs.Image.{IsJournal}
 use Rattle.conc_journal.specs.Journals.{FitsStage, IsOn}
 use Rattle.conc_journal.specs.declared.journal.Journal.{Journal}
 use Rattle.conc_journal.specs.declared.journal.Stage.{Stage}
@@ -11,7 +11,7 @@ use Rattle.conc_disk.specs.Left.{EachImage, LeavesOnly}
 use Rattle.conc_journal.specs.Left.{AddedFrom, LeavesAdded}
 use Rattle.conc_journal.specs.Records.{IsSpelled}
 use Rattle.conc_journal.proofs.Added.{added-fits, adds-fits}
-use Rattle.conc_image.proofs.Appends.{length-journal}
+use Rattle.conc_journal_image.proofs.Appends.{length-journal}
 use Rattle.conc_journal.proofs.Steps.{each-from, left-from, reaches}
 
 -- a journal has these events, or these and one more

@@ -3,9 +3,9 @@ use Rattle.std.proofs.Common.{◌≡◌, ℕ, ◌≤◌, min, Bool, true, false,
 use Rattle.std.proofs.lemmas.List.{take_min}
 use Rattle.conc_types.specs.declared.event.Event.{Event}
 use Rattle.conc_disk.specs.Disk.{DiskState, LeavesWhatWasSeen, Stays}
-use Rattle.conc_image.proofs.Beginning.{header-begun}
-use Rattle.conc_image.proofs.Fronts.{digest_in-front, found_in-front, has_header-front, is_not_begun-front}
-use Rattle.conc_image.specs.Image.{digest_in, Found, found_in, has_header, IsJournal, is_not_begun}
+use Rattle.conc_journal_image.proofs.Beginning.{header-begun}
+use Rattle.conc_journal_image.proofs.Fronts.{digest_in-front, found_in-front, has_header-front, is_not_begun-front}
+use Rattle.conc_journal_image.specs.Image.{digest_in, Found, found_in, has_header, IsJournal, is_not_begun}
 use Rattle.conc_journal.specs.Journals.{FitsStage, IsOn}
 use Rattle.conc_disk.specs.Left.{EachImage}
 use Rattle.conc_journal.specs.Opens.{broken_of, digest_of, events_of, IsFoundIn, may_open}

@@ -1,14 +1,14 @@
 ghost use Rattle.std.specs.Prelude.{◌≡◌, ◌+◌, ◌^◌, ◌<◌, IsTrue, OnErr, OnOk};
 ghost use Rattle.conc_outside.specs.Counts.{Rose};
 ghost use Rattle.conc_disk.specs.Disk.{Reaches};
-ghost use Rattle.conc_image.specs.Fields.{has_record};
+ghost use Rattle.conc_journal_image.specs.Fields.{has_record};
 ghost use Rattle.conc_disk.specs.Left.{EachImage, LeavesOnly};
 ghost use Rattle.conc_journal.specs.Left.{AddedFrom, LeavesAdded};
 ghost use Rattle.conc_journal.specs.Records.{IsSpelled};
 
 use crate::durable::write_durable;
 use conc_disk::Disk;
-use conc_image::record_of;
+use conc_journal_image::record_of;
 use conc_outside::Failed;
 use conc_types::Event;
 

@@ -37,7 +37,7 @@ pub struct Journal {
 
 impl Journal {
     ghost use Rattle.conc_outside.specs.Counts.{Rose};
-    ghost use Rattle.conc_image.specs.Fields.{has_record};
+    ghost use Rattle.conc_journal_image.specs.Fields.{has_record};
     ghost use Rattle.conc_journal.specs.Journals.{FitsStage, IsOn, list_of, room_of, stage_of};
     ghost use Rattle.conc_disk.specs.Left.{LeavesOnly};
     ghost use Rattle.conc_journal.specs.Receipts.{event_of, number_of};

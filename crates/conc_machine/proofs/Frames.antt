@@ -10,22 +10,22 @@ use Rattle.conc_types.specs.declared.facts.Standing.{Standing}
 use Rattle.conc_types.specs.declared.plan.Plan.{Plan}
 use Rattle.conc_types.specs.declared.plan.Req.{Req}
 use Rattle.conc_types.specs.Words.{numbered}
-use Rattle.conc_facts.specs.Advance.{done_after}
+use Rattle.conc_law_effects.specs.Advance.{done_after}
 use Rattle.conc_law.specs.Next.{has_step, is_left_running, runs_somewhere}
 use Rattle.conc_law.specs.Standing.{facts_at, no_facts}
-use Rattle.conc_queue.specs.Written.{IsAlike}
-use Rattle.conc_queue.proofs.Maps.{numbers_of-alike}
-use Rattle.conc_classes.specs.Classes.{AreClasses}
-use Rattle.conc_lets.specs.Lets.{AreLets}
-use Rattle.conc_lets.proofs.Alike.{AreLets-alike}
-use Rattle.conc_reach.specs.Spans.{AreSpans}
-use Rattle.conc_starts.specs.Starts.{AreStarts}
-use Rattle.conc_starts.proofs.Alike.{AreStarts-alike}
-use Rattle.conc_steps.specs.declared.running.Running.{Running}
-use Rattle.conc_steps.specs.declared.steps.Steps.{Steps}
-use Rattle.conc_steps.specs.Steps.{AreRunning, AreSteps}
-use Rattle.conc_steps.proofs.Alike.{AreRunning-alike, AreSteps-alike}
-use Rattle.conc_steps.proofs.Same.{has_step-same, is_left-same, runs-same}
+use Rattle.conc_machine_queue.specs.Written.{IsAlike}
+use Rattle.conc_machine_queue.proofs.Maps.{numbers_of-alike}
+use Rattle.conc_machine_classes.specs.Classes.{AreClasses}
+use Rattle.conc_machine_release.specs.Lets.{AreLets}
+use Rattle.conc_machine_release.proofs.Alike.{AreLets-alike}
+use Rattle.conc_machine_reach.specs.Spans.{AreSpans}
+use Rattle.conc_machine_starts.specs.Starts.{AreStarts}
+use Rattle.conc_machine_starts.proofs.Alike.{AreStarts-alike}
+use Rattle.conc_machine_steps.specs.declared.running.Running.{Running}
+use Rattle.conc_machine_steps.specs.declared.steps.Steps.{Steps}
+use Rattle.conc_machine_steps.specs.Steps.{AreRunning, AreSteps}
+use Rattle.conc_machine_steps.proofs.Alike.{AreRunning-alike, AreSteps-alike}
+use Rattle.conc_machine_steps.proofs.Same.{has_step-same, is_left-same, runs-same}
 use Rattle.conc_machine.specs.Kept.{AreParts, first_undone}
 use Rattle.conc_machine.specs.Taken.{HasParts}
 use Rattle.conc_machine.specs.declared.kept.Kept.{Kept}

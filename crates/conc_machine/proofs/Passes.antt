@@ -4,10 +4,10 @@ use Rattle.std.proofs.lemmas.Bool.Decides.{nat_tests}
 use Rattle.conc_types.specs.declared.event.Event.{Event}
 use Rattle.conc_types.specs.declared.facts.Facts.{Facts}
 use Rattle.conc_types.specs.declared.plan.Plan.{Plan}
-use Rattle.conc_facts.specs.Advance.{all_after}
-use Rattle.conc_reach.specs.Spans.{is_within, LeavesOthers}
-use Rattle.conc_reach.specs.declared.span.Span.{Span}
-use Rattle.conc_reach.proofs.Passes.{all_after-before, all_after-from}
+use Rattle.conc_law_effects.specs.Advance.{all_after}
+use Rattle.conc_machine_reach.specs.Spans.{is_within, LeavesOthers}
+use Rattle.conc_machine_reach.specs.declared.span.Span.{Span}
+use Rattle.conc_machine_reach.proofs.Passes.{all_after-before, all_after-from}
 use Rattle.conc_machine.specs.Kept.{AreFacts}
 use Rattle.conc_machine.specs.declared.kept.Kept.{Kept}
 

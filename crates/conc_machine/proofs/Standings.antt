@@ -8,8 +8,8 @@ use Rattle.conc_types.specs.declared.plan.Plan.{Plan}
 use Rattle.conc_types.specs.declared.script.Order.{Order}
 use Rattle.conc_law.specs.Facts.{facts_of}
 use Rattle.conc_law.specs.Standing.{is_done, now, standing}
-use Rattle.conc_life.specs.declared.life.Life.{Life}
-use Rattle.conc_life.specs.Life.{IsLife}
+use Rattle.conc_machine_readings.specs.declared.life.Life.{Life}
+use Rattle.conc_machine_readings.specs.Life.{IsLife}
 use Rattle.conc_machine.specs.Kept.{first_undone}
 use Rattle.conc_machine.specs.Stands.{Stands}
 use Rattle.conc_machine.specs.declared.machine.Machine.{Machine}

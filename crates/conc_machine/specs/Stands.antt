@@ -5,8 +5,8 @@ use Rattle.conc_types.specs.declared.event.Event.{Event}
 use Rattle.conc_types.specs.declared.plan.Plan.{Plan}
 use Rattle.conc_types.specs.declared.script.Reading.{Reading}
 use Rattle.conc_law.specs.Standing.{standing}
-use Rattle.conc_life.specs.Life.{IsLife}
-use Rattle.conc_life.specs.declared.life.Life.{Life}
+use Rattle.conc_machine_readings.specs.Life.{IsLife}
+use Rattle.conc_machine_readings.specs.declared.life.Life.{Life}
 use Rattle.conc_machine.specs.declared.machine.Machine.{Machine}
 
 -- the plan of a machine

@@ -2,7 +2,7 @@
 use Rattle.std.specs.Prelude.{◌≡◌}
 use Rattle.std.specs.Option.{option_or}
 use Rattle.conc_types.specs.declared.event.Event.{Event}
-use Rattle.conc_facts.specs.Advance.{done_after}
+use Rattle.conc_law_effects.specs.Advance.{done_after}
 use Rattle.conc_law.specs.Kinds.{tick_of}
 use Rattle.conc_machine.specs.Kept.{first_undone}
 use Rattle.conc_machine.specs.declared.kept.Kept.{Kept}

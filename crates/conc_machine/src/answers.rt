@@ -19,7 +19,7 @@ ghost use Rattle.conc_machine.specs.Stands.{plan_of, readings_of, Stands};
 use crate::forcing::forced;
 use crate::judging::{is_at_rest, may_come, may_start, may_take};
 use crate::machine::Machine;
-use conc_decide::{facts_at, status};
+use conc_law_decisions::{facts_at, status};
 use conc_time::is_usable;
 use conc_types::{Event, Phase, PlaceId, Reading, RequestId, Status};
 

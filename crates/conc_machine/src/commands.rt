@@ -6,7 +6,7 @@ ghost use Rattle.conc_types.specs.declared.event.Event.TheVariants.{Command as c
 ghost use Rattle.conc_law.specs.Next.{forced_command as forced_command_of, is_due as is_due_of};
 ghost use Rattle.conc_machine.specs.Kept.{first_undone as first_undone_of};
 
-use conc_decide::is_due;
+use conc_law_decisions::is_due;
 use conc_types::{Event, Plan, Standing};
 
 /// The place of the first command that is not done, from 0, where all before one are done.

@@ -7,7 +7,7 @@ ghost use Rattle.conc_machine.specs.Kept.{AreKept};
 
 use crate::forcing::forced;
 use crate::kept::Kept;
-use conc_decide::{is_not_earlier, is_resume, is_same_event, may_end_by_id};
+use conc_law_decisions::{is_not_earlier, is_resume, is_same_event, may_end_by_id};
 use conc_types::{Event, Moment, PlaceId, Plan, Reading, RequestId};
 
 // ---- rest

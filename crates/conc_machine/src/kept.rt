@@ -1,8 +1,8 @@
-use conc_classes::Classes;
-use conc_lets::Lets;
-use conc_reach::Spans;
-use conc_starts::Starts;
-use conc_steps::{Running, Steps};
+use conc_machine_classes::Classes;
+use conc_machine_reach::Spans;
+use conc_machine_release::Lets;
+use conc_machine_starts::Starts;
+use conc_machine_steps::{Running, Steps};
 use conc_types::Standing;
 
 /// What a machine keeps: what stands, and of it what the next event is found by.

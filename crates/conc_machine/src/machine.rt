@@ -1,7 +1,7 @@
 ghost use Rattle.conc_machine.specs.Kept.{AreKept};
 
 use crate::kept::Kept;
-use conc_life::Life;
+use conc_machine_readings::Life;
 use conc_types::Plan;
 
 /// Stands for a list of events of a plan, of any length, and answers for it what the rules read from

@@ -9,13 +9,13 @@ ghost use Rattle.conc_machine.specs.Stands.{AreLived, plan_of, readings_of, Stan
 use crate::kept::Kept;
 use crate::machine::Machine;
 use crate::taking::take_in;
-use conc_classes::Classes;
-use conc_facts::begin;
-use conc_lets::Lets;
-use conc_life::Life;
-use conc_reach::Spans;
-use conc_starts::Starts;
-use conc_steps::{Running, Steps};
+use conc_law_effects::begin;
+use conc_machine_classes::Classes;
+use conc_machine_reach::Spans;
+use conc_machine_readings::Life;
+use conc_machine_release::Lets;
+use conc_machine_starts::Starts;
+use conc_machine_steps::{Running, Steps};
 use conc_types::{Event, Moment, NoMemory, Plan, Readings};
 use std::alloc::Global;
 

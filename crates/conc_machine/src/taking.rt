@@ -1,12 +1,12 @@
 ghost use Rattle.std.specs.Prelude.{◌≡◌};
-ghost use Rattle.conc_facts.specs.Advance.{IsAfter};
+ghost use Rattle.conc_law_effects.specs.Advance.{IsAfter};
 ghost use Rattle.conc_machine.specs.Kept.{AreKept, AreParts, first_undone as first_undone_of};
 ghost use Rattle.conc_machine.specs.Taken.{HasCommand, HasTick};
 
 use crate::commands::first_undone;
 use crate::kept::Kept;
 use crate::writing::write_all;
-use conc_facts::{mark_done, named_facts, used_after};
+use conc_law_effects::{mark_done, named_facts, used_after};
 use conc_types::{Event, Plan};
 
 // Takes in the command of an event, if it is one.

@@ -9,14 +9,14 @@ use Rattle.conc_types.specs.declared.setup.Setup.{Setup}
 use Rattle.conc_types.specs.Faults.{Fault, first_fault}
 use Rattle.conc_types.specs.Scripts.{count_of}
 use Rattle.conc_types.specs.Stages.{has_stage, with_stage}
-use Rattle.conc_fields.specs.Arrays.{array_in, first_wrong, goods, list_in, read_all, worst}
-use Rattle.conc_fields.specs.Fields.{only}
-use Rattle.conc_forms.specs.Entries.{entry_in, entry_of}
-use Rattle.conc_forms.specs.Managers.{manager_in, manager_of}
-use Rattle.conc_forms.specs.Programs.{filter_in, filter_of, job_of, program_in, program_of}
-use Rattle.conc_forms.specs.Rules.{rule_in, rule_of}
-use Rattle.conc_forms.specs.Sets.{set_in, set_of, stage_in, stage_of}
-use Rattle.conc_forms.specs.Shifts.{days_in, shift_in, shift_of}
+use Rattle.conc_setup_fields.specs.Arrays.{array_in, first_wrong, goods, list_in, read_all, worst}
+use Rattle.conc_setup_fields.specs.Fields.{only}
+use Rattle.conc_setup_entries.specs.Entries.{entry_in, entry_of}
+use Rattle.conc_setup_entries.specs.Managers.{manager_in, manager_of}
+use Rattle.conc_setup_entries.specs.Programs.{filter_in, filter_of, job_of, program_in, program_of}
+use Rattle.conc_setup_entries.specs.Rules.{rule_in, rule_of}
+use Rattle.conc_setup_entries.specs.Sets.{set_in, set_of, stage_in, stage_of}
+use Rattle.conc_setup_entries.specs.Shifts.{days_in, shift_in, shift_of}
 use Rattle.conc_setup.specs.Documents.{document_in, document_of, entries_in}
 use Rattle.conc_setup.specs.FirstPass.{first_pass, wrong_entry}
 use Rattle.conc_setup.specs.SecondPass.{first_again, first_set_again, name_again, second_pass}

@@ -29,23 +29,23 @@ use Rattle.conc_law.proofs.AloneLawful.{IsGood, next_alone-follows, report-good}
 use Rattle.conc_law.proofs.LawfulIsPast.{lawful_is_past}
 use Rattle.conc_law.proofs.Options.{and_then-some, map-some}
 use Rattle.conc_law.proofs.Positions.{reverse-push}
-use Rattle.conc_life.specs.declared.life.Life.{Life}
-use Rattle.conc_lines.specs.Lines.{has_line, is_small}
-use Rattle.conc_lines.proofs.PastLines.{history_lines}
+use Rattle.conc_machine_readings.specs.declared.life.Life.{Life}
+use Rattle.conc_history_lines.specs.Lines.{has_line, is_small}
+use Rattle.conc_history_lines.proofs.PastLines.{history_lines}
 use Rattle.conc_machine.specs.Stands.{readings_of}
 use Rattle.conc_machine.specs.declared.machine.Machine.{Machine}
-use Rattle.conc_choice.specs.Choices.{HasItsText}
-use Rattle.conc_choice.proofs.Pushes.{is_lawful-more}
+use Rattle.conc_resolver_choice.specs.Choices.{HasItsText}
+use Rattle.conc_resolver_choice.proofs.Pushes.{is_lawful-more}
 use Rattle.conc_disk.specs.Disk.{DiskState}
-use Rattle.conc_image.specs.Fields.{has_record}
+use Rattle.conc_journal_image.specs.Fields.{has_record}
 use Rattle.conc_journal.specs.Journals.{room_of}
 use Rattle.conc_restart.specs.Need.{IsOfOneLife, need}
 use Rattle.conc_restart.proofs.LivesFit.{life_fits}
 use Rattle.conc_spool.specs.Spools.{used_of}
 use Rattle.conc_spool.specs.Spools.{IsOn as SpoolIsOn}
 use Rattle.conc_spool.specs.declared.spool.Spool.{Spool}
-use Rattle.conc_work.specs.Works.{AreTied, HasRoom, list_in}
-use Rattle.conc_work.specs.declared.work.Work.{Work}
+use Rattle.conc_run_state.specs.Works.{AreTied, HasRoom, list_in}
+use Rattle.conc_run_state.specs.declared.work.Work.{Work}
 use Rattle.conc_resolver.specs.Steps.{IsReady, MayLog, next_in, plan_in, readings_in}
 use Rattle.conc_resolver.proofs.Extents.{used-below, used-push}
 

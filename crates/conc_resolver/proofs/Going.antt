@@ -20,18 +20,18 @@ use Rattle.conc_journal.specs.Journals.{list_of, stage_of}
 use Rattle.conc_journal.specs.Stages.{has_faulted, stage_digest}
 use Rattle.conc_journal.specs.declared.journal.Stage.TheVariants.{Begun}
 use Rattle.conc_spool.specs.Spools.{Agrees, KeepsBelow, used_of}
-use Rattle.conc_choice.proofs.Pushes.{Follows-push}
-use Rattle.conc_work.specs.Lists.{GoesOn, IsPrefix, longest_of}
-use Rattle.conc_work.specs.Survival.{Survives}
-use Rattle.conc_work.specs.Told.{AreTold}
-use Rattle.conc_work.specs.Works.{AreReady, AreTied, list_in, longest_in}
-use Rattle.conc_work.specs.declared.work.Work.{Work}
-use Rattle.conc_work.specs.Disks.{disks}
+use Rattle.conc_resolver_choice.proofs.Pushes.{Follows-push}
+use Rattle.conc_run_state.specs.Lists.{GoesOn, IsPrefix, longest_of}
+use Rattle.conc_run_state.specs.Survival.{Survives}
+use Rattle.conc_run_state.specs.Told.{AreTold}
+use Rattle.conc_run_state.specs.Works.{AreReady, AreTied, list_in, longest_in}
+use Rattle.conc_run_state.specs.declared.work.Work.{Work}
+use Rattle.conc_run_state.specs.Disks.{disks}
 use Rattle.conc_resolver.specs.Runs.{WentOn}
 use Rattle.conc_resolver.specs.Steps.{SurvivesFor, TellsOn}
 use Rattle.conc_resolver.proofs.Extents.{used-more}
-use Rattle.conc_work.proofs.Prefixes.{prefix-self}
-use Rattle.conc_work.proofs.Surviving.{survives-wider}
+use Rattle.conc_run_state.proofs.Prefixes.{prefix-self}
+use Rattle.conc_run_state.proofs.Surviving.{survives-wider}
 use Rattle.conc_resolver.proofs.Logs.{sound-begun, sound-whole}
 use Rattle.conc_resolver.proofs.Texts.{agrees-on}
 

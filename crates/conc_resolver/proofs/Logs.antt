@@ -4,18 +4,18 @@ use Rattle.conc_types.specs.declared.event.Event.{Event}
 use Rattle.conc_disk.specs.Disk.{DiskState}
 use Rattle.conc_disk.specs.Left.{LeavesOnly}
 use Rattle.conc_disk.proofs.Leaving.{if_some-any, leaves-wider}
-use Rattle.conc_image.specs.Image.{digest_in, Found, found_in, has_header, IsJournal}
-use Rattle.conc_image.proofs.Beginning.{header-begun}
+use Rattle.conc_journal_image.specs.Image.{digest_in, Found, found_in, has_header, IsJournal}
+use Rattle.conc_journal_image.proofs.Beginning.{header-begun}
 use Rattle.conc_journal.specs.Journals.{FitsStage, list_of, stage_of}
 use Rattle.conc_journal.specs.Opens.{events_of}
 use Rattle.conc_journal.specs.Stages.{after_fault, has_faulted, stage_digest, takes_events}
 use Rattle.conc_journal.specs.declared.journal.Journal.{Journal}
 use Rattle.conc_journal.specs.declared.journal.Stage.{Stage}
 use Rattle.conc_journal.specs.declared.journal.Stage.TheVariants.{Begun, AppendFailed}
-use Rattle.conc_work.specs.Lists.{failed_in, IsPrefix}
-use Rattle.conc_work.specs.Survival.{Survives}
-use Rattle.conc_work.proofs.Prefixes.{prefix-self}
-use Rattle.conc_work.proofs.Surviving.{journal-survives}
+use Rattle.conc_run_state.specs.Lists.{failed_in, IsPrefix}
+use Rattle.conc_run_state.specs.Survival.{Survives}
+use Rattle.conc_run_state.proofs.Prefixes.{prefix-self}
+use Rattle.conc_run_state.proofs.Surviving.{journal-survives}
 use Rattle.conc_resolver.specs.Steps.{SurvivesFor}
 
 -- ---- images

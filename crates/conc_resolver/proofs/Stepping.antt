@@ -20,10 +20,10 @@ use Rattle.conc_machine.specs.declared.machine.Machine.{Machine}
 use Rattle.conc_spool.specs.Spools.{used_of}
 use Rattle.conc_spool.specs.Spools.{IsOn as SpoolIsOn}
 use Rattle.conc_spool.specs.declared.spool.Spool.{Spool}
-use Rattle.conc_work.specs.Lists.{failed_in}
-use Rattle.conc_work.specs.Works.{AreTied, HasRoom, list_in, longest_in}
-use Rattle.conc_work.specs.declared.work.Work.{Work}
-use Rattle.conc_work.specs.Disks.{disks}
+use Rattle.conc_run_state.specs.Lists.{failed_in}
+use Rattle.conc_run_state.specs.Works.{AreTied, HasRoom, list_in, longest_in}
+use Rattle.conc_run_state.specs.declared.work.Work.{Work}
+use Rattle.conc_run_state.specs.Disks.{disks}
 use Rattle.conc_resolver.specs.Runs.{WentOn}
 use Rattle.conc_resolver.specs.Steps.{any_disk, IsReady, IsTied, left_in, MayLog, next_in, plan_in, readings_in, SurvivesFor, TellsOn}
 use Rattle.conc_resolver.proofs.Coming.{has-room, lawful-past}

@@ -10,10 +10,10 @@ use Rattle.conc_law.specs.Standing.{used}
 use Rattle.conc_disk.specs.Disk.{DiskState, SeenFollows}
 use Rattle.conc_disk.specs.Left.{EachImage, LeavesOnly}
 use Rattle.conc_disk.proofs.Leaving.{if_some-any, leaves-none}
-use Rattle.conc_image.proofs.Fronts.{part-front}
+use Rattle.conc_journal_image.proofs.Fronts.{part-front}
 use Rattle.conc_spool.specs.Spools.{Agrees, KeepsBelow}
-use Rattle.conc_choice.specs.Choices.{HasItsText}
-use Rattle.conc_work.specs.Told.{AreTold, IsTold}
+use Rattle.conc_resolver_choice.specs.Choices.{HasItsText}
+use Rattle.conc_run_state.specs.Told.{AreTold, IsTold}
 use Rattle.conc_resolver.specs.Steps.{TellsOn}
 use Rattle.conc_resolver.proofs.Extents.{last-at, within-used}
 

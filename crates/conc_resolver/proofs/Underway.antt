@@ -7,9 +7,9 @@ use Rattle.conc_disk.specs.Disk.{DiskState}
 use Rattle.conc_journal.specs.Journals.{stage_of}
 use Rattle.conc_journal.specs.declared.journal.Stage.TheVariants.{Begun}
 use Rattle.conc_machine.specs.Stands.{readings_of}
-use Rattle.conc_work.specs.Works.{AreReady}
-use Rattle.conc_work.specs.declared.work.Work.{Work}
-use Rattle.conc_work.specs.Disks.{Disks, disks}
+use Rattle.conc_run_state.specs.Works.{AreReady}
+use Rattle.conc_run_state.specs.declared.work.Work.{Work}
+use Rattle.conc_run_state.specs.Disks.{Disks, disks}
 use Rattle.conc_resolver.specs.Runs.{WentOn}
 use Rattle.conc_resolver.specs.Steps.{IsReady, plan_in, readings_in}
 use Rattle.conc_resolver.proofs.Going.{went-twice}

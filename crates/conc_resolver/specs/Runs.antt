@@ -10,12 +10,12 @@ use Rattle.conc_journal.specs.Journals.{stage_of}
 use Rattle.conc_journal.specs.Stages.{stage_digest}
 use Rattle.conc_journal.specs.declared.journal.Stage.TheVariants.{Begun}
 use Rattle.conc_spool.specs.Spools.{Agrees, KeepsBelow, used_of}
-use Rattle.conc_work.specs.Disks.{Disks}
-use Rattle.conc_work.specs.Lists.{GoesOn}
-use Rattle.conc_work.specs.Survival.{Survives}
-use Rattle.conc_work.specs.Told.{AreTold}
-use Rattle.conc_work.specs.Works.{AreTied, list_in, longest_in}
-use Rattle.conc_work.specs.declared.work.Work.{Work}
+use Rattle.conc_run_state.specs.Disks.{Disks}
+use Rattle.conc_run_state.specs.Lists.{GoesOn}
+use Rattle.conc_run_state.specs.Survival.{Survives}
+use Rattle.conc_run_state.specs.Told.{AreTold}
+use Rattle.conc_run_state.specs.Works.{AreTied, list_in, longest_in}
+use Rattle.conc_run_state.specs.declared.work.Work.{Work}
 
 -- What a run made of its work, however it ended. The list went on as a run without workers goes on, also by the event whose
 -- append met a fault, if one did. The ends that the spool told before it tells still, and those that were added too. At

@@ -8,17 +8,17 @@ use Rattle.conc_law.specs.Law.{Finished, Lawful}
 use Rattle.conc_law.specs.Remaining.{remaining}
 use Rattle.conc_disk.specs.Disk.{DiskState, SeenFollows, tells_nothing}
 use Rattle.conc_disk.specs.Left.{EachImage, LeavesOnly}
-use Rattle.conc_image.specs.Fields.{has_record}
+use Rattle.conc_journal_image.specs.Fields.{has_record}
 use Rattle.conc_journal.specs.Journals.{room_of, stage_of}
 use Rattle.conc_journal.specs.Stages.{has_faulted}
 use Rattle.conc_journal.specs.declared.journal.Journal.{Journal}
 use Rattle.conc_journal.specs.declared.journal.Stage.TheVariants.{Begun}
 use Rattle.conc_machine.specs.Stands.{plan_of, readings_of}
 use Rattle.conc_spool.specs.Spools.{Agrees, KeepsBelow}
-use Rattle.conc_work.specs.Survival.{Survives}
-use Rattle.conc_work.specs.Told.{AreTold}
-use Rattle.conc_work.specs.Works.{AreReady, AreTied, list_in}
-use Rattle.conc_work.specs.declared.work.Work.{Work}
+use Rattle.conc_run_state.specs.Survival.{Survives}
+use Rattle.conc_run_state.specs.Told.{AreTold}
+use Rattle.conc_run_state.specs.Works.{AreReady, AreTied, list_in}
+use Rattle.conc_run_state.specs.declared.work.Work.{Work}
 
 -- ---- by the machine's plan and readings
 

@@ -1,15 +1,15 @@
 ghost use Rattle.std.specs.Prelude.{◌≡◌, ◌∷◌, ◌++◌, [], IfErr, None, OnErr, OnOk, Some};
-ghost use Rattle.conc_choice.specs.Choices.{HasItsText};
+ghost use Rattle.conc_resolver_choice.specs.Choices.{HasItsText};
 ghost use Rattle.conc_outside.specs.Counts.{Rose};
 ghost use Rattle.conc_resolver.specs.Steps.{any_disk, IsTied, MayLog, plan_in, TellsOn};
 ghost use Rattle.conc_spool.specs.Spools.{used_of};
-ghost use Rattle.conc_work.specs.Works.{list_in};
-ghost use Rattle.conc_work.specs.declared.fail.RunFail.TheVariants as RunFail;
+ghost use Rattle.conc_run_state.specs.Works.{list_in};
+ghost use Rattle.conc_run_state.specs.declared.fail.RunFail.TheVariants as RunFail;
 
-use conc_choice::Next;
 use conc_disk::Disk;
 use conc_outside::Failed;
-use conc_work::{RunFail, Work};
+use conc_resolver_choice::Next;
+use conc_run_state::{RunFail, Work};
 
 /// Brings the text of the event, if it has one, to the spool's disk. After a fault the spool is as before.
 pub(crate) fn keep<E: Disk>(work: &mut Work<'_>, spool: &mut E, next: &Next) -> Result<(), RunFail>

@@ -4,13 +4,13 @@ ghost use Rattle.conc_journal.specs.Receipts.{IsNextOf};
 ghost use Rattle.conc_journal.specs.Stages.{after_fault};
 ghost use Rattle.conc_outside.specs.Counts.{Rose};
 ghost use Rattle.conc_resolver.specs.Steps.{any_disk, IsTied, MayLog, plan_in, readings_in, SurvivesFor};
-ghost use Rattle.conc_work.specs.Works.{list_in};
-ghost use Rattle.conc_work.specs.declared.fail.RunFail.TheVariants as RunFail;
+ghost use Rattle.conc_run_state.specs.Works.{list_in};
+ghost use Rattle.conc_run_state.specs.declared.fail.RunFail.TheVariants as RunFail;
 
 use conc_disk::Disk;
 use conc_journal::Receipt;
+use conc_run_state::{RunFail, Work};
 use conc_types::Event;
-use conc_work::{RunFail, Work};
 
 /// Adds an event to the journal, and then takes it into the machine. After a fault the machine has not
 /// taken it, and the journal's disk has it or not.

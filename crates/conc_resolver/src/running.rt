@@ -2,24 +2,24 @@ ghost use Rattle.std.specs.Prelude.{◌≡◌, ◌<◌, IfErr, IfOk, IfSome, IsE
 ghost use Rattle.std.specs.Option.{ForSome, option_map};
 ghost use Rattle.conc_types.specs.declared.script.Reading.{Reading};
 ghost use Rattle.conc_law.specs.Law.{Finished};
-ghost use Rattle.conc_choice.specs.Choices.{event_of, HasItsText};
+ghost use Rattle.conc_resolver_choice.specs.Choices.{event_of, HasItsText};
 ghost use Rattle.conc_outside.specs.Counts.{Rose};
 ghost use Rattle.conc_journal.specs.Journals.{stage_of};
 ghost use Rattle.conc_journal.specs.Receipts.{IsNextOf};
 ghost use Rattle.conc_machine.specs.Stands.{readings_of};
-ghost use Rattle.conc_work.specs.Disks.{disks};
+ghost use Rattle.conc_run_state.specs.Disks.{disks};
 ghost use Rattle.conc_resolver.specs.Runs.{WentOn};
 ghost use Rattle.conc_resolver.specs.Steps.{any_disk, IsFinished, IsReady, IsTied, left_in, next_in, plan_in, readings_in};
-ghost use Rattle.conc_work.specs.Works.{AreReady, list_in};
-ghost use Rattle.conc_work.specs.declared.fail.RunFail.TheVariants as RunFail;
+ghost use Rattle.conc_run_state.specs.Works.{AreReady, list_in};
+ghost use Rattle.conc_run_state.specs.declared.fail.RunFail.TheVariants as RunFail;
 
 use crate::keeping::keep;
 use crate::logging::log_event;
-use conc_choice::{Next, next_event};
 use conc_disk::Disk;
 use conc_journal::Receipt;
+use conc_resolver_choice::{Next, next_event};
+use conc_run_state::{RunFail, Work};
 use conc_types::{NoMemory, Plan};
-use conc_work::{RunFail, Work};
 use std::alloc::Global;
 
 // The event that comes next, if one does, with its text.

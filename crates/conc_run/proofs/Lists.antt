@@ -13,10 +13,10 @@ use Rattle.conc_law.specs.Alone.{opening}
 use Rattle.conc_law.specs.Kinds.{extent_length}
 use Rattle.conc_law.specs.Standing.{used}
 use Rattle.conc_law.proofs.Positions.{reverse-push}
-use Rattle.conc_work.specs.Lists.{IsPrefix}
-use Rattle.conc_work.specs.Told.{AreTold}
-use Rattle.conc_work.specs.Works.{with_kept}
-use Rattle.conc_work.proofs.Prefixes.{prefix-opening, prefix-self, prefix-twice}
+use Rattle.conc_run_state.specs.Lists.{IsPrefix}
+use Rattle.conc_run_state.specs.Told.{AreTold}
+use Rattle.conc_run_state.specs.Works.{with_kept}
+use Rattle.conc_run_state.proofs.Prefixes.{prefix-opening, prefix-self, prefix-twice}
 
 -- ---- beginnings
 

@@ -8,10 +8,10 @@ use Rattle.conc_journal.specs.Opens.{broken_of, events_of, may_open}
 use Rattle.conc_law.specs.Law.{Past}
 use Rattle.conc_law.proofs.Numbering.{numbered-at}
 use Rattle.conc_restart.proofs.ReadSoFar.{bad-not_past}
-use Rattle.conc_work.specs.Causes.{IsOther}
-use Rattle.conc_work.specs.Handed.{IsOwnJournal}
-use Rattle.conc_work.specs.Judging.{AreGood, EndsPast, EndWithin, IsBadRecord}
-use Rattle.conc_work.specs.Survival.{IsOwn, Survives}
+use Rattle.conc_run_state.specs.Causes.{IsOther}
+use Rattle.conc_run_state.specs.Handed.{IsOwnJournal}
+use Rattle.conc_run_state.specs.Judging.{AreGood, EndsPast, EndWithin, IsBadRecord}
+use Rattle.conc_run_state.specs.Survival.{IsOwn, Survives}
 
 -- the list is a beginning of a lawful one
 pub left-good : (plan : Plan) (digest : List ℕ) (first last : List Event) (image : List ℕ) (len : ℕ) → ((before after : List Event) → Past plan (before ++ after) → Past plan before)

@@ -9,15 +9,15 @@ use Rattle.conc_journal.specs.Opens.{events_of}
 use Rattle.conc_law.specs.Alone.{opening}
 use Rattle.conc_law.specs.Law.{Lawful, Past}
 use Rattle.conc_law.proofs.AloneHistory.{opening-lawful}
-use Rattle.conc_open.specs.Opening.{IsStopped}
-use Rattle.conc_work.specs.Causes.{HasCause, is_journal_fault, is_refusal}
-use Rattle.conc_work.specs.Handed.{Handed, IsUntouched}
-use Rattle.conc_work.specs.Lists.{GoesOn}
-use Rattle.conc_work.specs.declared.fail.Stopped.{Stopped}
-use Rattle.conc_work.specs.declared.fail.Stopped.TheVariants as stopped
-use Rattle.conc_work.specs.declared.fail.Which.TheVariants as which
+use Rattle.conc_run_open.specs.Opening.{IsStopped}
+use Rattle.conc_run_state.specs.Causes.{HasCause, is_journal_fault, is_refusal}
+use Rattle.conc_run_state.specs.Handed.{Handed, IsUntouched}
+use Rattle.conc_run_state.specs.Lists.{GoesOn}
+use Rattle.conc_run_state.specs.declared.fail.Stopped.{Stopped}
+use Rattle.conc_run_state.specs.declared.fail.Stopped.TheVariants as stopped
+use Rattle.conc_run_state.specs.declared.fail.Which.TheVariants as which
 use Rattle.conc_run.specs.Whole.{HasBetween, HasLeft, IsCutShort, KeepsTexts}
-use Rattle.conc_work.proofs.Prefixes.{prefix-self}
+use Rattle.conc_run_state.proofs.Prefixes.{prefix-self}
 use Rattle.conc_run.proofs.Lists.{opening-adds, told-opening}
 
 -- what is found in what a disk tells

@@ -10,20 +10,20 @@ use Rattle.conc_journal.specs.declared.journal.Stage.{Stage}
 use Rattle.conc_law.specs.Alone.{Alone, opening}
 use Rattle.conc_law.specs.Law.{Finished, Lawful, Past}
 use Rattle.conc_law.specs.Standing.{used}
-use Rattle.conc_open.specs.Opening.{IsBegun}
-use Rattle.conc_work.specs.Causes.{HasCause, is_journal_fault, is_refusal}
-use Rattle.conc_work.specs.Disks.{disks}
+use Rattle.conc_run_open.specs.Opening.{IsBegun}
+use Rattle.conc_run_state.specs.Causes.{HasCause, is_journal_fault, is_refusal}
+use Rattle.conc_run_state.specs.Disks.{disks}
 use Rattle.conc_resolver.specs.Runs.{WentOn}
 use Rattle.conc_spool.specs.Spools.{Agrees, used_of}
-use Rattle.conc_work.specs.Handed.{Handed, IsTaken, IsUntouched}
-use Rattle.conc_work.specs.Lists.{GoesOn, IsPrefix}
-use Rattle.conc_work.specs.Survival.{Survives}
-use Rattle.conc_work.specs.Told.{AreTold}
-use Rattle.conc_work.specs.Works.{list_in, longest_in, with_kept}
-use Rattle.conc_work.specs.declared.fail.Stopped.{Stopped}
-use Rattle.conc_work.specs.declared.work.Work.{Work}
+use Rattle.conc_run_state.specs.Handed.{Handed, IsTaken, IsUntouched}
+use Rattle.conc_run_state.specs.Lists.{GoesOn, IsPrefix}
+use Rattle.conc_run_state.specs.Survival.{Survives}
+use Rattle.conc_run_state.specs.Told.{AreTold}
+use Rattle.conc_run_state.specs.Works.{list_in, longest_in, with_kept}
+use Rattle.conc_run_state.specs.declared.fail.Stopped.{Stopped}
+use Rattle.conc_run_state.specs.declared.work.Work.{Work}
 use Rattle.conc_run.specs.Whole.{HasLeft, HasNow, IsCutShort, IsFinished}
-use Rattle.conc_work.proofs.Prefixes.{prefix-twice}
+use Rattle.conc_run_state.proofs.Prefixes.{prefix-twice}
 use Rattle.conc_run.proofs.Lists.{prefix-kept, prefix-with_kept, told-opening, used-opening, used-prefix}
 use Rattle.conc_run.proofs.Survived.{begun-longest, fits-survives, journal-left}
 use Rattle.conc_run.proofs.Texts.{Keeps, spool-left, spool-now}

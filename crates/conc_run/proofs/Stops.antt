@@ -1,13 +1,13 @@
 -- What is told where a run ends before its history is finished.
 use Rattle.std.proofs.Common.{◌≡◌, inl, inr, ℕ, ◌≤◌, true, false, IsTrue, refl, sym, ◌∙◌, ap, subst, arith}
 use Rattle.conc_outside.specs.Counts.{Rose}
-use Rattle.conc_work.specs.Causes.{Faulted, HasCause, is_refusal}
-use Rattle.conc_work.specs.Handed.{Handed, IsUntouched}
-use Rattle.conc_work.specs.declared.fail.RunFail.{RunFail}
-use Rattle.conc_work.specs.declared.fail.RunFail.TheVariants as run_fail
-use Rattle.conc_work.specs.declared.fail.Stopped.{Stopped}
-use Rattle.conc_work.specs.declared.fail.Stopped.TheVariants as stopped
-use Rattle.conc_work.specs.declared.fail.Which.TheVariants as which
+use Rattle.conc_run_state.specs.Causes.{Faulted, HasCause, is_refusal}
+use Rattle.conc_run_state.specs.Handed.{Handed, IsUntouched}
+use Rattle.conc_run_state.specs.declared.fail.RunFail.{RunFail}
+use Rattle.conc_run_state.specs.declared.fail.RunFail.TheVariants as run_fail
+use Rattle.conc_run_state.specs.declared.fail.Stopped.{Stopped}
+use Rattle.conc_run_state.specs.declared.fail.Stopped.TheVariants as stopped
+use Rattle.conc_run_state.specs.declared.fail.Which.TheVariants as which
 
 -- a count that rose after it did not fall rose
 pub rose-since : (before mid after : ℕ) → before ≤ mid → Rose mid after → Rose before after

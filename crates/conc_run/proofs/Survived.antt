@@ -10,10 +10,10 @@ use Rattle.conc_journal.specs.Stages.{stage_digest, takes_events}
 use Rattle.conc_journal.specs.declared.journal.Stage.{Stage}
 use Rattle.conc_journal.specs.declared.journal.Stage.TheVariants.{NotBegun, BeginFailed, Begun, Broken, AppendFailed}
 use Rattle.conc_law.specs.Alone.{opening}
-use Rattle.conc_work.specs.Lists.{failed_in, IsPrefix}
-use Rattle.conc_work.specs.Survival.{Survives}
-use Rattle.conc_work.proofs.Prefixes.{prefix-opening, prefix-self}
-use Rattle.conc_work.proofs.Surviving.{journal-survives, survives-wider}
+use Rattle.conc_run_state.specs.Lists.{failed_in, IsPrefix}
+use Rattle.conc_run_state.specs.Survival.{Survives}
+use Rattle.conc_run_state.proofs.Prefixes.{prefix-opening, prefix-self}
+use Rattle.conc_run_state.proofs.Surviving.{journal-survives, survives-wider}
 
 -- what fits the stage of a journal has its list, or the longest
 pub fits-survives : (stage : Stage) (digest : List ℕ) (list : List Event) (image : List ℕ) → IsTrue (takes_events stage) → stage_digest stage ≡ Some digest → FitsStage stage list image → Survives digest list (list ++ failed_in stage) image

@@ -5,15 +5,15 @@ use Rattle.conc_law.specs.Alone.{Alone, opening}
 use Rattle.conc_law.specs.Law.{Past}
 use Rattle.conc_law.specs.Standing.{used}
 use Rattle.conc_disk.specs.Left.{EachImage, LeavesOnly}
-use Rattle.conc_image.specs.Image.{IsJournal}
+use Rattle.conc_journal_image.specs.Image.{IsJournal}
 use Rattle.conc_journal.specs.Opens.{events_of}
 use Rattle.conc_spool.specs.Spools.{KeepsBelow}
-use Rattle.conc_work.specs.Causes.{HasCause, is_journal_fault, is_refusal}
-use Rattle.conc_work.specs.Handed.{Handed, IsTaken, IsUntouched}
-use Rattle.conc_work.specs.Lists.{GoesOn, IsPrefix}
-use Rattle.conc_work.specs.Survival.{Survives}
-use Rattle.conc_work.specs.Told.{AreTold}
-use Rattle.conc_work.specs.declared.fail.Stopped.{Stopped}
+use Rattle.conc_run_state.specs.Causes.{HasCause, is_journal_fault, is_refusal}
+use Rattle.conc_run_state.specs.Handed.{Handed, IsTaken, IsUntouched}
+use Rattle.conc_run_state.specs.Lists.{GoesOn, IsPrefix}
+use Rattle.conc_run_state.specs.Survival.{Survives}
+use Rattle.conc_run_state.specs.Told.{AreTold}
+use Rattle.conc_run_state.specs.declared.fail.Stopped.{Stopped}
 
 -- ---- what is left
 

@@ -4,10 +4,10 @@ ghost use Rattle.conc_types.specs.declared.event.Event.{Event};
 ghost use Rattle.conc_types.specs.declared.plan.Plan.{Plan};
 ghost use Rattle.conc_journal.specs.Opens.{broken_of, events_of, may_open};
 ghost use Rattle.conc_law.specs.Law.{Past};
-ghost use Rattle.conc_work.specs.Causes.{IsOther};
-ghost use Rattle.conc_work.specs.Handed.{IsOwnJournal};
-ghost use Rattle.conc_work.specs.Judging.{AreGood, EndWithin, IsBadRecord};
-ghost use Rattle.conc_work.specs.Survival.{Survives};
+ghost use Rattle.conc_run_state.specs.Causes.{IsOther};
+ghost use Rattle.conc_run_state.specs.Handed.{IsOwnJournal};
+ghost use Rattle.conc_run_state.specs.Judging.{AreGood, EndWithin, IsBadRecord};
+ghost use Rattle.conc_run_state.specs.Survival.{Survives};
 
 /// What a stop leaves of a run's journal is good for the next run of the same files, where the spool has
 /// the extents: it is theirs, no record of it is broken, and its list is lawful.

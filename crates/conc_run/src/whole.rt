@@ -1,17 +1,17 @@
 ghost use Rattle.std.specs.Prelude.{◌≡◌, IfErr, IfOk};
-ghost use Rattle.conc_work.specs.Handed.{handed};
-ghost use Rattle.conc_work.specs.Works.{list_in};
+ghost use Rattle.conc_run_state.specs.Handed.{handed};
+ghost use Rattle.conc_run_state.specs.Works.{list_in};
 ghost use Rattle.conc_run.specs.Whole.{IsCutShort, IsFinished};
-ghost use Rattle.conc_work.specs.declared.fail.RunFail.TheVariants as run_fail;
-ghost use Rattle.conc_work.specs.declared.fail.Stopped.TheVariants as stopped;
-ghost use Rattle.conc_work.specs.declared.fail.Which.TheVariants as which;
+ghost use Rattle.conc_run_state.specs.declared.fail.RunFail.TheVariants as run_fail;
+ghost use Rattle.conc_run_state.specs.declared.fail.Stopped.TheVariants as stopped;
+ghost use Rattle.conc_run_state.specs.declared.fail.Which.TheVariants as which;
 
 use conc_disk::Disk;
 use conc_law::lawful_is_past;
-use conc_open::open;
 use conc_resolver::run_alone;
+use conc_run_open::open;
+use conc_run_state::{RunFail, Stopped, Which, Work};
 use conc_types::{Plan, Readings};
-use conc_work::{RunFail, Stopped, Which, Work};
 use std::alloc::Global;
 
 // The stop that tells why a run ended.

@@ -1,8 +1,8 @@
 -- What stands where nothing is wrong.
 use Rattle.std.proofs.Common.{◌≡◌, ◌∙◌, sym, refl, ap, ℕ, Bool, true, false, List, [], ◌∷◌, length, map, Option, None, Some, Result, Ok, Err}
 use Rattle.std.specs.Prelude.{IfOk, IsTrue}
-use Rattle.conc_fields.specs.Arrays.{all_good, goods, lesser, unless, worst}
-use Rattle.conc_fields.specs.Kinds.{both, good, judged, or_kind, proven}
+use Rattle.conc_setup_fields.specs.Arrays.{all_good, goods, lesser, unless, worst}
+use Rattle.conc_setup_fields.specs.Kinds.{both, good, judged, or_kind, proven}
 use Rattle.conc_setup.proofs.Each.{each_count}
 
 pub judged-ok : {A B : Type 0} (f : A → Result B ℕ) (r : Result A ℕ) (b : B) → judged f r ≡ Ok b → (a : A) × (r ≡ Ok a) × (f a ≡ Ok b)

@@ -1,7 +1,7 @@
 ghost use Rattle.std.specs.Prelude.{◌≡◌, IfOk, Option};
 ghost use Rattle.std.specs.Option.{option_map};
-ghost use Rattle.conc_fields.specs.Fields.{keys_kind as keys_kind_of};
-ghost use Rattle.conc_fields.specs.Kinds.{judged};
+ghost use Rattle.conc_setup_fields.specs.Fields.{keys_kind as keys_kind_of};
+ghost use Rattle.conc_setup_fields.specs.Kinds.{judged};
 ghost use Rattle.conc_setup.specs.Documents as spec;
 ghost use Rattle.toml.specs.Parse.{parse_document};
 ghost use Rattle.toml.specs.View.{table_view, view};
@@ -9,11 +9,13 @@ ghost use Rattle.toml.specs.View.{table_view, view};
 use crate::kind::NOT_TOML;
 use crate::places::places_in_all;
 use crate::raw::Document;
-use conc_fields::{
+use conc_setup_entries::{
+    EntryForm, ManagerForm, ProgramForm, RawEntry, RawManager, RawSet, SetForm,
+};
+use conc_setup_fields::{
     ArrayForm, Counted, Form, NameForm, beside, both, counted, default, keys_kind, kind, no_values,
     read_all,
 };
-use conc_forms::{EntryForm, ManagerForm, ProgramForm, RawEntry, RawManager, RawSet, SetForm};
 use conc_types::{Name, NoMemory, Program};
 use std::alloc::Global;
 use std::marker::PhantomData;

@@ -1,10 +1,10 @@
 ghost use Rattle.std.specs.Prelude.{◌≡◌};
-ghost use Rattle.conc_fields.specs.Kinds.{good};
+ghost use Rattle.conc_setup_fields.specs.Kinds.{good};
 ghost use Rattle.conc_setup.specs.ThirdPass as spec;
 
 use crate::resolve::{Items, Resolve, item_of};
-use conc_fields::both;
-use conc_forms::RawEntry;
+use conc_setup_entries::RawEntry;
+use conc_setup_fields::both;
 use conc_types::{Entry, Item, NoMemory};
 use std::alloc::Global;
 

@@ -2,7 +2,7 @@ ghost use Rattle.std.specs.Prelude.{◌≡◌, IfOk, Option};
 ghost use Rattle.conc_setup.specs.FirstPass as spec;
 
 use crate::raw::{Document, Fault, RawSetup};
-use conc_fields::{first_wrong, goods};
+use conc_setup_fields::{first_wrong, goods};
 use conc_types::NoMemory;
 use std::alloc::Global;
 

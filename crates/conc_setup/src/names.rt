@@ -4,7 +4,7 @@ ghost use Rattle.std.specs.Str.{bytes_eq};
 ghost use Rattle.conc_types.specs.Words.{are_distinct as are_distinct_by};
 ghost use Rattle.conc_setup.specs.SecondPass.{is_among as is_among_of};
 
-use conc_forms::{RawManager, RawSet, RawStage};
+use conc_setup_entries::{RawManager, RawSet, RawStage};
 use conc_types::{Name, Program};
 
 /// What has a name.

@@ -1,11 +1,11 @@
 ghost use Rattle.std.specs.Prelude.{◌≡◌, ◌≤◌, ◌*◌, length, map};
 ghost use Rattle.conc_types.specs.Shifts.{most_places as most_places_of};
 ghost use Rattle.conc_types.specs.Words.{greatest};
-ghost use Rattle.conc_fields.specs.Arrays.{goods};
+ghost use Rattle.conc_setup_fields.specs.Arrays.{goods};
 ghost use Rattle.conc_setup.specs.Places.{places_in_all as places_in_all_of};
 
-use conc_fields::Counted;
-use conc_forms::RawManager;
+use conc_setup_entries::RawManager;
+use conc_setup_fields::Counted;
 use conc_types::Shift;
 
 fn greatest_shift(shifts: &[Shift]) -> u32
@@ -27,7 +27,7 @@ fn most_places(shifts: &[Shift]) -> u32
     }
 }
 
-#[tactic(auto, unfolding(conc_fields::specs::Arrays::goods))]
+#[tactic(auto, unfolding(conc_setup_fields::specs::Arrays::goods))]
 fn places_of(managers: &[Result<RawManager, u8>]) -> u64
     requires { length managers.now ≤ 64 }
     ensures value { result ≡ places_in_all_of (goods managers.now) }

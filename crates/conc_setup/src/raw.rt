@@ -1,9 +1,9 @@
 ghost use Rattle.std.specs.Prelude.{IsTrue, nat_le};
-ghost use Rattle.conc_fields.specs.Arrays.{goods};
+ghost use Rattle.conc_setup_fields.specs.Arrays.{goods};
 ghost use Rattle.conc_setup.specs.Places.{places_in_all};
 
-use conc_fields::Counted;
-use conc_forms::{RawEntry, RawManager, RawSet};
+use conc_setup_entries::{RawEntry, RawManager, RawSet};
+use conc_setup_fields::Counted;
 use conc_types::{Name, Program, Seq};
 
 /// A line of a file, where 0 is the file as a whole, and the kind of the rule that it breaks.

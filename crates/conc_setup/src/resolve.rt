@@ -1,13 +1,13 @@
 ghost use Rattle.std.specs.Prelude.{◌≡◌, ◌≤◌, IfOk, List, Result, length, map, ℕ};
 ghost use Rattle.conc_types.specs.declared.program.Program.{Program};
-ghost use Rattle.conc_fields.specs.Arrays.{all_good as all_good_of};
-ghost use Rattle.conc_forms.specs.declared.raw.RawSet.{RawSet};
+ghost use Rattle.conc_setup_fields.specs.Arrays.{all_good as all_good_of};
+ghost use Rattle.conc_setup_entries.specs.declared.raw.RawSet.{RawSet};
 ghost use Rattle.conc_setup.specs.ThirdPass as spec;
 
 use crate::kind::UNKNOWN_NAME;
 use crate::names::place_of;
-use conc_fields::all_good;
-use conc_forms::RawSet;
+use conc_setup_entries::RawSet;
+use conc_setup_fields::all_good;
 use conc_types::{Item, Name, NoMemory, Program, Seq};
 use std::alloc::Global;
 

@@ -10,8 +10,8 @@ use crate::copies::copy_of_name;
 use crate::kind::{BACK_LINK, UNKNOWN_NAME};
 use crate::names::place_of;
 use crate::resolve::{Items, resolve_good};
-use conc_fields::{all_good, both};
-use conc_forms::{RawSet, RawStage};
+use conc_setup_entries::{RawSet, RawStage};
+use conc_setup_fields::{all_good, both};
 use conc_types::{Name, NoMemory, Seq, SetDef, Stage};
 use std::alloc::Global;
 

@@ -4,15 +4,15 @@ use Rattle.conc_types.specs.declared.plan.Plan.{Plan}
 use Rattle.conc_types.specs.declared.script.Reading.{Reading}
 use Rattle.conc_disk.specs.Disk.{DiskState, Stays}
 use Rattle.conc_disk.specs.Left.{LeavesOnly}
-use Rattle.conc_inputs.specs.Fails.{IsThere, IsUnread, StopsAt}
-use Rattle.conc_inputs.specs.Given.{Names}
-use Rattle.conc_inputs.specs.declared.fail.InputFail.{InputFail}
-use Rattle.conc_inputs.specs.declared.fail.InputFail.TheVariants as input
+use Rattle.conc_top_inputs.specs.Fails.{IsThere, IsUnread, StopsAt}
+use Rattle.conc_top_inputs.specs.Given.{Names}
+use Rattle.conc_top_inputs.specs.declared.fail.InputFail.{InputFail}
+use Rattle.conc_top_inputs.specs.declared.fail.InputFail.TheVariants as input
 use Rattle.conc_outside.specs.Counts.{Rose}
 use Rattle.conc_outside.specs.Files.{Gives, IsLater, Lacks, ShelfState}
-use Rattle.conc_verdict.specs.declared.verdict.Verdict.{Verdict}
-use Rattle.conc_verdict.specs.declared.verdict.Verdict.TheVariants as verdict
-use Rattle.conc_work.specs.Disks.{AreUntouched, Disks, disks}
+use Rattle.conc_history_verdict.specs.declared.verdict.Verdict.{Verdict}
+use Rattle.conc_history_verdict.specs.declared.verdict.Verdict.TheVariants as verdict
+use Rattle.conc_run_state.specs.Disks.{AreUntouched, Disks, disks}
 use Rattle.conc_top.specs.declared.exit.Exit.{Exit}
 use Rattle.conc_top.specs.declared.exit.Exit.TheVariants as exit
 use Rattle.conc_top.specs.Answers.{Around, IsUnplanned}
@@ -21,9 +21,9 @@ use Rattle.conc_top.specs.Meaning.{Means}
 use Rattle.conc_top.specs.Printing.{Sunk, TookNothing}
 use Rattle.conc_top.specs.Shows.{IsDiskUntouched}
 use Rattle.conc_top.specs.Ways.{exit_for_input}
-use Rattle.conc_words.specs.Words.{command_of}
-use Rattle.conc_words.specs.declared.command.Command.{Command}
-use Rattle.conc_words.specs.declared.command.Command.TheVariants as command
+use Rattle.conc_top_words.specs.Words.{command_of}
+use Rattle.conc_top_words.specs.declared.command.Command.{Command}
+use Rattle.conc_top_words.specs.declared.command.Command.TheVariants as command
 
 -- ---- disks that no call touched
 

@@ -1,18 +1,18 @@
 -- What each command answers.
 use Rattle.std.specs.Prelude.{◌≡◌, ◌⊎◌, ℕ, List, None, Some}
-use Rattle.conc_clock.specs.Clocks.{ClockState}
+use Rattle.conc_outside_clock.specs.Clocks.{ClockState}
 use Rattle.conc_types.specs.declared.event.RequestId.{RequestId}
 use Rattle.conc_types.specs.declared.plan.Plan.{Plan}
 use Rattle.conc_types.specs.declared.script.Readings.{Readings}
 use Rattle.conc_disk.specs.Disk.{DiskState}
-use Rattle.conc_generated.specs.Summary.{IsSummary}
+use Rattle.conc_make_run.specs.Summary.{IsSummary}
 use Rattle.conc_history.specs.Listing.{listing}
-use Rattle.conc_inputs.specs.Fails.{StopsAt}
-use Rattle.conc_inputs.specs.Given.{Accepts, digest_of, Names, Sources, sources, Told, told_by}
-use Rattle.conc_inputs.specs.declared.fail.InputFail.TheVariants as input
+use Rattle.conc_top_inputs.specs.Fails.{StopsAt}
+use Rattle.conc_top_inputs.specs.Given.{Accepts, digest_of, Names, Sources, sources, Told, told_by}
+use Rattle.conc_top_inputs.specs.declared.fail.InputFail.TheVariants as input
 use Rattle.conc_outside.specs.Files.{ShelfState}
-use Rattle.conc_work.specs.Disks.{AreUntouched, Disks}
-use Rattle.conc_work.specs.Handed.{handed, Handed}
+use Rattle.conc_run_state.specs.Disks.{AreUntouched, Disks}
+use Rattle.conc_run_state.specs.Handed.{handed, Handed}
 use Rattle.conc_top.specs.declared.exit.Exit.{Exit}
 use Rattle.conc_top.specs.declared.exit.Exit.TheVariants as exit
 use Rattle.conc_top.specs.Checks.{CheckEnds, Judging}

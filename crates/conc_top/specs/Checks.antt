@@ -3,12 +3,12 @@ use Rattle.std.specs.Prelude.{◌≡◌, ℕ, ◌++◌, Bool, false, true, List,
 use Rattle.std.specs.Fmt.{decimal}
 use Rattle.conc_types.specs.declared.plan.Plan.{Plan}
 use Rattle.conc_types.specs.declared.script.Reading.{Reading}
-use Rattle.conc_inputs.specs.Fails.{IsUnread}
-use Rattle.conc_inputs.specs.declared.fail.InputFail.TheVariants as input
+use Rattle.conc_top_inputs.specs.Fails.{IsUnread}
+use Rattle.conc_top_inputs.specs.declared.fail.InputFail.TheVariants as input
 use Rattle.conc_outside.specs.Files.{Gives, ShelfState}
-use Rattle.conc_verdict.specs.Verdicts.{IsVerdict}
-use Rattle.conc_verdict.specs.declared.verdict.Verdict.{Verdict}
-use Rattle.conc_verdict.specs.declared.verdict.Verdict.TheVariants as verdict
+use Rattle.conc_history_verdict.specs.Verdicts.{IsVerdict}
+use Rattle.conc_history_verdict.specs.declared.verdict.Verdict.{Verdict}
+use Rattle.conc_history_verdict.specs.declared.verdict.Verdict.TheVariants as verdict
 use Rattle.conc_top.specs.declared.exit.Exit.{Exit}
 use Rattle.conc_top.specs.declared.exit.Exit.TheVariants as exit
 use Rattle.conc_top.specs.Printing.{Prints, Sunk, TookNothing}

@@ -1,10 +1,10 @@
 -- What each exit means.
 use Rattle.std.specs.Prelude.{Option, None, Some}
 use Rattle.conc_disk.specs.Disk.{DiskState}
-use Rattle.conc_inputs.specs.Given.{named}
-use Rattle.conc_words.specs.declared.command.Command.{Command}
-use Rattle.conc_words.specs.declared.command.Command.TheVariants as command
-use Rattle.conc_work.specs.Disks.{AreUntouched, Disks}
+use Rattle.conc_top_inputs.specs.Given.{named}
+use Rattle.conc_top_words.specs.declared.command.Command.{Command}
+use Rattle.conc_top_words.specs.declared.command.Command.TheVariants as command
+use Rattle.conc_run_state.specs.Disks.{AreUntouched, Disks}
 use Rattle.conc_top.specs.declared.exit.Exit.{Exit}
 use Rattle.conc_top.specs.declared.exit.Exit.TheVariants as exit
 use Rattle.conc_top.specs.Answers.{AnswersCheck, AnswersMake, AnswersOutput, AnswersPlan, AnswersRun, AnswersStatus, Around}

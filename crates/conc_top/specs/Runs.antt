@@ -6,12 +6,12 @@ use Rattle.conc_law.specs.Ends.{AreReported}
 use Rattle.conc_law.specs.Law.{Finished, Lawful}
 use Rattle.conc_law.specs.Overlap.{NoOverlap}
 use Rattle.conc_law.specs.Text.{text_of}
-use Rattle.conc_image.specs.Image.{IsJournal}
+use Rattle.conc_journal_image.specs.Image.{IsJournal}
 use Rattle.conc_outside.specs.Counts.{Rose}
 use Rattle.conc_outside.specs.Taken.{Took, TookPrefix}
 use Rattle.conc_run.specs.Whole.{IsCutShort, IsFinished}
-use Rattle.conc_work.specs.Handed.{Handed}
-use Rattle.conc_work.specs.declared.fail.Stopped.TheVariants as stopped
+use Rattle.conc_run_state.specs.Handed.{Handed}
+use Rattle.conc_run_state.specs.declared.fail.Stopped.TheVariants as stopped
 use Rattle.conc_top.specs.declared.exit.Exit.{Exit}
 use Rattle.conc_top.specs.declared.exit.Exit.TheVariants as exit
 use Rattle.conc_top.specs.Printing.{Sunk, TookNothing}

@@ -6,11 +6,11 @@ use Rattle.conc_types.specs.declared.plan.Plan.{Plan}
 use Rattle.conc_disk.specs.Disk.{DiskState, Stays}
 use Rattle.conc_disk.specs.Left.{LeavesOnly}
 use Rattle.conc_law.specs.Text.{table_text}
-use Rattle.conc_open.specs.Listing.{HasListCause, IsListed}
-use Rattle.conc_open.specs.Texts.{HasReadCause, HasText, HasTextCause}
-use Rattle.conc_open.specs.declared.text.TextFail.TheVariants as text_fail
-use Rattle.conc_work.specs.Disks.{Disks}
-use Rattle.conc_work.specs.declared.fail.Stopped.TheVariants as stopped
+use Rattle.conc_run_open.specs.Listing.{HasListCause, IsListed}
+use Rattle.conc_run_open.specs.Texts.{HasReadCause, HasText, HasTextCause}
+use Rattle.conc_run_open.specs.declared.text.TextFail.TheVariants as text_fail
+use Rattle.conc_run_state.specs.Disks.{Disks}
+use Rattle.conc_run_state.specs.declared.fail.Stopped.TheVariants as stopped
 use Rattle.conc_top.specs.declared.exit.Exit.{Exit}
 use Rattle.conc_top.specs.declared.exit.Exit.TheVariants as exit
 use Rattle.conc_top.specs.Printing.{Prints, Sunk, TookNothing}

@@ -1,6 +1,6 @@
 ghost use Rattle.std.specs.Prelude.{◌≡◌, IfOk, Some};
 ghost use Rattle.conc_outside.specs.Files.{IsLater};
-ghost use Rattle.conc_inputs.specs.Given.{named};
+ghost use Rattle.conc_top_inputs.specs.Given.{named};
 ghost use Rattle.conc_top.specs.Answers.{AnswersCheck, around};
 ghost use Rattle.conc_top.specs.Checks.{CheckEnds, finished_word as finished_word_of, verdict_text};
 ghost use Rattle.conc_top.specs.Printing.{sunk};
@@ -8,11 +8,11 @@ ghost use Rattle.conc_top.specs.Printing.{sunk};
 use crate::Exit;
 use crate::line::put;
 use crate::printing::write_text;
-use conc_clock::Clock;
-use conc_inputs::{accept_timed, read_file};
+use conc_history_verdict::{Verdict, judge_text};
 use conc_outside::{Shelf, Sink};
+use conc_outside_clock::Clock;
+use conc_top_inputs::{accept_timed, read_file};
 use conc_types::{Name, NoMemory, Plan, Readings, put_decimal};
-use conc_verdict::{Verdict, judge_text};
 use std::alloc::Global;
 
 fn finished_word(finished: bool) -> &'static [u8]

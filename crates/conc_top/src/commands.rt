@@ -2,10 +2,10 @@
 //! program's name, the command first; those that ask for anything else are Usage.
 ghost use Rattle.std.specs.Prelude.{map};
 ghost use Rattle.std.specs.String.{string_bytes};
-ghost use Rattle.conc_clock.specs.Clocks.{ClockState};
+ghost use Rattle.conc_outside_clock.specs.Clocks.{ClockState};
 ghost use Rattle.conc_outside.specs.Files.{IsLater};
-ghost use Rattle.conc_words.specs.Words.{command_of};
-ghost use Rattle.conc_work.specs.Disks.{AreUntouched, disks};
+ghost use Rattle.conc_top_words.specs.Words.{command_of};
+ghost use Rattle.conc_run_state.specs.Disks.{AreUntouched, disks};
 ghost use Rattle.conc_top.specs.Answers.{around};
 ghost use Rattle.conc_top.specs.Meaning.{MeansCheck, MeansMake, MeansOutput, MeansPlan, MeansRun, MeansStatus};
 ghost use Rattle.conc_top.specs.Printing.{sunk};
@@ -16,11 +16,11 @@ use crate::checking::check_files;
 use crate::printing::print_summary;
 use crate::running::run_files;
 use crate::showing::{list_files, show_report, show_table};
-use conc_clock::Clock;
 use conc_disk::Disk;
 use conc_outside::{Shelf, Sink};
+use conc_outside_clock::Clock;
+use conc_top_words::{Command, read_command};
 use conc_types::NoMemory;
-use conc_words::{Command, read_command};
 use std::alloc::Global;
 
 /// Does `run SETUP SCRIPT CLOCK --threads 0`, as `conc` says. It returns.

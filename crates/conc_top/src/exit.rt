@@ -1,6 +1,6 @@
-use conc_inputs::InputFail;
+use conc_run_state::Which;
+use conc_top_inputs::InputFail;
 use conc_types::{Name, Refusal};
-use conc_work::Which;
 
 /// How a command ended.
 #[derive(Drop)]

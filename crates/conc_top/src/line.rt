@@ -4,8 +4,8 @@ ghost use Rattle.hex.specs.Hex.{encode_lower};
 ghost use Rattle.conc_top.specs.Lines.{line_of};
 
 use crate::Exit;
+use conc_run_state::Which;
 use conc_types::{Name, NoMemory, Refusal, put_decimal};
-use conc_work::Which;
 use std::alloc::Global;
 
 pub(crate) fn put(out: &mut Vec<u8>, piece: &[u8]) -> Result<(), NoMemory>

@@ -4,10 +4,10 @@ ghost use Rattle.conc_top.specs.Printing.{sunk, Wrote};
 ghost use Rattle.conc_top.specs.Ways.{exit_for as exit_for_of};
 
 use crate::Exit;
-use conc_generated::summarize;
+use conc_make_run::summarize;
 use conc_outside::{Sink, write_all};
+use conc_run_state::Stopped;
 use conc_types::NoMemory;
-use conc_work::Stopped;
 use std::alloc::Global;
 
 /// Writes a text.

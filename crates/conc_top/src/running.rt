@@ -1,21 +1,21 @@
 ghost use Rattle.std.specs.Prelude.{◌≡◌, Some};
 ghost use Rattle.conc_outside.specs.Files.{IsLater};
-ghost use Rattle.conc_inputs.specs.Given.{named};
-ghost use Rattle.conc_work.specs.Disks.{disks};
-ghost use Rattle.conc_work.specs.Handed.{handed};
+ghost use Rattle.conc_top_inputs.specs.Given.{named};
+ghost use Rattle.conc_run_state.specs.Disks.{disks};
+ghost use Rattle.conc_run_state.specs.Handed.{handed};
 ghost use Rattle.conc_top.specs.Answers.{AnswersRun, around};
 ghost use Rattle.conc_top.specs.Printing.{sunk};
 ghost use Rattle.conc_top.specs.Runs.{RunEnds};
 
 use crate::Exit;
 use crate::printing::{exit_for, write_text};
-use conc_clock::Clock;
 use conc_disk::Disk;
 use conc_history::put_history;
-use conc_inputs::{Accepted, accept_timed};
 use conc_law::{alone_is_lawful, alone_reports, lawful_is_past, no_overlap};
 use conc_outside::{Shelf, Sink};
+use conc_outside_clock::Clock;
 use conc_run::run_plan;
+use conc_top_inputs::{Accepted, accept_timed};
 use conc_types::{Name, NoMemory, Plan, Readings};
 use std::alloc::Global;
 

@@ -1,9 +1,9 @@
 ghost use Rattle.std.specs.Prelude.{◌≡◌, None};
-ghost use Rattle.conc_clock.specs.Clocks.{ClockState};
+ghost use Rattle.conc_outside_clock.specs.Clocks.{ClockState};
 ghost use Rattle.conc_history.specs.Listing.{listing};
 ghost use Rattle.conc_outside.specs.Files.{IsLater};
-ghost use Rattle.conc_inputs.specs.Given.{named};
-ghost use Rattle.conc_work.specs.Disks.{AreUntouched, disks};
+ghost use Rattle.conc_top_inputs.specs.Given.{named};
+ghost use Rattle.conc_run_state.specs.Disks.{AreUntouched, disks};
 ghost use Rattle.conc_top.specs.Answers.{AnswersOutput, AnswersPlan, AnswersStatus, around};
 ghost use Rattle.conc_top.specs.Printing.{Prints, sunk};
 ghost use Rattle.conc_top.specs.Shows.{IsDiskUntouched, OutputEnds, StatusEnds};
@@ -13,9 +13,9 @@ use crate::Exit;
 use crate::printing::{exit_for, write_text};
 use conc_disk::Disk;
 use conc_history::{put_plan, put_status_table};
-use conc_inputs::accept;
-use conc_open::{TextFail, read_list, read_text};
 use conc_outside::{Shelf, Sink};
+use conc_run_open::{TextFail, read_list, read_text};
+use conc_top_inputs::accept;
 use conc_types::{Name, NoMemory, Plan, RequestId};
 use std::alloc::Global;
 

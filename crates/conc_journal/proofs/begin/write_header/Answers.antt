@@ -1,5 +1,5 @@
 use Rattle.std.proofs.Common.{inl, [], ◌∷◌, List, length}
-use Rattle.conc_image.specs.Image.{IsJournal}
+use Rattle.conc_journal_image.specs.Image.{IsJournal}
 use Rattle.conc_disk.specs.Left.{EachImage}
 use Rattle.conc_journal.specs.Left.{LeavesWritten}
 use Rattle.conc_journal.specs.Records.{IsHeaded, IsShut, IsUnbegun, MayBegin}

@@ -1,5 +1,5 @@
 use Rattle.std.proofs.Common.{take}
-use Rattle.conc_facts.specs.Advance.{all_after}
+use Rattle.conc_law_effects.specs.Advance.{all_after}
 use Rattle.conc_machine.specs.Kept.{AreFacts, AreParts}
 use Rattle.conc_machine.proofs.writing.write_all.Given as goal
 

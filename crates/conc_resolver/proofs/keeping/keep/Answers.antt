@@ -1,7 +1,7 @@
 use Rattle.std.proofs.Common.{◌≡◌, ◌∷◌, ◌++◌, [], Some, sym, subst, arith}
-use Rattle.conc_choice.specs.Choices.{HasItsText}
+use Rattle.conc_resolver_choice.specs.Choices.{HasItsText}
 use Rattle.conc_spool.specs.Spools.{used_of}
-use Rattle.conc_work.specs.Works.{list_in}
+use Rattle.conc_run_state.specs.Works.{list_in}
 use Rattle.conc_resolver.specs.Steps.{any_disk, plan_in, readings_in}
 use Rattle.conc_resolver.proofs.Coming.{lawful-past, text-fits, text-length, tied-kept, without-text}
 use Rattle.conc_resolver.proofs.Extents.{used-push}

@@ -1,8 +1,8 @@
 use Rattle.std.proofs.Common.{◌≡◌, Some, sym, ◌∙◌, ap}
 use Rattle.std.specs.Option.{option_map}
-use Rattle.conc_choice.specs.Choices.{event_of}
+use Rattle.conc_resolver_choice.specs.Choices.{event_of}
 use Rattle.conc_law.proofs.Finishes.{next_alone-none}
-use Rattle.conc_work.specs.Works.{list_in}
+use Rattle.conc_run_state.specs.Works.{list_in}
 use Rattle.conc_resolver.specs.Steps.{next_in, plan_in, readings_in}
 use Rattle.conc_resolver.proofs.Coming.{lawful-past, may-log}
 use Rattle.conc_resolver.proofs.Stepping.{less-logged, ready-logged, went-logged, went-unkept, went-unlogged}

@@ -1,6 +1,6 @@
 use Rattle.std.proofs.Common.{◌∙◌, ap, List, Result, ℕ}
 use Rattle.std.proofs.lemmas.Result.{IfOk-weaker}
-use Rattle.conc_fields.specs.Arrays.{all_good}
+use Rattle.conc_setup_fields.specs.Arrays.{all_good}
 use Rattle.conc_setup.proofs.Outcomes.{good_count}
 use Rattle.conc_setup.proofs.resolve.resolve_good.Goals as goal
 

@@ -1,7 +1,7 @@
 use Rattle.std.proofs.Common.{map, subst}
 use Rattle.std.specs.String.{string_bytes}
-use Rattle.conc_words.specs.declared.command.Command.TheVariants as command
-use Rattle.conc_work.specs.Disks.{disks}
+use Rattle.conc_top_words.specs.declared.command.Command.TheVariants as command
+use Rattle.conc_run_state.specs.Disks.{disks}
 use Rattle.conc_top.specs.Answers.{around}
 use Rattle.conc_top.specs.Meaning.{MeansOutput}
 use Rattle.conc_top.specs.Printing.{sunk}

@@ -1,6 +1,6 @@
 use Rattle.std.proofs.Common.{map, subst}
 use Rattle.std.specs.String.{string_bytes}
-use Rattle.conc_words.specs.declared.command.Command.TheVariants as command
+use Rattle.conc_top_words.specs.declared.command.Command.TheVariants as command
 use Rattle.conc_top.specs.Answers.{around}
 use Rattle.conc_top.specs.Meaning.{MeansStatus}
 use Rattle.conc_top.specs.Printing.{sunk}

@@ -1,9 +1,9 @@
 use Rattle.std.proofs.Common.{◌∙◌, ap, refl, subst, sym}
-use Rattle.conc_image.specs.Image.{IsJournal}
+use Rattle.conc_journal_image.specs.Image.{IsJournal}
 use Rattle.conc_law.specs.Law.{Lawful}
 use Rattle.conc_law.specs.Text.{text_of}
-use Rattle.conc_work.specs.Handed.{handed}
-use Rattle.conc_work.specs.Works.{list_in}
+use Rattle.conc_run_state.specs.Handed.{handed}
+use Rattle.conc_run_state.specs.Works.{list_in}
 use Rattle.conc_top.specs.Printing.{sunk}
 use Rattle.conc_top.specs.Runs.{RunEnds}
 use Rattle.conc_top.proofs.Ending.{cut-ends, history-ends, read-of}

@@ -1,5 +1,5 @@
 use Rattle.std.proofs.Common.{None, refl, subst, sym, inl, inr}
-use Rattle.conc_inputs.specs.Given.{named}
+use Rattle.conc_top_inputs.specs.Given.{named}
 use Rattle.conc_top.specs.Answers.{around, IsUnplanned}
 use Rattle.conc_top.specs.Printing.{sunk}
 use Rattle.conc_top.proofs.Meaning.{unplanned}

@@ -1,6 +1,6 @@
 use Rattle.std.proofs.Common.{None, refl, subst, sym, inl, inr}
-use Rattle.conc_inputs.specs.Given.{named}
-use Rattle.conc_work.specs.Disks.{disks}
+use Rattle.conc_top_inputs.specs.Given.{named}
+use Rattle.conc_run_state.specs.Disks.{disks}
 use Rattle.conc_top.specs.Answers.{around, IsUnplanned}
 use Rattle.conc_top.specs.Printing.{sunk}
 use Rattle.conc_top.specs.Shows.{OutputEnds}

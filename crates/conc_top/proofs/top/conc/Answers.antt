@@ -1,8 +1,8 @@
 use Rattle.std.proofs.Common.{map, refl, subst}
 use Rattle.std.specs.String.{string_bytes}
-use Rattle.conc_words.specs.Words.{command_of}
-use Rattle.conc_words.specs.declared.command.Command.TheVariants as command
-use Rattle.conc_work.specs.Disks.{disks}
+use Rattle.conc_top_words.specs.Words.{command_of}
+use Rattle.conc_top_words.specs.declared.command.Command.TheVariants as command
+use Rattle.conc_run_state.specs.Disks.{disks}
 use Rattle.conc_top.specs.Answers.{around}
 use Rattle.conc_top.specs.Meaning.{Means}
 use Rattle.conc_top.specs.Printing.{sunk}

@@ -1,4 +1,4 @@
-use Rattle.conc_facts.proofs.NextStanding.{standing-next}
+use Rattle.conc_law_effects.proofs.NextStanding.{standing-next}
 use Rattle.conc_machine.specs.Stands.{readings_of}
 use Rattle.conc_machine.proofs.Standings.{time-of}
 use Rattle.conc_machine.proofs.machine.Machine.apply.Goals as goal

@@ -1,4 +1,0 @@
-use Rattle.conc_check.proofs.judging.+one_may_start_among.Given as goal
-
-abbrev pub decreases-one_may_start_among : goal.decreases-one_may_start_among
-decreases-one_may_start_among l = l.count

@@ -1,0 +1,41 @@
+-- The least turn of the requests that may be let out, one request after the other.
+use Rattle.std.proofs.Common.{◌≡◌, ℕ, zero, suc, ◌+◌, ◌<◌, ◌≤◌, Bool, true, false, not, ◌&&◌, List, [], ◌∷◌, length, get_or, drop, Option, None, Some, refl, sym, ◌∙◌, ap, add-one, inl, inr, arith}
+use Rattle.std.specs.Prelude.{if◌then◌else◌, nat_lt}
+use Rattle.std.specs.Bool.{then_some}
+use Rattle.std.proofs.lemmas.Bool.{and_left, and_parts, and_right, cases_lt, le-ltb, lt-ltb, not-true}
+use Rattle.conc_types.specs.declared.facts.Standing.{Standing}
+use Rattle.conc_types.specs.declared.plan.Plan.{Plan}
+use Rattle.conc_types.specs.declared.plan.Req.{Req}
+use Rattle.conc_law.specs.Next.{can_run, is_free, is_ready, may_let}
+use Rattle.conc_law.specs.Standing.{facts_at, has_come, is_completed, is_live, is_waiting}
+use Rattle.conc_machine_queue.specs.Least.{least, lesser}
+use Rattle.conc_machine_queue.specs.Turns.{turn, turns_of}
+use Rattle.conc_machine_queue.proofs.LeastTurns.{lesser-none}
+use Rattle.conc_history_check.specs.Lets.{comes_before}
+
+-- ---- which requests count
+
+-- a request may be let where it is ready and free
+pub may_let-parts : (plan : Plan) (s : Standing) (r : Req) → may_let plan s r ≡ (is_ready plan s r && is_free plan s r)
+unfolding may_let
+may_let-parts plan s r = refl
+
+-- where it may not be, the best turn stays
+pub better-not : (best : Option ℕ) (b : Bool) (t : ℕ) → b ≡ false → best ≡ lesser best (then_some b t)
+better-not best b t e = rw e (sym (lesser-none best))
+
+-- so where its turn does not come before
+pub better-later : (best : Option ℕ) (b : Bool) (t : ℕ) → comes_before t best ≡ false → best ≡ lesser best (then_some b t)
+better-later None b t h = cc
+better-later (Some best) false t h = refl
+better-later (Some best) true t h = rw h refl
+
+-- one that does is the best
+pub better-before : (best : Option ℕ) (b : Bool) (t : ℕ) → comes_before t best ≡ true → b ≡ true → Some t ≡ lesser best (then_some b t)
+better-before None b t h e = rw e refl
+better-before (Some best) b t h e = rw (e, h) refl
+
+-- a ready request is not live
+pub ready-not_live : (plan : Plan) (s : Standing) (r : Req) → is_ready plan s r ≡ true → is_live (facts_at s r) ≡ false
+unfolding is_ready
+ready-not_live plan s r h = not-true _ (and_parts _ _ (and_parts _ _ h).1).0

@@ -1,0 +1,77 @@
+ghost use Rattle.std.specs.Prelude.{◌≡◌, ◌↔◌, ℕ, ◌≤◌, List, IfOk, IsTrue, MatchOption, length, reverse, Err};
+ghost use Rattle.conc_types.specs.declared.event.Event.{Event};
+ghost use Rattle.conc_law.specs.Law.{Finished, Lawful};
+ghost use Rattle.conc_types.specs.declared.error.CheckFail.TheVariants.{Unlawful as unlawful_at};
+ghost use Rattle.conc_history_check.specs.Findings.{AreFindings, HasRoom};
+ghost use Rattle.conc_history_check.specs.Positions.{AreLawfulTo, IsFirstBad};
+ghost use Rattle.conc_history_check.specs.Prepared.{IsPrepared};
+
+use crate::findings::Findings;
+use crate::judging::is_at_rest;
+use crate::positions::is_lawful_at;
+use crate::prepared::Prepared;
+use crate::readings::next_reading;
+use conc_types::{CheckFail, Event, Plan, Readings};
+use std::alloc::Global;
+
+// The first position at which the event is not lawful, if there is one.
+fn first_bad(
+    plan: &Plan,
+    prepared: &Prepared,
+    readings: &Readings,
+    findings: &mut Findings,
+    events: &[Event],
+) -> Option<u64>
+    requires prepared { IsPrepared plan.now prepared.now }
+    requires room { HasRoom plan.now prepared.now findings.old }
+    ensures first { MatchOption result (AreLawfulTo plan.now readings.now.list events.now (length events.now)) (IsFirstBad plan.now readings.now.list events.now) }
+    ensures room { HasRoom plan.now prepared.now findings.new }
+{
+    for i in 0..events.len() {
+        findings.read(plan, prepared, &events[..i]);
+        if !is_lawful_at(plan, prepared, readings, findings, events, i) {
+            return Some(i as u64 + 1);
+        }
+    }
+    None
+}
+
+// Whether the history that was read is finished.
+fn is_finished(
+    plan: &Plan,
+    prepared: &Prepared,
+    readings: &Readings,
+    findings: &Findings,
+    events: &[Event],
+) -> bool
+    requires prepared { IsPrepared plan.now prepared.now }
+    requires read { AreFindings plan.now prepared.now (reverse events.now) findings.now }
+    ensures { IsTrue result ↔ Finished plan.now readings.now.list events.now }
+{
+    is_at_rest(plan, prepared, &findings.standing, &findings.live)
+        && next_reading(plan, readings, findings).is_none()
+}
+
+/// Whether a history is finished, where it is lawful; else the first position, from 1, whose event may
+/// not stand there. The events before each position are read anew, in one pass over them; the time
+/// grows with the square of their number.
+pub fn check(
+    alloc: Global,
+    plan: &Plan,
+    readings: &Readings,
+    events: &[Event],
+) -> Result<bool, CheckFail>
+    ensures lawful { IfOk result (λ finished. Lawful plan.now readings.now.list events.now) }
+    ensures finished { IfOk result (λ finished. IsTrue finished ↔ Finished plan.now readings.now.list events.now) }
+    ensures unlawful { (position : ℕ) → result ≡ Err (unlawful_at position) → IsFirstBad plan.now readings.now.list events.now position }
+{
+    let prepared = Prepared::new(alloc, plan)?;
+    let mut findings = Findings::new(alloc, plan, &prepared)?;
+    match first_bad(plan, &prepared, readings, &mut findings, events) {
+        Some(position) => Err(CheckFail::Unlawful { position }),
+        None => {
+            findings.read(plan, &prepared, events);
+            Ok(is_finished(plan, &prepared, readings, &findings, events))
+        }
+    }
+}

@@ -1,0 +1,123 @@
+ghost use Rattle.std.specs.Prelude.{◌≡◌, ◌∷◌, ◌+◌, ◌<◌, ◌^◌, [], Bool, IfOk, List, false, length, map, reverse};
+ghost use Rattle.conc_types.specs.declared.event.Event.{Event};
+ghost use Rattle.conc_types.specs.declared.facts.Facts.{Facts};
+ghost use Rattle.conc_law.specs.Standing.{no_facts as no_facts_of, standing as standing_of};
+ghost use Rattle.conc_machine_reach.specs.Spans.{AreSpans};
+ghost use Rattle.conc_history_check.specs.Findings.{AreFindings, earlier_after as earlier_after_of, HasRoom, HasTaken, ticks_after as ticks_after_of};
+ghost use Rattle.conc_history_check.specs.Prepared.{IsPrepared};
+
+use crate::live::{note_live, room_for_live};
+use crate::prepared::Prepared;
+use conc_history_replay::take_in;
+use conc_law_effects::begin;
+use conc_machine_reach::Spans;
+use conc_types::{Event, Facts, Moment, NoMemory, Plan, RequestId, Seq, Standing};
+use std::alloc::Global;
+
+/// What is read of the events before a position.
+#[derive(Drop)]
+pub(crate) struct Findings {
+    pub standing: Standing,
+    /// The moment of the last tick before the last life.
+    pub earlier: Option<Moment>,
+    /// How many ticks the last life has.
+    pub ticks: usize,
+    /// For each class a live request of it, or none where it has none.
+    pub live: Seq<Option<RequestId>>,
+}
+
+// ---- no events
+
+fn clear_facts(facts: &mut Seq<Facts>)
+    ensures { facts.new ≡ map (λ (own : Facts). no_facts_of) facts.old }
+{
+    for i in 0..facts.len() {
+        facts.set(i, Facts::NONE);
+    }
+}
+
+fn clear_flags(flags: &mut Seq<bool>)
+    ensures { flags.new ≡ map (λ (flag : Bool). false) flags.old }
+{
+    for i in 0..flags.len() {
+        flags.set(i, false);
+    }
+}
+
+// ---- one more event
+
+// The last tick of the earlier lives, where the last tick of all came at this moment.
+fn earlier_after(now: Option<Moment>, earlier: Option<Moment>, e: Event) -> Option<Moment>
+    ensures { result ≡ earlier_after_of now earlier e }
+{
+    match e {
+        Event::Resume => now,
+        _ => earlier,
+    }
+}
+
+fn ticks_after(ticks: usize, e: Event) -> usize
+    requires { ticks + 1 < 2 ^ 64 }
+    ensures { result ≡ ticks_after_of ticks e }
+{
+    match e {
+        Event::Tick { .. } => ticks + 1,
+        Event::Resume => 0,
+        _ => ticks,
+    }
+}
+
+impl Findings {
+    /// What no events say, with room for what any events of the plan say.
+    pub fn new(alloc: Global, plan: &Plan, prepared: &Prepared) -> Result<Findings, NoMemory>
+        ensures { IfOk result (HasRoom plan.now prepared.now) }
+    {
+        Ok(Findings {
+            standing: begin(alloc, plan)?,
+            earlier: None,
+            ticks: 0,
+            live: room_for_live(alloc, &prepared.classes)?,
+        })
+    }
+
+    // Forgets what was read.
+    fn clear(&mut self, _plan: &Plan, _prepared: &Prepared)
+        requires { HasRoom _plan.now _prepared.now self.old }
+        ensures read { HasTaken _plan.now [] self.new }
+        ensures live { self.new.live ≡ self.old.live }
+    {
+        clear_facts(&mut self.standing.facts);
+        clear_flags(&mut self.standing.done);
+        self.standing.used = Some(0);
+        self.standing.time = None;
+        self.standing.empty = true;
+        self.earlier = None;
+        self.ticks = 0;
+    }
+
+    // Reads one more event.
+    fn take_in(&mut self, plan: &Plan, spans: &Spans, e: Event)
+        requires spans { AreSpans plan.now spans.now }
+        requires few { self.old.ticks + 1 < 2 ^ 64 }
+        ensures read { (past : List Event) → HasTaken plan.now past self.old → HasTaken plan.now (e ∷ past) self.new }
+        ensures live { self.new.live ≡ self.old.live }
+    {
+        self.earlier = earlier_after(self.standing.time, self.earlier, e);
+        self.ticks = ticks_after(self.ticks, e);
+        take_in(plan, spans, &mut self.standing, e);
+    }
+
+    /// Reads these events, from the first one on, and nothing else. It takes no memory.
+    pub fn read(&mut self, plan: &Plan, prepared: &Prepared, events: &[Event])
+        requires prepared { IsPrepared plan.now prepared.now }
+        requires room { HasRoom plan.now prepared.now self.old }
+        ensures read { AreFindings plan.now prepared.now (reverse events.now) self.new }
+        ensures room { HasRoom plan.now prepared.now self.new }
+    {
+        self.clear(plan, prepared);
+        for e in events {
+            self.take_in(plan, &prepared.spans, *e);
+        }
+        note_live(plan, &prepared.classes, &self.standing, &mut self.live);
+    }
+}

@@ -1,0 +1,66 @@
+ghost use Rattle.std.specs.Prelude.{◌≡◌};
+ghost use Rattle.conc_law.specs.Next.{forced as forced_of, forced_step as forced_step_of};
+ghost use Rattle.conc_machine_reach.specs.Spans.{AreSpans};
+ghost use Rattle.conc_history_check.specs.Live.{AreLive};
+ghost use Rattle.conc_history_check.specs.Prepared.{IsPrepared};
+ghost use Rattle.conc_history_check.specs.Steps.{own_step as own_step_of, step_among};
+
+use crate::lets::forced_let;
+use crate::prepared::Prepared;
+use conc_law_decisions::{facts_at, forced_command, forced_interrupt, set_step};
+use conc_machine_reach::Spans;
+use conc_types::{Event, Plan, Req, RequestId, Seq, Standing};
+
+// ---- steps of sets
+
+// The step of a request, if it is an open set that has one.
+#[tactic(auto, unfolding(crate::specs::Steps::own_step))]
+fn own_step(plan: &Plan, spans: &Spans, standing: &Standing, r: &Req) -> Option<Event>
+    requires { AreSpans plan.now spans.now }
+    ensures { result ≡ own_step_of plan.now standing.now r.now }
+{
+    if !facts_at(standing, r).opened {
+        return None;
+    }
+    set_step(plan, standing, r, spans.members(plan, r.number))
+}
+
+#[tactic(auto, unfolding(conc_law::specs::Next::forced_step, crate::specs::Steps::step_among))]
+fn forced_step(plan: &Plan, spans: &Spans, standing: &Standing) -> Option<Event>
+    requires { AreSpans plan.now spans.now }
+    ensures { result ≡ forced_step_of plan.now standing.now }
+{
+    for r in plan.requests.as_slice() {
+        match own_step(plan, spans, standing, r) {
+            Some(e) => return Some(e),
+            None => {}
+        }
+    }
+    None
+}
+
+// ---- all four
+
+/// The event that is forced, if one is due.
+#[tactic(auto, unfolding(conc_law::specs::Next::forced))]
+pub(crate) fn forced(
+    plan: &Plan,
+    prepared: &Prepared,
+    standing: &Standing,
+    live: &Seq<Option<RequestId>>,
+) -> Option<Event>
+    requires prepared { IsPrepared plan.now prepared.now }
+    requires live { AreLive plan.now prepared.now.classes standing.now live.now }
+    ensures { result ≡ forced_of plan.now standing.now }
+{
+    if let Some(e) = forced_interrupt(plan, standing) {
+        return Some(e);
+    }
+    if let Some(e) = forced_command(plan, standing) {
+        return Some(e);
+    }
+    if let Some(e) = forced_step(plan, &prepared.spans, standing) {
+        return Some(e);
+    }
+    forced_let(plan, prepared, standing, live)
+}

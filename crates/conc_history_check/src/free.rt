@@ -1,0 +1,77 @@
+ghost use Rattle.std.specs.Prelude.{◌≡◌, IsFalse, IsTrue, is_some};
+ghost use Rattle.std.specs.List.{find};
+ghost use Rattle.std.specs.Option.{option_copied};
+ghost use Rattle.conc_law.specs.Next.{is_free as is_free_of};
+ghost use Rattle.conc_law.specs.Standing.{facts_at, is_live as is_live_of};
+ghost use Rattle.conc_law.specs.Words.{Has};
+ghost use Rattle.conc_machine_classes.specs.Classes.{AreClasses, rivals_at};
+ghost use Rattle.conc_history_check.specs.Live.{AreLive, noted as noted_of, rival_noted as rival_noted_of};
+
+use crate::live::noted;
+use conc_law_decisions::blocks;
+use conc_machine_classes::Classes;
+use conc_types::{Plan, Req, RequestId, Seq, Standing};
+
+fn first_noted<'a>(
+    classes: &'a Classes,
+    live: &Seq<Option<RequestId>>,
+    class: u32,
+) -> Option<&'a u32>
+    ensures { option_copied result ≡ find (λ d. is_some (noted_of live.now d)) (rivals_at classes.now class) }
+{
+    classes
+        .rivals(class)
+        .iter()
+        .find(|d| noted(live, **d).is_some())
+}
+
+// A live request whose class excludes the class, if there is one.
+#[tactic(auto, unfolding(crate::specs::Live::rival_noted))]
+fn rival_noted(classes: &Classes, live: &Seq<Option<RequestId>>, class: u32) -> Option<RequestId>
+    ensures { result ≡ rival_noted_of classes.now live.now class }
+{
+    match first_noted(classes, live, class) {
+        Some(d) => noted(live, *d),
+        None => None,
+    }
+}
+
+// Whether the request with this number is live and excludes r.
+fn blocks_by_id(plan: &Plan, standing: &Standing, r: &Req, id: RequestId) -> bool
+    ensures { IsTrue result → IsFalse (is_free_of plan.now standing.now r.now) }
+{
+    match plan.request(id) {
+        Some(q) => blocks(plan, standing, r, q),
+        None => false,
+    }
+}
+
+// Whether no live request excludes r. It looks first at the one with this number.
+#[tactic(auto, unfolding(conc_law::specs::Next::is_free))]
+fn is_free_of_all(plan: &Plan, standing: &Standing, r: &Req, first: RequestId) -> bool
+    ensures { result ≡ is_free_of plan.now standing.now r.now }
+{
+    !blocks_by_id(plan, standing, r, first) && conc_law_decisions::is_free(plan, standing, r)
+}
+
+/// Whether no live request excludes r, which is none itself. It looks at all requests only where its
+/// class may exclude kin of its own and the live request that it finds does not exclude r.
+pub(crate) fn is_free(
+    plan: &Plan,
+    classes: &Classes,
+    standing: &Standing,
+    live: &Seq<Option<RequestId>>,
+    r: &Req,
+) -> bool
+    requires classes { AreClasses plan.now classes.now }
+    requires live { AreLive plan.now classes.now standing.now live.now }
+    requires own { Has plan.now.requests r.now }
+    requires idle { IsFalse (is_live_of (facts_at standing.now r.now)) }
+    ensures { result ≡ is_free_of plan.now standing.now r.now }
+{
+    let class = classes.class(r);
+    match rival_noted(classes, live, class) {
+        None => true,
+        Some(rival) => classes.spares(class) && is_free_of_all(plan, standing, r, rival),
+    }
+}

@@ -1,0 +1,153 @@
+ghost use Rattle.std.specs.Prelude.{◌≡◌, ◌+◌, ◌<◌, ◌^◌, map};
+ghost use Rattle.std.specs.List.{list_any, range_with_len};
+ghost use Rattle.conc_law.specs.Next.{is_allowed as is_allowed_of, is_at_rest as is_at_rest_of, may_come as may_come_of, may_start as may_start_of, may_start_somewhere, may_take as may_take_of, may_tick as may_tick_of};
+ghost use Rattle.conc_history_check.specs.Live.{AreLive};
+ghost use Rattle.conc_history_check.specs.Prepared.{IsPrepared};
+
+use crate::forcing::forced;
+use crate::prepared::Prepared;
+use conc_law_decisions::{
+    is_not_earlier, is_resume, is_same_event, is_usable_now, may_end_by_id, may_start,
+    may_start_by_id, one_runs,
+};
+use conc_time::place_count;
+use conc_types::{Event, Moment, PlaceId, Plan, Reading, Req, RequestId, Seq, Standing};
+
+// ---- rest
+
+fn one_may_start(plan: &Plan, standing: &Standing, place: PlaceId) -> bool
+    ensures { result ≡ list_any (λ r. may_start_of plan.now standing.now r place) plan.now.requests }
+{
+    plan.requests
+        .as_slice()
+        .iter()
+        .any(|r| may_start(plan, standing, r, place))
+}
+
+// Whether a request may start at the place. It looks at the requests only where the place is usable.
+fn one_may_start_at(plan: &Plan, standing: &Standing, place: PlaceId) -> bool
+    ensures { result ≡ list_any (λ r. may_start_of plan.now standing.now r place) plan.now.requests }
+{
+    is_usable_now(plan, standing, place) && one_may_start(plan, standing, place)
+}
+
+// Whether a request may start at one of so many places from an index on.
+fn one_may_start_among(plan: &Plan, standing: &Standing, from: u32, count: u32) -> bool
+    requires { from + count < 2 ^ 32 }
+    ensures { result ≡ list_any (λ p. list_any (λ r. may_start_of plan.now standing.now r p) plan.now.requests) (map (λ index. record { index = index }) (range_with_len from count)) }
+{
+    count > 0
+        && (one_may_start_at(plan, standing, PlaceId { index: from })
+            || one_may_start_among(plan, standing, from + 1, count - 1))
+}
+
+fn one_may_start_somewhere(plan: &Plan, standing: &Standing) -> bool
+    ensures { result ≡ list_any (may_start_somewhere plan.now standing.now) plan.now.requests }
+{
+    one_may_start_among(plan, standing, 0, place_count(plan))
+}
+
+/// Whether the system is at rest: nothing is forced, no request runs, and none may start.
+#[tactic(auto, unfolding(conc_law::specs::Next::is_at_rest))]
+pub(crate) fn is_at_rest(
+    plan: &Plan,
+    prepared: &Prepared,
+    standing: &Standing,
+    live: &Seq<Option<RequestId>>,
+) -> bool
+    requires prepared { IsPrepared plan.now prepared.now }
+    requires live { AreLive plan.now prepared.now.classes standing.now live.now }
+    ensures { result ≡ is_at_rest_of plan.now standing.now }
+{
+    forced(plan, prepared, standing, live).is_none()
+        && !one_runs(plan, standing)
+        && !one_may_start_somewhere(plan, standing)
+}
+
+#[tactic(auto, unfolding(conc_law::specs::Next::may_take))]
+fn may_take(
+    plan: &Plan,
+    prepared: &Prepared,
+    standing: &Standing,
+    live: &Seq<Option<RequestId>>,
+    reading: Reading,
+) -> bool
+    requires prepared { IsPrepared plan.now prepared.now }
+    requires live { AreLive plan.now prepared.now.classes standing.now live.now }
+    ensures { result ≡ may_take_of plan.now standing.now reading }
+{
+    reading.early || is_at_rest(plan, prepared, standing, live)
+}
+
+// ---- single events
+
+#[tactic(auto, unfolding(conc_law::specs::Next::may_tick))]
+fn may_tick(
+    plan: &Plan,
+    prepared: &Prepared,
+    standing: &Standing,
+    live: &Seq<Option<RequestId>>,
+    next: Option<Option<Reading>>,
+    t: Moment,
+) -> bool
+    requires prepared { IsPrepared plan.now prepared.now }
+    requires live { AreLive plan.now prepared.now.classes standing.now live.now }
+    ensures { result ≡ may_tick_of plan.now standing.now next t }
+{
+    match next {
+        Some(Some(reading)) => {
+            t.seconds == reading.moment.seconds && may_take(plan, prepared, standing, live, reading)
+        }
+        Some(None) => false,
+        None => is_not_earlier(standing.time, t),
+    }
+}
+
+#[tactic(auto, unfolding(conc_law::specs::Next::is_allowed))]
+fn is_allowed(
+    plan: &Plan,
+    prepared: &Prepared,
+    standing: &Standing,
+    live: &Seq<Option<RequestId>>,
+    next: Option<Option<Reading>>,
+    e: Event,
+) -> bool
+    requires prepared { IsPrepared plan.now prepared.now }
+    requires live { AreLive plan.now prepared.now.classes standing.now live.now }
+    ensures { result ≡ is_allowed_of plan.now standing.now next e }
+{
+    match e {
+        Event::Started { request, place } => may_start_by_id(plan, standing, request, place),
+        Event::Ended {
+            request,
+            outcome,
+            extent,
+        } => may_end_by_id(plan, standing, request, outcome, extent),
+        Event::Tick { moment } => may_tick(plan, prepared, standing, live, next, moment),
+        _ => false,
+    }
+}
+
+/// Whether the event may come next. `next` is the next reading of the last life, if one is left; it is
+/// None in an earlier life, whose readings are not known.
+#[tactic(auto, unfolding(conc_law::specs::Next::may_come))]
+pub(crate) fn may_come(
+    plan: &Plan,
+    prepared: &Prepared,
+    standing: &Standing,
+    live: &Seq<Option<RequestId>>,
+    next: Option<Option<Reading>>,
+    e: Event,
+) -> bool
+    requires prepared { IsPrepared plan.now prepared.now }
+    requires live { AreLive plan.now prepared.now.classes standing.now live.now }
+    ensures { result ≡ may_come_of plan.now standing.now next e }
+{
+    if is_resume(e) {
+        return !standing.empty;
+    }
+    match forced(plan, prepared, standing, live) {
+        Some(due) => is_same_event(e, due),
+        None => is_allowed(plan, prepared, standing, live, next, e),
+    }
+}

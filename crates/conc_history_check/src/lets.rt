@@ -1,0 +1,138 @@
+ghost use Rattle.std.specs.Prelude.{◌≡◌, false, unwrap_or};
+ghost use Rattle.std.specs.Bool.{then_some};
+ghost use Rattle.std.specs.Option.{option_and_then, option_map};
+ghost use Rattle.conc_types.specs.Words.{numbered};
+ghost use Rattle.conc_law.specs.Next.{can_run, forced_let as forced_let_of, is_ready as is_ready_of, let_event as let_event_of, may_let as may_let_of};
+ghost use Rattle.conc_law.specs.Words.{Has};
+ghost use Rattle.conc_machine_queue.specs.Least.{least, lesser};
+ghost use Rattle.conc_machine_queue.specs.Turns.{request_at_turn as request_at_turn_of, turn as turn_of, turns_of};
+ghost use Rattle.conc_history_check.specs.Lets.{comes_before as comes_before_of};
+ghost use Rattle.conc_history_check.specs.Live.{AreLive};
+ghost use Rattle.conc_history_check.specs.Prepared.{IsPrepared};
+
+use crate::free::is_free;
+use crate::prepared::Prepared;
+use conc_law_decisions::{facts_at, has_come, is_completed, is_live, is_waiting, let_event};
+use conc_machine_queue::{request_at_turn, turn};
+use conc_types::{Event, Plan, Req, RequestId, Seq, Standing};
+
+fn flag_numbered(flags: &Seq<bool>, number: u32) -> bool
+    ensures { result ≡ unwrap_or (numbered flags.now number) false }
+{
+    if number == 0 {
+        return false;
+    }
+    flags
+        .as_slice()
+        .get(number as usize - 1)
+        .copied()
+        .unwrap_or(false)
+}
+
+// Whether r is a set, or of an enabled program and admitted by some manager.
+fn is_runnable(_plan: &Plan, prepared: &Prepared, r: &Req) -> bool
+    requires prepared { IsPrepared _plan.now prepared.now }
+    requires own { Has _plan.now.requests r.now }
+    ensures { result ≡ can_run _plan.now r.now }
+{
+    flag_numbered(&prepared.runnable, r.number.number)
+}
+
+// Whether r can be let out, or opened, unless a live request excludes it.
+#[tactic(auto, unfolding(conc_law::specs::Next::is_ready))]
+fn is_ready(plan: &Plan, prepared: &Prepared, standing: &Standing, r: &Req) -> bool
+    requires prepared { IsPrepared plan.now prepared.now }
+    requires own { Has plan.now.requests r.now }
+    ensures { result ≡ is_ready_of plan.now standing.now r.now }
+{
+    let facts = facts_at(standing, r);
+    facts.entered
+        && !is_live(facts)
+        && !is_completed(facts)
+        && !facts.held
+        && has_come(standing.time, r.start)
+        && is_runnable(plan, prepared, r)
+        && !is_waiting(plan, standing, r)
+}
+
+// Whether the turn comes before the best one so far.
+fn comes_before(turn: u64, best: Option<u64>) -> bool
+    ensures { result ≡ comes_before_of turn best }
+{
+    match best {
+        Some(b) => turn < b,
+        None => true,
+    }
+}
+
+// The best turn so far, or that of r where r may be let out and its turn comes before.
+fn better(
+    plan: &Plan,
+    prepared: &Prepared,
+    standing: &Standing,
+    live: &Seq<Option<RequestId>>,
+    best: Option<u64>,
+    r: &Req,
+) -> Option<u64>
+    requires prepared { IsPrepared plan.now prepared.now }
+    requires live { AreLive plan.now prepared.now.classes standing.now live.now }
+    requires own { Has plan.now.requests r.now }
+    ensures { result ≡ lesser best (then_some (may_let_of plan.now standing.now r.now) (turn_of r.now)) }
+{
+    if !is_ready(plan, prepared, standing, r) {
+        return best;
+    }
+    let turn = turn(r);
+    if !comes_before(turn, best) {
+        return best;
+    }
+    if !is_free(plan, &prepared.classes, standing, live, r) {
+        return best;
+    }
+    Some(turn)
+}
+
+// The least turn of the requests that may be let out.
+fn least_turn(
+    plan: &Plan,
+    prepared: &Prepared,
+    standing: &Standing,
+    live: &Seq<Option<RequestId>>,
+) -> Option<u64>
+    requires prepared { IsPrepared plan.now prepared.now }
+    requires live { AreLive plan.now prepared.now.classes standing.now live.now }
+    ensures { result ≡ least (turns_of (may_let_of plan.now standing.now) plan.now.requests) }
+{
+    let mut best = None;
+    for r in plan.requests.as_slice() {
+        best = better(plan, prepared, standing, live, best, r);
+    }
+    best
+}
+
+fn event_at(plan: &Plan, turn: Option<u64>) -> Option<Event>
+    ensures { result ≡ option_map let_event_of (option_and_then (request_at_turn_of plan.now) turn) }
+{
+    match turn {
+        Some(turn) => match request_at_turn(plan, turn) {
+            Some(r) => Some(let_event(r)),
+            None => None,
+        },
+        None => None,
+    }
+}
+
+/// The let of the first request in precedence that may be let out, or its open where it is a set.
+#[tactic(auto, unfolding(conc_law::specs::Next::forced_let))]
+pub(crate) fn forced_let(
+    plan: &Plan,
+    prepared: &Prepared,
+    standing: &Standing,
+    live: &Seq<Option<RequestId>>,
+) -> Option<Event>
+    requires prepared { IsPrepared plan.now prepared.now }
+    requires live { AreLive plan.now prepared.now.classes standing.now live.now }
+    ensures { result ≡ forced_let_of plan.now standing.now }
+{
+    event_at(plan, least_turn(plan, prepared, standing, live))
+}

@@ -1,0 +1,71 @@
+ghost use Rattle.std.specs.Prelude.{◌≡◌, ◌<◌, IfOk, None, Option, length, map, suc};
+ghost use Rattle.conc_types.specs.declared.event.RequestId.{RequestId};
+ghost use Rattle.conc_machine_classes.specs.Classes.{AreClasses};
+ghost use Rattle.conc_history_check.specs.Live.{AreLive, AreLiveTo, noted as noted_of};
+
+use conc_law_decisions::{facts_at, is_live};
+use conc_machine_classes::Classes;
+use conc_types::{NoMemory, Plan, RequestId, Seq, Standing};
+use std::alloc::Global;
+
+/// For each class a live request of it, or none where it has none.
+pub(crate) fn room_for_live(
+    alloc: Global,
+    classes: &Classes,
+) -> Result<Seq<Option<RequestId>>, NoMemory>
+    ensures { IfOk result (λ live. length live ≡ length classes.now.sizes) }
+{
+    Ok(Seq::from_vec(vec![in alloc; None; classes.count()]?))
+}
+
+fn clear(live: &mut Seq<Option<RequestId>>)
+    ensures { live.new ≡ map (λ (own : Option RequestId). None) live.old }
+{
+    for i in 0..live.len() {
+        live.set(i, None);
+    }
+}
+
+/// The request that is noted for a class.
+#[tactic(auto, unfolding(crate::specs::Live::noted))]
+pub(crate) fn noted(live: &Seq<Option<RequestId>>, class: u32) -> Option<RequestId>
+    ensures { result ≡ noted_of live.now class }
+{
+    live.as_slice().get(class as usize).copied().flatten()
+}
+
+// Notes the request at an index, if it is live.
+fn note(
+    plan: &Plan,
+    classes: &Classes,
+    standing: &Standing,
+    live: &mut Seq<Option<RequestId>>,
+    i: usize,
+)
+    requires classes { AreClasses plan.now classes.now }
+    requires within { i < length plan.now.requests }
+    requires before { AreLiveTo plan.now classes.now standing.now i live.old }
+    ensures { AreLiveTo plan.now classes.now standing.now (suc i) live.new }
+{
+    let q = &plan.requests.as_slice()[i];
+    if is_live(facts_at(standing, q)) {
+        live.set(classes.class(q) as usize, Some(q.number));
+    }
+}
+
+/// Notes a live request of each class, and forgets what was noted before.
+pub(crate) fn note_live(
+    plan: &Plan,
+    classes: &Classes,
+    standing: &Standing,
+    live: &mut Seq<Option<RequestId>>,
+)
+    requires classes { AreClasses plan.now classes.now }
+    requires room { length live.old ≡ length classes.now.sizes }
+    ensures { AreLive plan.now classes.now standing.now live.new }
+{
+    clear(live);
+    for i in 0..plan.requests.len() {
+        note(plan, classes, standing, live, i);
+    }
+}

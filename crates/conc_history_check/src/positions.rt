@@ -1,0 +1,64 @@
+ghost use Rattle.std.specs.Prelude.{◌≡◌, ◌+◌, ◌<◌, List, length, reverse, take};
+ghost use Rattle.std.specs.List.{list_any};
+ghost use Rattle.std.specs.Option.{option_map};
+ghost use Rattle.conc_types.specs.declared.event.Event.{Event};
+ghost use Rattle.conc_law.specs.Kinds.{is_resume as is_resume_of};
+ghost use Rattle.conc_law.specs.Readings.{next_reading as next_reading_of};
+ghost use Rattle.conc_history_check.specs.Findings.{AreFindings, HasTaken};
+ghost use Rattle.conc_history_check.specs.Positions.{is_lawful_at as is_lawful_at_of, known_before};
+ghost use Rattle.conc_history_check.specs.Prepared.{IsPrepared};
+
+use crate::findings::Findings;
+use crate::judging::may_come;
+use crate::prepared::Prepared;
+use crate::readings::next_reading;
+use conc_law_decisions::is_resume;
+use conc_types::{Event, Plan, Reading, Readings};
+
+fn has_resume(events: &[Event]) -> bool
+    ensures { result ≡ list_any is_resume_of events.now }
+{
+    events.iter().any(|e| is_resume(*e))
+}
+
+// The next reading, if one is left, where these events come later; none is known where one of them is
+// a resume.
+#[tactic(auto, unfolding(crate::specs::Positions::known_before))]
+fn known_next(
+    plan: &Plan,
+    readings: &Readings,
+    findings: &Findings,
+    later: &[Event],
+) -> Option<Option<Reading>>
+    ensures { (past : List Event) → HasTaken plan.now past findings.now → result ≡ option_map (λ known. next_reading_of known past) (known_before readings.now.list later.now) }
+{
+    if has_resume(later) {
+        return None;
+    }
+    Some(next_reading(plan, readings, findings))
+}
+
+/// Whether the event at an index may follow those before it, which were read.
+pub(crate) fn is_lawful_at(
+    plan: &Plan,
+    prepared: &Prepared,
+    readings: &Readings,
+    findings: &Findings,
+    events: &[Event],
+    i: usize,
+) -> bool
+    requires prepared { IsPrepared plan.now prepared.now }
+    requires within { i < length events.now }
+    requires read { AreFindings plan.now prepared.now (reverse (take i events.now)) findings.now }
+    ensures { result ≡ is_lawful_at_of plan.now readings.now.list events.now (i + 1) }
+{
+    let next = known_next(plan, readings, findings, &events[i + 1..]);
+    may_come(
+        plan,
+        prepared,
+        &findings.standing,
+        &findings.live,
+        next,
+        events[i],
+    )
+}

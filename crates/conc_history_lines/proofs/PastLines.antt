@@ -1,0 +1,302 @@
+-- Each event of a lawful history has a line.
+use Rattle.std.proofs.Common.{◌≡◌, refl, sym, ◌∙◌, ap, ◌<◌, ◌≤◌, ◌+◌, ◌^◌, ℕ, zero, suc, Bool, true, false, ◌&&◌, ◌==◌, List, [], ◌∷◌, length, map, reverse, subst, inl, inr, arith}
+use Rattle.std.specs.Prelude.{if◌then◌else◌, nat_le, nat_lt, slice_get, Option, None, Some, is_none, is_some}
+use Rattle.std.specs.List.{enumerate_from, filter_map, find, list_all}
+use Rattle.std.specs.Option.{option_and_then, option_flatten, option_map}
+use Rattle.std.proofs.lemmas.Bool.{and_from, and_parts, both_ways, eqb-true, le-leb, lt-ltb, ltb-true}
+use Rattle.std.proofs.lemmas.List.{reverse-append}
+use Rattle.std.proofs.lemmas.List.Folds.{list_all-append}
+use Rattle.std.proofs.lemmas.List.FromFn.{length-enumerate_from}
+use Rattle.std.proofs.lemmas.Option.{slice_get_within}
+use Rattle.conc_types.specs.declared.event.Event.{Event}
+use Rattle.conc_types.specs.declared.event.Event.TheVariants as event
+use Rattle.conc_types.specs.declared.event.Extent.{Extent}
+use Rattle.conc_types.specs.declared.event.Outcome.{Outcome}
+use Rattle.conc_types.specs.declared.event.Outcome.TheVariants as outcome
+use Rattle.conc_types.specs.declared.event.PlaceId.{PlaceId}
+use Rattle.conc_types.specs.declared.event.RequestId.{RequestId}
+use Rattle.conc_types.specs.declared.facts.Standing.{Standing}
+use Rattle.conc_types.specs.declared.plan.Plan.{Plan}
+use Rattle.conc_types.specs.declared.plan.Req.{Req}
+use Rattle.conc_types.specs.declared.stage.Stage.{Stage}
+use Rattle.conc_types.specs.Plans.{request}
+use Rattle.conc_types.specs.Words.{greatest, is_empty, none_or, numbered, some_and}
+use Rattle.conc_law.specs.Law.{is_past, may_follow}
+use Rattle.conc_law.specs.Managers.{admits}
+use Rattle.conc_law.specs.Next.{forced, forced_command, forced_interrupt, forced_let, forced_step, has_step, is_allowed, is_due, is_left_running, is_next_extent, is_report_outcome, is_terminated, let_event, may_end, may_let, may_start}
+use Rattle.conc_law.specs.Places.{place_of}
+use Rattle.conc_law.specs.Plans.{members, precedes, stages_of}
+use Rattle.conc_law.specs.Readings.{next_reading}
+use Rattle.conc_law.specs.Stages.{after_stage, critical_stages, has_ended, link, link_place, next_stage, of_severity, outcome_at, set_outcome, set_step, severity, stage_outcome, step_from, worst}
+use Rattle.conc_law.specs.Standing.{facts_at, is_running, is_stopping, standing, used}
+use Rattle.conc_law.specs.Words.{first_by, Has}
+use Rattle.conc_law.proofs.Comes.{came, close_comes, comes_allowed, let_comes, Lettable, open_comes, Opened, stage_comes}
+use Rattle.conc_law.proofs.Due.{command_undone, IsUndone}
+use Rattle.conc_law.proofs.EqualEvents.{id_same}
+use Rattle.conc_law.proofs.FirstBy.{find-some}
+use Rattle.conc_law.proofs.ForcedBy.{let_event-let}
+use Rattle.conc_law.proofs.Numbering.{found, numbered-at, numbered_plan}
+use Rattle.conc_law.proofs.Numbers.{enumerated-numbered}
+use Rattle.conc_law.proofs.Options.{and_then-some, map-some, or-some, some_and-some, then_some-some}
+use Rattle.conc_law.proofs.Remaining.{end_about, IsAboutOne}
+use Rattle.conc_law.proofs.Stops.{end_comes, interrupt_comes, LeftRunning}
+use Rattle.conc_history_lines.specs.Lines.{ends_so, has_line, is_small}
+
+-- ---- numbers
+
+numbered_within : {T : Type 0} (xs : List T) (n : ℕ) (x : T) → numbered xs n ≡ Some x → n ≤ length xs
+numbered_within xs zero x h = omega arith
+numbered_within xs (suc k) x h =
+    let within : k < length xs = slice_get_within xs k x (sym (numbered-at xs (suc k) k (omega arith)) ∙ h) in
+    omega arith
+
+-- the numbers of requests fit
+small_request : (plan : Plan) (r : Req) → Has plan.requests r → is_small r.number.number ≡ true
+unfolding request
+small_request plan r hr =
+    let within = numbered_within plan.requests r.number.number r (numbered_plan plan r hr) in
+    let few = plan.few in
+    lt-ltb r.number.number 4294967296 (omega arith)
+
+small_id : (plan : Plan) (r : Req) (id : RequestId) → Has plan.requests r → r.number ≡ id → is_small id.number ≡ true
+small_id plan r id hr e = ap (λ (q : RequestId). is_small q.number) (sym e) ∙ small_request plan r hr
+
+-- the numbers of commands fit
+small_command : (plan : Plan) (past : List Event) (n : ℕ) → IsUndone plan past n → is_small n ≡ true
+small_command plan past n u =
+    let within = numbered_within (enumerate_from 1 plan.script.commands) u.order.0 u.order (enumerated-numbered plan.script.commands u.order u.element) in
+    let long = length-enumerate_from 1 plan.script.commands in
+    let few = plan.script.few in
+    let number = u.number in
+    lt-ltb n 4294967296 (omega arith)
+
+-- ---- steps of sets
+
+is_step : Event → Bool
+is_step (event.Stage s k) = true
+is_step (event.CloseSet s o) = true
+is_step _ = false
+
+-- a forced step is one of a set of the plan
+record IsStepOf (plan : Plan) (s : Standing) (e : Event) : Type 0 where
+  set : Req
+  element : Has plan.requests set
+  step : set_step plan s set ≡ Some e
+
+not_step : (d e : Event) → is_step d ≡ false → d ≡ e → is_step e ≡ true → ⊥
+not_step d e h same k = both_ways (is_step d) h (ap is_step same ∙ k)
+
+forced_by_step : (plan : Plan) (s : Standing) (e : Event) → is_step e ≡ true → forced plan s ≡ Some e → IsStepOf plan s e
+unfolding forced forced_interrupt forced_command forced_step forced_let is_step
+forced_by_step plan s e k h =
+    elim (or-some (forced_interrupt plan s) _ e h) [
+      | inl a ↦
+          let p = map-some (λ r. event.Interrupt r.number) (find (is_left_running s) plan.requests) e a in
+          absurd (not_step (event.Interrupt p.0.number) e refl p.2 k)
+      | inr b ↦ elim (or-some (forced_command plan s) _ e b) [
+        | inl a ↦
+            let p = map-some (λ order. event.Command order.0) (find (is_due s) (enumerate_from 1 plan.script.commands)) e a in
+            absurd (not_step (event.Command p.0.0) e refl p.2 k)
+        | inr c ↦ elim (or-some (forced_step plan s) _ e c) [
+          | inl a ↦
+              let p = and_then-some (set_step plan s) (find (has_step plan s) plan.requests) e a in
+              let f : (has_step plan s p.0 ≡ true) × Has plan.requests p.0 = find-some (has_step plan s) plan.requests p.0 p.1 in
+              record { set = p.0; element = f.1; step = p.2 }
+          | inr d ↦
+              let p = map-some let_event (first_by precedes (may_let plan s) plan.requests) e d in
+              elim (let_event-let p.0 e p.2) [
+                | inl x ↦ absurd (not_step (event.OpenSet p.0.number) e refl (sym x.1) k)
+                | inr x ↦ absurd (not_step (event.LetOut p.0.number) e refl (sym x.1) k)
+              ]
+        ]
+      ]
+    ]
+
+close_forced : (plan : Plan) (past : List Event) (id : RequestId) (o : Outcome) → may_follow plan None past (event.CloseSet id o) ≡ true → IsStepOf plan (standing plan past) (event.CloseSet id o)
+unfolding may_follow is_allowed is_step
+close_forced plan past id o h =
+    elim (came plan (standing plan past) (option_map (λ known. next_reading known past) None) (event.CloseSet id o) refl h) [
+      | inl f ↦ forced_by_step plan (standing plan past) (event.CloseSet id o) refl f
+      | inr a ↦ cc
+    ]
+
+stage_forced : (plan : Plan) (past : List Event) (id : RequestId) (k : ℕ) → may_follow plan None past (event.Stage id k) ≡ true → IsStepOf plan (standing plan past) (event.Stage id k)
+unfolding may_follow is_allowed is_step
+stage_forced plan past id k h =
+    elim (came plan (standing plan past) (option_map (λ known. next_reading known past) None) (event.Stage id k) refl h) [
+      | inl f ↦ forced_by_step plan (standing plan past) (event.Stage id k) refl f
+      | inr a ↦ cc
+    ]
+
+-- ---- the outcome of a set
+
+severity_report : (n : ℕ) → is_report_outcome (of_severity n) ≡ true
+severity_report n = by (n == 0) (n == 1) where
+  by : (a b : Bool) → is_report_outcome (if a then outcome.Normal else (if b then outcome.Warning else outcome.Error)) ≡ true
+  by true b = refl
+  by false true = refl
+  by false false = refl
+
+worst_report : (outcomes : List Outcome) → is_report_outcome (worst outcomes) ≡ true
+unfolding worst
+worst_report outcomes = severity_report (greatest (map severity outcomes))
+
+set_report : (plan : Plan) (s : Standing) (set : Req) (last : ℕ) → is_report_outcome (set_outcome plan s set last) ≡ true
+unfolding set_outcome stage_outcome
+set_report plan s set last = by (is_empty (critical_stages plan s set)) where
+  by : (b : Bool) → is_report_outcome (if b then stage_outcome plan s set last else worst (map (λ stage. stage_outcome plan s set stage.0) (critical_stages plan s set))) ≡ true
+  by true = worst_report (filter_map (outcome_at s) (members plan set.number last))
+  by false = worst_report (map (λ stage. stage_outcome plan s set stage.0) (critical_stages plan s set))
+
+close_after : (plan : Plan) (s : Standing) (set : Req) (last : ℕ) (next : Option ℕ) (id : RequestId) (o : Outcome) → after_stage plan s set last next ≡ event.CloseSet id o → is_report_outcome o ≡ true
+close_after plan s set last None id o h =
+    let same : set_outcome plan s set last ≡ o = cc in
+    ap is_report_outcome (sym same) ∙ set_report plan s set last
+close_after plan s set last (Some next) id o h = cc
+
+close_report : (plan : Plan) (s : Standing) (set : Req) (current : Option ℕ) (id : RequestId) (o : Outcome) → step_from plan s set current ≡ Some (event.CloseSet id o) → is_report_outcome o ≡ true
+close_report plan s set None id o h = cc
+close_report plan s set (Some stage) id o h =
+    close_after plan s set stage (next_stage plan s set stage) id o (then_some-some (has_ended plan s set stage) (after_stage plan s set stage (next_stage plan s set stage)) (event.CloseSet id o) h).1
+
+close_step : (plan : Plan) (s : Standing) (set : Req) (id : RequestId) (o : Outcome) → set_step plan s set ≡ Some (event.CloseSet id o) → is_report_outcome o ≡ true
+unfolding set_step
+close_step plan s set id o h = close_report plan s set (facts_at s set).stage id o h
+
+-- ---- the number of a stage
+
+all_get : {T : Type 0} (test : T → Bool) (xs : List T) (k : ℕ) (x : T) → list_all test xs ≡ true → slice_get xs k ≡ Some x → test x ≡ true
+all_get test [] k x h e = cc
+all_get test (y ∷ xs) zero x h e =
+    let same : y ≡ x = cc in
+    ap test (sym same) ∙ (and_parts (test y) (list_all test xs) h).0
+all_get test (y ∷ xs) (suc k) x h e = all_get test xs k x (and_parts (test y) (list_all test xs) h).1 e
+
+flat : {T : Type 0} (o : Option (Option T)) (x : T) → option_flatten o ≡ Some x → o ≡ Some (Some x)
+flat None x h = cc
+flat (Some None) x h = cc
+flat (Some (Some y)) x h = ap (λ o. Some o) h
+
+link_near : (stage : Stage) (o : Outcome) (place : ℕ) → link stage o ≡ Some place → place < 64
+link_near stage o place h =
+    let e = flat (slice_get stage.links (link_place o)) place h in
+    let near : list_all (none_or (λ place. nat_lt place 64)) stage.links ≡ true = stage.near in
+    ltb-true place 64 (all_get (none_or (λ place. nat_lt place 64)) stage.links (link_place o) (Some place) near e)
+
+next_near : (plan : Plan) (s : Standing) (set : Req) (stage k : ℕ) → next_stage plan s set stage ≡ Some k → (1 ≤ k) × (k ≤ 64)
+unfolding next_stage
+next_near plan s set stage k h =
+    let p = map-some (λ place. place + 1) (option_and_then (λ found. link found (stage_outcome plan s set stage)) (numbered (stages_of plan set) stage)) k h in
+    let q = and_then-some (λ found. link found (stage_outcome plan s set stage)) (numbered (stages_of plan set) stage) p.0 p.1 in
+    let near = link_near q.0 (stage_outcome plan s set stage) p.0 q.2 in
+    let next = p.2 in
+    (omega arith, omega arith)
+
+stage_after : (plan : Plan) (s : Standing) (set : Req) (last : ℕ) (next : Option ℕ) (id : RequestId) (k : ℕ) → ((n : ℕ) → next ≡ Some n → (1 ≤ n) × (n ≤ 64))
+    → after_stage plan s set last next ≡ event.Stage id k → (1 ≤ k) × (k ≤ 64)
+stage_after plan s set last None id k near h = cc
+stage_after plan s set last (Some next) id k near h =
+    let same : next ≡ k = cc in
+    near k (ap (λ (n : ℕ). Some n) same)
+
+stage_near : (plan : Plan) (s : Standing) (set : Req) (current : Option ℕ) (id : RequestId) (k : ℕ) → step_from plan s set current ≡ Some (event.Stage id k) → (1 ≤ k) × (k ≤ 64)
+stage_near plan s set None id k h = let same : 1 ≡ k = cc in (omega arith, omega arith)
+stage_near plan s set (Some stage) id k h =
+    stage_after plan s set stage (next_stage plan s set stage) id k (λ n e. next_near plan s set stage n e)
+    (then_some-some (has_ended plan s set stage) (after_stage plan s set stage (next_stage plan s set stage)) (event.Stage id k) h).1
+
+stage_step : (plan : Plan) (s : Standing) (set : Req) (id : RequestId) (k : ℕ) → set_step plan s set ≡ Some (event.Stage id k) → (1 ≤ k) × (k ≤ 64)
+unfolding set_step
+stage_step plan s set id k h = stage_near plan s set (facts_at s set).stage id k h
+
+-- ---- starts and ends
+
+start_line : (plan : Plan) (past : List Event) (id : RequestId) (p : PlaceId) → may_follow plan None past (event.Started id p) ≡ true → (is_small id.number && is_some (place_of plan p)) ≡ true
+unfolding may_follow is_allowed may_start
+start_line plan past id p h =
+    let s = standing plan past in
+    let allowed : some_and (λ q. may_start plan s q p) (request plan id) ≡ true =
+    (comes_allowed plan s (option_map (λ known. next_reading known past) None) (event.Started id p) refl refl h).1 in
+    let q = some_and-some (λ q. may_start plan s q p) (request plan id) allowed in
+    let f = found plan id q.0 q.1 in
+    let small : is_small id.number ≡ true = ap is_small (sym f.0) ∙ small_request plan q.0 f.1 in
+    let a = and_parts (facts_at s q.0).let_out _ q.2 in
+    let b = and_parts _ _ a.1 in
+    let c = and_parts (some_and (λ z. admits z.manager q.0) (place_of plan p)) _ b.1 in
+    let there = some_and-some (λ z. admits z.manager q.0) (place_of plan p) c.0 in
+    and_from (is_small id.number) (is_some (place_of plan p)) small (ap is_some there.1)
+
+used_small : (plan : Plan) (past : List Event) (n : ℕ) → (standing plan past).used ≡ Some n → nat_lt n (2 ^ 64) ≡ true
+unfolding standing
+used_small plan past n h =
+    let p = then_some-some (nat_lt (used past) (2 ^ 64)) (used past) n h in
+    ap (λ (m : ℕ). nat_lt m (2 ^ 64)) (sym p.1) ∙ p.0
+
+extent_line : (s : Standing) (x : Extent) → ((n : ℕ) → s.used ≡ Some n → nat_lt n (2 ^ 64) ≡ true) → is_next_extent s x ≡ true → (nat_lt x.offset (2 ^ 64) && is_small x.length) ≡ true
+unfolding is_next_extent
+extent_line s x few h =
+    let p = and_parts (some_and (λ n. x.offset == n) s.used) (nat_lt 0 x.length && nat_lt x.length (2 ^ 32)) h in
+    let q = some_and-some (λ n. x.offset == n) s.used p.0 in
+    let same : x.offset ≡ q.0 = eqb-true x.offset q.0 q.2 in
+    and_from (nat_lt x.offset (2 ^ 64)) (is_small x.length) (ap (λ (m : ℕ). nat_lt m (2 ^ 64)) same ∙ few q.0 q.1) (and_parts (nat_lt 0 x.length) (is_small x.length) p.1).1
+
+ended_line : (s : Standing) (stop : Bool) (o : Outcome) (x : Option Extent) → ((n : ℕ) → s.used ≡ Some n → nat_lt n (2 ^ 64) ≡ true)
+    → (if stop then is_terminated o && is_none x else is_report_outcome o && some_and (is_next_extent s) x) ≡ true → ends_so o x ≡ true
+ended_line s true o None few h = (and_parts (is_terminated o) true h).0
+ended_line s true o (Some x) few h = let never : false ≡ true = (and_parts (is_terminated o) false h).1 in cc
+ended_line s false o None few h = let never : false ≡ true = (and_parts (is_report_outcome o) false h).1 in cc
+ended_line s false o (Some x) few h =
+    let p = and_parts (is_report_outcome o) (is_next_extent s x) h in
+    and_from (is_report_outcome o) _ p.0 (extent_line s x few p.1)
+
+may_end-line : (s : Standing) (r : Req) (o : Outcome) (x : Option Extent) → ((n : ℕ) → s.used ≡ Some n → nat_lt n (2 ^ 64) ≡ true) → may_end s r o x ≡ true → ends_so o x ≡ true
+unfolding may_end
+may_end-line s r o x few h = ended_line s (is_stopping (facts_at s r)) o x few (and_parts (is_running (facts_at s r)) _ h).1
+
+end_line : (plan : Plan) (past : List Event) (id : RequestId) (o : Outcome) (x : Option Extent) → may_follow plan None past (event.Ended id o x) ≡ true → (is_small id.number && ends_so o x) ≡ true
+end_line plan past id o x m =
+    let p : IsAboutOne plan (event.Ended id o x) = end_about plan None past id o x m in
+    let same : id ≡ p.0.number = id_same id p.0.number p.2 in
+    let n : may_follow plan None past (event.Ended p.0.number o x) ≡ true = subst (λ z. may_follow plan None past (event.Ended z o x) ≡ true) same m in
+    and_from (is_small id.number) (ends_so o x) (small_id plan p.0 id p.1 (sym same))
+    (may_end-line (standing plan past) p.0 o x (used_small plan past) (end_comes plan None past p.0 o x p.1 n))
+
+-- ---- each event
+
+event_line : (plan : Plan) (past : List Event) (e : Event) → may_follow plan None past e ≡ true → has_line plan e ≡ true
+unfolding has_line
+event_line plan past (event.Tick t) m = refl
+event_line plan past (event.Command n) m = small_command plan past n (command_undone plan None past n m)
+event_line plan past (event.OpenSet id) m = let l : Lettable plan (standing plan past) id true = open_comes plan None past id m in small_id plan l.req id l.element l.number
+event_line plan past (event.Stage id k) m =
+    let l : Opened plan (standing plan past) id = stage_comes plan None past id k m in
+    let f = stage_forced plan past id k m in
+    let near = stage_step plan (standing plan past) f.set id k f.step in
+    and_from (is_small id.number) _ (small_id plan l.req id l.element l.number) (and_from (nat_le 1 k) (is_small k) (le-leb 1 k near.0) (lt-ltb k 4294967296 (omega arith)))
+event_line plan past (event.CloseSet id o) m =
+    let l : Opened plan (standing plan past) id = close_comes plan None past id o m in
+    let f = close_forced plan past id o m in
+    and_from (is_small id.number) (is_report_outcome o) (small_id plan l.req id l.element l.number) (close_step plan (standing plan past) f.set id o f.step)
+event_line plan past (event.LetOut id) m = let l : Lettable plan (standing plan past) id false = let_comes plan None past id m in small_id plan l.req id l.element l.number
+event_line plan past (event.Started id p) m = start_line plan past id p m
+event_line plan past (event.Ended id o x) m = end_line plan past id o x m
+event_line plan past event.Resume m = refl
+event_line plan past (event.Interrupt id) m = let l : LeftRunning plan (standing plan past) id = interrupt_comes plan None past id m in small_id plan l.req id l.element l.number
+
+past_lines : (plan : Plan) (past : List Event) → is_past plan past ≡ true → list_all (has_line plan) past ≡ true
+unfolding is_past
+past_lines plan [] h = refl
+past_lines plan (e ∷ past) h =
+    let p = and_parts (is_past plan past) (may_follow plan None past e) h in
+    and_from (has_line plan e) (list_all (has_line plan) past) (event_line plan past e p.1) (past_lines plan past p.0)
+
+all_reverse : {T : Type 0} (test : T → Bool) (xs : List T) → list_all test (reverse xs) ≡ true → list_all test xs ≡ true
+all_reverse test [] h = refl
+all_reverse test (x ∷ xs) h =
+    let both : (list_all test (reverse xs) && (test x && true)) ≡ true = sym (ap (list_all test) (reverse-append (x ∷ []) xs) ∙ list_all-append test (reverse xs) (x ∷ [])) ∙ h in
+    let p = and_parts (list_all test (reverse xs)) (test x && true) both in
+    and_from (test x) (list_all test xs) (and_parts (test x) true p.1).0 (all_reverse test xs p.0)
+
+-- each event of a lawful history has a line
+pub history_lines : (plan : Plan) (history : List Event) → is_past plan (reverse history) ≡ true → list_all (has_line plan) history ≡ true
+history_lines plan history h = all_reverse (has_line plan) history (past_lines plan (reverse history) h)

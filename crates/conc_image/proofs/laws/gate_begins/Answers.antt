@@ -1,5 +1,0 @@
-use Rattle.conc_image.proofs.Beginning.{begun-either}
-use Rattle.conc_image.proofs.laws.gate_begins.Goals as goal
-
-pub returns : goal.returns
-returns c = λ digest header image begins here. begun-either digest header image begins here

@@ -1,5 +1,0 @@
-use Rattle.conc_image.proofs.Appends.{written-stays}
-use Rattle.conc_image.proofs.laws.journal_stays.Goals as goal
-
-pub returns : goal.returns
-returns c = λ digest old new events j same. written-stays digest events old new j same

@@ -1,5 +1,0 @@
-use Rattle.conc_image.proofs.Unique.{spelled-has_record}
-use Rattle.conc_image.proofs.laws.spelled_has_record.Goals as goal
-
-pub returns : goal.returns
-returns c = λ bytes e. spelled-has_record bytes e

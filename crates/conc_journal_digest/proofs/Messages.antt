@@ -1,0 +1,17 @@
+-- The message, piece by piece.
+use Rattle.std.proofs.Common.{◌≡◌, ℕ, List, [], ◌∷◌, ◌++◌, append_assoc, arith}
+use Rattle.std.proofs.lemmas.List.{append-nil}
+use Rattle.std.proofs.lemmas.List.Folds.{concat-append}
+use Rattle.std.proofs.lemmas.List.{map-append}
+use Rattle.conc_journal_digest.specs.Inputs.{framed, message}
+
+-- without a table
+pub message_none : (setup script : List ℕ) → message setup script [] ≡ framed setup ++ framed script
+unfolding message
+message_none setup script = grind (arith, append_assoc, append-nil)
+
+-- with one more table
+pub message_more : (setup script : List ℕ) (tables : List (List ℕ × List ℕ)) (table : List ℕ × List ℕ)
+    → message setup script (tables ++ table ∷ []) ≡ (message setup script tables ++ framed table.0) ++ framed table.1
+unfolding message
+message_more setup script tables table = grind (arith, append_assoc, append-nil, concat-append, map-append)

@@ -1,0 +1,5 @@
+use Rattle.conc_journal_image.proofs.Beginning.{begun-either}
+use Rattle.conc_journal_image.proofs.laws.gate_begins.Goals as goal
+
+pub returns : goal.returns
+returns c = λ digest header image begins here. begun-either digest header image begins here

@@ -1,0 +1,208 @@
+ghost use Rattle.std.specs.Prelude.{◌≡◌, ◌+◌, ◌<◌, ◌^◌, [], ◌∷◌, IfSome, length, map};
+ghost use Rattle.std.specs.List.{enumerate_from, filter, filter_map, list_all};
+ghost use Rattle.conc_types.specs.Words.{greatest, is_empty};
+ghost use Rattle.conc_law.specs.Plans.{is_member as is_member_of};
+ghost use Rattle.conc_law.specs.Stages.{completed_at as completed_at_of, counts_for_set as counts_for_set_of, link as link_of, next_stage as next_stage_of, of_severity as of_severity_of, outcome_at as outcome_at_of, set_outcome as set_outcome_of, set_step as set_step_of, severity as severity_of, worst};
+ghost use Rattle.conc_law_decisions.specs.Members.{AreMembers, worst_among};
+
+use crate::lookup::{facts_at, is_completed};
+use conc_rules::{is_member, stages_of};
+use conc_types::{Event, Facts, Outcome, Plan, Req, RequestId, Stage, Standing};
+
+fn severity(outcome: Outcome) -> u32
+    ensures { result ≡ severity_of outcome }
+{
+    match outcome {
+        Outcome::Normal => 0,
+        Outcome::Warning => 1,
+        _ => 2,
+    }
+}
+
+fn of_severity(severity: u32) -> Outcome
+    ensures { result ≡ of_severity_of severity }
+{
+    match severity {
+        0 => Outcome::Normal,
+        1 => Outcome::Warning,
+        _ => Outcome::Error,
+    }
+}
+
+#[tactic(auto, unfolding(conc_law::specs::Stages::completed_at))]
+fn is_completed_at(standing: &Standing, r: &Req) -> bool
+    ensures { result ≡ completed_at_of standing.now r.now }
+{
+    is_completed(facts_at(standing, r))
+}
+
+#[tactic(auto, unfolding(conc_law::specs::Stages::outcome_at))]
+fn outcome_at(standing: &Standing, r: &Req) -> Option<Outcome>
+    ensures { result ≡ outcome_at_of standing.now r.now }
+{
+    facts_at(standing, r).outcome
+}
+
+// Whether those of the requests that are members of the stage are completed.
+fn are_members_completed(standing: &Standing, set: RequestId, stage: u32, requests: &[Req]) -> bool
+    ensures { result ≡ list_all (completed_at_of standing.now) (filter (is_member_of set stage) requests.now) }
+{
+    requests
+        .iter()
+        .filter(|r| is_member(set, stage, r))
+        .all(|r| is_completed_at(standing, r))
+}
+
+// The severity of the request's outcome, where it is a completed member of the stage, else 0.
+fn member_severity(standing: &Standing, set: RequestId, stage: u32, r: &Req) -> u32
+    ensures { result ≡ worst_among standing.now set stage (r.now ∷ []) }
+{
+    if !is_member(set, stage, r) {
+        return 0;
+    }
+    match outcome_at(standing, r) {
+        Some(outcome) => severity(outcome),
+        None => 0,
+    }
+}
+
+// The worst severity among those of the requests that are members of the stage.
+fn worst_member(standing: &Standing, set: RequestId, stage: u32, requests: &[Req]) -> u32
+    ensures { result ≡ worst_among standing.now set stage requests.now }
+{
+    let mut worst = 0;
+    for r in requests {
+        worst = member_severity(standing, set, stage, r).max(worst);
+    }
+    worst
+}
+
+// The worst outcome among those of the requests that are members of the stage.
+#[tactic(auto, unfolding(conc_law::specs::Stages::worst))]
+fn worst_outcome(standing: &Standing, set: RequestId, stage: u32, requests: &[Req]) -> Outcome
+    ensures { result ≡ worst (filter_map (outcome_at_of standing.now) (filter (is_member_of set stage) requests.now)) }
+{
+    of_severity(worst_member(standing, set, stage, requests))
+}
+
+fn link(stage: &Stage, outcome: Outcome) -> Option<u32>
+    ensures link { result ≡ link_of stage.now outcome }
+    ensures bound { IfSome result (λ place. place < 64) }
+{
+    match outcome {
+        Outcome::Normal => stage.links[0],
+        Outcome::Warning => stage.links[1],
+        _ => stage.links[2],
+    }
+}
+
+#[tactic(auto, unfolding(conc_law::specs::Stages::next_stage, conc_law::specs::Stages::stage_outcome))]
+fn next_stage(
+    plan: &Plan,
+    standing: &Standing,
+    set: &Req,
+    stage: u32,
+    members: &[Req],
+) -> Option<u32>
+    requires { AreMembers plan.now set.now.number members.now }
+    ensures { result ≡ next_stage_of plan.now standing.now set.now stage }
+{
+    if stage == 0 {
+        return None;
+    }
+    match stages_of(plan, set).get(stage as usize - 1) {
+        Some(found) => match link(found, worst_outcome(standing, set.number, stage, members)) {
+            Some(place) => Some(place + 1),
+            None => None,
+        },
+        None => None,
+    }
+}
+
+#[tactic(auto, unfolding(conc_law::specs::Stages::counts_for_set))]
+fn counts_for_set(facts: Facts, number: u32, stage: &Stage) -> bool
+    ensures { result ≡ counts_for_set_of facts (number, stage.now) }
+{
+    stage.critical && facts.begun.contains(number)
+}
+
+// Whether none of the stages, the first of which has this number, is critical and ran.
+fn none_counts(facts: Facts, stages: &[Stage], number: u32) -> bool
+    requires { number + length stages.now < 2 ^ 32 }
+    ensures { result ≡ is_empty (filter (counts_for_set_of facts) (enumerate_from number stages.now)) }
+{
+    match stages.split_first() {
+        None => true,
+        Some((stage, rest)) => {
+            !counts_for_set(facts, number, stage) && none_counts(facts, rest, number + 1)
+        }
+    }
+}
+
+// The worst severity among those of the stages that are critical and ran.
+fn worst_critical(
+    standing: &Standing,
+    set: RequestId,
+    facts: Facts,
+    stages: &[Stage],
+    number: u32,
+    members: &[Req],
+) -> u32
+    requires { number + length stages.now < 2 ^ 32 }
+    ensures { result ≡ greatest (map severity_of (map (λ stage. worst (filter_map (outcome_at_of standing.now) (filter (is_member_of set stage.0) members.now))) (filter (counts_for_set_of facts) (enumerate_from number stages.now)))) }
+{
+    match stages.split_first() {
+        None => 0,
+        Some((stage, rest)) => {
+            let below = worst_critical(standing, set, facts, rest, number + 1, members);
+            if counts_for_set(facts, number, stage) {
+                severity(worst_outcome(standing, set, number, members)).max(below)
+            } else {
+                below
+            }
+        }
+    }
+}
+
+fn set_outcome(plan: &Plan, standing: &Standing, set: &Req, last: u32, members: &[Req]) -> Outcome
+    requires { AreMembers plan.now set.now.number members.now }
+    ensures { result ≡ set_outcome_of plan.now standing.now set.now last }
+{
+    let facts = facts_at(standing, set);
+    let stages = stages_of(plan, set);
+    if none_counts(facts, stages, 1) {
+        worst_outcome(standing, set.number, last, members)
+    } else {
+        of_severity(worst_critical(standing, set.number, facts, stages, 1, members))
+    }
+}
+
+/// What an open set does next, where something is due: its first stage, the stage that follows, or
+/// its close. All members of the set stand among the requests that are given.
+#[tactic(auto, unfolding(conc_law::specs::Stages::set_step, conc_law::specs::Stages::has_ended))]
+pub fn set_step(plan: &Plan, standing: &Standing, set: &Req, members: &[Req]) -> Option<Event>
+    requires { AreMembers plan.now set.now.number members.now }
+    ensures { result ≡ set_step_of plan.now standing.now set.now }
+{
+    match facts_at(standing, set).stage {
+        None => Some(Event::Stage {
+            set: set.number,
+            stage: 1,
+        }),
+        Some(stage) => {
+            if !are_members_completed(standing, set.number, stage, members) {
+                return None;
+            }
+            match next_stage(plan, standing, set, stage, members) {
+                Some(next) => Some(Event::Stage {
+                    set: set.number,
+                    stage: next,
+                }),
+                None => Some(Event::CloseSet {
+                    set: set.number,
+                    outcome: set_outcome(plan, standing, set, stage, members),
+                }),
+            }
+        }
+    }
+}

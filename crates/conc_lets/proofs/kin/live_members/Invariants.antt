@@ -1,7 +1,0 @@
-use Rattle.std.proofs.Common.{◌≡◌, ◌≤◌, length, take}
-use Rattle.std.specs.List.{filter}
-use Rattle.conc_lets.specs.Forced.{is_live_member}
-use Rattle.conc_lets.proofs.kin.live_members.Given as goal
-
-abbrev pub invariant-loop-i : goal.invariant-loop-i
-invariant-loop-i l = (l.count ≡ length (filter (is_live_member l.classes l.standing l.class l.r) (take l.i l.plan.requests))) × (l.count ≤ length l.plan.requests)

@@ -1,6 +1,0 @@
-use Rattle.std.proofs.Common.{◌≡◌}
-use Rattle.conc_lets.proofs.Choice.{turn_below}
-use Rattle.conc_lets.proofs.lets.Lets.least_turn.Given as goal
-
-abbrev pub invariant-loop-class : goal.invariant-loop-class
-invariant-loop-class l = l.best ≡ turn_below l.plan l.classes l.standing l.class

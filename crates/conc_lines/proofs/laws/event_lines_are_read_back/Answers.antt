@@ -1,5 +1,0 @@
-use Rattle.conc_lines.proofs.ReadBack.{line_back}
-use Rattle.conc_lines.proofs.laws.event_lines_are_read_back.Goals as goal
-
-pub returns : goal.returns
-returns c = line_back

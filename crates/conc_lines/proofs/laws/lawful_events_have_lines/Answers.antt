@@ -1,5 +1,0 @@
-use Rattle.conc_lines.proofs.PastLines.{history_lines}
-use Rattle.conc_lines.proofs.laws.lawful_events_have_lines.Goals as goal
-
-pub returns : goal.returns
-returns c = history_lines

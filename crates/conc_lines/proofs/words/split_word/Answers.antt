@@ -1,8 +1,0 @@
-use Rattle.conc_lines.proofs.Splits.{split_at, split_none}
-use Rattle.conc_lines.proofs.words.split_word.Goals as goal
-
-pub returns-in-Some : goal.returns-in-Some
-returns-in-Some c = split_at 32 c.args.line.now _ _ c.in-Some.ensures.parts c.in-Some.ensures.first
-
-pub returns-in-None : goal.returns-in-None
-returns-in-None c = split_none 32 c.args.line.now c.in-None.ensures.lacks

@@ -1,0 +1,160 @@
+ghost use Rattle.std.specs.Prelude.{◌≡◌, ◌≤◌, ◌&&◌, IfOk, length};
+ghost use Rattle.std.specs.List.{filter, list_any};
+ghost use Rattle.conc_machine_classes.specs.Kinds.{covers_item, owns as owns_of, reaches as reaches_of};
+ghost use Rattle.conc_machine_classes.specs.Rivals.{IsClaim, claimed_by, claims as claims_of, either_claims as either_claims_of, heads_clash as heads_clash_of, row_of, rows_of};
+
+use crate::kinds::{Head, are_in_one_domain};
+use conc_rules::{is_same_item, runs_alone};
+use conc_types::{Entry, Item, NoMemory, Plan, Reach, Scope, Seq};
+use std::alloc::Global;
+
+// All that excludes the requests of a class.
+#[derive(Drop)]
+struct Claim {
+    head: Head,
+    // The entries of its item.
+    owned: Vec<Entry>,
+    // The entries that cover its requests.
+    covering: Vec<Entry>,
+    // Its program runs alone.
+    alone: bool,
+}
+
+#[tactic(auto, unfolding(crate::specs::Kinds::owns))]
+fn owns(item: Item, entry: Entry) -> bool
+    ensures { result ≡ owns_of item entry }
+{
+    is_same_item(entry.owner, item)
+}
+
+#[tactic(auto, unfolding(crate::specs::Kinds::covers_item))]
+fn covers(item: Item, parent: Option<Item>, entry: Entry) -> bool
+    ensures { result ≡ covers_item item parent entry }
+{
+    if is_same_item(entry.other, item) {
+        return true;
+    }
+    match (entry.scope, parent) {
+        (Scope::Set, Some(set)) => is_same_item(entry.other, set),
+        _ => false,
+    }
+}
+
+#[tactic(auto, unfolding(crate::specs::Kinds::reaches))]
+fn reaches(same_domain: bool, entry: Entry) -> bool
+    ensures { result ≡ reaches_of same_domain entry }
+{
+    matches!(entry.reach, Reach::Global) || same_domain
+}
+
+fn entries_of(alloc: Global, entries: &[Entry], item: Item) -> Result<Vec<Entry>, NoMemory>
+    ensures { IfOk result (λ all. all.items ≡ filter (owns_of item) entries.now) }
+{
+    Ok(
+        entries
+            .iter()
+            .copied()
+            .filter(|entry| owns(item, *entry))
+            .collect(alloc)?,
+    )
+}
+
+fn entries_over(alloc: Global, entries: &[Entry], head: Head) -> Result<Vec<Entry>, NoMemory>
+    ensures { IfOk result (λ all. all.items ≡ filter (covers_item head.item head.parent) entries.now) }
+{
+    Ok(
+        entries
+            .iter()
+            .copied()
+            .filter(|entry| covers(head.item, head.parent, *entry))
+            .collect(alloc)?,
+    )
+}
+
+fn claim_of(alloc: Global, plan: &Plan, head: Head) -> Result<Claim, NoMemory>
+    ensures { IfOk result (λ claim. IsClaim plan.now head claim) }
+{
+    let entries = plan.setup.entries.as_slice();
+    Ok(Claim {
+        head,
+        owned: entries_of(alloc, entries, head.item)?,
+        covering: entries_over(alloc, entries, head)?,
+        alone: runs_alone(&plan.setup, head.item),
+    })
+}
+
+fn some_covers(owned: &[Entry], other: Head, same_domain: bool) -> bool
+    ensures { result ≡ list_any (λ entry. covers_item other.item other.parent entry && reaches_of same_domain entry) owned.now }
+{
+    owned.iter().any(|entry| {
+        covers(other.item, other.parent, *entry) && reaches(same_domain, *entry)
+    })
+}
+
+fn some_is_owned(covering: &[Entry], other: Head, same_domain: bool) -> bool
+    ensures { result ≡ list_any (λ entry. owns_of other.item entry && reaches_of same_domain entry) covering.now }
+{
+    covering.iter().any(|entry| owns(other.item, *entry) && reaches(same_domain, *entry))
+}
+
+#[tactic(auto, unfolding(crate::specs::Rivals::claims))]
+fn claims(claim: &Claim, other: Head, same_domain: bool) -> bool
+    ensures { result ≡ claims_of claim.now other same_domain }
+{
+    some_covers(claim.owned.as_slice(), other, same_domain) || (claim.alone && same_domain)
+}
+
+#[tactic(auto, unfolding(crate::specs::Rivals::claimed_by))]
+fn is_claimed_by(plan: &Plan, claim: &Claim, other: Head, same_domain: bool) -> bool
+    ensures { result ≡ claimed_by plan.now claim.now other same_domain }
+{
+    some_is_owned(claim.covering.as_slice(), other, same_domain)
+        || (runs_alone(&plan.setup, other.item) && same_domain)
+}
+
+#[tactic(auto, unfolding(crate::specs::Rivals::either_claims))]
+fn either_claims(plan: &Plan, claim: &Claim, other: Head, same_domain: bool) -> bool
+    ensures { result ≡ either_claims_of plan.now claim.now other same_domain }
+{
+    claims(claim, other, same_domain) || is_claimed_by(plan, claim, other, same_domain)
+}
+
+// Whether requests of two classes exclude each other, unless they are one or kin.
+fn clashes(plan: &Plan, claim: &Claim, other: Head) -> bool
+    requires { IsClaim plan.now claim.now.head claim.now }
+    ensures { result ≡ heads_clash_of plan.now claim.now.head other }
+{
+    let same_domain = are_in_one_domain(plan, claim.head, other);
+    either_claims(plan, claim, other, same_domain)
+}
+
+// The classes that exclude the class with this head, in rising order.
+fn row(alloc: Global, plan: &Plan, heads: &[Head], head: Head) -> Result<Seq<u32>, NoMemory>
+    requires few { length heads.now ≤ 16384 }
+    ensures { IfOk result (λ row. row ≡ row_of plan.now heads.now head) }
+{
+    let claim = claim_of(alloc, plan, head)?;
+    let mut row = Vec::new(alloc);
+    for (i, other) in heads.iter().enumerate() {
+        if clashes(plan, &claim, *other) {
+            row.push(i as u32)?;
+        }
+    }
+    Ok(Seq::from_vec(row))
+}
+
+/// For the class of each head the classes that exclude it, in rising order.
+pub(crate) fn all_rows(
+    alloc: Global,
+    plan: &Plan,
+    heads: &[Head],
+) -> Result<Seq<Seq<u32>>, NoMemory>
+    requires few { length heads.now ≤ 16384 }
+    ensures { IfOk result (λ rows. rows ≡ rows_of plan.now heads.now heads.now) }
+{
+    let mut rows = Vec::with_capacity(alloc, heads.len())?;
+    for head in heads {
+        rows.push(row(alloc, plan, heads, *head)?)?;
+    }
+    Ok(Seq::from_vec(rows))
+}

@@ -1,0 +1,155 @@
+-- The queues of the classes where some requests are renewed.
+use Rattle.std.proofs.Common.{◌≡◌, ℕ, zero, suc, ◌+◌, ◌<◌, ◌≤◌, Bool, true, ◌==◌, List, [], ◌∷◌, length, map, set, Option, None, Some, refl, sym, ◌∙◌, ap, inl, inr, arith}
+use Rattle.std.specs.Prelude.{if◌then◌else◌, slice_get, unwrap_or}
+use Rattle.std.specs.Bool.{then_some}
+use Rattle.std.specs.List.{range_with_len}
+use Rattle.std.proofs.lemmas.Bool.{cases_eq, eq-eqb, eqb-true, ne_eqb}
+use Rattle.conc_types.specs.declared.facts.Standing.{Standing}
+use Rattle.conc_types.specs.declared.plan.Plan.{Plan}
+use Rattle.conc_types.specs.declared.plan.Req.{Req}
+use Rattle.conc_types.specs.Plans.{request}
+use Rattle.conc_law.specs.Words.{Has}
+use Rattle.conc_law.proofs.Numbering.{numbered_plan}
+use Rattle.conc_machine_queue.specs.Turns.{turn, turns_of}
+use Rattle.conc_machine_queue.proofs.Maps.{place_of_request, request_at_place}
+use Rattle.conc_machine_classes.specs.Classes.{AreClasses, class_at, of_class, seat_at}
+use Rattle.conc_machine_classes.specs.declared.classes.Classes.{Classes}
+use Rattle.conc_law.specs.Next.{is_ready}
+use Rattle.conc_machine_release.specs.Refresh.{put_in, queues_of, refreshed, refreshed_all, refreshed_by}
+use Rattle.conc_machine_release.proofs.Lists.{filter-distinct, filter-has, has-place, IsDistinct, map_range-get, map_range-same, map_range-set, place-has}
+
+-- ---- requests of a plan
+
+-- requests of a plan with one number are one
+pub same_number : (plan : Plan) (x y : Req) → Has plan.requests x → Has plan.requests y → x.number.number ≡ y.number.number → x ≡ y
+same_number plan x y hx hy e =
+    let n : x.number ≡ y.number = ap (λ n. record { number = n }) e in
+    let p : Some x ≡ Some y = sym (numbered_plan plan x hx) ∙ ap (request plan) n ∙ numbered_plan plan y hy in
+    cc
+
+-- no request stands at two places of a plan
+requests-distinct : (plan : Plan) → IsDistinct plan.requests
+requests-distinct plan = record {
+  one = λ i j x h k.
+      let p : (x.number.number ≡ i + 1) × Has plan.requests x = request_at_place plan i x h in
+      let q : (x.number.number ≡ j + 1) × Has plan.requests x = request_at_place plan j x k in
+      omega (arith, p.0, q.0);
+}
+
+-- a request of a class
+pub of_class-has : (plan : Plan) (classes : Classes) (c : ℕ) (r : Req) → Has (of_class plan classes c) r → Has plan.requests r × (class_at classes r ≡ c)
+unfolding of_class
+of_class-has plan classes c r h =
+    let p : Has plan.requests r × ((class_at classes r == c) ≡ true) = filter-has (λ q. class_at classes q == c) plan.requests r h in
+    (p.0, eqb-true (class_at classes r) c p.1)
+
+-- ---- turns
+
+-- two tests that agree on the requests
+pub turns-same : (f g : Req → Bool) (xs : List Req) → ((y : Req) → Has xs y → f y ≡ g y) → turns_of f xs ≡ turns_of g xs
+unfolding turns_of
+turns-same f g [] h = refl
+turns-same f g (x ∷ xs) h = rw (h x (inl refl)) (ap (λ l. then_some (g x) (turn x) ∷ l) (turns-same f g xs (λ y has. h y (inr has))))
+
+-- two tests that agree but at one place
+turns-set : (f g : Req → Bool) (xs : List Req) (k : ℕ) (x : Req) → slice_get xs k ≡ Some x
+    → ((j : ℕ) (y : Req) → slice_get xs j ≡ Some y → (j ≡ k → ⊥) → g y ≡ f y)
+    → set (turns_of f xs) k (then_some (g x) (turn x)) ≡ turns_of g xs
+unfolding turns_of
+turns-set f g [] k x h other = refl
+turns-set f g (z ∷ zs) zero x h other =
+    let e : x ≡ z = cc in
+    let later : turns_of f zs ≡ turns_of g zs =
+    turns-same f g zs (λ y has. let at : (k : ℕ) × (slice_get zs k ≡ Some y) = has-place zs y has in sym (other (suc at.0) y at.1 (λ (n : suc at.0 ≡ 0). omega arith))) in
+    ap (λ w. then_some (g w) (turn w) ∷ turns_of f zs) e ∙ ap (λ l. then_some (g z) (turn z) ∷ l) later
+turns-set f g (z ∷ zs) (suc k) x h other =
+    ap (λ b. then_some b (turn z) ∷ set (turns_of f zs) k (then_some (g x) (turn x))) (sym (other 0 z refl (λ (n : 0 ≡ suc k). omega arith)))
+    ∙ ap (λ l. then_some (g z) (turn z) ∷ l) (turns-set f g zs k x h (λ j y at ne. other (suc j) y at (λ (n : suc j ≡ suc k). ne (omega arith))))
+
+-- ---- queues
+
+-- two tests that agree on the requests of the plan
+pub queues-same : (plan : Plan) (classes : Classes) (f g : Req → Bool) → ((q : Req) → Has plan.requests q → f q ≡ g q) → queues_of plan classes f ≡ queues_of plan classes g
+unfolding queues_of
+queues-same plan classes f g h =
+    map_range-same (λ c. turns_of f (of_class plan classes c)) (λ c. turns_of g (of_class plan classes c)) 0 (length classes.sizes)
+    (λ c le. turns-same f g (of_class plan classes c) (λ y has. h y (of_class-has plan classes c y has).0))
+
+-- two tests that agree but on one request
+queue-renewed : (plan : Plan) (classes : Classes) → AreClasses plan classes → (f g : Req → Bool) (r : Req) → Has plan.requests r
+    → ((q : Req) → Has plan.requests q → (q.number.number ≡ r.number.number → ⊥) → g q ≡ f q)
+    → put_in (queues_of plan classes f) (class_at classes r) (seat_at classes r) (then_some (g r) (turn r)) ≡ queues_of plan classes g
+unfolding queues_of of_class
+queue-renewed plan classes are f g r has other =
+    ap (λ o. set (queues_of plan classes f) (class_at classes r) (set (unwrap_or o []) (seat_at classes r) (then_some (g r) (turn r)))) here
+    ∙ map_range-set of_f of_g (length classes.sizes) (class_at classes r) _ (sym own) others where
+      of_f : ℕ → List (Option ℕ)
+      of_f c = turns_of f (of_class plan classes c)
+
+      of_g : ℕ → List (Option ℕ)
+      of_g c = turns_of g (of_class plan classes c)
+
+      here : slice_get (map of_f (range_with_len 0 (length classes.sizes))) (class_at classes r) ≡ Some (of_f (class_at classes r))
+      here = map_range-get of_f 0 (length classes.sizes) (class_at classes r) (class_at classes r) (omega arith) (are.known r has)
+
+      distinct : IsDistinct (of_class plan classes (class_at classes r))
+      distinct = filter-distinct (λ q. class_at classes q == class_at classes r) plan.requests (requests-distinct plan)
+
+      own : set (of_f (class_at classes r)) (seat_at classes r) (then_some (g r) (turn r)) ≡ of_g (class_at classes r)
+      own = turns-set f g (of_class plan classes (class_at classes r)) (seat_at classes r) r (are.seated r has) (λ j y at ne.
+          let inside : Has plan.requests y × (class_at classes y ≡ class_at classes r) =
+          of_class-has plan classes (class_at classes r) y (place-has (of_class plan classes (class_at classes r)) j y at) in
+          other y inside.0 (λ (n : y.number.number ≡ r.number.number).
+          let same : y ≡ r = same_number plan y r inside.0 has n in
+          ne (distinct.one j (seat_at classes r) r (at ∙ ap (λ z. Some z) same) (are.seated r has))))
+
+      others : (d : ℕ) → (d ≡ class_at classes r → ⊥) → of_g d ≡ of_f d
+      others d ne = turns-same g f (of_class plan classes d) (λ y inside.
+          let p : Has plan.requests y × (class_at classes y ≡ d) = of_class-has plan classes d y inside in
+          other y p.0 (λ (n : y.number.number ≡ r.number.number). ne (sym p.1 ∙ ap (class_at classes) (same_number plan y r p.0 has n))))
+
+-- one test at a number, and another at the others
+abbrev pub at_number : ℕ → (Req → Bool) → (Req → Bool) → Req → Bool
+at_number n g f q = if q.number.number == n then g q else f q
+
+pub at_number-own : (n : ℕ) (g f : Req → Bool) (q : Req) → q.number.number ≡ n → at_number n g f q ≡ g q
+at_number-own n g f q e = rw (eq-eqb q.number.number n e)
+
+pub at_number-other : (n : ℕ) (g f : Req → Bool) (q : Req) → (q.number.number ≡ n → ⊥) → at_number n g f q ≡ f q
+at_number-other n g f q e = rw (ne_eqb q.number.number n e)
+
+-- the request at an index is renewed
+pub refreshed-is : (plan : Plan) (classes : Classes) (s : Standing) → AreClasses plan classes → (i : ℕ) (f : Req → Bool)
+    → refreshed plan classes s (queues_of plan classes f) i ≡ queues_of plan classes (at_number (i + 1) (is_ready plan s) f)
+refreshed-is plan classes s are i f = by (slice_get plan.requests i) refl where
+  by : (o : Option Req) → slice_get plan.requests i ≡ o
+      → refreshed_by plan classes s (queues_of plan classes f) o ≡ queues_of plan classes (at_number (i + 1) (is_ready plan s) f)
+  by None none = queues-same plan classes f (at_number (i + 1) (is_ready plan s) f) (λ q has.
+      let p : (k : ℕ) × (slice_get plan.requests k ≡ Some q) × (q.number.number ≡ k + 1) = place_of_request plan q has in
+      sym (at_number-other (i + 1) (is_ready plan s) f q (λ (n : q.number.number ≡ i + 1).
+      let same : i ≡ p.0 = omega (arith, p.2) in
+      let at : slice_get plan.requests i ≡ Some q = ap (slice_get plan.requests) same ∙ p.1 in
+      cc)))
+  by (Some r) some =
+      let p : (r.number.number ≡ i + 1) × Has plan.requests r = request_at_place plan i r some in
+      ap (λ b. put_in (queues_of plan classes f) (class_at classes r) (seat_at classes r) (then_some b (turn r))) (sym (at_number-own (i + 1) (is_ready plan s) f r p.0))
+      ∙ queue-renewed plan classes are f (at_number (i + 1) (is_ready plan s) f) r p.1
+      (λ q has ne. at_number-other (i + 1) (is_ready plan s) f q (λ (n : q.number.number ≡ i + 1). ne (omega (arith, p.0))))
+
+-- the requests within so many from an index on are renewed: one test is theirs, and another one that of the others
+pub refreshed_all-is : (plan : Plan) (classes : Classes) (s : Standing) → AreClasses plan classes → (n i : ℕ) (f h : Req → Bool)
+    → ((q : Req) → Has plan.requests q → i < q.number.number → q.number.number ≤ i + n → h q ≡ is_ready plan s q)
+    → ((q : Req) → Has plan.requests q → ((i < q.number.number) × (q.number.number ≤ i + n) → ⊥) → h q ≡ f q)
+    → refreshed_all plan classes s n i (queues_of plan classes f) ≡ queues_of plan classes h
+unfolding refreshed_all
+refreshed_all-is plan classes s are zero i f h inner outer =
+    queues-same plan classes f h (λ q has. sym (outer q has (λ (p : (i < q.number.number) × (q.number.number ≤ i + 0)). omega (arith, p.0, p.1))))
+refreshed_all-is plan classes s are (suc n) i f h inner outer =
+    ap (refreshed_all plan classes s n (i + 1)) (refreshed-is plan classes s are i f)
+    ∙ refreshed_all-is plan classes s are n (i + 1) (at_number (i + 1) (is_ready plan s) f) h
+    (λ q has (more : i + 1 < q.number.number) (most : q.number.number ≤ i + 1 + n). inner q has (omega arith) (omega arith))
+    (λ q has out. elim (cases_eq q.number.number (i + 1)) [
+      | inl e ↦ inner q has (omega arith) (omega arith) ∙ sym (at_number-own (i + 1) (is_ready plan s) f q e)
+      | inr ne ↦ outer q has (λ (p : (i < q.number.number) × (q.number.number ≤ i + suc n)). out (omega (arith, p.0, p.1), omega (arith, p.0, p.1)))
+          ∙ sym (at_number-other (i + 1) (is_ready plan s) f q ne)
+    ])

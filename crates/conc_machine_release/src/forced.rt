@@ -1,0 +1,106 @@
+ghost use Rattle.std.specs.Prelude.{◌≡◌};
+ghost use Rattle.std.specs.Bool.{then_some};
+ghost use Rattle.std.specs.Option.{option_and_then, option_map};
+ghost use Rattle.conc_types.specs.Words.{some_and};
+ghost use Rattle.conc_law.specs.Next.{let_event as let_event_of};
+ghost use Rattle.conc_machine_queue.specs.Least.{least as least_of};
+ghost use Rattle.conc_machine_queue.specs.Turns.{request_at_turn as request_at_turn_of, turn as turn_of, turns_of};
+ghost use Rattle.conc_machine_reach.specs.Spans.{AreSpans};
+ghost use Rattle.conc_machine_release.specs.Forced.{is_spared as is_spared_of};
+
+use crate::kin::{live_members, live_parents};
+use conc_law_decisions::{is_ready, let_event};
+use conc_machine_classes::Classes;
+use conc_machine_queue::{lesser, request_at_turn, turn};
+use conc_machine_reach::Spans;
+use conc_types::{Event, Plan, Req, Standing};
+
+// Whether r is of the class and ready, and so many live requests as exclude its class are kin of it.
+#[tactic(auto, unfolding(crate::specs::Forced::is_spared))]
+fn is_spared(
+    plan: &Plan,
+    classes: &Classes,
+    spans: &Spans,
+    standing: &Standing,
+    class: u32,
+    rivals: u32,
+    r: &Req,
+) -> bool
+    requires { AreSpans plan.now spans.now }
+    ensures { result ≡ is_spared_of plan.now classes.now standing.now class rivals r.now }
+{
+    classes.class(r) == class
+        && is_ready(plan, standing, r)
+        && live_members(plan, classes, spans, standing, class, r)
+            + live_parents(plan, classes, standing, class, r)
+            == rivals as usize
+}
+
+fn turn_if_spared(
+    plan: &Plan,
+    classes: &Classes,
+    spans: &Spans,
+    standing: &Standing,
+    class: u32,
+    rivals: u32,
+    r: &Req,
+) -> Option<u64>
+    requires { AreSpans plan.now spans.now }
+    ensures { result ≡ then_some (is_spared_of plan.now classes.now standing.now class rivals r.now) (turn_of r.now) }
+{
+    is_spared(plan, classes, spans, standing, class, rivals, r).then_some(turn(r))
+}
+
+/// Whether the request that has this turn is spared by so many rivals of its class as are live.
+pub(crate) fn is_turn_spared(
+    plan: &Plan,
+    classes: &Classes,
+    spans: &Spans,
+    standing: &Standing,
+    class: u32,
+    rivals: u32,
+    turn: u64,
+) -> bool
+    requires { AreSpans plan.now spans.now }
+    ensures { result ≡ some_and (is_spared_of plan.now classes.now standing.now class rivals) (request_at_turn_of plan.now turn) }
+{
+    match request_at_turn(plan, turn) {
+        Some(r) => is_spared(plan, classes, spans, standing, class, rivals, r),
+        None => false,
+    }
+}
+
+/// The least turn of those that are spared by so many rivals of their class as are live.
+pub(crate) fn least_spared(
+    plan: &Plan,
+    classes: &Classes,
+    spans: &Spans,
+    standing: &Standing,
+    class: u32,
+    rivals: u32,
+) -> Option<u64>
+    requires { AreSpans plan.now spans.now }
+    ensures { result ≡ least_of (turns_of (is_spared_of plan.now classes.now standing.now class rivals) plan.now.requests) }
+{
+    let mut best = None;
+    for r in plan.requests.as_slice() {
+        best = lesser(
+            best,
+            turn_if_spared(plan, classes, spans, standing, class, rivals, r),
+        );
+    }
+    best
+}
+
+/// The let, or open, of the request that has this turn.
+pub(crate) fn event_at(plan: &Plan, turn: Option<u64>) -> Option<Event>
+    ensures { result ≡ option_map let_event_of (option_and_then (request_at_turn_of plan.now) turn) }
+{
+    match turn {
+        Some(turn) => match request_at_turn(plan, turn) {
+            Some(r) => Some(let_event(r)),
+            None => None,
+        },
+        None => None,
+    }
+}

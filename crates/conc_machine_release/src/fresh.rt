@@ -1,0 +1,35 @@
+ghost use Rattle.std.specs.Prelude.{◌≡◌, IfOk, map, slice_get, unwrap_or};
+ghost use Rattle.std.specs.List.{range_with_len};
+ghost use Rattle.conc_machine_queue.specs.Least.{vacant};
+
+use conc_machine_classes::Classes;
+use conc_machine_queue::Queue;
+use conc_types::{NoMemory, Seq};
+use std::alloc::Global;
+
+/// For each of so many classes a queue in which no request has a key.
+pub(crate) fn vacant_queues(
+    alloc: Global,
+    classes: &Classes,
+    count: u32,
+) -> Result<Vec<Queue>, NoMemory>
+    ensures { IfOk result (λ queues. queues.items ≡ map (λ c. vacant (unwrap_or (slice_get classes.now.sizes c) 0)) (range_with_len 0 count)) }
+{
+    let mut queues = Vec::with_capacity(alloc, count as usize)?;
+    for class in 0..count {
+        let size = classes.size(class).unwrap_or(0);
+        queues.push(Queue::new(alloc, size as usize)?)?;
+    }
+    Ok(queues)
+}
+
+/// For each of so many classes zero.
+pub(crate) fn zeros(alloc: Global, count: u32) -> Result<Seq<u32>, NoMemory>
+    ensures { IfOk result (λ counts. counts ≡ map (λ c. 0) (range_with_len 0 count)) }
+{
+    let mut counts = Vec::with_capacity(alloc, count as usize)?;
+    for _ in 0..count {
+        counts.push(0)?;
+    }
+    Ok(Seq::from_vec(counts))
+}

@@ -1,0 +1,91 @@
+ghost use Rattle.std.specs.Prelude.{◌≡◌, ◌≤◌, length};
+ghost use Rattle.conc_machine_classes.specs.Classes.{are_rivals as are_rivals_of};
+ghost use Rattle.conc_machine_reach.specs.Spans.{AreSpans};
+ghost use Rattle.conc_machine_release.specs.Forced.{is_child as is_child_of, is_live_member as is_live_member_of, is_live_outside as is_live_outside_of, live_members as live_members_of, live_parents as live_parents_of};
+ghost use Rattle.conc_machine_release.specs.Lets.{is_live_rival as is_live_rival_of};
+
+use conc_law_decisions::{facts_at, is_live};
+use conc_machine_classes::Classes;
+use conc_machine_reach::Spans;
+use conc_rules::parent;
+use conc_types::{Plan, Req, RequestId, Standing};
+
+#[tactic(auto, unfolding(conc_machine_classes::specs::Classes::are_rivals))]
+fn are_rivals(classes: &Classes, a: u32, b: u32) -> bool
+    ensures { result ≡ are_rivals_of classes.now a b }
+{
+    classes.rivals(a).iter().any(|x| *x == b)
+}
+
+#[tactic(auto, unfolding(crate::specs::Lets::is_live_rival))]
+fn is_live_rival(classes: &Classes, standing: &Standing, class: u32, q: &Req) -> bool
+    ensures { result ≡ is_live_rival_of classes.now standing.now class q.now }
+{
+    is_live(facts_at(standing, q)) && are_rivals(classes, classes.class(q), class)
+}
+
+fn is_child(set: RequestId, q: &Req) -> bool
+    ensures { result ≡ is_child_of set q.now }
+{
+    match q.parent {
+        Some(parent) => set.number == parent.number,
+        None => false,
+    }
+}
+
+#[tactic(auto, unfolding(crate::specs::Forced::is_live_member))]
+fn is_live_member(classes: &Classes, standing: &Standing, class: u32, r: &Req, q: &Req) -> bool
+    ensures { result ≡ is_live_member_of classes.now standing.now class r.now q.now }
+{
+    is_live_rival(classes, standing, class, q) && is_child(r.number, q)
+}
+
+#[tactic(auto, unfolding(crate::specs::Forced::is_live_outside))]
+fn is_live_outside(classes: &Classes, standing: &Standing, class: u32, r: &Req, q: &Req) -> bool
+    ensures { result ≡ is_live_outside_of classes.now standing.now class r.now q.now }
+{
+    is_live_rival(classes, standing, class, q) && !is_child(r.number, q)
+}
+
+/// How many live members r has whose classes exclude a class.
+#[tactic(auto, unfolding(crate::specs::Forced::live_members))]
+pub(crate) fn live_members(
+    plan: &Plan,
+    classes: &Classes,
+    spans: &Spans,
+    standing: &Standing,
+    class: u32,
+    r: &Req,
+) -> usize
+    requires { AreSpans plan.now spans.now }
+    ensures exact { result ≡ live_members_of plan.now classes.now standing.now class r.now }
+    ensures few { result ≤ length plan.now.requests }
+{
+    let span = spans.span_of_members(r.number);
+    let requests = plan.requests.as_slice();
+    let mut count = 0;
+    for i in span.from..span.to {
+        if is_live_member(classes, standing, class, r, &requests[i]) {
+            count += 1;
+        }
+    }
+    count
+}
+
+/// One where the parent of r, no member of r itself, is live and of a class that excludes a class.
+#[tactic(auto, unfolding(crate::specs::Forced::live_parents))]
+pub(crate) fn live_parents(
+    plan: &Plan,
+    classes: &Classes,
+    standing: &Standing,
+    class: u32,
+    r: &Req,
+) -> usize
+    ensures exact { result ≡ live_parents_of plan.now classes.now standing.now class r.now }
+    ensures few { result ≤ 1 }
+{
+    match parent(plan, r) {
+        Some(set) if is_live_outside(classes, standing, class, r, set) => 1,
+        _ => 0,
+    }
+}

@@ -1,0 +1,165 @@
+ghost use Rattle.std.specs.Prelude.{◌≡◌, ◌<◌, [], IfOk, Some, length, slice_get, unwrap_or};
+ghost use Rattle.conc_types.specs.declared.facts.Standing.{Standing};
+ghost use Rattle.conc_law.specs.Next.{forced_let as forced_let_of, is_ready, may_let};
+ghost use Rattle.conc_law.specs.Standing.{standing};
+ghost use Rattle.conc_machine_classes.specs.Classes.{AreClasses, of_class};
+ghost use Rattle.conc_machine_queue.specs.Least.{least};
+ghost use Rattle.conc_machine_queue.specs.Turns.{turns_of};
+ghost use Rattle.conc_machine_queue.specs.Written.{IsWritten};
+ghost use Rattle.conc_machine_reach.specs.Spans.{AreSpans};
+ghost use Rattle.conc_machine_release.specs.Forced.{turn_in_class as turn_in_class_of};
+ghost use Rattle.conc_machine_release.specs.Lets.{AreLets};
+
+use crate::forced::{event_at, is_turn_spared, least_spared};
+use crate::fresh::{vacant_queues, zeros};
+use crate::refresh::refresh_span;
+use crate::renewal::{recount, renew};
+use crate::starts::Lull;
+use conc_machine_classes::Classes;
+use conc_machine_queue::{Queue, lesser};
+use conc_machine_reach::{Span, Spans};
+use conc_types::{Event, Facts, NoMemory, Plan, Seq, Standing};
+use std::alloc::Global;
+
+/// What is kept of the requests that wait to be let out.
+#[derive(Drop)]
+pub struct Lets {
+    // For each class the turns of its requests that are ready.
+    ready: Vec<Queue>,
+    // For each class how many live requests are of a class that excludes it.
+    rivals: Seq<u32>,
+    // The moments between which no start of a request comes.
+    lull: Lull,
+}
+
+impl Lets {
+    /// What is kept before the first event. It takes all the memory that the other calls need.
+    pub fn new(alloc: Global, _plan: &Plan, classes: &Classes) -> Result<Lets, NoMemory>
+        requires { AreClasses _plan.now classes.now }
+        ensures { IfOk result (λ lets. AreLets _plan.now classes.now (standing _plan.now []) lets) }
+    {
+        if classes.count() > u32::MAX as usize {
+            return Err(NoMemory);
+        }
+        let count = classes.count() as u32;
+        Ok(Lets {
+            ready: vacant_queues(alloc, classes, count)?,
+            rivals: zeros(alloc, count)?,
+            lull: Lull::NONE,
+        })
+    }
+
+    /// Takes in that the facts of the request at an index were written, which were these before.
+    pub fn write(
+        &mut self,
+        plan: &Plan,
+        classes: &Classes,
+        spans: &Spans,
+        after: &Standing,
+        i: usize,
+        old: Facts,
+    )
+        requires classes { AreClasses plan.now classes.now }
+        requires spans { AreSpans plan.now spans.now }
+        ensures { (before : Standing) → IsWritten plan.now before after.now i old → AreLets plan.now classes.now before self.old → AreLets plan.now classes.now after.now self.new }
+    {
+        renew(&mut self.ready, plan, classes, spans, after, i, old);
+        recount(&mut self.rivals, plan, classes, after, i, old);
+    }
+
+    /// Takes in another moment of the last tick. It looks through the requests only where a start
+    /// comes.
+    pub fn tick(&mut self, plan: &Plan, classes: &Classes, after: &Standing)
+        requires { AreClasses plan.now classes.now }
+        ensures { (before : Standing) → after.now.facts ≡ before.facts → AreLets plan.now classes.now before self.old → AreLets plan.now classes.now after.now self.new }
+    {
+        if self.lull.contains(after.time) {
+            return;
+        }
+        let all = Span {
+            from: 0,
+            to: plan.requests.len(),
+        };
+        refresh_span(&mut self.ready, plan, classes, after, all);
+        self.lull = Lull::at(plan, after.time);
+    }
+
+    // How many live requests are of a class that excludes this one.
+    fn rival_count(&self, class: usize) -> u32
+        ensures { result ≡ unwrap_or (slice_get self.now.rivals class) 0 }
+    {
+        self.rivals.as_slice().get(class).copied().unwrap_or(0)
+    }
+
+    // The least turn of those of a class that may be let, where the first that is ready has this turn.
+    // Where rivals are live and the class spares kin, it looks at that one, and through all requests
+    // only where that one is excluded.
+    fn turn_in_class(
+        &self,
+        plan: &Plan,
+        classes: &Classes,
+        spans: &Spans,
+        standing: &Standing,
+        class: u32,
+        first: u64,
+    ) -> Option<u64>
+        requires classes { AreClasses plan.now classes.now }
+        requires spans { AreSpans plan.now spans.now }
+        requires stands { AreLets plan.now classes.now standing.now self.now }
+        requires within { class < length classes.now.sizes }
+        requires first { least (turns_of (is_ready plan.now standing.now) (of_class plan.now classes.now class)) ≡ Some first }
+        ensures { result ≡ turn_in_class_of plan.now classes.now standing.now class }
+    {
+        let rivals = self.rival_count(class as usize);
+        if rivals == 0 {
+            return Some(first);
+        }
+        if !classes.spares(class) {
+            return None;
+        }
+        if is_turn_spared(plan, classes, spans, standing, class, rivals, first) {
+            return Some(first);
+        }
+        least_spared(plan, classes, spans, standing, class, rivals)
+    }
+
+    // The least turn of those that may be let.
+    fn least_turn(
+        &self,
+        plan: &Plan,
+        classes: &Classes,
+        spans: &Spans,
+        standing: &Standing,
+    ) -> Option<u64>
+        requires classes { AreClasses plan.now classes.now }
+        requires spans { AreSpans plan.now spans.now }
+        requires stands { AreLets plan.now classes.now standing.now self.now }
+        ensures { result ≡ least (turns_of (may_let plan.now standing.now) plan.now.requests) }
+    {
+        let mut best = None;
+        for (class, queue) in self.ready.iter().enumerate() {
+            let Some(first) = queue.least() else {
+                continue;
+            };
+            let turn = self.turn_in_class(plan, classes, spans, standing, class as u32, first);
+            best = lesser(best, turn);
+        }
+        best
+    }
+
+    /// The let, or the open of a set, that is forced, if one is.
+    pub fn forced_let(
+        &self,
+        plan: &Plan,
+        classes: &Classes,
+        spans: &Spans,
+        standing: &Standing,
+    ) -> Option<Event>
+        requires classes { AreClasses plan.now classes.now }
+        requires spans { AreSpans plan.now spans.now }
+        requires stands { AreLets plan.now classes.now standing.now self.now }
+        ensures { result ≡ forced_let_of plan.now standing.now }
+    {
+        event_at(plan, self.least_turn(plan, classes, spans, standing))
+    }
+}

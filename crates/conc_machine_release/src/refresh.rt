@@ -1,0 +1,74 @@
+ghost use Rattle.std.specs.Prelude.{◌≡◌, ◌-◌, ◌≤◌, length, slice_get};
+ghost use Rattle.conc_machine_release.specs.Refresh.{key as key_of, put_in as put_in_of, refreshed, refreshed_all, refreshed_at};
+
+use conc_law_decisions::is_ready;
+use conc_machine_classes::Classes;
+use conc_machine_queue::{Queue, turn};
+use conc_machine_reach::Span;
+use conc_types::{Plan, Req, Standing};
+
+// Gives a seat in the queue of a class this key, or none.
+fn put_in(queues: &mut Vec<Queue>, class: usize, seat: usize, key: Option<u64>)
+    ensures { queues.new.items ≡ put_in_of queues.old.items class seat key }
+{
+    if class < queues.len() {
+        if seat < queues[class].len() {
+            queues[class].put(seat, key);
+        }
+    }
+}
+
+// The key of a request: its turn, where it is ready.
+fn key(plan: &Plan, standing: &Standing, r: &Req) -> Option<u64>
+    ensures { result ≡ key_of plan.now standing.now r.now }
+{
+    is_ready(plan, standing, r).then_some(turn(r))
+}
+
+pub(crate) fn refresh_request(
+    queues: &mut Vec<Queue>,
+    plan: &Plan,
+    classes: &Classes,
+    standing: &Standing,
+    r: &Req,
+)
+    ensures { queues.new.items ≡ refreshed_at plan.now classes.now standing.now queues.old.items r.now }
+{
+    let key = key(plan, standing, r);
+    put_in(
+        queues,
+        classes.class(r) as usize,
+        classes.seat(r) as usize,
+        key,
+    );
+}
+
+/// Makes the key of the request at an index what stands.
+pub(crate) fn refresh(
+    queues: &mut Vec<Queue>,
+    plan: &Plan,
+    classes: &Classes,
+    standing: &Standing,
+    i: usize,
+)
+    ensures { queues.new.items ≡ refreshed plan.now classes.now standing.now queues.old.items i }
+{
+    if let Some(r) = plan.requests.as_slice().get(i) {
+        refresh_request(queues, plan, classes, standing, r);
+    }
+}
+
+/// Makes the keys of the requests within a span what stands.
+pub(crate) fn refresh_span(
+    queues: &mut Vec<Queue>,
+    plan: &Plan,
+    classes: &Classes,
+    standing: &Standing,
+    span: Span,
+)
+    ensures { queues.new.items ≡ refreshed_all plan.now classes.now standing.now (span.to - span.from) span.from queues.old.items }
+{
+    for i in span.from..span.to {
+        refresh(queues, plan, classes, standing, i);
+    }
+}

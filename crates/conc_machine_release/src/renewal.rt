@@ -1,0 +1,72 @@
+ghost use Rattle.std.specs.Prelude.{◌≡◌, slice_get};
+ghost use Rattle.conc_machine_classes.specs.Classes.{class_at, rivals_at};
+ghost use Rattle.conc_machine_release.specs.Renewal.{recounted, recounted_by, renewed, renewed_within};
+
+use crate::refresh::{refresh_request, refresh_span};
+use crate::rivals::count_all;
+use conc_law_decisions::{facts_at, is_live};
+use conc_machine_classes::Classes;
+use conc_machine_queue::Queue;
+use conc_machine_reach::{Span, Spans};
+use conc_types::{Facts, Plan, Seq, Standing};
+
+fn renew_within(
+    queues: &mut Vec<Queue>,
+    plan: &Plan,
+    classes: &Classes,
+    standing: &Standing,
+    span: Span,
+    same: bool,
+)
+    ensures { queues.new.items ≡ renewed_within plan.now classes.now standing.now span same queues.old.items }
+{
+    if !same {
+        refresh_span(queues, plan, classes, standing, span);
+    }
+}
+
+/// Makes the key of the request at an index what stands, and those of its members where its stages
+/// are others than before.
+pub(crate) fn renew(
+    queues: &mut Vec<Queue>,
+    plan: &Plan,
+    classes: &Classes,
+    spans: &Spans,
+    standing: &Standing,
+    i: usize,
+    old: Facts,
+)
+    ensures { queues.new.items ≡ renewed plan.now classes.now spans.now standing.now old queues.old.items (slice_get plan.now.requests i) }
+{
+    if let Some(r) = plan.requests.as_slice().get(i) {
+        refresh_request(queues, plan, classes, standing, r);
+        let span = spans.span_of_members(r.number);
+        let same = facts_at(standing, r).begun.bits == old.begun.bits;
+        renew_within(queues, plan, classes, standing, span, same);
+    }
+}
+
+fn recount_by(counts: &mut Seq<u32>, rivals: &[u32], live: bool, was: bool)
+    ensures { counts.new ≡ recounted_by live was rivals.now counts.old }
+{
+    if live != was {
+        count_all(counts, rivals, live);
+    }
+}
+
+/// Counts the request at an index, where it became live or ceased to be so.
+pub(crate) fn recount(
+    counts: &mut Seq<u32>,
+    plan: &Plan,
+    classes: &Classes,
+    standing: &Standing,
+    i: usize,
+    old: Facts,
+)
+    ensures { counts.new ≡ recounted classes.now standing.now old counts.old (slice_get plan.now.requests i) }
+{
+    if let Some(r) = plan.requests.as_slice().get(i) {
+        let rivals = classes.rivals(classes.class(r));
+        recount_by(counts, rivals, is_live(facts_at(standing, r)), is_live(old));
+    }
+}

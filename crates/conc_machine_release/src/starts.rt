@@ -1,0 +1,61 @@
+ghost use Rattle.std.specs.Prelude.{◌≡◌};
+ghost use Rattle.conc_machine_release.specs.Starts.{earlier as earlier_of, is_in_lull, lull_at, next_from};
+
+use conc_types::{Moment, Plan};
+
+/// Seconds from a moment on, and before another one, between which no start of a request comes.
+#[derive(Clone, Copy, Debug, PartialEq, Eq)]
+pub(crate) struct Lull {
+    pub(crate) since: u64,
+    pub(crate) next: u64,
+}
+
+// The earlier of two starts, where this one is after the moment.
+fn earlier(now: u64, best: u64, start: u64) -> u64
+    ensures { result ≡ earlier_of now best start }
+{
+    if now < start && start < best {
+        start
+    } else {
+        best
+    }
+}
+
+// The earliest start after the moment, or the greatest number.
+fn next_start(plan: &Plan, now: u64) -> u64
+    ensures { result ≡ next_from now 18446744073709551615 plan.now.requests }
+{
+    let mut best = u64::MAX;
+    for r in plan.requests.as_slice() {
+        best = earlier(now, best, r.start.seconds);
+    }
+    best
+}
+
+impl Lull {
+    /// No moment at all.
+    pub(crate) const NONE: Lull = Lull { since: 0, next: 0 };
+
+    /// Those that begin with this moment.
+    pub(crate) fn at(plan: &Plan, time: Option<Moment>) -> Lull
+        ensures { result ≡ lull_at plan.now time }
+    {
+        match time {
+            Some(t) => Lull {
+                since: t.seconds,
+                next: next_start(plan, t.seconds),
+            },
+            None => Lull::NONE,
+        }
+    }
+
+    /// Whether the moment is one of these.
+    pub(crate) fn contains(self, time: Option<Moment>) -> bool
+        ensures { result ≡ is_in_lull self time }
+    {
+        match time {
+            Some(t) => self.since <= t.seconds && t.seconds < self.next,
+            None => false,
+        }
+    }
+}

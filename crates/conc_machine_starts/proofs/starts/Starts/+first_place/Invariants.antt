@@ -1,0 +1,4 @@
+use Rattle.conc_machine_starts.proofs.starts.Starts.+first_place.Given as goal
+
+abbrev pub decreases-first_place : goal.decreases-first_place
+decreases-first_place l = l.count

@@ -1,0 +1,104 @@
+ghost use Rattle.std.specs.Prelude.{◌≡◌, ℕ, List, Option, length, map, slice_set};
+ghost use Rattle.conc_types.specs.declared.manager.Manager.{Manager};
+ghost use Rattle.conc_law.specs.Places.{all_places, count_of_places};
+ghost use Rattle.conc_machine_starts.specs.Starts.{is_usable_now as is_usable_now_of};
+ghost use Rattle.conc_machine_starts.specs.Updates.{key_of as key_of_of, with_one, without_one};
+
+use conc_machine_queue::{Queue, turn};
+use conc_rules::admits;
+use conc_time::{is_usable, place_count};
+use conc_types::{Facts, Manager, PlaceId, Plan, Req, Seq, Standing};
+
+// ---- queues
+
+#[tactic(auto, unfolding(crate::specs::Updates::key_of))]
+fn key_of(facts: Facts, manager: &Manager, r: &Req) -> Option<u64>
+    ensures { result ≡ key_of_of facts manager.now r.now }
+{
+    if facts.let_out && facts.place.is_none() && admits(manager, r) {
+        Some(turn(r))
+    } else {
+        None
+    }
+}
+
+// Gives a seat this key, or none, where there is such a seat.
+fn put(queue: &mut Queue, seat: usize, key: Option<u64>)
+    ensures { queue.new ≡ slice_set queue.old seat key }
+{
+    if seat < queue.len() {
+        queue.put(seat, key);
+    }
+}
+
+/// Gives the seat of a request in each manager's queue its key by these facts.
+pub(crate) fn refresh(
+    queues: &mut [Queue],
+    managers: &[Manager],
+    seat: usize,
+    r: &Req,
+    facts: Facts,
+)
+    ensures { (seats : Manager → List (Option ℕ)) → queues.old ≡ map seats managers.now → queues.new ≡ map (λ manager. slice_set (seats manager) seat (key_of_of facts manager r.now)) managers.now }
+{
+    let Some((queue, queues)) = queues.split_first_mut() else {
+        return;
+    };
+    let Some((manager, managers)) = managers.split_first() else {
+        return;
+    };
+    put(queue, seat, key_of(facts, manager, r));
+    refresh(queues, managers, seat, r, facts);
+}
+
+// ---- counts
+
+/// Counts one request less at a place.
+pub(crate) fn leave(running: &mut Seq<u32>, place: Option<PlaceId>)
+    ensures { running.new ≡ without_one running.old place }
+{
+    if let Some(place) = place {
+        let index = place.index as usize;
+        if let Some(count) = running.as_slice().get(index).copied() {
+            running.set(index, count.saturating_sub(1));
+        }
+    }
+}
+
+/// Counts one request more at a place.
+pub(crate) fn enter(running: &mut Seq<u32>, place: Option<PlaceId>)
+    ensures { running.new ≡ with_one running.old place }
+{
+    if let Some(place) = place {
+        let index = place.index as usize;
+        if let Some(count) = running.as_slice().get(index).copied() {
+            running.set(index, count.saturating_add(1));
+        }
+    }
+}
+
+// ---- flags
+
+#[tactic(auto, unfolding(crate::specs::Starts::is_usable_now))]
+fn is_usable_now(plan: &Plan, standing: &Standing, place: PlaceId) -> bool
+    ensures { result ≡ is_usable_now_of plan.now standing.now place }
+{
+    match standing.time {
+        Some(t) => is_usable(plan, t, place),
+        None => false,
+    }
+}
+
+/// Marks each place as usable at the last tick or not.
+pub(crate) fn renew(usable: &mut Seq<bool>, plan: &Plan, standing: &Standing)
+    ensures { length usable.old ≡ count_of_places plan.now → usable.new ≡ map (is_usable_now_of plan.now standing.now) (all_places plan.now) }
+{
+    for index in 0..place_count(plan) {
+        if (index as usize) < usable.len() {
+            usable.set(
+                index as usize,
+                is_usable_now(plan, standing, PlaceId { index }),
+            );
+        }
+    }
+}

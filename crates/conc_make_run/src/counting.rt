@@ -1,0 +1,58 @@
+ghost use Rattle.std.specs.Prelude.{◌≡◌, ◌++◌, OnOk};
+ghost use Rattle.std.specs.List.{concat};
+ghost use Rattle.conc_make_run.specs.Summary.{count_completed as count_completed_of, is_completed_with as is_completed_with_of, line, outcome_lines};
+
+use conc_types::{Facts, NoMemory, Outcome, Standing, put_decimal};
+
+fn is_completed_with(outcome: Outcome, facts: &Facts) -> bool
+    ensures { result ≡ is_completed_with_of outcome facts.now }
+{
+    facts.outcome == Some(outcome)
+}
+
+// How many requests are completed with an outcome, sets among them.
+fn count_completed(outcome: Outcome, standing: &Standing) -> u64
+    ensures { result ≡ count_completed_of outcome standing.now }
+{
+    let facts = standing.facts.as_slice();
+    facts
+        .iter()
+        .filter(|own| is_completed_with(outcome, own))
+        .count() as u64
+}
+
+/// Appends a line: a word, a blank and a number.
+#[tactic(auto, unfolding(crate::specs::Summary::line))]
+pub(crate) fn put_line(out: &mut Vec<u8>, word: &[u8], n: u64) -> Result<(), NoMemory>
+    ensures { OnOk result (out.new.items ≡ out.old.items ++ line word.now n) }
+{
+    out.extend_from_slice(word)?;
+    out.extend_from_slice(b" ")?;
+    put_decimal(out, n)?;
+    out.extend_from_slice(b"\n")?;
+    Ok(())
+}
+
+// Appends the line of an outcome.
+fn put_outcome(
+    out: &mut Vec<u8>,
+    word: &[u8],
+    outcome: Outcome,
+    standing: &Standing,
+) -> Result<(), NoMemory>
+    ensures { OnOk result (out.new.items ≡ out.old.items ++ line word.now (count_completed_of outcome standing.now)) }
+{
+    put_line(out, word, count_completed(outcome, standing))
+}
+
+/// Appends a line for each outcome: how many requests are completed with it.
+pub(crate) fn put_outcomes(out: &mut Vec<u8>, standing: &Standing) -> Result<(), NoMemory>
+    ensures { OnOk result (out.new.items ≡ out.old.items ++ concat (outcome_lines standing.now)) }
+{
+    put_outcome(out, b"normal", Outcome::Normal, standing)?;
+    put_outcome(out, b"warning", Outcome::Warning, standing)?;
+    put_outcome(out, b"error", Outcome::Error, standing)?;
+    put_outcome(out, b"cancelled", Outcome::Cancelled, standing)?;
+    put_outcome(out, b"terminated", Outcome::Terminated, standing)?;
+    Ok(())
+}

@@ -1,0 +1,40 @@
+ghost use Rattle.std.specs.Prelude.{[], IfOk, IsFalse};
+ghost use Rattle.conc_law.specs.Alone.{Alone};
+ghost use Rattle.conc_run_state.specs.Causes.{is_refusal};
+ghost use Rattle.conc_run_state.specs.Works.{list_in};
+
+use crate::generating::Generated;
+use conc_disk_devices::MemDisk;
+use conc_run::run_plan;
+use conc_run_state::{Stopped, Work};
+use conc_types::NoMemory;
+use std::alloc::Global;
+
+// The want of memory that a run in memory was stopped by: its disks are to fail in no call, so they fail
+// where there is no memory.
+fn want_of_memory(stopped: Stopped) -> NoMemory
+    requires { IsFalse (is_refusal stopped) }
+{
+    match stopped {
+        Stopped::DiskFault { .. } | Stopped::NoMemory => NoMemory,
+        _ => unreachable!(),
+    }
+}
+
+/// The finished run, without workers, of what was generated, over a journal and a spool in memory that
+/// have nothing yet.
+pub(crate) fn run_in_memory(alloc: Global, generated: &Generated) -> Result<Work<'_>, NoMemory>
+    ensures { IfOk result (λ work. Alone generated.now.plan generated.now.readings.list [] (list_in work)) }
+{
+    let Generated {
+        plan,
+        readings,
+        digest,
+    } = generated;
+    let mut journal = MemDisk::new(alloc, Vec::new(alloc), Vec::new(alloc));
+    let mut spool = MemDisk::new(alloc, Vec::new(alloc), Vec::new(alloc));
+    match run_plan(alloc, plan, readings, digest, &mut journal, &mut spool) {
+        Ok(work) => Ok(work),
+        Err(stopped) => Err(want_of_memory(stopped)),
+    }
+}

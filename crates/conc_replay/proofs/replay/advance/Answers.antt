@@ -1,5 +1,0 @@
-use Rattle.conc_facts.proofs.NextStanding.{standing-next}
-use Rattle.conc_replay.proofs.replay.advance.Goals as goal
-
-pub returns : goal.returns
-returns c = λ past is. standing-next _ _ _ _ past c.take_in.ensures is

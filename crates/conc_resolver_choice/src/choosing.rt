@@ -1,0 +1,205 @@
+ghost use Rattle.std.specs.Prelude.{◌≡◌, ◌<◌, ◌≤◌, ◌^◌, IfOk, List, None, Some, if◌then◌else◌, length};
+ghost use Rattle.std.specs.List.{find};
+ghost use Rattle.std.specs.Option.{ForSome, option_and_then, option_copied, option_map, option_or};
+ghost use Rattle.conc_types.specs.declared.event.Event.{Event};
+ghost use Rattle.conc_types.specs.declared.event.Event.TheVariants as event;
+ghost use Rattle.conc_types.specs.declared.event.Outcome.TheVariants as outcome;
+ghost use Rattle.conc_types.specs.declared.script.Reading.{Reading};
+ghost use Rattle.conc_law.specs.Alone.{end_with, first_end as first_end_of, first_start as first_start_of, next_alone, next_tick as next_tick_of, report_of as report_of_of};
+ghost use Rattle.conc_law.specs.Next.{forced as forced_of, runs_somewhere};
+ghost use Rattle.conc_law.specs.Readings.{next_reading as next_reading_of};
+ghost use Rattle.conc_law.specs.Standing.{standing};
+ghost use Rattle.conc_machine.specs.Stands.{plan_of, readings_of, Stands};
+ghost use Rattle.conc_types.specs.Plans.{request};
+ghost use Rattle.conc_resolver_choice.specs.Choices.{event_of, HasItsText};
+ghost use Rattle.conc_resolver_choice.specs.Made.{as_report};
+
+use conc_machine::Machine;
+use conc_reports::{Made, report};
+use conc_rules::program_of;
+use conc_types::{Bytes, Event, Extent, NoMemory, Outcome, Plan, Req};
+use std::alloc::Global;
+
+/// An event that comes next, and, where it is the end of a request with its report, the report's text.
+#[derive(Drop)]
+pub struct Next {
+    pub event: Event,
+    pub text: Option<Bytes>,
+}
+
+// The report of a request of a program.
+#[tactic(auto, unfolding(conc_law::specs::Alone::report_of))]
+fn report_of(alloc: Global, plan: &Plan, r: &Req) -> Result<Option<Made>, NoMemory>
+    ensures made { IfOk result (λ made. option_map as_report made ≡ report_of_of plan.now r.now) }
+    ensures short { IfOk result (λ made. ForSome made (λ m. length m.text ≤ 1048576)) }
+{
+    match program_of(plan, r) {
+        None => Ok(None),
+        Some(program) => match plan
+            .setup
+            .table_named(plan.tables.as_slice(), &program.job.table)
+        {
+            None => Ok(None),
+            Some(table) => Ok(Some(report(alloc, &program.job, r.argument.as_slice(), table)?)),
+        },
+    }
+}
+
+// The end of a request that was terminated.
+fn terminated(r: &Req) -> Next
+    ensures event { result.event ≡ event.Ended r.now.number outcome.Terminated None }
+    ensures text { result.text ≡ None }
+{
+    Next {
+        event: Event::Ended {
+            request: r.number,
+            outcome: Outcome::Terminated,
+            extent: None,
+        },
+        text: None,
+    }
+}
+
+// The end with this report, whose text comes behind those that the spool has.
+fn reported(r: &Req, made: Made, offset: u64) -> Next
+    requires { length made.text < 2 ^ 32 }
+    ensures event { result.event ≡ end_with r.now (as_report made) offset }
+    ensures text { result.text ≡ Some made.text }
+{
+    Next {
+        event: Event::Ended {
+            request: r.number,
+            outcome: made.outcome,
+            extent: Some(Extent {
+                offset,
+                length: made.text.len() as u32,
+            }),
+        },
+        text: Some(made.text),
+    }
+}
+
+// The end of a running request, which has to stop or not, where the extents take so many bytes.
+fn end_by(
+    alloc: Global,
+    plan: &Plan,
+    r: &Req,
+    stopping: bool,
+    used: Option<u64>,
+) -> Result<Option<Next>, NoMemory>
+    ensures event { IfOk result (λ next. option_map event_of next ≡ (if stopping then Some (event.Ended r.now.number outcome.Terminated None) else option_and_then (λ made. option_map (end_with r.now made) used) (report_of_of plan.now r.now))) }
+    ensures text { request plan.now r.now.number ≡ Some r.now → IfOk result (λ next. ForSome next (λ n. HasItsText plan.now n.event n.text)) }
+{
+    if stopping {
+        return Ok(Some(terminated(r)));
+    }
+    let (Some(made), Some(offset)) = (report_of(alloc, plan, r)?, used) else {
+        return Ok(None);
+    };
+    Ok(Some(reported(r, made, offset)))
+}
+
+// The request that runs, if one does.
+fn running<'a>(plan: &'a Plan, machine: &Machine) -> Option<&'a Req>
+    requires { plan_of machine.now ≡ plan.now }
+    ensures { (past : List Event) → Stands machine.now past → option_copied result ≡ find (runs_somewhere (standing plan.now past)) plan.now.requests }
+{
+    match machine.first_running() {
+        Some(id) => plan.request(id),
+        None => None,
+    }
+}
+
+// The end of the request that runs.
+fn first_end(alloc: Global, plan: &Plan, machine: &Machine) -> Result<Option<Next>, NoMemory>
+    requires { plan_of machine.now ≡ plan.now }
+    ensures event { IfOk result (λ next. (past : List Event) → Stands machine.now past → option_map event_of next ≡ first_end_of plan.now (standing plan.now past)) }
+    ensures text { IfOk result (λ next. (past : List Event) → Stands machine.now past → ForSome next (λ n. HasItsText plan.now n.event n.text)) }
+{
+    match running(plan, machine) {
+        Some(r) => {
+            let stopping = machine.must_stop(r.number);
+            end_by(alloc, plan, r, stopping, machine.used())
+        }
+        None => Ok(None),
+    }
+}
+
+// The event that is forced, if one is due.
+fn forced(plan: &Plan, machine: &Machine) -> Option<Event>
+    requires { plan_of machine.now ≡ plan.now }
+    ensures { (past : List Event) → Stands machine.now past → result ≡ forced_of plan.now (standing plan.now past) }
+{
+    machine.forced()
+}
+
+// The start that comes first, if one may come.
+fn first_start(plan: &Plan, machine: &Machine) -> Option<Event>
+    requires { plan_of machine.now ≡ plan.now }
+    ensures event { (past : List Event) → Stands machine.now past → result ≡ first_start_of plan.now (standing plan.now past) }
+    ensures text { ForSome result (λ e. HasItsText plan.now e None) }
+{
+    match machine.first_start() {
+        Some((request, place)) => Some(Event::Started { request, place }),
+        None => None,
+    }
+}
+
+// The tick of the next reading, if one is left and may be taken.
+fn next_tick(plan: &Plan, machine: &Machine) -> Option<Event>
+    requires { plan_of machine.now ≡ plan.now }
+    ensures event { (readings : List Reading) (past : List Event) → readings_of machine.now ≡ Some readings → Stands machine.now past →
+        result ≡ next_tick_of plan.now (standing plan.now past) (next_reading_of readings past) }
+    ensures text { ForSome result (λ e. HasItsText plan.now e None) }
+{
+    match machine.next_reading() {
+        Some(reading) if machine.may_tick() => Some(Event::Tick {
+            moment: reading.moment,
+        }),
+        _ => None,
+    }
+}
+
+// The start or the tick that comes next where nothing is forced and nothing runs.
+fn start_or_tick(plan: &Plan, machine: &Machine) -> Option<Event>
+    requires { plan_of machine.now ≡ plan.now }
+    ensures event { (readings : List Reading) (past : List Event) → readings_of machine.now ≡ Some readings → Stands machine.now past →
+        result ≡ option_or (first_start_of plan.now (standing plan.now past)) (next_tick_of plan.now (standing plan.now past) (next_reading_of readings past)) }
+    ensures text { ForSome result (λ e. HasItsText plan.now e None) }
+{
+    match first_start(plan, machine) {
+        Some(e) => Some(e),
+        None => next_tick(plan, machine),
+    }
+}
+
+// An event that leaves no text.
+fn without_text(event: Event) -> Next
+    ensures event { result.event ≡ event }
+    ensures text { result.text ≡ None }
+{
+    Next { event, text: None }
+}
+
+/// The one event that comes next in a run without workers, if one does: the forced one, else the end
+/// of the request that runs, else the first start, else the next tick. The machine is one for the plan
+/// that took readings, and the answer holds for each list that it stands for. It takes memory for a
+/// report alone.
+#[tactic(auto, unfolding(conc_law::specs::Alone::choice, conc_law::specs::Alone::next_alone))]
+pub fn next_event(alloc: Global, plan: &Plan, machine: &Machine) -> Result<Option<Next>, NoMemory>
+    requires { plan_of machine.now ≡ plan.now }
+    ensures event { IfOk result (λ next. (readings : List Reading) (past : List Event) → readings_of machine.now ≡ Some readings → Stands machine.now past →
+        option_map event_of next ≡ next_alone plan.now readings past) }
+    ensures text { IfOk result (λ next. (past : List Event) → Stands machine.now past → ForSome next (λ n. HasItsText plan.now n.event n.text)) }
+{
+    if let Some(e) = forced(plan, machine) {
+        return Ok(Some(without_text(e)));
+    }
+    match first_end(alloc, plan, machine)? {
+        Some(next) => Ok(Some(next)),
+        None => match start_or_tick(plan, machine) {
+            Some(e) => Ok(Some(without_text(e))),
+            None => Ok(None),
+        },
+    }
+}

@@ -1,0 +1,95 @@
+-- The beginning of a life.
+use Rattle.std.proofs.Common.{◌≡◌, ◌==◌, ℕ, ◌+◌, ◌≤◌, true, false, not, Result, Ok, Err, OnOk, List, [], ◌∷◌, ◌++◌, length, reverse, take, drop, Option, IfSome, refl, sym, ◌∙◌, ap, subst, arith}
+use Rattle.std.proofs.lemmas.Bool.{and_from, eqb-true}
+use Rattle.std.proofs.lemmas.List.{drop-take, length-reverse, take-take}
+use Rattle.conc_types.specs.declared.event.Event.{Event}
+use Rattle.conc_types.specs.declared.event.Event.TheVariants as event
+use Rattle.conc_types.specs.declared.plan.Plan.{Plan}
+use Rattle.conc_types.specs.declared.script.Reading.{Reading}
+use Rattle.conc_types.specs.Words.{is_empty}
+use Rattle.conc_law.specs.Alone.{opening}
+use Rattle.conc_law.specs.Law.{is_lawful, Lawful, may_follow, Past}
+use Rattle.conc_law.specs.Next.{may_come}
+use Rattle.conc_law.specs.Past.{last_life}
+use Rattle.conc_law.specs.Standing.{standing, used}
+use Rattle.conc_law.proofs.Positions.{is_empty-long, reverse-push}
+use Rattle.conc_machine.specs.Stands.{Stands}
+use Rattle.conc_machine.specs.declared.machine.Machine.{Machine}
+use Rattle.conc_disk.specs.Disk.{DiskState, Stays}
+use Rattle.conc_disk.specs.Left.{EachImage}
+use Rattle.conc_disk.proofs.Leaving.{if_some-both}
+use Rattle.conc_restart.specs.Need.{IsOfOneLife}
+use Rattle.conc_spool.specs.Spools.{Agrees}
+use Rattle.conc_run_state.specs.Judging.{EndWithin}
+use Rattle.conc_run_state.specs.Told.{AreTold, IsTold}
+
+-- ---- the resume
+
+-- the events found with the resume, the latest first
+pub opening-past : (e : Event) (es : List Event) → reverse (opening (e ∷ es)) ≡ event.Resume ∷ reverse (e ∷ es)
+opening-past e es = reverse-push (e ∷ es) event.Resume
+
+-- the life has no event yet but its resume
+pub life-empty : (found : List Event) → last_life (reverse (opening found)) ≡ []
+unfolding last_life
+life-empty [] = refl
+life-empty (e ∷ es) = ap last_life (opening-past e es)
+
+-- a resume may follow events that are lawful
+pub opening-lawful : (plan : Plan) (readings : List Reading) (found : List Event) → Past plan found → Lawful plan readings (opening found)
+unfolding is_lawful may_follow may_come standing
+opening-lawful plan readings [] past = refl
+opening-lawful plan readings (e ∷ es) past =
+    let some : is_empty (reverse (e ∷ es)) ≡ false = is_empty-long (reverse (e ∷ es)) (omega (arith, length-reverse (e ∷ es))) in
+    ap (is_lawful plan readings) (opening-past e es) ∙ and_from _ _ past (ap not some)
+
+-- a resume has no extent
+pub opening-used : (found : List Event) → used (reverse (opening found)) ≡ used (reverse found)
+unfolding used
+opening-used [] = refl
+opening-used (e ∷ es) = ap used (opening-past e es)
+
+-- one event is added, or none
+pub opening-lives : (found : List Event) → (life : List Event) × (opening found ≡ found ++ life) × IsOfOneLife life
+opening-lives [] = ([], refl, tt)
+opening-lives (e ∷ es) = (event.Resume ∷ [], refl, refl)
+
+-- ---- texts
+
+-- bytes that agree so far have the same texts there
+same-text : (used at n : ℕ) (bytes image : List ℕ) → Agrees used bytes image → at + n ≤ used → take n (drop at image) ≡ take n (drop at bytes)
+same-text used at n bytes image agrees within =
+    let one : take (at + n) image ≡ take (at + n) bytes = sym (take-take (at + n) used image within) ∙ ap (take (at + n)) agrees.front ∙ take-take (at + n) used bytes within in
+    sym (drop-take at n image) ∙ ap (drop at) one ∙ drop-take at n bytes
+
+-- ends that were told are told by each image that agrees
+pub still-told : (plan : Plan) (n used : ℕ) (events : List Event) (bytes image : List ℕ) → EndWithin used events → Agrees used bytes image → AreTold plan n events bytes → AreTold plan n events image
+still-told plan n used events bytes image within agrees told = λ i id o x from here.
+    let was : IsTold plan bytes id o x = told i id o x from here in
+    record {
+      report = was.report;
+      text = was.text ∙ sym (same-text used x.offset x.length bytes image agrees (within i id o x here));
+    }
+
+-- on a disk that stays
+pub disk-told : (plan : Plan) (n used : ℕ) (events : List Event) (old new : DiskState) → Stays old new → EndWithin used events → IfSome new.seen (λ bytes. (image : List ℕ) → new.may_leave image → Agrees used bytes image)
+    → IfSome old.seen (AreTold plan n events) → EachImage (AreTold plan n events) new
+disk-told plan n used events old new stays within on told =
+    if_some-both new.seen on (subst (λ (s : Option (List ℕ)). IfSome s (AreTold plan n events)) (sym stays.seen) told)
+    (λ bytes agree here image left. still-told plan n used events bytes image within (agree image left) here)
+
+-- ---- the machine
+
+-- it stands for the events with the resume, where there are any
+pub stands-resumed : (found : List Event) (machine : Machine) → (length found == 0) ≡ false → Stands machine (event.Resume ∷ reverse found) → Stands machine (reverse (opening found))
+stands-resumed [] machine some stands = absurd (cc)
+stands-resumed (e ∷ es) machine some stands = subst (Stands machine) (sym (opening-past e es)) stands
+
+pub stands-alone : (found : List Event) (machine : Machine) → (length found == 0) ≡ true → Stands machine (reverse found) → Stands machine (reverse (opening found))
+stands-alone [] machine none stands = stands
+stands-alone (e ∷ es) machine none stands = absurd (omega (arith, eqb-true (length (e ∷ es)) 0 none))
+
+-- what follows where a call did what it was to do
+pub on-ok : {T E : Type 0} (r : Result T E) {P Q : Type 0} → OnOk r P → (P → Q) → OnOk r Q
+on-ok (Ok x) p q = q p
+on-ok (Err e) p q = tt

@@ -1,0 +1,35 @@
+use Rattle.std.proofs.Common.{subst, List}
+use Rattle.std.proofs.lemmas.Result.{err_from_is_err_and}
+use Rattle.conc_types.specs.declared.event.Event.{Event}
+use Rattle.conc_disk.specs.Disk.{Reaches}
+use Rattle.conc_run_state.specs.Handed.{handed}
+use Rattle.conc_run_open.specs.Extents.{counted}
+use Rattle.conc_run_open.proofs.Finding.{found-untold}
+use Rattle.conc_run_open.proofs.Preparing.{prepared, prepared-cause}
+use Rattle.conc_run_open.proofs.examining.examine.Goals as goal
+
+pub returns-in_err-texts-clause-cause : goal.returns-in_err-texts-clause-cause
+returns-in_err-texts-clause-cause g c =
+    let p = err_from_is_err_and c.from_residual-in_err-texts.result c.from_residual-in_err-texts.ensures.1 in
+    let h = handed c.args.plan.now c.args.readings.now c.args.digest.now (g.D.Disk.state c.args.journal.now) (g.D.Disk.state c.open_own.new.disk) (g.E.Disk.state c.args.spool.now) (g.E.Disk.state c.open_texts.new.disk) in
+    let opened = c.in_ok-opened.opened in
+    let found = c.in_ok-opened.ensures in
+    rw (p.1, p.2) (found-untold h opened c.deref.result.now _ (record { own = found.own; found = found.found }) c.deref.ensures.value (c.in_err-texts.ensures.untold opened.broken))
+
+pub returns-clause-examined : goal.returns-clause-examined
+returns-clause-examined g c =
+    let spool = g.E.Disk.state c.args.spool.now in
+    let h = handed c.args.plan.now c.args.readings.now c.args.digest.now (g.D.Disk.state c.args.journal.now) (g.D.Disk.state c.open_own.new.disk) spool (g.E.Disk.state c.open_texts.new.disk) in
+    let found = c.in_ok-opened.ensures in
+    let made = c.prepare.ensures in
+    prepared h c.in_ok-opened.opened c.in_ok-texts.texts c.prepare.result (record { own = found.own; found = found.found })
+    (subst (λ (l : List Event). Reaches spool (counted l)) c.deref.ensures.value c.in_ok-texts.ensures.long)
+    found.list found.on found.stage c.in_ok-texts.ensures.on made.ready made.list made.stage made.spool made.whole
+
+pub returns-clause-cause : goal.returns-clause-cause
+returns-clause-cause g c =
+    let spool = g.E.Disk.state c.args.spool.now in
+    let h = handed c.args.plan.now c.args.readings.now c.args.digest.now (g.D.Disk.state c.args.journal.now) (g.D.Disk.state c.open_own.new.disk) spool (g.E.Disk.state c.open_texts.new.disk) in
+    let found = c.in_ok-opened.ensures in
+    prepared-cause h c.in_ok-opened.opened c.prepare.result (record { own = found.own; found = found.found })
+    (subst (λ (l : List Event). Reaches spool (counted l)) c.deref.ensures.value c.in_ok-texts.ensures.long) c.prepare.ensures.hindered

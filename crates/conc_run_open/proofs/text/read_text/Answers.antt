@@ -1,0 +1,96 @@
+use Rattle.std.proofs.Common.{sym, ◌∙◌, ap, subst, Err, List}
+use Rattle.std.proofs.lemmas.Result.{err_from_is_err_and}
+use Rattle.conc_types.specs.declared.event.Event.{Event}
+use Rattle.conc_disk.specs.Disk.{Reaches}
+use Rattle.conc_law.specs.Law.{Past}
+use Rattle.conc_run_state.specs.Disks.{disks}
+use Rattle.conc_run_open.specs.Extents.{counted}
+use Rattle.conc_run_open.specs.Texts.{HasEnd, HasNoEnd}
+use Rattle.conc_run_open.proofs.Told.{read-within, refused-untold, rose-later, stays-twice, survives-twice, text-before, unopened-read, untold-read, whole-read}
+use Rattle.conc_run_open.proofs.text.read_text.Goals as goal
+
+pub returns-in_err-opened-clause-cause : goal.returns-in_err-opened-clause-cause
+returns-in_err-opened-clause-cause g c =
+    let spool = g.E.Disk.state c.args.spool.now in
+    let p = err_from_is_err_and c.from_residual.result c.from_residual.ensures.1 in
+    rw (p.1, p.2) (unopened-read c.args.plan.now c.args.digest.now (disks (g.D.Disk.state c.args.journal.now) (g.D.Disk.state c.open_own.new.disk) spool spool) _ c.in_err-opened.ensures.cause)
+
+pub returns-in_err-texts-clause-cause : goal.returns-in_err-texts-clause-cause
+returns-in_err-texts-clause-cause g c =
+    let p = err_from_is_err_and c.from_residual-in_err-texts.result c.from_residual-in_err-texts.ensures.1 in
+    let d = disks (g.D.Disk.state c.args.journal.now) (g.D.Disk.state c.open_own.new.disk) (g.E.Disk.state c.args.spool.now) (g.E.Disk.state c.open_texts.new.disk) in
+    let opened = c.in_ok-opened.opened in
+    let found = c.in_ok-opened.ensures in
+    rw (p.1, p.2) (untold-read c.args.plan.now c.args.digest.now d opened c.deref.result.now _ found.own found.found c.deref.ensures.value (c.in_err-texts.ensures.untold opened.broken))
+
+pub returns-in_err-resume_whole-clause-cause : goal.returns-in_err-resume_whole-clause-cause
+returns-in_err-resume_whole-clause-cause g c =
+    let p = err_from_is_err_and c.from_residual-in_err-resume_whole.result c.from_residual-in_err-resume_whole.ensures.1 in
+    let plan = c.args.plan.now in
+    let old = g.E.Disk.state c.args.spool.now in
+    let mid = g.E.Disk.state c.open_texts.new.disk in
+    let d = disks (g.D.Disk.state c.args.journal.now) (g.D.Disk.state c.open_own.new.disk) old mid in
+    let opened = c.in_ok-opened.opened in
+    let found = c.in_ok-opened.ensures in
+    let events = c.deref-2.result.now in
+    let long = subst (λ (l : List Event). Reaches old (counted l)) (c.deref.ensures.value ∙ sym c.deref-2.ensures.value) c.in_ok-texts.ensures.long in
+    rw (p.1, p.2)
+    (untold-read plan c.args.digest.now d opened events _ found.own found.found c.deref-2.ensures.value (refused-untold plan events opened.broken old mid _ long c.in_err-resume_whole.ensures.refused))
+
+pub returns-in_default-clause-cause : goal.returns-in_default-clause-cause
+returns-in_default-clause-cause g c =
+    let plan = c.args.plan.now in
+    let journal = g.D.Disk.state c.args.journal.now in
+    let spool = g.E.Disk.state c.args.spool.now in
+    let opened = c.in_ok-opened.opened in
+    let found = c.in_ok-opened.ensures in
+    let good = c.in_ok-resume_whole.ensures in
+    let past = subst (Past plan) c.deref-2.ensures.value good.past in
+    let long = subst (λ (l : List Event). Reaches spool (counted l)) c.deref.ensures.value c.in_ok-texts.ensures.long in
+    record {
+      events = opened.events.items;
+      whole = whole-read plan c.args.digest.now journal spool opened found.own found.found long past good.whole;
+      none = subst (λ (l : List Event). HasNoEnd l c.args.id) c.deref-3.ensures.value c.in_default.ensures;
+    }
+
+pub read-requires-clause-within : goal.read-requires-clause-within
+read-requires-clause-within g c =
+    let plan = c.args.plan.now in
+    let events = c.in_ok-opened.opened.events.items in
+    let past = subst (Past plan) c.deref-2.ensures.value c.in_ok-resume_whole.ensures.past in
+    read-within plan events c.args.id c.in-Some.extent c.in_ok-texts.texts.used past (c.in_ok-texts.ensures.used ∙ ap counted c.deref.ensures.value)
+    (subst (λ (l : List Event). HasEnd l c.args.id c.in-Some.extent) c.deref-3.ensures.value c.in-Some.ensures)
+
+pub returns-in-Ok-clause-text : goal.returns-in-Ok-clause-text
+returns-in-Ok-clause-text g c =
+    let plan = c.args.plan.now in
+    let journal = g.D.Disk.state c.args.journal.now in
+    let spool = g.E.Disk.state c.args.spool.now in
+    let opened = c.in_ok-opened.opened in
+    let found = c.in_ok-opened.ensures in
+    let good = c.in_ok-resume_whole.ensures in
+    let past = subst (Past plan) c.deref-2.ensures.value good.past in
+    let long = subst (λ (l : List Event). Reaches spool (counted l)) c.deref.ensures.value c.in_ok-texts.ensures.long in
+    record {
+      events = opened.events.items;
+      whole = whole-read plan c.args.digest.now journal spool opened found.own found.found long past good.whole;
+      extent = c.in-Some.extent;
+      ended = subst (λ (l : List Event). HasEnd l c.args.id c.in-Some.extent) c.deref-3.ensures.value c.in-Some.ensures;
+      long = sym c.in-Ok.text.ok.0 ∙ c.in-Ok.ensures.length;
+      text = text-before spool (g.E.Disk.state c.open_texts.new.disk) c.in-Some.extent.offset c.in-Ok.text.items c.open_texts.ensures.stays c.in-Ok.ensures.text;
+    }
+
+pub returns-in-Err-DiskFault-clause-cause : goal.returns-in-Err-DiskFault-clause-cause
+returns-in-Err-DiskFault-clause-cause g c =
+    let old = g.E.Disk.state c.args.spool.now in
+    let mid = g.E.Disk.state c.open_texts.new.disk in
+    let new = g.E.Disk.state c.read.new.disk in
+    (c.in_ok-opened.ensures.own, rose-later old.faults mid.faults new.faults c.open_texts.ensures.survives.faults (c.read.ensures.fault (c.in-Err-DiskFault.is ∙ ap Err c.in-Err-DiskFault.field-0-is)))
+
+pub returns-clause-spool_stays : goal.returns-clause-spool_stays
+returns-clause-spool_stays g c =
+    stays-twice (g.E.Disk.state c.args.spool.now) (g.E.Disk.state c.open_texts.new.disk) (g.E.Disk.state c.read.new.disk) c.open_texts.ensures.stays c.read.ensures.same
+
+pub returns-clause-spool_survives : goal.returns-clause-spool_survives
+returns-clause-spool_survives g c =
+    survives-twice (g.E.Disk.state c.args.spool.now) (g.E.Disk.state c.open_texts.new.disk) (g.E.Disk.state c.read.new.disk) c.open_texts.ensures.stays c.open_texts.ensures.survives c.read.ensures.survives

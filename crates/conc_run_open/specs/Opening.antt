@@ -1,0 +1,46 @@
+-- What a run begins with.
+use Rattle.std.specs.Prelude.{◌≡◌, ◌⊎◌, ℕ, List, reverse, IfSome}
+use Rattle.conc_types.specs.declared.event.Event.{Event}
+use Rattle.conc_law.specs.Alone.{opening}
+use Rattle.conc_law.specs.Standing.{used}
+use Rattle.conc_disk.specs.Left.{EachImage, LeavesOnly}
+use Rattle.conc_journal.specs.Journals.{stage_of}
+use Rattle.conc_journal.specs.declared.journal.Stage.TheVariants.{Begun}
+use Rattle.conc_spool.specs.Spools.{KeepsBelow}
+use Rattle.conc_run_state.specs.Handed.{Handed, IsTaken}
+use Rattle.conc_run_state.specs.Survival.{Survives}
+use Rattle.conc_run_state.specs.Told.{AreTold}
+use Rattle.conc_run_state.specs.Works.{AreReady, list_in}
+use Rattle.conc_run_state.specs.declared.work.Work.{Work}
+
+-- a journal with the events found, with the resume of the life that begins or without
+abbrev pub HasOpening : Handed → List Event → List ℕ → Type 0
+HasOpening h found image = Survives h.digest found (opening found) image
+
+-- a stop at some moment left of the journal what it might have left before, or such a journal
+abbrev pub LeavesOpening : Handed → List Event → Type 0
+LeavesOpening h found = LeavesOnly (λ image. h.journal_before.may_leave image ⊎ HasOpening h found image) h.journal_before h.journal_after
+
+-- where the spool held the texts of ends that were found, each image still does
+abbrev pub StillTold : Handed → List Event → Type 0
+StillTold h found = (from : ℕ) → IfSome h.spool_before.seen (AreTold h.plan from found) → EachImage (AreTold h.plan from found) h.spool_after
+
+-- a life is begun: the list has the events found, with a resume behind them if there are any
+pub record IsBegun (h : Handed) (work : Work) : Type 0 where
+  pub found : List Event
+  pub taken : IsTaken h found
+  pub list : list_in work ≡ opening found
+  pub ready : AreReady h.plan h.readings work h.journal_after h.spool_after
+  pub stage : stage_of work.journal ≡ Begun h.digest
+  pub left : LeavesOpening h found
+  pub told : StillTold h found
+
+-- the journal's disk failed while a life was begun: each image now of the journal has the events found, with the resume or
+-- without, and each of the spool the bytes of their texts
+pub record IsStopped (h : Handed) : Type 0 where
+  pub found : List Event
+  pub taken : IsTaken h found
+  pub left : LeavesOpening h found
+  pub journal : EachImage (HasOpening h found) h.journal_after
+  pub spool : EachImage (KeepsBelow (used (reverse found)) h.spool_before) h.spool_after
+  pub told : StillTold h found

@@ -1,0 +1,83 @@
+-- What is read of a report's text.
+use Rattle.std.specs.Prelude.{◌≡◌, ℕ, if◌then◌else◌, List, length, Option, None, Some, slice_get, IfSome, IsFalse, ⊤}
+use Rattle.conc_types.specs.declared.event.Event.{Event}
+use Rattle.conc_types.specs.declared.event.Event.TheVariants as event
+use Rattle.conc_types.specs.declared.event.Extent.{Extent}
+use Rattle.conc_types.specs.declared.event.Outcome.{Outcome}
+use Rattle.conc_types.specs.declared.event.RequestId.{RequestId}
+use Rattle.conc_types.specs.declared.plan.Plan.{Plan}
+use Rattle.conc_outside.specs.Counts.{Rose}
+use Rattle.conc_disk.specs.Disk.{DiskState, HasAt}
+use Rattle.conc_law.specs.Words.{id_eq}
+use Rattle.conc_journal.specs.Opens.{broken_of, events_of, may_open}
+use Rattle.conc_run_state.specs.Causes.{IsOther}
+use Rattle.conc_run_state.specs.Disks.{Disks}
+use Rattle.conc_run_state.specs.Handed.{IsOwnJournal}
+use Rattle.conc_run_state.specs.Judging.{EndWithin, IsBadRecord}
+use Rattle.conc_run_state.specs.declared.fail.Stopped.{Stopped}
+use Rattle.conc_run_state.specs.declared.fail.Stopped.TheVariants as stopped
+use Rattle.conc_run_state.specs.declared.fail.Which.TheVariants as which
+use Rattle.conc_run_open.specs.Listing.{IsListed}
+use Rattle.conc_run_open.specs.declared.text.TextFail.{TextFail}
+use Rattle.conc_run_open.specs.declared.text.TextFail.TheVariants as text_fail
+
+-- ---- ends
+
+-- one of these events is an end of the request with this extent
+pub record HasEnd (events : List Event) (id : RequestId) (extent : Extent) : Type 0 where
+  pub position : ℕ
+  pub outcome : Outcome
+  pub there : slice_get events position ≡ Some (event.Ended id outcome (Some extent))
+
+-- none of them is an end of the request with an extent
+abbrev pub HasNoEnd : List Event → RequestId → Type 0
+HasNoEnd events id = (i : ℕ) (o : Outcome) (x : Extent) → slice_get events i ≡ Some (event.Ended id o (Some x)) → ⊥
+
+-- the extent of this event, where it is an end of the request
+abbrev pub report_in : Event → RequestId → Option Extent
+report_in (event.Ended request o x) id = if id_eq request id then x else None
+report_in e id = None
+
+-- ---- what is found
+
+-- the journal is this input's and good, and these are its events, whose extents end within the spool
+pub record AreWhole (plan : Plan) (digest : List ℕ) (journal spool : DiskState) (events : List Event) : Type 0 where
+  pub listed : IsListed plan digest journal events
+  pub within : IfSome spool.seen (λ texts. EndWithin (length texts) events)
+
+-- these are the bytes of the spool at the extent of an end of the request
+pub record HasText (plan : Plan) (digest : List ℕ) (id : RequestId) (journal spool : DiskState) (bytes : List ℕ) : Type 0 where
+  pub events : List Event
+  pub whole : AreWhole plan digest journal spool events
+  pub extent : Extent
+  pub ended : HasEnd events id extent
+  pub long : length bytes ≡ extent.length
+  pub text : HasAt spool extent.offset bytes
+
+-- the request has no end with an extent
+pub record HasNotEnded (plan : Plan) (digest : List ℕ) (id : RequestId) (journal spool : DiskState) : Type 0 where
+  pub events : List Event
+  pub whole : AreWhole plan digest journal spool events
+  pub none : HasNoEnd events id
+
+-- ---- why no text is given
+
+-- the journal is this input's, and its record with this number is the first that is bad
+pub record HasBadRecord (plan : Plan) (digest : List ℕ) (journal spool : DiskState) (number : ℕ) : Type 0 where
+  pub own : IfSome journal.seen (IsOwnJournal digest)
+  pub bad : IfSome journal.seen (λ image. IfSome spool.seen (λ texts. IsBadRecord plan (length texts) (events_of image) (broken_of image) number))
+
+-- the cause of each answer before an end is sought, and of a fault; want of memory needs none
+abbrev pub HasReadCause : Plan → List ℕ → Disks → Stopped → Type 0
+HasReadCause plan digest d stopped.NotJournal = IfSome d.journal_before.seen (λ image. IsFalse (may_open image))
+HasReadCause plan digest d (stopped.OtherInput found) = IfSome d.journal_before.seen (IsOther digest found)
+HasReadCause plan digest d (stopped.Unlawful number) = HasBadRecord plan digest d.journal_before d.spool_before number
+HasReadCause plan digest d (stopped.DiskFault which.Journal) = Rose d.journal_before.faults d.journal_after.faults
+HasReadCause plan digest d (stopped.DiskFault which.Spool) =
+    IfSome d.journal_before.seen (IsOwnJournal digest) × Rose d.spool_before.faults d.spool_after.faults
+HasReadCause plan digest d stopped.NoMemory = ⊤
+HasReadCause plan digest d (stopped.JournalFull len needed) = ⊥
+
+abbrev pub HasTextCause : Plan → List ℕ → RequestId → Disks → TextFail → Type 0
+HasTextCause plan digest id d text_fail.NotEnded = HasNotEnded plan digest id d.journal_before d.spool_before
+HasTextCause plan digest id d (text_fail.Stopped e) = HasReadCause plan digest d e

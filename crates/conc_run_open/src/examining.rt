@@ -1,0 +1,124 @@
+ghost use Rattle.std.specs.Prelude.{◌≡◌, IfErr, IfOk, IfSome, None, OnOk, reverse, Some};
+ghost use Rattle.conc_journal.specs.Journals.{list_of, room_of, stage_of};
+ghost use Rattle.conc_law.specs.Alone.{opening};
+ghost use Rattle.conc_machine.specs.Stands.{plan_of, readings_of, Stands};
+ghost use Rattle.conc_restart.specs.Need.{need as need_of};
+ghost use Rattle.conc_spool.specs.Spools.{used_of};
+ghost use Rattle.conc_run_state.specs.Causes.{HasCause};
+ghost use Rattle.conc_run_state.specs.Handed.{handed, IsUntouched};
+ghost use Rattle.conc_run_open.specs.Examined.{IsExamined, IsReady};
+ghost use Rattle.conc_run_open.specs.Extents.{counted};
+ghost use Rattle.conc_run_open.specs.Hindered.{IsCrowded, IsHindered};
+
+use crate::judging::resume_whole;
+use crate::reading::{open_own, open_texts};
+use conc_disk::Disk;
+use conc_journal::{Journal, Opened};
+use conc_journal_image::MOST_RECORDS;
+use conc_machine::Machine;
+use conc_restart::need;
+use conc_run_state::Stopped;
+use conc_spool::Spool;
+use conc_types::{Event, NoMemory, Plan, Readings};
+use std::alloc::Global;
+
+/// What a run has in hand before it writes. The machine stands for the events found with the resume of
+/// the life that is to begin; the journal has the events alone, with room for a life.
+#[derive(Drop)]
+pub(crate) struct Examined<'p> {
+    pub(crate) machine: Machine<'p>,
+    pub(crate) journal: Journal,
+    pub(crate) spool: Spool,
+}
+
+// Takes room for one more life, where the journal can have as much.
+fn make_room(plan: &Plan, readings: &Readings, journal: &mut Journal) -> Result<(), Stopped>
+    requires { room_of journal.old ≡ 0 }
+    ensures room { OnOk result (room_of journal.new ≡ need_of plan.now readings.now.list) }
+    ensures list { list_of journal.new ≡ list_of journal.old }
+    ensures stage { stage_of journal.new ≡ stage_of journal.old }
+    ensures crowded { IfErr result (IsCrowded plan.now readings.now.list (list_of journal.old)) }
+{
+    let len = journal.events().len() as u64;
+    let need = need(plan, readings);
+    if need > MOST_RECORDS - len {
+        return Err(Stopped::JournalFull { len, need });
+    }
+    match journal.reserve(need) {
+        Ok(()) => Ok(()),
+        Err(NoMemory) => Err(Stopped::NoMemory),
+    }
+}
+
+// Takes into the machine the resume of a life that goes on from events, and then its readings.
+fn begin_life(
+    alloc: Global,
+    machine: &mut Machine,
+    readings: &Readings,
+    events: &[Event],
+) -> Result<(), NoMemory>
+    requires { Stands machine.old (reverse events.now) }
+    ensures plan { plan_of machine.new ≡ plan_of machine.old }
+    ensures readings { OnOk result (readings_of machine.new ≡ Some readings.now.list) }
+    ensures stands { OnOk result (Stands machine.new (reverse (opening events.now))) }
+{
+    if !events.is_empty() {
+        machine.apply(Event::Resume);
+    }
+    machine.take_readings(alloc, readings)
+}
+
+// Judges what was found, where the spool has all extents, and takes the memory of a life.
+fn prepare<'p>(
+    alloc: Global,
+    plan: &'p Plan,
+    readings: &Readings,
+    opened: Opened,
+    spool: Spool,
+) -> Result<Examined<'p>, Stopped>
+    requires list { list_of opened.journal ≡ opened.events.items }
+    requires room { room_of opened.journal ≡ 0 }
+    requires spool { used_of spool ≡ counted opened.events.items }
+    ensures ready { IfOk result (IsReady plan.now readings.now.list) }
+    ensures list { IfOk result (λ examined. list_of examined.journal ≡ list_of opened.journal) }
+    ensures stage { IfOk result (λ examined. stage_of examined.journal ≡ stage_of opened.journal) }
+    ensures spool { IfOk result (λ examined. examined.spool ≡ spool) }
+    ensures whole { OnOk result (opened.broken ≡ None) }
+    ensures hindered { IfErr result (IsHindered plan.now readings.now.list opened.events.items opened.broken) }
+{
+    let Opened {
+        mut journal,
+        events,
+        broken,
+        ..
+    } = opened;
+    let mut machine = resume_whole(alloc, plan, &events, broken)?;
+    make_room(plan, readings, &mut journal)?;
+    match begin_life(alloc, &mut machine, readings, &events) {
+        Ok(()) => Ok(Examined {
+            machine,
+            journal,
+            spool,
+        }),
+        Err(NoMemory) => Err(Stopped::NoMemory),
+    }
+}
+
+/// Opens and judges what stands on the disks of a run, and takes all memory that its life needs. It
+/// writes nothing.
+pub(crate) fn examine<'p, D: Disk, E: Disk>(
+    alloc: Global,
+    plan: &'p Plan,
+    readings: &Readings,
+    digest: &[u8; 32],
+    journal: &mut D,
+    spool: &mut E,
+) -> Result<Examined<'p>, Stopped>
+    ensures examined { IfOk result (IsExamined (handed plan.now readings.now digest.now (D.state journal.old) (D.state journal.new) (E.state spool.old) (E.state spool.new))) }
+    ensures cause { IfErr result (HasCause (handed plan.now readings.now digest.now (D.state journal.old) (D.state journal.new) (E.state spool.old) (E.state spool.new))) }
+    ensures untouched { IsUntouched (handed plan.now readings.now digest.now (D.state journal.old) (D.state journal.new) (E.state spool.old) (E.state spool.new)) }
+{
+    let opened = open_own(alloc, digest, journal)?;
+    let texts = open_texts(alloc, plan, &opened.events, spool)?;
+    prepare(alloc, plan, readings, opened, texts)
+}

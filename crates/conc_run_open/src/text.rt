@@ -1,0 +1,96 @@
+ghost use Rattle.std.specs.Prelude.{◌≡◌, IfErr, IfOk, MatchOption};
+ghost use Rattle.conc_disk.specs.Disk.{Stays};
+ghost use Rattle.conc_disk.specs.Left.{LeavesOnly};
+ghost use Rattle.conc_run_state.specs.Disks.{disks};
+ghost use Rattle.conc_run_open.specs.Texts.{HasEnd, HasNoEnd, HasText, HasTextCause, report_in};
+ghost use Rattle.conc_run_open.specs.declared.text.TextFail.TheVariants as text_fail;
+
+use crate::judging::resume_whole;
+use crate::reading::{open_own, open_texts};
+use conc_disk::Disk;
+use conc_run_state::{Stopped, Which};
+use conc_spool::ReadBack;
+use conc_types::{Event, Extent, Plan, RequestId};
+use std::alloc::Global;
+use thiserror::Error;
+
+/// Why no text of a report is given.
+#[derive(Clone, Copy, Debug, PartialEq, Eq, Error)]
+pub enum TextFail {
+    /// What stands on the disks is refused, or could not be read.
+    #[error(transparent)]
+    Stopped(Stopped),
+    /// The journal has no end of the request that has a report.
+    #[error("the request has not ended with a report")]
+    NotEnded,
+}
+
+impl From<Stopped> for TextFail {
+    ghost from_gives = { λ stopped e. e ≡ text_fail.Stopped stopped };
+
+    fn from(stopped: Stopped) -> Self {
+        TextFail::Stopped(stopped)
+    }
+}
+
+// Where the report of this request stands, if the event is its end and has one.
+fn report_in(event: Event, id: RequestId) -> Option<Extent>
+    ensures { result ≡ report_in event id }
+{
+    match event {
+        Event::Ended {
+            request,
+            extent,
+            ..
+        } if request == id => extent,
+        _ => None,
+    }
+}
+
+// Where the report of the first end of this request stands that has one.
+fn find_report(events: &[Event], id: RequestId) -> Option<Extent>
+    ensures { MatchOption result (HasNoEnd events.now id) (HasEnd events.now id) }
+{
+    for event in events {
+        if let Some(extent) = report_in(*event, id) {
+            return Some(extent);
+        }
+    }
+    None
+}
+
+/// The text of the report with which this request ended, from the spool of a run of this plan, whose
+/// input has this digest. It writes nothing. It judges what stands on the disks, in this order: whether
+/// there is a journal, and this input's; whether the spool can be read; and the first record that is
+/// broken, that may not follow, or whose extent ends past the spool. Only then it looks for the end of
+/// the request and reads its text.
+pub fn read_text<D: Disk, E: Disk>(
+    alloc: Global,
+    plan: &Plan,
+    digest: &[u8; 32],
+    id: RequestId,
+    journal: &mut D,
+    spool: &mut E,
+) -> Result<Vec<u8>, TextFail>
+    ensures text { IfOk result (λ text. HasText plan.now digest.now id (D.state journal.old) (E.state spool.old) text.items) }
+    ensures cause { IfErr result (HasTextCause plan.now digest.now id (disks (D.state journal.old) (D.state journal.new) (E.state spool.old) (E.state spool.new))) }
+
+    ensures journal_stays { Stays (D.state journal.old) (D.state journal.new) }
+    ensures journal_survives { LeavesOnly (D.state journal.old).may_leave (D.state journal.old) (D.state journal.new) }
+    ensures spool_stays { Stays (E.state spool.old) (E.state spool.new) }
+    ensures spool_survives { LeavesOnly (E.state spool.old).may_leave (E.state spool.old) (E.state spool.new) }
+{
+    let opened = open_own(alloc, digest, journal)?;
+    let texts = open_texts(alloc, plan, &opened.events, spool)?;
+    resume_whole(alloc, plan, &opened.events, opened.broken)?;
+    let Some(extent) = find_report(&opened.events, id) else {
+        return Err(TextFail::NotEnded);
+    };
+    match texts.read(alloc, spool, extent) {
+        Ok(text) => Ok(text),
+        Err(ReadBack::DiskFault) => Err(TextFail::Stopped(Stopped::DiskFault {
+            which: Which::Spool,
+        })),
+        Err(ReadBack::NoMemory) => Err(TextFail::Stopped(Stopped::NoMemory)),
+    }
+}

@@ -1,0 +1,61 @@
+-- What a run is handed, and what it finds.
+use Rattle.std.specs.Prelude.{◌≡◌, ℕ, ◌+◌, ◌≤◌, List, length, None, IfSome, IsTrue}
+use Rattle.conc_types.specs.declared.event.Event.{Event}
+use Rattle.conc_types.specs.declared.plan.Plan.{Plan}
+use Rattle.conc_types.specs.declared.script.Reading.{Reading}
+use Rattle.conc_types.specs.declared.script.Readings.{Readings}
+use Rattle.conc_disk.specs.Disk.{DiskState}
+use Rattle.conc_law.specs.Law.{Past}
+use Rattle.conc_journal.specs.Opens.{broken_of, events_of, may_open}
+use Rattle.conc_restart.specs.Need.{need}
+use Rattle.conc_run_state.specs.Disks.{AreUntouched, disks}
+use Rattle.conc_run_state.specs.Judging.{EndWithin}
+use Rattle.conc_run_state.specs.Survival.{IsOwn}
+
+-- its plan and readings, the digest of its input, and its two disks before and after
+pub record Handed : Type 1 where
+  pub plan : Plan
+  pub readings : List Reading
+  pub digest : List ℕ
+  pub journal_before : DiskState
+  pub journal_after : DiskState
+  pub spool_before : DiskState
+  pub spool_after : DiskState
+
+abbrev pub handed : Plan → Readings → List ℕ → DiskState → DiskState → DiskState → DiskState → Handed
+handed plan readings digest journal journal' spool spool' = record {
+  plan = plan;
+  readings = readings.list;
+  digest = digest;
+  journal_before = journal;
+  journal_after = journal';
+  spool_before = spool;
+  spool_after = spool';
+}
+
+-- nothing was written
+abbrev pub IsUntouched : Handed → Type 0
+IsUntouched h = AreUntouched (disks h.journal_before h.journal_after h.spool_before h.spool_after)
+
+-- the image is that of a journal of this input, or of one that is not begun
+pub record IsOwnJournal (digest : List ℕ) (image : List ℕ) : Type 0 where
+  pub opens : IsTrue (may_open image)
+  pub own : IsOwn digest image
+
+-- where both disks tell, this holds of the journal's image and of the number of the spool's bytes
+abbrev pub Finds : (List ℕ → ℕ → Type 0) → Handed → Type 0
+Finds kind h = IfSome h.journal_before.seen (λ image. IfSome h.spool_before.seen (λ texts. kind image (length texts)))
+
+-- These are the events found. They are lawful, every life judged as an earlier one. Where the journal's disk tells, they are
+-- those of a journal of this input of which no record is broken; and where the spool's tells, each extent ends within it.
+pub record IsFound (h : Handed) (found : List Event) : Type 0 where
+  pub past : Past h.plan found
+  pub own : IfSome h.journal_before.seen (IsOwnJournal h.digest)
+  pub whole : IfSome h.journal_before.seen (λ image. broken_of image ≡ None)
+  pub events : IfSome h.journal_before.seen (λ image. found ≡ events_of image)
+  pub within : IfSome h.spool_before.seen (λ texts. EndWithin (length texts) found)
+
+-- these are the events found, and the journal has room for one more life
+pub record IsTaken (h : Handed) (found : List Event) : Type 0 where
+  pub is_found : IsFound h found
+  pub room : length found + need h.plan h.readings ≤ 1048576

@@ -1,0 +1,254 @@
+ghost use Rattle.std.specs.Prelude.{◌≡◌, IfOk, List, ℕ};
+ghost use Rattle.conc_setup_fields.specs.Fields.{keys_kind as keys_kind_of};
+ghost use Rattle.conc_setup_fields.specs.Kinds.{good};
+ghost use Rattle.conc_setup_entries.specs.Programs as spec;
+ghost use Rattle.toml.specs.View.{table_view, view};
+
+use conc_setup_fields::{
+    ArrayForm, Counted, Form, NameForm, ShortText, TextForm, TruthForm, WholeForm, beside, both,
+    default, keys_kind, kind, no_text, no_values, optional, required,
+};
+use conc_types::{Filter, Job, Name, NoMemory, Program, Test};
+use std::alloc::Global;
+use toml::{Table, Value};
+
+fn test_of(word: &str) -> Result<Test, u8>
+    ensures { result ≡ spec.test_of word.now }
+{
+    if word == "is" {
+        Ok(Test::Is)
+    } else if word == "is_not" {
+        Ok(Test::IsNot)
+    } else if word == "starts_with" {
+        Ok(Test::StartsWith)
+    } else if word == "above" {
+        Ok(Test::Above)
+    } else if word == "below" {
+        Ok(Test::Below)
+    } else {
+        Err(kind::OUT_OF_RANGE)
+    }
+}
+
+/// The word for how a filter compares.
+struct TestForm;
+
+impl Form for TestForm {
+    type Out = Test;
+
+    ghost form = { spec.test_in };
+
+    fn read(_alloc: Global, value: &Value) -> Result<Result<Test, u8>, NoMemory> {
+        match value.as_str() {
+            None => Ok(Err(kind::WRONG_KIND)),
+            Some(word) => Ok(test_of(word)),
+        }
+    }
+}
+
+fn filter_keys(table: &Table) -> Option<u8>
+    ensures { result ≡ keys_kind_of spec.filter_keys (table_view table.now) }
+{
+    keys_kind(&["column", "test", "value"], table)
+}
+
+fn filter_with(column: Name, test: Test, value: ShortText<200>) -> Filter
+    ensures { result ≡ spec.to_filter (column, (test, value)) }
+{
+    Filter {
+        column,
+        test,
+        value: value.text,
+    }
+}
+
+fn to_filter(parts: Result<(Name, (Test, ShortText<200>)), u8>) -> Result<Filter, u8>
+    ensures { result ≡ good spec.to_filter parts }
+{
+    match parts {
+        Ok((column, (test, value))) => Ok(filter_with(column, test, value)),
+        Err(kind) => Err(kind),
+    }
+}
+
+#[tactic(auto, unfolding(crate::specs::Programs::filter_of))]
+fn filter_of(alloc: Global, table: &Table) -> Result<Result<Filter, u8>, NoMemory>
+    ensures { IfOk result (λ r. r ≡ spec.filter_of (table_view table.now)) }
+{
+    let column = required::<NameForm>(alloc, table, "column")?;
+    let test = required::<TestForm>(alloc, table, "test")?;
+    let value = required::<TextForm<200>>(alloc, table, "value")?;
+    let filter = to_filter(both(column, both(test, value)));
+    Ok(beside(filter_keys(table), filter))
+}
+
+/// A filter of a program's rows.
+struct FilterForm;
+
+impl Form for FilterForm {
+    type Out = Filter;
+
+    ghost form = { spec.filter_in };
+
+    #[tactic(auto, unfolding(crate::specs::Programs::filter_in))]
+    fn read(alloc: Global, value: &Value) -> Result<Result<Filter, u8>, NoMemory> {
+        match value.as_table() {
+            None => Ok(Err(kind::WRONG_KIND)),
+            Some(table) => filter_of(alloc, table),
+        }
+    }
+}
+
+fn job_with(
+    table: Name,
+    filters: Counted<Filter, 0, 16>,
+    group: Option<Name>,
+    sum: Option<Name>,
+    warn_over: Option<u64>,
+    error_over: Option<u64>,
+) -> Job
+    ensures { result ≡ spec.to_job (table, (filters, (group, (sum, (warn_over, error_over))))) }
+{
+    Job {
+        table,
+        filters: filters.list,
+        group,
+        sum,
+        warn_over,
+        error_over,
+    }
+}
+
+type JobParts = (
+    Name,
+    (
+        Counted<Filter, 0, 16>,
+        (Option<Name>, (Option<Name>, (Option<u64>, Option<u64>))),
+    ),
+);
+
+fn to_job(parts: Result<JobParts, u8>) -> Result<Job, u8>
+    ensures { result ≡ good spec.to_job parts }
+{
+    match parts {
+        Ok((table, (filters, (group, (sum, (warn_over, error_over)))))) => {
+            Ok(job_with(table, filters, group, sum, warn_over, error_over))
+        }
+        Err(kind) => Err(kind),
+    }
+}
+
+#[tactic(auto, unfolding(crate::specs::Programs::job_of))]
+fn job_of(alloc: Global, table: &Table) -> Result<Result<Job, u8>, NoMemory>
+    ensures { IfOk result (λ r. r ≡ spec.job_of (table_view table.now)) }
+{
+    let name = required::<NameForm>(alloc, table, "table")?;
+    let filters = default::<ArrayForm<FilterForm, 0, 16>>(
+        alloc,
+        no_values(alloc),
+        table,
+        "filter",
+    )?;
+    let group = optional::<NameForm>(alloc, table, "group")?;
+    let sum = optional::<NameForm>(alloc, table, "sum")?;
+    let warn_over = optional::<WholeForm>(alloc, table, "warn_over")?;
+    let error_over = optional::<WholeForm>(alloc, table, "error_over")?;
+    let parts = both(
+        name,
+        both(filters, both(group, both(sum, both(warn_over, error_over)))),
+    );
+    Ok(to_job(parts))
+}
+
+fn program_keys(table: &Table) -> Option<u8>
+    ensures { result ≡ keys_kind_of spec.program_keys (table_view table.now) }
+{
+    keys_kind(
+        &[
+            "name",
+            "type",
+            "enabled",
+            "run_alone",
+            "restart",
+            "table",
+            "filter",
+            "group",
+            "sum",
+            "warn_over",
+            "error_over",
+        ],
+        table,
+    )
+}
+
+fn program_with(
+    name: Name,
+    request_type: ShortText<80>,
+    enabled: bool,
+    run_alone: bool,
+    restart: bool,
+    job: Job,
+) -> Program
+    ensures { result ≡ spec.to_program (name, (request_type, (enabled, (run_alone, (restart, job))))) }
+{
+    Program {
+        name,
+        request_type: request_type.text,
+        enabled,
+        run_alone,
+        restart,
+        job,
+    }
+}
+
+type ProgramParts = (Name, (ShortText<80>, (bool, (bool, (bool, Job)))));
+
+fn to_program(parts: Result<ProgramParts, u8>) -> Result<Program, u8>
+    ensures { result ≡ good spec.to_program parts }
+{
+    match parts {
+        Ok((name, (request_type, (enabled, (run_alone, (restart, job)))))) => {
+            Ok(program_with(name, request_type, enabled, run_alone, restart, job))
+        }
+        Err(kind) => Err(kind),
+    }
+}
+
+#[tactic(auto, unfolding(crate::specs::Programs::program_of))]
+fn program_of(alloc: Global, table: &Table) -> Result<Result<Program, u8>, NoMemory>
+    ensures { IfOk result (λ r. r ≡ spec.program_of (table_view table.now)) }
+{
+    let name = required::<NameForm>(alloc, table, "name")?;
+    let request_type = default::<TextForm<80>>(alloc, no_text(alloc), table, "type")?;
+    let enabled = default::<TruthForm>(alloc, true, table, "enabled")?;
+    let run_alone = default::<TruthForm>(alloc, false, table, "run_alone")?;
+    let restart = default::<TruthForm>(alloc, false, table, "restart")?;
+    let job = job_of(alloc, table)?;
+    let parts = both(
+        name,
+        both(
+            request_type,
+            both(enabled, both(run_alone, both(restart, job))),
+        ),
+    );
+    Ok(beside(program_keys(table), to_program(parts)))
+}
+
+/// A program: a table of the array `program`, with the table that its requests report on. Without
+/// the keys for them, its type is the empty text, it is enabled, it does not run alone, and its
+/// requests do not run again after a stop.
+pub struct ProgramForm;
+
+impl Form for ProgramForm {
+    type Out = Program;
+
+    ghost form = { spec.program_in };
+
+    #[tactic(auto, unfolding(crate::specs::Programs::program_in))]
+    fn read(alloc: Global, value: &Value) -> Result<Result<Program, u8>, NoMemory> {
+        match value.as_table() {
+            None => Ok(Err(kind::WRONG_KIND)),
+            Some(table) => program_of(alloc, table),
+        }
+    }
+}

@@ -1,0 +1,133 @@
+ghost use Rattle.std.specs.Prelude.{◌≡◌, IfOk, List, Option, ℕ};
+ghost use Rattle.conc_setup_fields.specs.Fields.{keys_kind as keys_kind_of};
+ghost use Rattle.conc_setup_fields.specs.Kinds.{good};
+ghost use Rattle.conc_setup_entries.specs.Sets as spec;
+ghost use Rattle.toml.specs.View.{table_view, view};
+
+use crate::{RawSet, RawStage};
+use conc_setup_fields::{
+    ArrayForm, Counted, Form, NameForm, TruthForm, beside, both, default, keys_kind, kind,
+    optional, required,
+};
+use conc_types::{Name, NoMemory};
+use std::alloc::Global;
+use toml::{Table, Value};
+
+fn stage_keys(table: &Table) -> Option<u8>
+    ensures { result ≡ keys_kind_of spec.stage_keys (table_view table.now) }
+{
+    keys_kind(
+        &[
+            "name",
+            "critical",
+            "on_success",
+            "on_warning",
+            "on_error",
+            "members",
+        ],
+        table,
+    )
+}
+
+type StageParts = (
+    Name,
+    (
+        bool,
+        (
+            Option<Name>,
+            (Option<Name>, (Option<Name>, Counted<Name, 1, 64>)),
+        ),
+    ),
+);
+
+fn to_stage(parts: Result<StageParts, u8>) -> Result<RawStage, u8>
+    ensures { result ≡ good spec.to_stage parts }
+{
+    match parts {
+        Ok((name, (critical, (on_success, (on_warning, (on_error, members)))))) => Ok(RawStage {
+            name,
+            critical,
+            on_success,
+            on_warning,
+            on_error,
+            members,
+        }),
+        Err(kind) => Err(kind),
+    }
+}
+
+#[tactic(auto, unfolding(crate::specs::Sets::stage_of))]
+fn stage_of(alloc: Global, table: &Table) -> Result<Result<RawStage, u8>, NoMemory>
+    ensures { IfOk result (λ r. r ≡ spec.stage_of (table_view table.now)) }
+{
+    let name = required::<NameForm>(alloc, table, "name")?;
+    let critical = default::<TruthForm>(alloc, false, table, "critical")?;
+    let success = optional::<NameForm>(alloc, table, "on_success")?;
+    let warning = optional::<NameForm>(alloc, table, "on_warning")?;
+    let error = optional::<NameForm>(alloc, table, "on_error")?;
+    let members = required::<ArrayForm<NameForm, 1, 64>>(alloc, table, "members")?;
+    let parts = both(
+        name,
+        both(critical, both(success, both(warning, both(error, members)))),
+    );
+    Ok(beside(stage_keys(table), to_stage(parts)))
+}
+
+/// A stage of a set, with 1 to 64 members.
+struct StageForm;
+
+impl Form for StageForm {
+    type Out = RawStage;
+
+    ghost form = { spec.stage_in };
+
+    #[tactic(auto, unfolding(crate::specs::Sets::stage_in))]
+    fn read(alloc: Global, value: &Value) -> Result<Result<RawStage, u8>, NoMemory> {
+        match value.as_table() {
+            None => Ok(Err(kind::WRONG_KIND)),
+            Some(table) => stage_of(alloc, table),
+        }
+    }
+}
+
+fn set_keys(table: &Table) -> Option<u8>
+    ensures { result ≡ keys_kind_of spec.set_keys (table_view table.now) }
+{
+    keys_kind(&["name", "stage"], table)
+}
+
+fn to_set(parts: Result<(Name, Counted<RawStage, 1, 64>), u8>) -> Result<RawSet, u8>
+    ensures { result ≡ good spec.to_set parts }
+{
+    match parts {
+        Ok((name, stages)) => Ok(RawSet { name, stages }),
+        Err(kind) => Err(kind),
+    }
+}
+
+#[tactic(auto, unfolding(crate::specs::Sets::set_of))]
+fn set_of(alloc: Global, table: &Table) -> Result<Result<RawSet, u8>, NoMemory>
+    ensures { IfOk result (λ r. r ≡ spec.set_of (table_view table.now)) }
+{
+    let name = required::<NameForm>(alloc, table, "name")?;
+    let stages = required::<ArrayForm<StageForm, 1, 64>>(alloc, table, "stage")?;
+    Ok(beside(set_keys(table), to_set(both(name, stages))))
+}
+
+/// A request set: a table of the array `set`. No stage is `OUT_OF_RANGE`, as is a stage without a
+/// member, and more than 64 are `TOO_MANY`, as are more than 64 members of a stage.
+pub struct SetForm;
+
+impl Form for SetForm {
+    type Out = RawSet;
+
+    ghost form = { spec.set_in };
+
+    #[tactic(auto, unfolding(crate::specs::Sets::set_in))]
+    fn read(alloc: Global, value: &Value) -> Result<Result<RawSet, u8>, NoMemory> {
+        match value.as_table() {
+            None => Ok(Err(kind::WRONG_KIND)),
+            Some(table) => set_of(alloc, table),
+        }
+    }
+}

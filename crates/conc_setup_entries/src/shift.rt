@@ -1,0 +1,108 @@
+ghost use Rattle.std.specs.Prelude.{◌≡◌, IfOk, List, Option, ℕ};
+ghost use Rattle.conc_setup_fields.specs.Fields.{keys_kind as keys_kind_of};
+ghost use Rattle.conc_setup_fields.specs.Kinds.{judged};
+ghost use Rattle.conc_setup_entries.specs.Shifts as spec;
+ghost use Rattle.conc_types.specs.Fields.{are_times as are_times_of, is_shift as is_shift_of};
+ghost use Rattle.conc_types.specs.Words.{none_or};
+ghost use Rattle.toml.specs.View.{table_view, view};
+
+use crate::shift_values::{DateForm, DaysForm, PlacesForm, TimeForm};
+use conc_setup_fields::{Form, beside, both, default, keys_kind, kind, optional, required};
+use conc_types::{NoMemory, Shift};
+use std::alloc::Global;
+use toml::{Table, Value};
+
+// One past the last day of the year 9999.
+const DAYS: u32 = 3652059;
+
+fn shift_keys(table: &Table) -> Option<u8>
+    ensures { result ≡ keys_kind_of spec.shift_keys (table_view table.now) }
+{
+    keys_kind(&["date", "days", "from", "to", "places"], table)
+}
+
+fn times_of(from: Option<u32>, to: Option<u32>) -> Result<Option<(u32, u32)>, u8>
+    ensures { result ≡ spec.times_of from to }
+{
+    match (from, to) {
+        (None, None) => Ok(None),
+        (Some(from), Some(to)) => Ok(Some((from, to))),
+        (None, Some(_)) | (Some(_), None) => Err(kind::BAD_SHIFT),
+    }
+}
+
+fn are_times(times: (u32, u32)) -> bool
+    ensures { result ≡ are_times_of times }
+{
+    let (from, to) = times;
+    from < to && (to <= 86400 && (from % 60 == 0 && to % 60 == 0))
+}
+
+fn is_shift(date: Option<u32>, days: u8, times: Option<(u32, u32)>, places: u32) -> bool
+    ensures { result ≡ is_shift_of date days times places }
+{
+    date.is_none_or(|date| date < DAYS)
+        && ((date.is_none() || days == 0)
+            && (days < 128 && (times.is_none_or(are_times) && places <= 64)))
+}
+
+fn shift_of_parts(
+    date: Option<u32>,
+    days: u8,
+    places: u32,
+    times: Option<(u32, u32)>,
+) -> Result<Shift, u8>
+    ensures { result ≡ spec.shift_of_parts date days places times }
+{
+    if is_shift(date, days, times, places) {
+        Ok(Shift {
+            date,
+            days,
+            times,
+            places,
+        })
+    } else {
+        Err(kind::BAD_SHIFT)
+    }
+}
+
+type ShiftParts = (Option<u32>, (u8, (Option<u32>, (Option<u32>, u32))));
+
+fn to_shift(parts: Result<ShiftParts, u8>) -> Result<Shift, u8>
+    ensures { result ≡ judged spec.to_shift parts }
+{
+    let (date, (days, (from, (to, places)))) = parts?;
+    let times = times_of(from, to)?;
+    shift_of_parts(date, days, places, times)
+}
+
+#[tactic(auto, unfolding(crate::specs::Shifts::shift_of))]
+fn shift_of(alloc: Global, table: &Table) -> Result<Result<Shift, u8>, NoMemory>
+    ensures { IfOk result (λ r. r ≡ spec.shift_of (table_view table.now)) }
+{
+    let date = optional::<DateForm>(alloc, table, "date")?;
+    let days = default::<DaysForm>(alloc, 0, table, "days")?;
+    let from = optional::<TimeForm>(alloc, table, "from")?;
+    let to = optional::<TimeForm>(alloc, table, "to")?;
+    let places = required::<PlacesForm>(alloc, table, "places")?;
+    let shift = to_shift(both(date, both(days, both(from, both(to, places)))));
+    Ok(beside(shift_keys(table), shift))
+}
+
+/// A work shift of a manager. A date beside days is `BAD_SHIFT`, as is a first time without a last
+/// one or not before it.
+pub(crate) struct ShiftForm;
+
+impl Form for ShiftForm {
+    type Out = Shift;
+
+    ghost form = { spec.shift_in };
+
+    #[tactic(auto, unfolding(crate::specs::Shifts::shift_in))]
+    fn read(alloc: Global, value: &Value) -> Result<Result<Shift, u8>, NoMemory> {
+        match value.as_table() {
+            None => Ok(Err(kind::WRONG_KIND)),
+            Some(table) => shift_of(alloc, table),
+        }
+    }
+}

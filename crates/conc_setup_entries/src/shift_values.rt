@@ -1,0 +1,232 @@
+ghost use Rattle.std.specs.Prelude.{◌≡◌, ◌≤◌, ◌==◌, ◌<◌, IfOk, IfSome, List, Option, Result, ℕ};
+ghost use Rattle.conc_setup_fields.specs.Kinds.{judged};
+ghost use Rattle.conc_setup_entries.specs.Shifts as spec;
+ghost use Rattle.conc_types.specs.Words.{are_distinct as are_distinct_of};
+ghost use Rattle.toml.specs.View.{view};
+
+use conc_setup_fields::{Form, ListForm, WholeForm, kind};
+use conc_time::read_moment;
+use conc_types::{NoMemory, Seq};
+use std::alloc::Global;
+use toml::Value;
+
+const SECONDS_PER_DAY: u64 = 86400;
+
+// The day that is spelled, counted from 0 for 0001-01-01.
+fn read_day(alloc: Global, bytes: &[u8]) -> Result<Option<u32>, NoMemory>
+    ensures { IfOk result (λ day. day ≡ spec.day_spelled bytes.now) }
+{
+    let mut text = bytes.to_vec(alloc)?;
+    text.extend_from_slice(b"T00:00:00")?;
+    match read_moment(text.as_slice()) {
+        None => Ok(None),
+        Some(moment) => Ok(Some((moment.seconds / SECONDS_PER_DAY) as u32)),
+    }
+}
+
+fn date_of(alloc: Global, bytes: &[u8]) -> Result<Result<u32, u8>, NoMemory>
+    ensures { IfOk result (λ r. r ≡ spec.date_of bytes.now) }
+{
+    match read_day(alloc, bytes)? {
+        None => Ok(Err(kind::BAD_SHIFT)),
+        Some(day) => Ok(Ok(day)),
+    }
+}
+
+/// A date as `2025-03-03`, in a year from 0001 to 9999.
+pub(crate) struct DateForm;
+
+impl Form for DateForm {
+    type Out = u32;
+
+    ghost form = { spec.date_in };
+
+    fn read(alloc: Global, value: &Value) -> Result<Result<u32, u8>, NoMemory> {
+        match value.as_str() {
+            None => Ok(Err(kind::WRONG_KIND)),
+            Some(text) => date_of(alloc, text.as_bytes()),
+        }
+    }
+}
+
+fn is_digit(byte: u8) -> bool
+    ensures { result ≡ spec.is_digit byte }
+{
+    b'0' <= byte && byte <= b'9'
+}
+
+fn clock_of(a: u8, b: u8, colon: u8, c: u8, d: u8) -> Result<u32, u8>
+    ensures { result ≡ spec.clock_of a b colon c d }
+{
+    if (is_digit(a) && (is_digit(b) && (is_digit(c) && is_digit(d))))
+        && (colon == b':' && c <= b'5')
+    {
+        let hours = 10 * u32::from(a - b'0') + u32::from(b - b'0');
+        let minutes = 60 * hours + (10 * u32::from(c - b'0') + u32::from(d - b'0'));
+        if minutes <= 1440 {
+            Ok(60 * minutes)
+        } else {
+            Err(kind::BAD_SHIFT)
+        }
+    } else {
+        Err(kind::BAD_SHIFT)
+    }
+}
+
+fn time_of(bytes: &[u8]) -> Result<u32, u8>
+    ensures { result ≡ spec.time_of bytes.now }
+{
+    if bytes.len() == 5 {
+        clock_of(bytes[0], bytes[1], bytes[2], bytes[3], bytes[4])
+    } else {
+        Err(kind::BAD_SHIFT)
+    }
+}
+
+/// A time of the day as `08:00`, up to `24:00`, in seconds from midnight.
+pub(crate) struct TimeForm;
+
+impl Form for TimeForm {
+    type Out = u32;
+
+    ghost form = { spec.time_in };
+
+    fn read(_alloc: Global, value: &Value) -> Result<Result<u32, u8>, NoMemory> {
+        match value.as_str() {
+            None => Ok(Err(kind::WRONG_KIND)),
+            Some(text) => Ok(time_of(text.as_bytes())),
+        }
+    }
+}
+
+fn day_of(word: &str) -> Result<u8, u8>
+    ensures { result ≡ spec.day_of word.now }
+{
+    if word == "Mon" {
+        Ok(0)
+    } else if word == "Tue" {
+        Ok(1)
+    } else if word == "Wed" {
+        Ok(2)
+    } else if word == "Thu" {
+        Ok(3)
+    } else if word == "Fri" {
+        Ok(4)
+    } else if word == "Sat" {
+        Ok(5)
+    } else if word == "Sun" {
+        Ok(6)
+    } else {
+        Err(kind::BAD_SHIFT)
+    }
+}
+
+/// A day of the week as `Mon`, counted from 0 for Monday.
+struct DayForm;
+
+impl Form for DayForm {
+    type Out = u8;
+
+    ghost form = { spec.day_in };
+
+    fn read(_alloc: Global, value: &Value) -> Result<Result<u8, u8>, NoMemory> {
+        match value.as_str() {
+            None => Ok(Err(kind::WRONG_KIND)),
+            Some(word) => Ok(day_of(word)),
+        }
+    }
+}
+
+fn has_day(day: u8, days: &[u8]) -> bool
+    ensures { result ≡ spec.has_day day days.now }
+{
+    days.iter().any(|d| day == *d)
+}
+
+fn are_distinct(days: &[u8]) -> bool
+    ensures { result ≡ are_distinct_of ◌==◌ days.now }
+{
+    match days.split_first() {
+        None => true,
+        Some((day, rest)) => !has_day(*day, rest) && are_distinct(rest),
+    }
+}
+
+fn day_bit(bit: u8, day: u8, days: &[u8]) -> u8
+    ensures value { result ≡ spec.day_bit bit day days.now }
+    ensures small { result ≤ bit }
+{
+    if has_day(day, days) { bit } else { 0 }
+}
+
+fn day_bits(days: &[u8]) -> u8
+    ensures { result ≡ spec.day_bits days.now }
+{
+    day_bit(1, 0, days)
+        + (day_bit(2, 1, days)
+            + (day_bit(4, 2, days)
+                + (day_bit(8, 3, days)
+                    + (day_bit(16, 4, days) + (day_bit(32, 5, days) + day_bit(64, 6, days))))))
+}
+
+fn days_of(days: &[u8]) -> Result<u8, u8>
+    ensures { result ≡ spec.days_of days.now }
+{
+    if !days.is_empty() && are_distinct(days) {
+        Ok(day_bits(days))
+    } else {
+        Err(kind::BAD_SHIFT)
+    }
+}
+
+fn to_days(days: Result<Seq<u8>, u8>) -> Result<u8, u8>
+    ensures { result ≡ judged spec.days_of days }
+{
+    match days {
+        Ok(days) => days_of(days.as_slice()),
+        Err(kind) => Err(kind),
+    }
+}
+
+/// Days of the week, of which none stands twice, as one bit for each, the lowest for Monday. No day
+/// is `BAD_SHIFT`, as is a day twice.
+pub(crate) struct DaysForm;
+
+impl Form for DaysForm {
+    type Out = u8;
+
+    ghost form = { spec.days_in };
+
+    #[tactic(auto, unfolding(crate::specs::Shifts::days_in))]
+    fn read(alloc: Global, value: &Value) -> Result<Result<u8, u8>, NoMemory> {
+        Ok(to_days(ListForm::<DayForm>::read(alloc, value)?))
+    }
+}
+
+fn places_of(count: Result<u64, u8>) -> Result<u32, u8>
+    ensures { result ≡ judged spec.places_of count }
+{
+    match count {
+        Ok(count) => {
+            if count <= 64 {
+                Ok(count as u32)
+            } else {
+                Err(kind::OUT_OF_RANGE)
+            }
+        }
+        Err(kind) => Err(kind),
+    }
+}
+
+/// How many places a shift has: 0 to 64.
+pub(crate) struct PlacesForm;
+
+impl Form for PlacesForm {
+    type Out = u32;
+
+    ghost form = { spec.places_in };
+
+    fn read(alloc: Global, value: &Value) -> Result<Result<u32, u8>, NoMemory> {
+        Ok(places_of(WholeForm::read(alloc, value)?))
+    }
+}

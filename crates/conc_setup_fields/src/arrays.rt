@@ -1,0 +1,114 @@
+ghost use Rattle.std.specs.Prelude.{◌≡◌, IfOk};
+ghost use Rattle.conc_setup_fields.specs.Arrays.{all_good as all_good_of, array_in, counted as counted_of, list_in, list_of as list_of_items, no_values as no_values_of, read_all as read_all_of};
+ghost use Rattle.toml.specs.View.{array_view, view};
+
+use crate::lines::{goods, worst};
+use crate::{Counted, Form, kind};
+use conc_types::{NoMemory, Seq};
+use std::alloc::Global;
+use std::marker::PhantomData;
+use toml::Value;
+
+/// What each item of an array is read as, in order.
+pub fn read_all<F: Form>(
+    alloc: Global,
+    items: &Vec<Value>,
+) -> Result<Seq<Result<F::Out, u8>>, NoMemory>
+    ensures { IfOk result (λ all. all ≡ read_all_of F.form (array_view items.now)) }
+{
+    let mut all = Vec::new(alloc);
+    for item in items {
+        all.push(F::read(alloc, item)?)?;
+    }
+    Ok(Seq::from_vec(all))
+}
+
+/// All the values, or the least kind of what is wrong with one of them.
+pub fn all_good<T: Drop>(
+    alloc: Global,
+    all: Seq<Result<T, u8>>,
+) -> Result<Result<Seq<T>, u8>, NoMemory>
+    ensures { IfOk result (λ r. r ≡ all_good_of all) }
+{
+    match worst(all.as_slice()) {
+        None => Ok(Ok(goods(alloc, all)?)),
+        Some(kind) => Ok(Err(kind)),
+    }
+}
+
+/// No values, where there need be none. It takes no memory.
+pub fn no_values<T: Drop, const MOST: usize>(alloc: Global) -> Counted<T, 0, MOST>
+    ensures { result ≡ no_values_of MOST }
+{
+    Counted {
+        list: Seq::from_vec(Vec::new(alloc)),
+    }
+}
+
+/// A list of `FEW` to `MOST` values: `OUT_OF_RANGE` for a shorter list, and else `TOO_MANY` for a longer
+/// one. It takes no memory.
+pub fn counted<T: Drop, const FEW: usize, const MOST: usize>(
+    list: Seq<T>,
+) -> Result<Counted<T, FEW, MOST>, u8>
+    ensures { result ≡ counted_of FEW MOST list }
+{
+    let count = list.len();
+    if FEW <= count && count <= MOST {
+        Ok(Counted { list })
+    } else if count < FEW {
+        Err(kind::OUT_OF_RANGE)
+    } else {
+        Err(kind::TOO_MANY)
+    }
+}
+
+fn list_of<F: Form>(alloc: Global, items: &Vec<Value>) -> Result<Result<Seq<F::Out>, u8>, NoMemory>
+    ensures { IfOk result (λ r. r ≡ list_of_items F.form (array_view items.now)) }
+{
+    let all = read_all::<F>(alloc, items)?;
+    all_good(alloc, all)
+}
+
+/// An array of any number of items of a form. What is wrong with it is the least kind of what is
+/// wrong with an item.
+pub struct ListForm<F> {
+    item: PhantomData<F>,
+}
+
+impl<F: Form> Form for ListForm<F> {
+    type Out = Seq<F::Out>;
+
+    ghost form = { list_in F.form };
+
+    #[tactic(auto, unfolding(crate::specs::Arrays::list_in))]
+    fn read(alloc: Global, value: &Value) -> Result<Result<Seq<F::Out>, u8>, NoMemory> {
+        match value.as_array() {
+            None => Ok(Err(kind::WRONG_KIND)),
+            Some(items) => list_of::<F>(alloc, items),
+        }
+    }
+}
+
+/// An array of `FEW` to `MOST` items of a form, where `FEW` is 0 or 1. What is wrong with it is the
+/// least kind of what is wrong with an item, and only where nothing is, `OUT_OF_RANGE` for too few
+/// items and `TOO_MANY` for too many.
+pub struct ArrayForm<F, const FEW: usize, const MOST: usize> {
+    item: PhantomData<F>,
+}
+
+impl<F: Form, const FEW: usize, const MOST: usize> Form for ArrayForm<F, FEW, MOST> {
+    type Out = Counted<F::Out, FEW, MOST>;
+
+    ghost form = { array_in FEW MOST F.form };
+
+    #[tactic(auto, unfolding(crate::specs::Arrays::array_in))]
+    fn read(
+        alloc: Global,
+        value: &Value,
+    ) -> Result<Result<Counted<F::Out, FEW, MOST>, u8>, NoMemory> {
+        match ListForm::<F>::read(alloc, value)? {
+            Ok(list) => Ok(counted(list)),
+            Err(kind) => Ok(Err(kind)),
+        }
+    }
+}

@@ -1,0 +1,63 @@
+ghost use Rattle.std.specs.Prelude.{◌≡◌, IfOk, option_map};
+ghost use Rattle.conc_setup_fields.specs.Fields.{default as default_of, optional as optional_of, required as required_of};
+ghost use Rattle.toml.specs.Data.{get_member};
+ghost use Rattle.toml.specs.View.{table_view, view};
+
+use crate::{Form, kind};
+use conc_types::NoMemory;
+use std::alloc::Global;
+use toml::{Table, Value};
+
+/// What the table has at a key, if it has the key.
+pub fn field<'a>(table: &'a Table, key: &str) -> Option<&'a Value>
+    ensures { option_map (λ value. view value.now) result ≡ get_member key.now (table_view table.now) }
+{
+    table.get(key)
+}
+
+/// The value of a key that has to be there: `MISSING` where it is not, and else what the form makes
+/// of it.
+pub fn required<F: Form>(
+    alloc: Global,
+    table: &Table,
+    key: &str,
+) -> Result<Result<F::Out, u8>, NoMemory>
+    ensures { IfOk result (λ r. r ≡ required_of F.form (get_member key.now (table_view table.now))) }
+{
+    match field(table, key) {
+        None => Ok(Err(kind::MISSING)),
+        Some(value) => F::read(alloc, value),
+    }
+}
+
+/// The value of a key that may be absent, as the form makes it, and None where it is absent.
+pub fn optional<F: Form>(
+    alloc: Global,
+    table: &Table,
+    key: &str,
+) -> Result<Result<Option<F::Out>, u8>, NoMemory>
+    ensures { IfOk result (λ r. r ≡ optional_of F.form (get_member key.now (table_view table.now))) }
+{
+    match field(table, key) {
+        None => Ok(Ok(None)),
+        Some(value) => match F::read(alloc, value)? {
+            Ok(read) => Ok(Ok(Some(read))),
+            Err(k) => Ok(Err(k)),
+        },
+    }
+}
+
+/// The value of a key, as the form makes it, or the value given where the key is absent.
+pub fn default<F: Form>(
+    alloc: Global,
+    otherwise: F::Out,
+    table: &Table,
+    key: &str,
+) -> Result<Result<F::Out, u8>, NoMemory>
+    ensures { IfOk result (λ r. r ≡ default_of otherwise F.form (get_member key.now (table_view table.now))) }
+{
+    match field(table, key) {
+        None => Ok(Ok(otherwise)),
+        Some(value) => F::read(alloc, value),
+    }
+}

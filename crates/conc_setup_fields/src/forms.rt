@@ -1,0 +1,143 @@
+ghost use Rattle.std.specs.Prelude.{◌≡◌, IfOk, List, Option, Result, ℕ};
+ghost use Rattle.conc_setup_fields.specs.Forms.{name_in, name_of as name_of_bytes, no_text as no_text_of, text_in, text_of as text_of_bytes, truth_in, whole_in, whole_of as whole_of_integer};
+ghost use Rattle.toml.specs.Data.{Data};
+ghost use Rattle.toml.specs.View.{view};
+
+use crate::{ShortText, kind};
+use conc_types::{Name, NoMemory, Seq, is_name, is_text};
+use std::alloc::Global;
+use toml::Value;
+
+/// A form that a document's grammar gives for a value: what a value of this form is read as. A value
+/// of another TOML type than the form's is `WRONG_KIND`.
+pub trait Form {
+    /// What is read.
+    type Out: Drop;
+
+    ghost form: { Data → Result Self.Out ℕ };
+
+    /// What the value is read as, or the least kind of the rules that it breaks. Where memory lacks
+    /// there is neither.
+    fn read(alloc: Global, value: &Value) -> Result<Result<Self::Out, u8>, NoMemory>
+        ensures { IfOk result (λ r. r ≡ form (view value.now)) };
+}
+
+/// A name: a string of 1 to 80 bytes without control bytes, which are those below 32 and 127. Another
+/// string is `OUT_OF_RANGE`.
+pub struct NameForm;
+
+fn name_of(alloc: Global, bytes: &[u8]) -> Result<Result<Name, u8>, NoMemory>
+    ensures { IfOk result (λ r. r ≡ name_of_bytes bytes.now) }
+{
+    if is_name(bytes) {
+        Ok(Ok(Name::from_vec(bytes.to_vec(alloc)?)))
+    } else {
+        Ok(Err(kind::OUT_OF_RANGE))
+    }
+}
+
+impl Form for NameForm {
+    type Out = Name;
+
+    ghost form = { name_in };
+
+    fn read(alloc: Global, value: &Value) -> Result<Result<Name, u8>, NoMemory> {
+        match value.as_str() {
+            None => Ok(Err(kind::WRONG_KIND)),
+            Some(text) => name_of(alloc, text.as_bytes()),
+        }
+    }
+}
+
+/// A string of at most so many bytes without control bytes. Another string is `OUT_OF_RANGE`.
+pub struct TextForm<const MOST: usize>;
+
+/// The text of no bytes. It takes no memory.
+pub fn no_text<const MOST: usize>(alloc: Global) -> ShortText<MOST>
+    ensures { result ≡ no_text_of MOST }
+{
+    ShortText {
+        text: Seq::from_vec(Vec::new(alloc)),
+    }
+}
+
+fn text_of<const MOST: usize>(
+    alloc: Global,
+    bytes: &[u8],
+) -> Result<Result<ShortText<MOST>, u8>, NoMemory>
+    ensures { IfOk result (λ r. r ≡ text_of_bytes MOST bytes.now) }
+{
+    if is_text(MOST, bytes) {
+        let text = Seq::from_vec(bytes.to_vec(alloc)?);
+        Ok(Ok(ShortText { text }))
+    } else {
+        Ok(Err(kind::OUT_OF_RANGE))
+    }
+}
+
+impl<const MOST: usize> Form for TextForm<MOST> {
+    type Out = ShortText<MOST>;
+
+    ghost form = { text_in MOST };
+
+    fn read(alloc: Global, value: &Value) -> Result<Result<ShortText<MOST>, u8>, NoMemory> {
+        match value.as_str() {
+            None => Ok(Err(kind::WRONG_KIND)),
+            Some(text) => text_of(alloc, text.as_bytes()),
+        }
+    }
+}
+
+/// A truth value.
+pub struct TruthForm;
+
+fn read_truth(value: &Value) -> Result<bool, u8>
+    ensures { result ≡ truth_in (view value.now) }
+{
+    match value.as_bool() {
+        None => Err(kind::WRONG_KIND),
+        Some(truth) => Ok(truth),
+    }
+}
+
+impl Form for TruthForm {
+    type Out = bool;
+
+    ghost form = { truth_in };
+
+    fn read(_alloc: Global, value: &Value) -> Result<Result<bool, u8>, NoMemory> {
+        Ok(read_truth(value))
+    }
+}
+
+/// A whole number from 0. A negative one is `OUT_OF_RANGE`.
+pub struct WholeForm;
+
+fn whole_of(number: i64) -> Result<u64, u8>
+    ensures { result ≡ whole_of_integer number }
+{
+    if number < 0 {
+        Err(kind::OUT_OF_RANGE)
+    } else {
+        Ok(number as u64)
+    }
+}
+
+fn read_whole(value: &Value) -> Result<u64, u8>
+    ensures { result ≡ whole_in (view value.now) }
+{
+    match value.as_integer() {
+        None => Err(kind::WRONG_KIND),
+        Some(number) => whole_of(number),
+    }
+}
+
+impl Form for WholeForm {
+    type Out = u64;
+
+    ghost form = { whole_in };
+
+    fn read(_alloc: Global, value: &Value) -> Result<Result<u64, u8>, NoMemory> {
+        Ok(read_whole(value))
+    }
+}

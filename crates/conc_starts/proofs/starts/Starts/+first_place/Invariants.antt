@@ -1,4 +1,0 @@
-use Rattle.conc_starts.proofs.starts.Starts.+first_place.Given as goal
-
-abbrev pub decreases-first_place : goal.decreases-first_place
-decreases-first_place l = l.count

@@ -1,0 +1,139 @@
+use super::bytes::text_of;
+use conc_disk_devices::MemDisk;
+use conc_outside::MemSink;
+use conc_outside_clock::MemClock;
+use conc_test_worked::{file_of, shelf_with};
+use conc_top::{conc, exit_text};
+use conc_types::{Moment, Name, NoMemory};
+use std::alloc::Global;
+use std::sync::Wait;
+use std::test::Fail;
+use std::thread::Threads;
+
+const HEADER: &str = "at,do,what,user,priority,start,domain,argument\n";
+
+// Which read of the shelf fails, which write of the sink, and which call of the journal's disk and of the
+// spool's, each counted from 0.
+#[derive(Clone, Copy)]
+pub(crate) struct Fails {
+    pub(crate) read: Option<u64>,
+    pub(crate) write: Option<u64>,
+    pub(crate) journal: Option<u64>,
+    pub(crate) spool: Option<u64>,
+}
+
+pub(crate) const NO_FAILS: Fails = Fails {
+    read: None,
+    write: None,
+    journal: None,
+    spool: None,
+};
+
+// What a call is given beside its disks: its words, its files as lines (`text_of`), the script without its
+// header and the clock with its name, whether its clock gives the moment 2025-03-03T10:10:01, and what fails.
+#[derive(Clone, Copy)]
+pub(crate) struct Given<'a> {
+    pub(crate) words: &'a str,
+    pub(crate) setup: &'a str,
+    pub(crate) records: &'a str,
+    pub(crate) clock_file: &'a str,
+    pub(crate) clock: &'a str,
+    pub(crate) table: &'a str,
+    pub(crate) history: Option<&'a str>,
+    pub(crate) has_moment: bool,
+    pub(crate) fails: Fails,
+}
+
+// What a call ended with: its status, its output, the line that tells its exit, and what its disks read as then.
+#[derive(Drop)]
+pub(crate) struct Ended {
+    pub(crate) number: u8,
+    pub(crate) text: Vec<u8>,
+    pub(crate) line: Vec<u8>,
+    pub(crate) journal: Vec<u8>,
+    pub(crate) spool: Vec<u8>,
+}
+
+fn listed(alloc: Global, number: Option<u64>) -> Result<Vec<u64>, NoMemory> {
+    let mut numbers = Vec::new(alloc);
+    if let Some(number) = number {
+        numbers.push(number)?;
+    }
+    Ok(numbers)
+}
+
+fn moments_of(alloc: Global, has_moment: bool) -> Result<Vec<Moment>, NoMemory> {
+    let mut moments = Vec::new(alloc);
+    if has_moment {
+        moments.push(Moment {
+            seconds: 63_876_593_401,
+        })?;
+    }
+    Ok(moments)
+}
+
+fn words_of(alloc: Global, words: &str) -> Result<Vec<String>, Fail> {
+    let mut list = Vec::new(alloc);
+    for word in words.split(' ') {
+        list.push(format!(in alloc; "{word}")?)?;
+    }
+    Ok(list)
+}
+
+fn file(alloc: Global, name: &str, lines: &str) -> Result<(Name, Vec<u8>), Fail> {
+    let text = text_of(alloc, lines)?;
+    Ok(file_of(alloc, name, &text)?.ok_or("a file's name is no name")?)
+}
+
+fn files_of(alloc: Global, given: Given<'_>) -> Result<Vec<(Name, Vec<u8>)>, Fail> {
+    let records = given.records;
+    let script = format!(in alloc; "{HEADER}{records}")?;
+    let mut files = vec![in alloc;
+        file(alloc, "a.toml", given.setup)?,
+        file(alloc, "a.csv", &script)?,
+        file(alloc, given.clock_file, given.clock)?,
+        file(alloc, "t.csv", given.table)?,
+    ]?;
+    if let Some(history) = given.history {
+        files.push(file(alloc, "a.history", history)?)?;
+    }
+    Ok(files)
+}
+
+// The one call of the program, over a shelf, a sink, a clock and disks in memory, whose disks read as these bytes.
+pub(crate) fn call<Rt: Threads + Wait + Sync>(
+    rt: &Rt,
+    alloc: Global,
+    given: Given<'_>,
+    journal: &[u8],
+    spool: &[u8],
+) -> Result<Ended, Fail> {
+    let words = words_of(alloc, given.words)?;
+    let files = files_of(alloc, given)?;
+    let mut shelf = shelf_with(files, listed(alloc, given.fails.read)?).ok_or(
+        "two files have one name",
+    )?;
+    let mut out = MemSink::new(alloc, listed(alloc, given.fails.write)?);
+    let failing = listed(alloc, given.fails.journal)?;
+    let mut journal = MemDisk::new(alloc, journal.to_vec(alloc)?, failing);
+    let failing = listed(alloc, given.fails.spool)?;
+    let mut spool = MemDisk::new(alloc, spool.to_vec(alloc)?, failing);
+    let mut clock = MemClock::new(moments_of(alloc, given.has_moment)?);
+    let exit = conc(
+        rt,
+        alloc,
+        &words,
+        &mut shelf,
+        &mut out,
+        &mut journal,
+        &mut spool,
+        &mut clock,
+    );
+    Ok(Ended {
+        number: exit.number(),
+        text: out.bytes().to_vec(alloc)?,
+        line: exit_text(alloc, &exit)?,
+        journal: journal.image(alloc, u64::MAX, 1)?,
+        spool: spool.image(alloc, u64::MAX, 1)?,
+    })
+}

@@ -1,0 +1,153 @@
+use super::expect::same_at;
+use conc_top_words::read_command;
+use std::alloc::Global;
+use std::process::Abort;
+use std::test::Fail;
+
+// Lines that begin with `run` and whose words, with a blank between two of them, are a command.
+const RUNS: &str = concat!(
+    "run a.toml a.csv a.clock --threads 0\n",
+    "run --threads 0 a.toml a.csv a.clock\n",
+    "run a.toml --threads=0 a.csv --watch=0 a.clock\n",
+    "run a.toml --watch 0 a.csv a.clock --threads 0\n",
+    "run --watch=0 --threads=0 a.toml a.csv a.clock\n",
+    "run --threads 0 --watch 0 a.toml a.csv a.clock\n",
+    "run a.toml a.csv --threads 0 a.clock\n",
+    "run a.toml a.csv a.clock --threads=0 --watch 0",
+);
+
+// Such lines that are no command.
+const NO_RUNS: &str = concat!(
+    // A count that is not 0 or no decimal, or none for the threads.
+    "run a.toml a.csv a.clock\n",
+    "run a.toml a.csv a.clock --threads 1\n",
+    "run a.toml a.csv a.clock --threads=4\n",
+    "run a.toml a.csv a.clock --threads=32\n",
+    "run a.toml a.csv a.clock --threads=33\n",
+    "run a.toml a.csv a.clock --threads 00\n",
+    "run a.toml a.csv a.clock --threads -0\n",
+    "run a.toml a.csv a.clock --threads +0\n",
+    "run a.toml a.csv a.clock --threads=0x0\n",
+    "run a.toml a.csv a.clock --threads zero\n",
+    "run a.toml a.csv a.clock --threads\n",
+    "run a.toml a.csv a.clock --threads=\n",
+    "run a.toml a.csv a.clock --threads \n",
+    "run a.toml a.csv a.clock --threads 0 --watch 1\n",
+    "run a.toml a.csv a.clock --threads 0 --watch=8\n",
+    "run a.toml a.csv a.clock --threads 0 --watch=9\n",
+    "run a.toml a.csv a.clock --threads 0 --watch\n",
+    "run a.toml a.csv a.clock --threads 0 --watch=\n",
+    "run a.toml a.csv a.clock --watch 0\n",
+    // An option twice.
+    "run a.toml a.csv a.clock --threads 0 --threads 0\n",
+    "run a.toml a.csv a.clock --threads=0 --threads 0\n",
+    "run a.toml a.csv a.clock --threads 0 --watch 0 --watch 0\n",
+    "run a.toml a.csv a.clock --threads 0 --watch=0 --watch=0\n",
+    // Other options.
+    "run a.toml a.csv a.clock --threads 0 --help\n",
+    "run a.toml a.csv a.clock --threads 0 -h\n",
+    "run a.toml a.csv a.clock --threads 0 --\n",
+    "run a.toml a.csv a.clock -threads 0\n",
+    "run a.toml a.csv a.clock --thread 0\n",
+    "run a.toml a.csv a.clock --THREADS 0\n",
+    "run a.toml a.csv a.clock --threads0\n",
+    "run a.toml a.csv a.clock --watches=0 --threads=0\n",
+    // Another number of files, or a word that names none.
+    "run a.toml a.csv --threads 0\n",
+    "run a.toml --threads 0\n",
+    "run --threads 0\n",
+    "run\n",
+    "run a.toml a.csv a.clock t.csv --threads 0\n",
+    "run a.toml a.csv  --threads 0\n",
+    "run  a.csv a.clock --threads 0\n",
+    "run a.toml a.csv - --threads 0\n",
+    "run - a.csv a.clock --threads 0\n",
+    "run a.toml -a.csv a.clock --threads 0\n",
+    "run a.toml a.csv \u{7f} --threads 0\n",
+    "run a\tb a.csv a.clock --threads 0",
+);
+
+// Other lines that are a command.
+const COMMANDS: &str = concat!(
+    "plan s r\n",
+    "check s r c h\n",
+    "status s r\n",
+    "output s r 1\n",
+    "output s r 4294967295\n",
+    "make 0 1\n",
+    "make 18446744073709551615 4000",
+);
+
+// Other lines that are none.
+const NO_COMMANDS: &str = concat!(
+    // Another command, or none.
+    "--threads 0 run a.toml a.csv a.clock\n",
+    "Run a.toml a.csv a.clock --threads 0\n",
+    "start a.toml a.csv a.clock --threads 0\n",
+    " run a.toml a.csv a.clock --threads 0\n",
+    "plan s\n",
+    "plan s r c\n",
+    "plan s r --threads 0\n",
+    "plan s \n",
+    "plan s -r\n",
+    "check s r c\n",
+    "check s r c h h\n",
+    "check s r c --threads=0\n",
+    "status s\n",
+    "status s r 1\n",
+    "status s --watch=0\n",
+    "output s r\n",
+    "output s r 1 2\n",
+    "output s r 0\n",
+    "output s r 01\n",
+    "output s r 4294967296\n",
+    "output s r --watch\n",
+    "make 18446744073709551616 1\n",
+    "make 1\n",
+    "make 1 2 3\n",
+    "make 1 0\n",
+    "make 1 01\n",
+    "make 1 4001\n",
+    "make -1 2\n",
+    "make 1 --threads=0\n",
+    "plan\n",
+    "Plan s r\n",
+    "plans s r\n",
+    "--help\n",
+    "",
+);
+
+fn words_of(alloc: Global, line: &str) -> Result<Vec<String>, Fail> {
+    let mut words = Vec::new(alloc);
+    for word in line.split(' ') {
+        words.push(format!(in alloc; "{word}")?)?;
+    }
+    Ok(words)
+}
+
+fn is_command(alloc: Global, line: &str) -> Result<bool, Fail> {
+    let words = words_of(alloc, line)?;
+    Ok(read_command(alloc, words.as_slice())?.is_some())
+}
+
+// Whether each of these lines is a command, or none is.
+fn are<Rt: Abort>(rt: &Rt, alloc: Global, lines: &str, want: bool) -> Result<(), Fail> {
+    for line in lines.split('\n') {
+        same_at(rt, is_command(alloc, line)?, want, line);
+    }
+    Ok(())
+}
+
+#[test]
+fn options_of_a_run_stand_anywhere_behind_it(rt: HostRuntime) -> Result<(), Fail> {
+    are(&rt, rt.alloc(), RUNS, true)?;
+    are(&rt, rt.alloc(), NO_RUNS, false)
+}
+
+#[test]
+fn other_commands_have_no_options(rt: HostRuntime) -> Result<(), Fail> {
+    are(&rt, rt.alloc(), COMMANDS, true)?;
+    are(&rt, rt.alloc(), NO_COMMANDS, false)?;
+    assert!(rt; read_command(rt.alloc(), &[])?.is_none());
+    Ok(())
+}

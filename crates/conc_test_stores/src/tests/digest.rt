@@ -1,0 +1,18 @@
+use super::expect::same;
+use conc_journal_digest::InputDigest;
+
+// `printf` of the message `00 .. 01 s 00 .. 02 ab 00 .. 05 t.csv 00 .. 03 k,v` into sha256sum.
+#[test]
+fn digests_an_input(rt: HostRuntime) {
+    let mut digest = InputDigest::new(b"s", b"ab");
+    digest.add_table(b"t.csv", b"k,v");
+    same(
+        &rt,
+        digest.finish(),
+        [
+            0xd9, 0x3c, 0x51, 0xe1, 0x4e, 0x6c, 0x14, 0xc2, 0x7d, 0x12, 0x8d, 0x8f, 0x5e, 0x2a,
+            0x06, 0x27, 0x4e, 0xa4, 0x64, 0x82, 0xcf, 0xc2, 0x96, 0xf9, 0xc1, 0x18, 0xee, 0x9b,
+            0xef, 0xa2, 0xc3, 0xda,
+        ],
+    );
+}

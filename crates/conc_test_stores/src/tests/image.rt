@@ -1,0 +1,303 @@
+ghost use Rattle.std.specs.Prelude.{◌<◌};
+
+use super::expect::{same, same_at};
+use conc_journal_image::{
+    Header, has_record, header_of, judge_header, read_record, read_records, record_of,
+};
+use conc_types::{Event, Extent, Moment, Outcome, PlaceId, RequestId};
+use std::alloc::Global;
+use std::test::Fail;
+
+const TICK: &[u8; 31] =
+    b"\x01\0\0\0\0\0\0\0\0\0\0\0\0\0\x0e\xdf\x57\x66\x90\0\0\0\0\0\0\0\0\0\0\0\0";
+
+const COMMAND: &[u8; 31] =
+    b"\x02\0\0\x01\x02\x03\x04\0\0\0\0\0\0\0\0\0\0\0\0\0\0\0\0\0\0\0\0\0\0\0\0";
+
+const OPEN: &[u8; 31] = b"\x03\0\0\0\0\0\x07\0\0\0\0\0\0\0\0\0\0\0\0\0\0\0\0\0\0\0\0\0\0\0\0";
+
+const STAGE: &[u8; 31] = b"\x04\0\0\0\0\0\x07\0\0\0\x40\0\0\0\0\0\0\0\0\0\0\0\0\0\0\0\0\0\0\0\0";
+
+const CLOSE: &[u8; 31] = b"\x05\x02\0\0\0\0\x07\0\0\0\0\0\0\0\0\0\0\0\0\0\0\0\0\0\0\0\0\0\0\0\0";
+
+const LET: &[u8; 31] = b"\x06\0\0\0\0\x01\0\0\0\0\0\0\0\0\0\0\0\0\0\0\0\0\0\0\0\0\0\0\0\0\0";
+
+const START: &[u8; 31] = b"\x07\0\0\0\0\x01\0\0\0\0\x3f\0\0\0\0\0\0\0\0\0\0\0\0\0\0\0\0\0\0\0\0";
+
+const END: &[u8; 31] =
+    b"\x08\x03\0\0\0\x01\0\0\0\0\0\x01\x02\x03\x04\x05\x06\x07\x08\0\x10\0\0\0\0\0\0\0\0\0\0";
+
+const TERMINATED: &[u8; 31] =
+    b"\x08\x04\0\0\0\x01\0\0\0\0\0\0\0\0\0\0\0\0\0\0\0\0\0\0\0\0\0\0\0\0\0";
+
+const RESUME: &[u8; 31] = b"\x09\0\0\0\0\0\0\0\0\0\0\0\0\0\0\0\0\0\0\0\0\0\0\0\0\0\0\0\0\0\0";
+
+const INTERRUPT: &[u8; 31] = b"\x0a\0\0\0\0\0\x09\0\0\0\0\0\0\0\0\0\0\0\0\0\0\0\0\0\0\0\0\0\0\0\0";
+
+const SET: RequestId = RequestId { number: 7 };
+
+const REQUEST: RequestId = RequestId { number: 256 };
+
+// Each kind of record, and its event.
+const RECORDS: [(&[u8; 31], Event); 11] = [
+    (
+        TICK,
+        Event::Tick {
+            moment: Moment {
+                seconds: 63_876_589_200,
+            },
+        },
+    ),
+    (COMMAND, Event::Command { number: 16_909_060 }),
+    (OPEN, Event::OpenSet { set: SET }),
+    (
+        STAGE,
+        Event::Stage {
+            set: SET,
+            stage: 64,
+        },
+    ),
+    (
+        CLOSE,
+        Event::CloseSet {
+            set: SET,
+            outcome: Outcome::Warning,
+        },
+    ),
+    (LET, Event::LetOut { request: REQUEST }),
+    (
+        START,
+        Event::Started {
+            request: REQUEST,
+            place: PlaceId { index: 63 },
+        },
+    ),
+    (
+        END,
+        Event::Ended {
+            request: REQUEST,
+            outcome: Outcome::Error,
+            extent: Some(Extent {
+                offset: 72_623_859_790_382_856,
+                length: 1_048_576,
+            }),
+        },
+    ),
+    (
+        TERMINATED,
+        Event::Ended {
+            request: REQUEST,
+            outcome: Outcome::Terminated,
+            extent: None,
+        },
+    ),
+    (RESUME, Event::Resume),
+    (
+        INTERRUPT,
+        Event::Interrupt {
+            request: RequestId { number: 9 },
+        },
+    ),
+];
+
+#[test]
+fn reads_and_writes_records(rt: HostRuntime) {
+    for (bytes, event) in RECORDS {
+        same(&rt, read_record(bytes), Some(event));
+        assert!(rt; has_record(&event), "{event:?}");
+        same_at(&rt, record_of(event), *bytes, event);
+    }
+}
+
+// An end of the request 1 with this outcome, whose report, if there is one, has this length.
+fn end(outcome: Outcome, length: Option<u32>) -> Event {
+    let request = RequestId { number: 1 };
+    let extent = match length {
+        Some(length) => Some(Extent { offset: 3, length }),
+        None => None,
+    };
+    Event::Ended {
+        request,
+        outcome,
+        extent,
+    }
+}
+
+fn close(outcome: Outcome) -> Event {
+    let set = RequestId { number: 1 };
+    Event::CloseSet { set, outcome }
+}
+
+#[test]
+fn tells_events_without_a_record(rt: HostRuntime) {
+    for event in [
+        end(Outcome::Normal, None),
+        end(Outcome::Error, Some(0)),
+        end(Outcome::Terminated, Some(5)),
+        end(Outcome::Cancelled, None),
+        end(Outcome::Cancelled, Some(5)),
+        close(Outcome::Terminated),
+        close(Outcome::Cancelled),
+    ] {
+        same_at(&rt, has_record(&event), false, event);
+    }
+}
+
+// Where no field of the event is, no byte but 0 may stand.
+static USED: [(&[u8; 31], &[u8; 31]); 11] = [
+    (TICK, b"x..........xxxxxxxx............"),
+    (COMMAND, b"x..xxxx........................"),
+    (OPEN, b"x..xxxx........................"),
+    (STAGE, b"x..xxxxxxxx...................."),
+    (CLOSE, b"xx.xxxx........................"),
+    (LET, b"x..xxxx........................"),
+    (START, b"x..xxxxxxxx...................."),
+    (END, b"xx.xxxx....xxxxxxxxxxxx........"),
+    (TERMINATED, b"xx.xxxx........................"),
+    (RESUME, b"x.............................."),
+    (INTERRUPT, b"x..xxxx........................"),
+];
+
+// These bytes with another one in a place.
+fn altered(bytes: &[u8; 31], at: usize, value: u8) -> [u8; 31]
+    requires { at < 31 }
+{
+    let mut other = *bytes;
+    other[at] = value;
+    other
+}
+
+#[test]
+fn refuses_stray_bytes(rt: HostRuntime) {
+    for (bytes, used) in USED {
+        for at in 0..31 {
+            if used[at] == b'.' {
+                same_at(&rt, read_record(&altered(bytes, at, 1)), None, (at, bytes));
+            }
+        }
+    }
+}
+
+// A byte with this value in its place.
+static OTHERS: [(&[u8; 31], usize, u8); 12] = [
+    (RESUME, 0, 0),
+    (RESUME, 0, 11),
+    (RESUME, 0, 200),
+    (CLOSE, 1, 0),
+    (CLOSE, 1, 4),
+    (CLOSE, 1, 5),
+    (END, 1, 0),
+    (END, 1, 4),
+    (END, 1, 5),
+    (END, 20, 0),
+    (TERMINATED, 1, 1),
+    (TERMINATED, 1, 3),
+];
+
+// The last moment of the calendar, and the one behind it.
+const LAST: &[u8; 31] =
+    b"\x01\0\0\0\0\0\0\0\0\0\0\0\0\0\x49\x77\x86\x38\x7f\0\0\0\0\0\0\0\0\0\0\0\0";
+
+const PAST: &[u8; 31] =
+    b"\x01\0\0\0\0\0\0\0\0\0\0\0\0\0\x49\x77\x86\x38\x80\0\0\0\0\0\0\0\0\0\0\0\0";
+
+#[test]
+fn refuses_other_values(rt: HostRuntime) {
+    for (bytes, at, value) in OTHERS {
+        assert!(rt; at < 31);
+        same_at(
+            &rt,
+            read_record(&altered(bytes, at, value)),
+            None,
+            (at, bytes),
+        );
+    }
+    assert!(rt; read_record(LAST).is_some());
+    same(&rt, read_record(PAST), None);
+}
+
+const EVENTS: [Event; 2] = [
+    Event::Tick {
+        moment: Moment {
+            seconds: 63_876_589_200,
+        },
+    },
+    Event::Resume,
+];
+
+// What stands behind the header, how many of the events there are, and which record is broken.
+static PIECES: [([&[u8]; 5], usize, Option<u64>); 7] = [
+    ([b"\0", TICK, b"\0", b"\0", b"\0"], 0, None),
+    ([b"\x01", TICK, b"\0", RESUME, b"\x01"], 1, None),
+    ([b"\x01", TICK, b"\xff", RESUME, b"\0"], 2, None),
+    ([b"\x01", TICK, b"", b"", b""], 0, Some(1)),
+    ([b"\x01", TICK, b"\x01", RESUME, b""], 1, Some(2)),
+    ([b"\x01", TICK, b"\x01", RESUME, b"\x01"], 2, Some(3)),
+    ([b"\x01", b"\0", TICK, b"\0", b"\0"], 0, Some(1)),
+];
+
+fn image_of(alloc: Global, pieces: &[&[u8]; 5]) -> Result<Vec<u8>, Fail> {
+    let mut image = vec![in alloc; 0; 64]?;
+    for piece in pieces {
+        image.extend_from_slice(piece)?;
+    }
+    Ok(image)
+}
+
+#[test]
+fn finds_events(rt: HostRuntime) -> Result<(), Fail> {
+    for (pieces, count, broken) in PIECES {
+        let image = image_of(rt.alloc(), &pieces)?;
+        let found = read_records(rt.alloc(), &image)?;
+        same_at(&rt, found.broken, broken, pieces);
+        same_at(
+            &rt,
+            Some(found.events.as_slice()),
+            EVENTS.get(..count),
+            pieces,
+        );
+    }
+    Ok(())
+}
+
+const DIGEST: [u8; 32] = [7; 32];
+
+const BEGUN: Header = Header::Begun { digest: DIGEST };
+
+// The header of this digest behind an open gate, and the gate of the first record.
+fn begun_image(alloc: Global) -> Result<Vec<u8>, Fail> {
+    let mut image = b"\x01conc journal 1\n".to_vec(alloc)?;
+    image.extend_from_slice(&DIGEST)?;
+    image.extend_from_slice(&[0; 17])?;
+    Ok(image)
+}
+
+// A byte with this value in its place.
+static HEADERS: [(usize, u8, Header); 7] = [
+    (0, 0, Header::NotBegun),
+    (0, 255, BEGUN),
+    (1, b'C', Header::Foreign),
+    (14, b'2', Header::Foreign),
+    (48, 1, Header::Foreign),
+    (63, 1, Header::Foreign),
+    (64, 1, BEGUN),
+];
+
+#[test]
+fn judges_headers(rt: HostRuntime) -> Result<(), Fail> {
+    let image = begun_image(rt.alloc())?;
+    same(&rt, image.len(), 65);
+    let header = header_of(&DIGEST);
+    same(&rt, image.get(1..65), Some(header.as_slice()));
+    for (length, want) in [(65, BEGUN), (64, Header::Foreign), (1, Header::NotBegun)] {
+        let front = image.get(..length).expect(&rt, "a part of the header");
+        same_at(&rt, judge_header(front), want, length);
+    }
+    for (at, value, want) in HEADERS {
+        let mut other = image.clone()?;
+        assert!(rt; at < other.len());
+        other[at] = value;
+        same_at(&rt, judge_header(&other), want, at);
+    }
+    Ok(())
+}

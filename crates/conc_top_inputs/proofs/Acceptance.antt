@@ -1,0 +1,113 @@
+-- What was read, against what a call accepts or stops at.
+use Rattle.std.proofs.Common.{◌≡◌, ℕ, List, Option, Some, length, take, sym, ◌∙◌, ap, subst, inl, inr, refl}
+use Rattle.std.specs.Prelude.{slice_get}
+use Rattle.std.specs.List.{sum_by, zip}
+use Rattle.std.proofs.lemmas.Slice.Zip.{AllZip-long}
+use Rattle.conc_types.specs.declared.refusal.FileKind.TheVariants as kind
+use Rattle.conc_types.specs.declared.refusal.ReadFail.{ReadFail}
+use Rattle.conc_types.specs.declared.refusal.ReadFail.TheVariants as fail
+use Rattle.conc_types.specs.declared.script.Readings.{Readings}
+use Rattle.conc_types.specs.declared.script.Script.{Script}
+use Rattle.conc_types.specs.declared.setup.Setup.{Setup}
+use Rattle.conc_types.specs.declared.table.Table.{Table}
+use Rattle.conc_journal_digest.specs.Inputs.{input_digest}
+use Rattle.conc_outside.specs.Files.{Files, Gives, IsLater, ShelfState}
+use Rattle.conc_plan.specs.Faults.{IsFailure, plan_fault}
+use Rattle.conc_tables.specs.Tables.{SpellsTable}
+use Rattle.conc_top_inputs.specs.declared.accepting.Accepted.{Accepted}
+use Rattle.conc_top_inputs.specs.declared.fail.InputFail.{InputFail}
+use Rattle.conc_top_inputs.specs.declared.reading.Start.{Start}
+use Rattle.conc_top_inputs.specs.Accepting.{IsAccepted}
+use Rattle.conc_top_inputs.specs.Fails.{StopsAt}
+use Rattle.conc_top_inputs.specs.Given.{HasAll, HasTables, Names, ReadsClock, Sources, Told, told_by}
+use Rattle.conc_top_inputs.specs.Reading.{HasInputs, HasStart}
+use Rattle.conc_top_inputs.specs.Refusals.{fault_of_table}
+use Rattle.conc_top_inputs.specs.Ways.{fail_without_plan}
+use Rattle.conc_top_inputs.specs.Stops.{Ends, IsTableStop, StopsInTables}
+use Rattle.conc_top_inputs.proofs.Stopping.{ends-wider, IsLater-refl, stops-at}
+
+-- there are as many tables as names of them
+pub tables-long : (told : Option Files) (names : List (List ℕ)) (tables : List Table) → HasTables told names tables → length tables ≡ length names
+tables-long told names tables has =
+    AllZip-long SpellsTable has.contents tables has.spell ∙ AllZip-long (Gives told) names has.contents has.given
+
+-- a setup and a script that were read, and then the readings of a clock, or none
+pub with-readings : (told : Told) (names : Names) (start : Start) (readings : Option Readings) → HasStart told.files names start
+    → ReadsClock told names.clock readings → HasInputs told names start readings
+with-readings told names start readings has given = record {
+  files = record { before = has.files; readings = readings; given = given };
+  setup = has.setup;
+  script = has.script;
+  same_readings = refl;
+  digest = has.digest;
+}
+
+-- the tables that were read are those of the setup that was read
+tables-of : (told : Told) (before : Option Files) (names : Names) (start : Start) (readings : Option Readings) (has : HasInputs told names start readings) (named : List (List ℕ)) (tables : List Table)
+    → named ≡ start.setup.tables → before ≡ told.files → HasTables before named tables → HasAll told names tables
+tables-of told before names start readings has named tables same files read =
+    let at : named ≡ has.files.before.before.setup.tables = same ∙ ap (λ (s : Setup). s.tables) has.setup in
+    record { before = has.files; given = subst (λ t. HasTables t has.files.before.before.setup.tables tables) files (subst (λ l. HasTables before l tables) at read) }
+
+-- all was read, and this is the plan and the digest
+pub accepted : (told : Told) (before : Option Files) (names : Names) (a : Accepted) (start : Start) (readings : Option Readings) (has : HasInputs told names start readings) (named : List (List ℕ)) (tables : List Table)
+    → named ≡ start.setup.tables → before ≡ told.files → (read : HasTables before named tables)
+    → a.digest ≡ input_digest has.files.before.before.bytes has.files.before.bytes (zip named read.contents)
+    → a.plan.setup ≡ start.setup → a.plan.script ≡ start.script → a.plan.tables ≡ tables → IsAccepted told names readings a
+accepted told before names a start readings has named tables same files read digest setup script these =
+    let P : Option Files → List (List ℕ) → List Table → Type 0 = λ all l t.
+    (given : HasTables all l t) × (a.digest ≡ input_digest has.files.before.before.bytes has.files.before.bytes (zip l given.contents)) in
+    let at : named ≡ has.files.before.before.setup.tables = same ∙ ap (λ (s : Setup). s.tables) has.setup in
+    let there : P told.files has.files.before.before.setup.tables a.plan.tables
+    = subst (λ all. P all has.files.before.before.setup.tables a.plan.tables) files
+    (subst (λ l. P before l a.plan.tables) at (subst (λ t. P before named t) (sym these) (read, digest))) in
+    record {
+      accepts = record {
+        files = record { before = has.files; given = there.0 };
+        setup = setup ∙ has.setup;
+        script = script ∙ has.script;
+        same_readings = has.same_readings;
+      };
+      digest = there.1;
+    }
+
+-- all was read, and gives no plan
+pub without-plan : (old new : Sources) (before : Option Files) (names : Names) (start : Start) (readings : Option Readings) (has : HasInputs (told_by old new) names start readings) (named : List (List ℕ)) (tables : List Table)
+    → named ≡ start.setup.tables → before ≡ old.shelf.files → HasTables before named tables
+    → (made : List Table) → made ≡ tables → (e : ReadFail) → IsFailure (plan_fault start.setup start.script.commands made) e
+    → StopsAt old new names (fail_without_plan names.setup names.script e)
+unfolding tables-of
+without-plan old new before names start readings has named tables same files read made these fail.NoMemory failed = tt
+without-plan old new before names start readings has named tables same files read made these (fail.Refused refusal) failed =
+    let fault : plan_fault start.setup start.script.commands tables ≡ Some (refusal.file, (refusal.line, refusal.kind))
+    = ap (plan_fault start.setup start.script.commands) (sym these) ∙ failed in
+    inr (record {
+      tables = tables;
+      files = tables-of (told_by old new) before names start readings has named tables same files read;
+      fault = ap (λ (s : Setup). plan_fault s has.files.before.script.commands tables) (sym has.setup)
+          ∙ ap (λ (s : Script). plan_fault start.setup s.commands tables) (sym has.script) ∙ fault;
+      named = refl;
+    })
+
+at-table : (old new : Sources) (mid : ShelfState) (names : Names) (start : Start) (readings : Option Readings) (has : HasInputs (told_by old new) names start readings) (named : List (List ℕ)) (end : InputFail)
+    → named ≡ has.files.before.before.setup.tables → IsLater old.shelf mid → IsTableStop mid new.shelf named end → StopsAt old new names end
+at-table old new mid names start readings has named end same later stop =
+    let P : Option Files → List (List ℕ) → Type 0 = λ files all.
+    (given : HasTables files (take stop.number all) stop.tables) × (slice_get all stop.number ≡ Some stop.name)
+    × Ends old.shelf new.shelf (λ bytes fault. fault_of_table (sum_by length given.contents) bytes ≡ Some fault) (kind.Table stop.number) stop.name stop.cause in
+    let here : P mid.files named = (
+      stop.given,
+      stop.named,
+      ends-wider old.shelf mid new.shelf (λ bytes fault. fault_of_table (sum_by length stop.given.contents) bytes ≡ Some fault) (kind.Table stop.number) stop.name stop.cause later stop.ends,
+    ) in
+    let there : P old.shelf.files has.files.before.before.setup.tables = subst (P old.shelf.files) same (subst (λ t. P t named) later.files here) in
+    stops-at old new old.shelf names (kind.Table stop.number) stop.name
+    (record { before = has.files; tables = stop.tables; given = there.0; named = there.1 })
+    stop.cause end (IsLater-refl old.shelf) there.2 (inl stop.is)
+
+-- the reading of the tables ended
+pub tables-end : (old new : Sources) (mid : ShelfState) (names : Names) (start : Start) (readings : Option Readings) (has : HasInputs (told_by old new) names start readings) (named : List (List ℕ)) (end : InputFail)
+    → named ≡ start.setup.tables → IsLater old.shelf mid → StopsInTables mid new.shelf named end → StopsAt old new names end
+tables-end old new mid names start readings has named end same later (inl none) = subst (StopsAt old new names) (sym none) tt
+tables-end old new mid names start readings has named end same later (inr stop) =
+    at-table old new mid names start readings has named end (same ∙ ap (λ (s : Setup). s.tables) has.setup) later stop

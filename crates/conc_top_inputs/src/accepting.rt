@@ -1,0 +1,130 @@
+ghost use Rattle.std.specs.Prelude.{◌≡◌, IfErr, IfOk, IsTrue, List, None, Option, Some, ℕ};
+ghost use Rattle.conc_outside_clock.specs.Clocks.{ClockState};
+ghost use Rattle.conc_types.specs.Scripts.{are_commands};
+ghost use Rattle.conc_types.specs.declared.script.Readings.{Readings as ReadingsIn};
+ghost use Rattle.conc_outside.specs.Files.{IsLater, ShelfState};
+ghost use Rattle.conc_top_inputs.specs.Fails.{StopsAt};
+ghost use Rattle.conc_top_inputs.specs.Accepting.{IsAccepted};
+ghost use Rattle.conc_top_inputs.specs.Given.{named, sources, Told, told_by};
+ghost use Rattle.conc_top_inputs.specs.Reading.{HasInputs};
+ghost use Rattle.conc_top_inputs.specs.Refusals.{name_of};
+ghost use Rattle.conc_top_inputs.specs.Ways.{fail_without_plan as fail_without_plan_of};
+
+use crate::InputFail;
+use crate::clocks::read_readings;
+use crate::reading::{Start, read_start, read_tables};
+use conc_outside::Shelf;
+use conc_outside_clock::Clock;
+use conc_plan::make_plan;
+use conc_types::{FileKind, Name, Plan, ReadFail, Readings, Seq};
+use std::alloc::Global;
+
+/// What files give, once all are accepted.
+#[derive(Drop)]
+pub struct Accepted {
+    pub plan: Plan,
+    /// Of the files that were read, but for the clock's.
+    pub digest: [u8; 32],
+}
+
+// The name of the setup's or the script's file: a plan is refused in one of them.
+fn name_of(file: FileKind, setup: Name, script: Name) -> Name
+    ensures { result ≡ name_of setup script file }
+{
+    match file {
+        FileKind::Script => script,
+        _ => setup,
+    }
+}
+
+// The failure where the files with these names give no plan.
+fn fail_without_plan(fail: ReadFail, setup: Name, script: Name) -> InputFail
+    ensures { result ≡ fail_without_plan_of setup script fail }
+{
+    match fail {
+        ReadFail::Refused(refusal) => InputFail::Refused {
+            refusal,
+            name: name_of(refusal.file, setup, script),
+        },
+        ReadFail::NoMemory => InputFail::NoMemory,
+    }
+}
+
+// Reads the tables of the setup, and makes the plan of what was read.
+fn plan_from<F: Shelf>(
+    alloc: Global,
+    shelf: &mut F,
+    start: Start,
+    setup: Name,
+    script: Name,
+) -> Result<Accepted, InputFail>
+    requires { IsTrue (are_commands start.setup start.script.commands) }
+    ensures later { IsLater (F.state shelf.old) (F.state shelf.new) }
+    ensures ok { (told : Told) (clock : Option (List ℕ)) (readings : Option ReadingsIn) → told.files ≡ (F.state shelf.old).files
+        → HasInputs told (named setup script clock) start readings → IfOk result (IsAccepted told (named setup script clock) readings) }
+    ensures err { (old : ShelfState) (before after : ClockState) (clock : Option (List ℕ)) (readings : Option ReadingsIn) → IsLater old (F.state shelf.old)
+        → HasInputs (told_by (sources old before) (sources (F.state shelf.new) after)) (named setup script clock) start readings
+        → IfErr result (StopsAt (sources old before) (sources (F.state shelf.new) after) (named setup script clock)) }
+{
+    let mut digest = start.digest;
+    let tables = match read_tables(alloc, shelf, start.setup.tables.as_slice(), &mut digest) {
+        Ok(tables) => tables,
+        Err(fail) => return Err(fail),
+    };
+    match make_plan(alloc, start.setup, start.script, Seq::from_vec(tables)) {
+        Ok(plan) => Ok(Accepted {
+            plan,
+            digest: digest.finish(),
+        }),
+        Err(fail) => Err(fail_without_plan(fail, setup, script)),
+    }
+}
+
+/// Reads the files with these names in the order setup, script, tables, each of them judged before the
+/// next one is read, and makes the plan of what they say. The first file that is lacking, that cannot be
+/// read or that is refused ends the call. Then the plan may be refused.
+pub fn accept<F: Shelf>(
+    alloc: Global,
+    shelf: &mut F,
+    setup: Name,
+    script: Name,
+) -> Result<Accepted, InputFail>
+    ensures later { IsLater (F.state shelf.old) (F.state shelf.new) }
+    ensures ok { (clock : ClockState) → IfOk result (IsAccepted (told_by (sources (F.state shelf.old) clock) (sources (F.state shelf.new) clock)) (named setup script None) None) }
+    ensures err { (clock : ClockState) → IfErr result (StopsAt (sources (F.state shelf.old) clock) (sources (F.state shelf.new) clock) (named setup script None)) }
+{
+    let start = match read_start(alloc, shelf, &setup, &script) {
+        Ok(start) => start,
+        Err(fail) => return Err(fail),
+    };
+    plan_from(alloc, shelf, start, setup, script)
+}
+
+/// Does what `accept` does, with a clock that is read between the script and the tables. A clock with the
+/// name `system` is no file: its one reading is the moment that `clock` gives, which is not asked
+/// otherwise. A clock that gives no moment ends the call.
+pub fn accept_timed<F: Shelf, C: Clock>(
+    alloc: Global,
+    shelf: &mut F,
+    clock: &mut C,
+    setup: Name,
+    script: Name,
+    file: Name,
+) -> Result<(Accepted, Readings), InputFail>
+    ensures later { IsLater (F.state shelf.old) (F.state shelf.new) }
+    ensures ok { IfOk result (λ p. IsAccepted (told_by (sources (F.state shelf.old) (C.state clock.old)) (sources (F.state shelf.new) (C.state clock.new))) (named setup script (Some file)) (Some p.1) p.0) }
+    ensures err { IfErr result (StopsAt (sources (F.state shelf.old) (C.state clock.old)) (sources (F.state shelf.new) (C.state clock.new)) (named setup script (Some file))) }
+{
+    let start = match read_start(alloc, shelf, &setup, &script) {
+        Ok(start) => start,
+        Err(fail) => return Err(fail),
+    };
+    let readings = match read_readings(alloc, shelf, clock, &file) {
+        Ok(readings) => readings,
+        Err(fail) => return Err(fail),
+    };
+    match plan_from(alloc, shelf, start, setup, script) {
+        Ok(accepted) => Ok((accepted, readings)),
+        Err(fail) => Err(fail),
+    }
+}

@@ -1,0 +1,84 @@
+ghost use Rattle.std.specs.Prelude.{◌≡◌, ◌≤◌, length, IfErr, IfOk, IsTrue, List, Option, ℕ};
+ghost use Rattle.conc_outside_clock.specs.Clocks.{ClockState};
+ghost use Rattle.conc_types.specs.Scripts.{are_commands};
+ghost use Rattle.conc_outside.specs.Files.{IsLater};
+ghost use Rattle.conc_top_inputs.specs.Fails.{StopsAt};
+ghost use Rattle.conc_top_inputs.specs.Given.{named, sources};
+ghost use Rattle.conc_top_inputs.specs.Stops.{StopsInTables};
+ghost use Rattle.conc_top_inputs.specs.Reading.{HasStart, HasTablesIn};
+
+use crate::InputFail;
+use crate::given::{judge_script, judge_setup, judge_table};
+use crate::stop::fail_at;
+use conc_journal_digest::InputDigest;
+use conc_outside::Shelf;
+use conc_types::{Name, Script, Setup, Table};
+use std::alloc::Global;
+
+// What a setup and a script say.
+#[derive(Drop)]
+pub(crate) struct Start {
+    pub(crate) setup: Setup,
+    pub(crate) script: Script,
+    // Of the two files.
+    pub(crate) digest: InputDigest,
+}
+
+// Reads the setup and the script, each of them judged before the next one is read.
+pub(crate) fn read_start<F: Shelf>(
+    alloc: Global,
+    shelf: &mut F,
+    setup: &Name,
+    script: &Name,
+) -> Result<Start, InputFail>
+    ensures later { IsLater (F.state shelf.old) (F.state shelf.new) }
+    ensures ok { (clock : Option (List ℕ)) → IfOk result (HasStart (F.state shelf.old).files (named setup.now script.now clock)) }
+    ensures fits { IfOk result (λ start. IsTrue (are_commands start.setup start.script.commands)) }
+    ensures err { (before after : ClockState) (clock : Option (List ℕ)) → IfErr result (StopsAt (sources (F.state shelf.old) before) (sources (F.state shelf.new) after) (named setup.now script.now clock)) }
+{
+    let (setup_read, setup_bytes) = match judge_setup(alloc, shelf, setup) {
+        Ok(read) => read,
+        Err(stop) => return Err(fail_at(alloc, stop, setup)),
+    };
+    let (script_read, script_bytes) = match judge_script(alloc, shelf, script, &setup_read) {
+        Ok(read) => read,
+        Err(stop) => return Err(fail_at(alloc, stop, script)),
+    };
+    Ok(Start {
+        digest: InputDigest::new(&setup_bytes, &script_bytes),
+        setup: setup_read,
+        script: script_read,
+    })
+}
+
+// Reads the tables with these names, each of them judged before the next one is read, and takes them
+// into the digest.
+pub(crate) fn read_tables<F: Shelf>(
+    alloc: Global,
+    shelf: &mut F,
+    names: &[Name],
+    digest: &mut InputDigest,
+) -> Result<Vec<Table>, InputFail>
+    requires { length names.now ≤ 64 }
+    ensures later { IsLater (F.state shelf.old) (F.state shelf.new) }
+    ensures ok { IfOk result (λ tables. HasTablesIn (F.state shelf.old).files names.now digest.old digest.new tables.items) }
+    ensures err { IfErr result (StopsInTables (F.state shelf.old) (F.state shelf.new) names.now) }
+{
+    let mut tables = Vec::new(alloc);
+    let mut total = 0;
+    let mut number = 0;
+    for name in names {
+        match judge_table(alloc, shelf, name, number, total) {
+            Ok((table, bytes)) => {
+                if tables.push(table).is_err() {
+                    return Err(InputFail::NoMemory);
+                }
+                digest.add_table(name.as_bytes(), &bytes);
+                total += bytes.len();
+            }
+            Err(stop) => return Err(fail_at(alloc, stop, name)),
+        }
+        number += 1;
+    }
+    Ok(tables)
+}

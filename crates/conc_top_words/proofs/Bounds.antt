@@ -1,0 +1,128 @@
+-- The numbers of a command are within their bounds.
+use Rattle.std.proofs.Common.{◌≡◌, ◌≤◌, ℕ, Bool, true, false, List, [], ◌∷◌, Option, None, Some, refl, rules}
+use Rattle.std.specs.Bool.{then_some}
+use Rattle.std.specs.Option.{option_and_then, option_map}
+use Rattle.std.specs.Prelude.{◌&&◌, if◌then◌else◌, codes, IfSome}
+use Rattle.conc_types.specs.Decimals.{decimal_value}
+use Rattle.conc_types.specs.Words.{is_between}
+use Rattle.conc_top_words.specs.declared.command.Command.{Command}
+use Rattle.conc_top_words.specs.declared.command.Command.TheVariants as command
+use Rattle.conc_top_words.specs.Words.{AreWithin, check_of, command_named, command_of, is, is_file, is_zero_once, is_zero_or_absent, make_of, number_between, output_of, plan_of, run_among, run_said, Said, said, size_of, status_of}
+
+abbrev IsWithin : Option Command → Type 0
+IsWithin command = IfSome command AreWithin
+
+-- ---- numbers
+
+abbrev Between : ℕ → ℕ → ℕ → Type 0
+Between least most n = (least ≤ n) × (n ≤ most)
+
+is-between : (least most n : ℕ) → is_between least most n ≡ true → Between least most n
+is-between least most n is = search rules
+
+between-by : (least most n : ℕ) (b : Bool) → is_between least most n ≡ b → IfSome (then_some b n) (Between least most)
+between-by least most n true is = is-between least most n is
+between-by least most n false is = tt
+
+between-of : (least most : ℕ) (o : Option ℕ) → IfSome (option_and_then (λ n. then_some (is_between least most n) n) o) (Between least most)
+between-of least most None = tt
+between-of least most (Some n) = between-by least most n (is_between least most n) refl
+
+number-between : (least most : ℕ) (word : List ℕ) → IfSome (number_between least most word) (Between least most)
+number-between least most word = between-of least most (decimal_value word)
+
+-- ---- commands without numbers
+
+then-within : (b : Bool) (c : Command) → AreWithin c → IsWithin (then_some b c)
+then-within true c within = within
+then-within false c within = tt
+
+among-within : (files : List (List ℕ)) → IsWithin (run_among files)
+among-within [] = tt
+among-within (a ∷ []) = tt
+among-within (a ∷ b ∷ []) = tt
+among-within (a ∷ b ∷ c ∷ []) = then-within _ (command.Run a b c) tt
+among-within (a ∷ b ∷ c ∷ d ∷ files) = tt
+
+among-if : (b : Bool) (files : List (List ℕ)) → IsWithin (if b then run_among files else None)
+among-if true files = among-within files
+among-if false files = tt
+
+said-within : (s : Option Said) → IsWithin (option_and_then run_said s)
+said-within None = tt
+said-within (Some s) = among-if (is_zero_once s.threads && is_zero_or_absent s.watch) s.files
+
+plan-within : (words : List (List ℕ)) → IsWithin (plan_of words)
+plan-within [] = tt
+plan-within (a ∷ []) = tt
+plan-within (a ∷ b ∷ []) = then-within _ (command.Plan a b) tt
+plan-within (a ∷ b ∷ c ∷ words) = tt
+
+check-within : (words : List (List ℕ)) → IsWithin (check_of words)
+check-within [] = tt
+check-within (a ∷ []) = tt
+check-within (a ∷ b ∷ []) = tt
+check-within (a ∷ b ∷ c ∷ []) = tt
+check-within (a ∷ b ∷ c ∷ d ∷ []) = then-within _ (command.Check a b c d) tt
+check-within (a ∷ b ∷ c ∷ d ∷ e ∷ words) = tt
+
+status-within : (words : List (List ℕ)) → IsWithin (status_of words)
+status-within [] = tt
+status-within (a ∷ []) = tt
+status-within (a ∷ b ∷ []) = then-within _ (command.Status a b) tt
+status-within (a ∷ b ∷ c ∷ words) = tt
+
+-- ---- commands with numbers
+
+output-some : (setup script : List ℕ) (o : Option ℕ) → IfSome o (Between 1 4294967295)
+    → IsWithin (option_map (λ r. command.Output setup script r) (option_map (λ n. record { number = n }) o))
+output-some setup script None within = tt
+output-some setup script (Some n) within = within.0
+
+output-if : (b : Bool) (setup script number : List ℕ)
+    → IsWithin (if b then option_map (λ r. command.Output setup script r) (option_map (λ n. record { number = n }) (number_between 1 4294967295 number)) else None)
+output-if true setup script number = output-some setup script (number_between 1 4294967295 number) (number-between 1 4294967295 number)
+output-if false setup script number = tt
+
+output-within : (words : List (List ℕ)) → IsWithin (output_of words)
+output-within [] = tt
+output-within (a ∷ []) = tt
+output-within (a ∷ b ∷ []) = tt
+output-within (a ∷ b ∷ c ∷ []) = output-if (is_file a && is_file b) a b c
+output-within (a ∷ b ∷ c ∷ d ∷ words) = tt
+
+make-some : (seed : ℕ) (o : Option ℕ) → IfSome o (Between 1 4000) → IsWithin (option_map (λ n. command.Make seed n) o)
+make-some seed None within = tt
+make-some seed (Some n) within = within
+
+make-by : (o : Option ℕ) (size : List ℕ) → IsWithin (option_and_then (λ s. option_map (λ n. command.Make s n) (size_of size)) o)
+make-by None size = tt
+make-by (Some seed) size = make-some seed (size_of size) (number-between 1 4000 size)
+
+make-within : (words : List (List ℕ)) → IsWithin (make_of words)
+make-within [] = tt
+make-within (a ∷ []) = tt
+make-within (a ∷ b ∷ []) = make-by (decimal_value a) b
+make-within (a ∷ b ∷ c ∷ words) = tt
+
+-- ---- all commands
+
+either-within : (b : Bool) (x y : Option Command) → IsWithin x → IsWithin y → IsWithin (if b then x else y)
+either-within true x y first second = first
+either-within false x y first second = second
+
+pub named-within : (name : List ℕ) (words : List (List ℕ)) → IsWithin (command_named name words)
+unfolding command_named
+named-within name words =
+    either-within (is (codes "run") name) _ _ (said-within (said words))
+    (either-within (is (codes "plan") name) _ _ (plan-within words)
+    (either-within (is (codes "check") name) _ _ (check-within words)
+    (either-within (is (codes "status") name) _ _ (status-within words)
+    (either-within (is (codes "output") name) _ _ (output-within words)
+    (either-within (is (codes "make") name) (make_of words) None (make-within words) tt)))))
+
+-- the numbers of each command that words give
+pub command-within : (words : List (List ℕ)) → IsWithin (command_of words)
+unfolding command_of
+command-within [] = tt
+command-within (name ∷ words) = named-within name words
