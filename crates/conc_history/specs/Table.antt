@@ -4,7 +4,7 @@ use Rattle.std.specs.List.{concat}
 use Rattle.std.specs.Option.{option_map_or}
 use Rattle.conc_types.specs.declared.event.Phase.{Phase}
 use Rattle.conc_types.specs.declared.event.Status.{Status}
-use Rattle.conc_types.specs.declared.facts.Standing.{Standing}
+use Rattle.conc_types.specs.declared.facts.State.{State}
 use Rattle.conc_types.specs.declared.plan.Plan.{Plan}
 use Rattle.conc_types.specs.declared.plan.Req.{Req}
 use Rattle.conc_law.specs.Status.{status_of}
@@ -15,9 +15,9 @@ abbrev pub line_with : Plan → Req → Phase × Status → List ℕ
 line_with plan r s = line_of (id_word r.number ∷ phase_word s.0 ∷ status_word s.1 ∷ item_name plan r.item ∷ [])
 
 -- the line of a request, if it is submitted
-unfoldable pub line_at : Plan → Standing → Req → List ℕ
+unfoldable pub line_at : Plan → State → Req → List ℕ
 line_at plan s r = option_map_or (line_with plan r) (status_of plan s r) []
 
 -- the lines of all requests
-unfoldable pub table_at : Plan → Standing → List ℕ
+unfoldable pub table_at : Plan → State → List ℕ
 table_at plan s = concat (map (line_at plan s) plan.requests)

@@ -3,9 +3,9 @@ ghost use Rattle.conc_law.specs.Text.{id_word, phase_word, spaced, status_word, 
 ghost use Rattle.conc_history.specs.Table.{line_at, line_with, table_at};
 
 use crate::words::{item_name, phase_bytes, put_bytes, status_bytes};
-use conc_history_replay::standing_after;
+use conc_history_replay::state_after;
 use conc_law_decisions::status;
-use conc_types::{Event, NoMemory, Phase, Plan, Req, RequestId, Standing, Status, put_decimal};
+use conc_types::{Event, NoMemory, Phase, Plan, Req, RequestId, State, Status, put_decimal};
 use std::alloc::Global;
 
 // The line of a request as far as the status.
@@ -39,12 +39,12 @@ fn put_line(
 fn put_request_line(
     out: &mut Vec<u8>,
     plan: &Plan,
-    standing: &Standing,
+    state: &State,
     r: &Req,
 ) -> Result<(), NoMemory>
-    ensures { OnOk result (out.new.items ≡ out.old.items ++ line_at plan.now standing.now r.now) }
+    ensures { OnOk result (out.new.items ≡ out.old.items ++ line_at plan.now state.now r.now) }
 {
-    match status(plan, standing, r) {
+    match status(plan, state, r) {
         Some((phase, status)) => put_line(out, plan, r, phase, status),
         None => Ok(()),
     }
@@ -52,11 +52,11 @@ fn put_request_line(
 
 /// Appends a line for each submitted request.
 #[tactic(auto, unfolding(crate::specs::Table::table_at))]
-pub(crate) fn put_table(out: &mut Vec<u8>, plan: &Plan, standing: &Standing) -> Result<(), NoMemory>
-    ensures { OnOk result (out.new.items ≡ out.old.items ++ table_at plan.now standing.now) }
+pub(crate) fn put_table(out: &mut Vec<u8>, plan: &Plan, state: &State) -> Result<(), NoMemory>
+    ensures { OnOk result (out.new.items ≡ out.old.items ++ table_at plan.now state.now) }
 {
     for r in plan.requests.as_slice() {
-        put_request_line(out, plan, standing, r)?;
+        put_request_line(out, plan, state, r)?;
     }
     Ok(())
 }
@@ -67,8 +67,8 @@ pub(crate) fn put_table(out: &mut Vec<u8>, plan: &Plan, standing: &Standing) -> 
 pub fn put_status_table(alloc: Global, plan: &Plan, events: &[Event]) -> Result<Vec<u8>, NoMemory>
     ensures { IfOk result (λ text. text.items ≡ table_text plan.now (reverse events.now)) }
 {
-    let standing = standing_after(alloc, plan, events)?;
+    let state = state_after(alloc, plan, events)?;
     let mut text = Vec::new(alloc);
-    put_table(&mut text, plan, &standing)?;
+    put_table(&mut text, plan, &state)?;
     Ok(text)
 }

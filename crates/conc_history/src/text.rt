@@ -4,7 +4,7 @@ ghost use Rattle.conc_law.specs.Text.{text_of};
 use crate::lines::put_events;
 use crate::table::put_table;
 use crate::words::put_bytes;
-use conc_history_replay::standing_after;
+use conc_history_replay::state_after;
 use conc_types::{Event, NoMemory, Plan};
 use std::alloc::Global;
 
@@ -14,10 +14,10 @@ use std::alloc::Global;
 pub fn put_history(alloc: Global, plan: &Plan, events: &[Event]) -> Result<Vec<u8>, NoMemory>
     ensures { IfOk result (λ text. text.items ≡ text_of plan.now events.now) }
 {
-    let standing = standing_after(alloc, plan, events)?;
+    let state = state_after(alloc, plan, events)?;
     let mut text = Vec::new(alloc);
     put_events(&mut text, plan, events)?;
     put_bytes(&mut text, b"--\n")?;
-    put_table(&mut text, plan, &standing)?;
+    put_table(&mut text, plan, &state)?;
     Ok(text)
 }

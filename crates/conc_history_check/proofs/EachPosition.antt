@@ -12,10 +12,10 @@ use Rattle.conc_types.specs.declared.plan.Plan.{Plan}
 use Rattle.conc_types.specs.declared.script.Reading.{Reading}
 use Rattle.conc_types.specs.Words.{some_and}
 use Rattle.conc_law.specs.Kinds.{is_resume}
-use Rattle.conc_law.specs.Law.{is_lawful, is_past, may_follow}
+use Rattle.conc_law.specs.Law.{is_lawful, is_lawful_so_far, may_follow}
 use Rattle.conc_law.specs.Next.{may_come}
 use Rattle.conc_law.specs.Readings.{next_reading}
-use Rattle.conc_law.specs.Standing.{standing}
+use Rattle.conc_law.specs.State.{state}
 use Rattle.conc_law.proofs.Positions.{reverse-push, slice_get-some, take-suc_at}
 use Rattle.conc_history_check.specs.declared.findings.Findings.{Findings}
 use Rattle.conc_history_check.specs.Findings.{HasTaken}
@@ -23,19 +23,19 @@ use Rattle.conc_history_check.specs.Positions.{AreLawfulTo, is_lawful_at, known_
 
 -- lawful, where the readings of the last life are known, or none are
 abbrev lawful_by : Plan → Option (List Reading) → List Event → Bool
-lawful_by plan None past = is_past plan past
+lawful_by plan None past = is_lawful_so_far plan past
 lawful_by plan (Some readings) past = is_lawful plan readings past
 
 -- no event is lawful
 lawful_by-none : (plan : Plan) (known : Option (List Reading)) → lawful_by plan known [] ≡ true
-unfolding is_past is_lawful
+unfolding is_lawful_so_far is_lawful
 lawful_by-none plan None = refl
 lawful_by-none plan (Some readings) = refl
 
 -- one more event is lawful where it may follow lawful ones
 lawful_by-cons : (plan : Plan) (known : Option (List Reading)) (e : Event) (past : List Event)
     → lawful_by plan known (e ∷ past) ≡ (lawful_by plan (if is_resume e then None else known) past && may_follow plan known past e)
-unfolding is_past is_lawful
+unfolding is_lawful_so_far is_lawful
 lawful_by-cons plan None event.Resume past = refl
 lawful_by-cons plan None _ past = refl
 lawful_by-cons plan (Some readings) event.Resume past = refl
@@ -132,10 +132,10 @@ positions_lawful plan readings history h =
 pub lawful_here : (plan : Plan) (readings : List Reading) (history : List Event) (i : ℕ) (f : Findings) (e : Event) (next : Option (Option Reading))
     → slice_get history i ≡ Some e → HasTaken plan (reverse (take i history)) f
     → next ≡ option_map (λ known. next_reading known (reverse (take i history))) (known_before readings (drop (suc i) history))
-    → may_come plan f.standing next e ≡ is_lawful_at plan readings history (suc i)
+    → may_come plan f.state next e ≡ is_lawful_at plan readings history (suc i)
 unfolding may_follow
 lawful_here plan readings history i f e next at are known =
-    ap (λ s. may_come plan s next e) are.standing
-    ∙ ap (λ n. may_come plan (standing plan (reverse (take i history))) n e) known
+    ap (λ s. may_come plan s next e) are.state
+    ∙ ap (λ n. may_come plan (state plan (reverse (take i history))) n e) known
     ∙ sym (is_lawful_at-suc plan readings history i
     ∙ ap (some_and (may_follow plan (known_before readings (drop (suc i) history)) (reverse (take i history)))) at)

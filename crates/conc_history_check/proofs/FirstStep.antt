@@ -2,16 +2,16 @@
 use Rattle.std.proofs.Common.{◌≡◌, ℕ, zero, suc, ◌+◌, ◌<◌, ◌≤◌, Bool, true, false, List, [], ◌∷◌, length, get_or, drop, Option, None, Some, refl, sym, ◌∙◌, ap, add-one, arith}
 use Rattle.std.specs.Prelude.{is_some, if◌then◌else◌}
 use Rattle.conc_types.specs.declared.event.Event.{Event}
-use Rattle.conc_types.specs.declared.facts.Standing.{Standing}
+use Rattle.conc_types.specs.declared.facts.State.{State}
 use Rattle.conc_types.specs.declared.plan.Plan.{Plan}
 use Rattle.conc_types.specs.declared.plan.Req.{Req}
 use Rattle.conc_law.specs.Next.{has_step}
 use Rattle.conc_law.specs.Stages.{set_step}
-use Rattle.conc_law.specs.Standing.{facts_at}
+use Rattle.conc_law.specs.State.{facts_at}
 use Rattle.conc_history_check.specs.Steps.{own_step, step_among}
 
 -- a request has a step where its own one is there, and that is it
-own-step : (plan : Plan) (s : Standing) (r : Req) (rs : List Req) (o : Option Event) → own_step plan s r ≡ o
+own-step : (plan : Plan) (s : State) (r : Req) (rs : List Req) (o : Option Event) → own_step plan s r ≡ o
     → step_among plan s (r ∷ rs) ≡ (if is_some o then o else step_among plan s rs)
 unfolding own_step step_among has_step
 own-step plan s r rs o h = by (facts_at s r).opened (set_step plan s r) refl refl where
@@ -21,7 +21,7 @@ own-step plan s r rs o h = by (facts_at s r).opened (set_step plan s r) refl ref
   by true (Some e) opened is = rw (sym h, opened, is) is
 
 -- where the request has none, a later one has it
-pub step-later : (plan : Plan) (s : Standing) (rs : List Req) (k : ℕ) (r : Req) → k < length rs → r ≡ get_or rs k r → own_step plan s r ≡ None
+pub step-later : (plan : Plan) (s : State) (rs : List Req) (k : ℕ) (r : Req) → k < length rs → r ≡ get_or rs k r → own_step plan s r ≡ None
     → step_among plan s (drop k rs) ≡ step_among plan s (drop (k + 1) rs)
 step-later plan s rs k r within is none = rw (add-one k) (at rs k within is) where
   at : (rs : List Req) (k : ℕ) → k < length rs → r ≡ get_or rs k r → step_among plan s (drop k rs) ≡ step_among plan s (drop (suc k) rs)
@@ -30,14 +30,14 @@ step-later plan s rs k r within is none = rw (add-one k) (at rs k within is) whe
   at (x ∷ xs) (suc k) within is = at xs k (omega arith) is
 
 -- where it has one, that is the first
-pub step-here : (plan : Plan) (s : Standing) (rs : List Req) (k : ℕ) (r : Req) (e : Event) → k < length rs → r ≡ get_or rs k r → own_step plan s r ≡ Some e
+pub step-here : (plan : Plan) (s : State) (rs : List Req) (k : ℕ) (r : Req) (e : Event) → k < length rs → r ≡ get_or rs k r → own_step plan s r ≡ Some e
     → step_among plan s (drop k rs) ≡ Some e
 step-here plan s [] k r e within is some = absurd (omega arith)
 step-here plan s (x ∷ xs) zero r e within is some = own-step plan s x xs (Some e) (ap (own_step plan s) (sym is) ∙ some)
 step-here plan s (x ∷ xs) (suc k) r e within is some = step-here plan s xs k r e (omega arith) is some
 
 -- past the end there is none
-pub step-none : (plan : Plan) (s : Standing) (rs : List Req) (k : ℕ) → length rs ≤ k → step_among plan s (drop k rs) ≡ None
+pub step-none : (plan : Plan) (s : State) (rs : List Req) (k : ℕ) → length rs ≤ k → step_among plan s (drop k rs) ≡ None
 unfolding step_among
 step-none plan s [] zero h = refl
 step-none plan s [] (suc k) h = refl

@@ -7,14 +7,14 @@ use Rattle.std.proofs.lemmas.Bool.{and_from, and_left, and_right, both_ways, eq-
 use Rattle.std.proofs.lemmas.Option.{slice_get_within}
 use Rattle.conc_types.specs.declared.event.RequestId.{RequestId}
 use Rattle.conc_types.specs.declared.facts.Facts.{Facts}
-use Rattle.conc_types.specs.declared.facts.Standing.{Standing}
+use Rattle.conc_types.specs.declared.facts.State.{State}
 use Rattle.conc_types.specs.declared.plan.Plan.{Plan}
 use Rattle.conc_types.specs.declared.plan.Req.{Req}
 use Rattle.conc_types.specs.Words.{numbered}
 use Rattle.conc_law.specs.Exclusion.{excludes, excludes_from, is_kin}
 use Rattle.conc_law.specs.Next.{blocks, is_free}
 use Rattle.conc_law.specs.Plans.{are_exclusive, parent_item}
-use Rattle.conc_law.specs.Standing.{facts_at, is_live, no_facts}
+use Rattle.conc_law.specs.State.{facts_at, is_live, no_facts}
 use Rattle.conc_law.specs.Words.{Has, id_eq}
 use Rattle.conc_law.proofs.Numbering.{found}
 use Rattle.conc_machine_queue.proofs.Maps.{place_of_request}
@@ -67,13 +67,13 @@ unfolding clash
 clash-comm plan x y = or_comm (excludes_from plan.setup x y (parent_item plan y)) (excludes_from plan.setup y x (parent_item plan x))
 
 -- a live request blocks one that is not live where they clash and are no kin
-blocks-by : (plan : Plan) (s : Standing) (r q : Req)
+blocks-by : (plan : Plan) (s : State) (r q : Req)
     → blocks plan s r q ≡ (is_live (facts_at s q) && (not (id_eq q.number r.number) && (not (is_kin q r) && clash plan q r)))
 unfolding blocks are_exclusive excludes clash
 blocks-by plan s r q = refl
 
 -- where no rival is noted, none is live
-pub free-none : (plan : Plan) (classes : Classes) (s : Standing) (live : List (Option RequestId)) (r : Req) → AreClasses plan classes → AreLive plan classes s live
+pub free-none : (plan : Plan) (classes : Classes) (s : State) (live : List (Option RequestId)) (r : Req) → AreClasses plan classes → AreLive plan classes s live
     → Has plan.requests r → rival_noted classes live (class_at classes r) ≡ None → is_free plan s r ≡ true
 unfolding is_free rival_noted are_rivals
 free-none plan classes s live r are lives has none =
@@ -102,7 +102,7 @@ free-none plan classes s live r are lives has none =
           (and_right (not (id_eq q.number r.number)) _ (and_right (not (is_kin q r)) (clash plan q r) (apart q hq is)))
 
 -- a request that is live is not one that is not
-other_number : (plan : Plan) (s : Standing) (q r : Req) → Has plan.requests q → Has plan.requests r → is_live (facts_at s q) ≡ true → is_live (facts_at s r) ≡ false
+other_number : (plan : Plan) (s : State) (q r : Req) → Has plan.requests q → Has plan.requests r → is_live (facts_at s q) ≡ true → is_live (facts_at s r) ≡ false
     → id_eq q.number r.number ≡ false
 unfolding facts_at
 other_number plan s q r hq hr is not = false_from_ne_true (id_eq q.number r.number) (λ same.
@@ -111,7 +111,7 @@ other_number plan s q r hq hr is not = false_from_ne_true (id_eq q.number r.numb
       facts_at_number n = unwrap_or (numbered s.facts n) no_facts
 
 -- a rival that is noted is live, and excludes the request unless they are kin
-pub free-not : (plan : Plan) (classes : Classes) (s : Standing) (live : List (Option RequestId)) (r : Req) (id : RequestId) → AreClasses plan classes → AreLive plan classes s live
+pub free-not : (plan : Plan) (classes : Classes) (s : State) (live : List (Option RequestId)) (r : Req) (id : RequestId) → AreClasses plan classes → AreLive plan classes s live
     → Has plan.requests r → is_live (facts_at s r) ≡ false → rival_noted classes live (class_at classes r) ≡ Some id → spares_at classes (class_at classes r) ≡ false
     → is_free plan s r ≡ false
 unfolding is_free rival_noted are_rivals
@@ -134,6 +134,6 @@ free-not plan classes s live r id are lives has idle some spares = by _ refl som
   by (Some d) is h = at d is h
 
 -- one request that blocks is enough
-pub free-blocked : (plan : Plan) (s : Standing) (r q : Req) → Has plan.requests q → blocks plan s r q ≡ true → is_free plan s r ≡ false
+pub free-blocked : (plan : Plan) (s : State) (r q : Req) → Has plan.requests q → blocks plan s r q ≡ true → is_free plan s r ≡ false
 unfolding is_free
 free-blocked plan s r q hq h = ap not (any-has (blocks plan s r) plan.requests q hq h)

@@ -6,10 +6,10 @@ use Rattle.std.proofs.lemmas.Bool.{both_ways, cases_eq}
 use Rattle.std.proofs.lemmas.List.{length-map, length-set}
 use Rattle.std.proofs.lemmas.Option.{slice_get-get_or}
 use Rattle.conc_types.specs.declared.event.RequestId.{RequestId}
-use Rattle.conc_types.specs.declared.facts.Standing.{Standing}
+use Rattle.conc_types.specs.declared.facts.State.{State}
 use Rattle.conc_types.specs.declared.plan.Plan.{Plan}
 use Rattle.conc_types.specs.declared.plan.Req.{Req}
-use Rattle.conc_law.specs.Standing.{facts_at, is_live}
+use Rattle.conc_law.specs.State.{facts_at, is_live}
 use Rattle.conc_law.proofs.Numbering.{numbered_plan}
 use Rattle.conc_machine_queue.proofs.Maps.{request_at_place, slice_get-set_other, slice_get-set_same}
 use Rattle.conc_machine_classes.specs.Classes.{class_at}
@@ -24,7 +24,7 @@ noted-cleared (x ∷ xs) zero = refl
 noted-cleared (x ∷ xs) (suc c) = noted-cleared xs c
 
 -- so it is right for no request
-pub live_none : (plan : Plan) (classes : Classes) (s : Standing) (old new : List (Option RequestId)) → length old ≡ length classes.sizes
+pub live_none : (plan : Plan) (classes : Classes) (s : State) (old new : List (Option RequestId)) → length old ≡ length classes.sizes
     → new ≡ map (λ (own : Option RequestId). None) old → AreLiveTo plan classes s 0 new
 live_none plan classes s old new size is = record {
   size = ap length is ∙ length-map old (λ (own : Option RequestId). None) ∙ size;
@@ -46,7 +46,7 @@ below_next : (k n : ℕ) → k < suc n → (k < n) ⊎ (k ≡ n)
 below_next k n h = elim (cases_eq k n) [ inl same ↦ inr same | inr ne ↦ inl (omega arith) ]
 
 -- a request that is not live changes nothing
-pub live-not : (plan : Plan) (classes : Classes) (s : Standing) (n : ℕ) (q : Req) (live : List (Option RequestId)) → slice_get plan.requests n ≡ Some q
+pub live-not : (plan : Plan) (classes : Classes) (s : State) (n : ℕ) (q : Req) (live : List (Option RequestId)) → slice_get plan.requests n ≡ Some q
     → is_live (facts_at s q) ≡ false → AreLiveTo plan classes s n live → AreLiveTo plan classes s (suc n) live
 live-not plan classes s n q live at not are = record {
   size = are.size;
@@ -61,7 +61,7 @@ live-not plan classes s n q live at not are = record {
 }
 
 -- one that is live is noted for its class
-pub live-next : (plan : Plan) (classes : Classes) (s : Standing) (n : ℕ) (q : Req) (live : List (Option RequestId)) → slice_get plan.requests n ≡ Some q
+pub live-next : (plan : Plan) (classes : Classes) (s : State) (n : ℕ) (q : Req) (live : List (Option RequestId)) → slice_get plan.requests n ≡ Some q
     → is_live (facts_at s q) ≡ true → class_at classes q < length live → AreLiveTo plan classes s n live
     → AreLiveTo plan classes s (suc n) (slice_set live (class_at classes q) (Some q.number))
 live-next plan classes s n q live at is within are = record {

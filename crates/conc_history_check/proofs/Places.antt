@@ -3,14 +3,14 @@ use Rattle.std.proofs.Common.{◌≡◌, Bool, true, false, not, ◌&&◌, ◌||
 use Rattle.std.specs.List.{list_any}
 use Rattle.std.proofs.lemmas.Bool.{and_left, and_right}
 use Rattle.conc_types.specs.declared.event.PlaceId.{PlaceId}
-use Rattle.conc_types.specs.declared.facts.Standing.{Standing}
+use Rattle.conc_types.specs.declared.facts.State.{State}
 use Rattle.conc_types.specs.declared.plan.Plan.{Plan}
 use Rattle.conc_types.specs.declared.plan.Req.{Req}
 use Rattle.conc_types.specs.Words.{some_and}
 use Rattle.conc_law.specs.Managers.{admits}
 use Rattle.conc_law.specs.Next.{is_vacant, may_start, may_start_somewhere}
 use Rattle.conc_law.specs.Places.{all_places, is_usable, place_of}
-use Rattle.conc_law.specs.Standing.{facts_at, is_running}
+use Rattle.conc_law.specs.State.{facts_at, is_running}
 
 -- one of none passes no test
 any-never : {T : Type 0} (xs : List T) → list_any (λ (x : T). false) xs ≡ false
@@ -40,13 +40,13 @@ any-alike p q [] h = refl
 any-alike p q (x ∷ xs) h = rw (h x, any-alike p q xs h) refl
 
 -- a request may start somewhere where some place is one at which a request may start
-pub somewhere : (plan : Plan) (s : Standing)
+pub somewhere : (plan : Plan) (s : State)
     → list_any (λ p. list_any (λ r. may_start plan s r p) plan.requests) (all_places plan) ≡ list_any (may_start_somewhere plan s) plan.requests
 unfolding may_start_somewhere
 somewhere plan s = any-swap (may_start plan s) plan.requests (all_places plan)
 
 -- none may start at a place that is not usable
-pub unusable : (plan : Plan) (s : Standing) (place : PlaceId) → some_and (λ t. is_usable plan t place) s.time ≡ false
+pub unusable : (plan : Plan) (s : State) (place : PlaceId) → some_and (λ t. is_usable plan t place) s.time ≡ false
     → list_any (λ r. may_start plan s r place) plan.requests ≡ false
 unfolding may_start
 unusable plan s place h =

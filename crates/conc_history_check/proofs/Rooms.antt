@@ -7,17 +7,17 @@ use Rattle.conc_types.specs.declared.event.Event.{Event}
 use Rattle.conc_types.specs.declared.event.Event.TheVariants as event
 use Rattle.conc_types.specs.declared.plan.Plan.{Plan}
 use Rattle.conc_law.specs.Facts.{facts_of}
-use Rattle.conc_law.specs.Past.{last_life}
+use Rattle.conc_law.specs.Before.{last_life}
 use Rattle.conc_law.specs.Readings.{ticks}
-use Rattle.conc_law.specs.Standing.{is_done, standing}
+use Rattle.conc_law.specs.State.{is_done, state}
 use Rattle.conc_history_check.specs.declared.findings.Findings.{Findings}
 use Rattle.conc_history_check.specs.declared.prepared.Prepared.{Prepared}
 use Rattle.conc_history_check.specs.Findings.{HasRoom}
 
-pub standing_room : (plan : Plan) (prepared : Prepared) (past : List Event) (f : Findings) → f.standing ≡ standing plan past
+pub state_room : (plan : Plan) (prepared : Prepared) (past : List Event) (f : Findings) → f.state ≡ state plan past
     → length f.live ≡ length prepared.classes.sizes → HasRoom plan prepared f
-unfolding standing
-standing_room plan prepared past f is live = record {
+unfolding state
+state_room plan prepared past f is live = record {
   live = live;
   facts = ap (λ s. length s.facts) is ∙ length-map plan.requests (facts_of plan past);
   done =

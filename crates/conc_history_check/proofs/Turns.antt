@@ -3,11 +3,11 @@ use Rattle.std.proofs.Common.{◌≡◌, ℕ, zero, suc, ◌+◌, ◌<◌, ◌�
 use Rattle.std.specs.Prelude.{if◌then◌else◌, nat_lt}
 use Rattle.std.specs.Bool.{then_some}
 use Rattle.std.proofs.lemmas.Bool.{and_left, and_parts, and_right, cases_lt, le-ltb, lt-ltb, not-true}
-use Rattle.conc_types.specs.declared.facts.Standing.{Standing}
+use Rattle.conc_types.specs.declared.facts.State.{State}
 use Rattle.conc_types.specs.declared.plan.Plan.{Plan}
 use Rattle.conc_types.specs.declared.plan.Req.{Req}
 use Rattle.conc_law.specs.Next.{can_run, is_free, is_ready, may_let}
-use Rattle.conc_law.specs.Standing.{facts_at, has_come, is_completed, is_live, is_waiting}
+use Rattle.conc_law.specs.State.{facts_at, has_come, is_completed, is_live, is_waiting}
 use Rattle.conc_machine_queue.specs.Least.{least, lesser}
 use Rattle.conc_machine_queue.specs.Turns.{turn, turns_of}
 use Rattle.conc_machine_queue.proofs.LeastTurns.{lesser-none}
@@ -16,7 +16,7 @@ use Rattle.conc_history_check.specs.Lets.{comes_before}
 -- ---- which requests count
 
 -- a request may be let where it is ready and free
-pub may_let-parts : (plan : Plan) (s : Standing) (r : Req) → may_let plan s r ≡ (is_ready plan s r && is_free plan s r)
+pub may_let-parts : (plan : Plan) (s : State) (r : Req) → may_let plan s r ≡ (is_ready plan s r && is_free plan s r)
 unfolding may_let
 may_let-parts plan s r = refl
 
@@ -36,6 +36,6 @@ better-before None b t h e = rw e refl
 better-before (Some best) b t h e = rw (e, h) refl
 
 -- a ready request is not live
-pub ready-not_live : (plan : Plan) (s : Standing) (r : Req) → is_ready plan s r ≡ true → is_live (facts_at s r) ≡ false
+pub ready-not_live : (plan : Plan) (s : State) (r : Req) → is_ready plan s r ≡ true → is_live (facts_at s r) ≡ false
 unfolding is_ready
 ready-not_live plan s r h = not-true _ (and_parts _ _ (and_parts _ _ h).1).0

@@ -4,9 +4,9 @@ use Rattle.conc_types.specs.declared.event.Event.{Event}
 use Rattle.conc_types.specs.declared.event.Event.TheVariants as event
 use Rattle.conc_types.specs.declared.event.Moment.{Moment}
 use Rattle.conc_types.specs.declared.plan.Plan.{Plan}
-use Rattle.conc_law.specs.Past.{earlier_lives}
+use Rattle.conc_law.specs.Before.{earlier_lives}
 use Rattle.conc_law.specs.Readings.{ticks}
-use Rattle.conc_law.specs.Standing.{now, standing}
+use Rattle.conc_law.specs.State.{now, state}
 use Rattle.conc_history_check.specs.declared.findings.Findings.{Findings}
 use Rattle.conc_history_check.specs.declared.prepared.Prepared.{Prepared}
 use Rattle.conc_history_check.specs.Live.{AreLive}
@@ -14,8 +14,8 @@ use Rattle.conc_history_check.specs.Live.{AreLive}
 -- there is room for what is read of each request and command, and for a live request of each class
 pub record HasRoom (plan : Plan) (prepared : Prepared) (f : Findings) : Type 0 where
   pub live : length f.live ≡ length prepared.classes.sizes
-  pub facts : length f.standing.facts ≡ length plan.requests
-  pub done : length f.standing.done ≡ length plan.script.commands
+  pub facts : length f.state.facts ≡ length plan.requests
+  pub done : length f.state.done ≡ length plan.script.commands
 
 -- the last tick of the earlier lives and the ticks of the last life, after one more event
 abbrev pub earlier_after : Option Moment → Option Moment → Event → Option Moment
@@ -30,11 +30,11 @@ ticks_after n _ = n
 -- this is what these events say, the latest of which is given first: what stands, the last tick of the
 -- earlier lives, and how many ticks the last life has
 pub record HasTaken (plan : Plan) (past : List Event) (f : Findings) : Type 0 where
-  pub standing : f.standing ≡ standing plan past
+  pub state : f.state ≡ state plan past
   pub earlier : f.earlier ≡ now (earlier_lives past)
   pub ticks : f.ticks ≡ ticks past
 
 -- the same, with a live request of each class
 pub record AreFindings (plan : Plan) (prepared : Prepared) (past : List Event) (f : Findings) : Type 0 where
   pub taken : HasTaken plan past f
-  pub live : AreLive plan prepared.classes f.standing f.live
+  pub live : AreLive plan prepared.classes f.state f.live

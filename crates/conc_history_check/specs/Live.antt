@@ -3,11 +3,11 @@ use Rattle.std.specs.Prelude.{◌≡◌, ℕ, ◌<◌, IsSome, IsTrue, List, len
 use Rattle.std.specs.List.{find}
 use Rattle.std.specs.Option.{option_and_then, option_flatten}
 use Rattle.conc_types.specs.declared.event.RequestId.{RequestId}
-use Rattle.conc_types.specs.declared.facts.Standing.{Standing}
+use Rattle.conc_types.specs.declared.facts.State.{State}
 use Rattle.conc_types.specs.declared.plan.Plan.{Plan}
 use Rattle.conc_types.specs.declared.plan.Req.{Req}
 use Rattle.conc_types.specs.Plans.{request}
-use Rattle.conc_law.specs.Standing.{facts_at, is_live}
+use Rattle.conc_law.specs.State.{facts_at, is_live}
 use Rattle.conc_machine_classes.specs.Classes.{class_at, rivals_at}
 use Rattle.conc_machine_classes.specs.declared.classes.Classes.{Classes}
 
@@ -16,18 +16,18 @@ unfoldable pub noted : List (Option RequestId) → ℕ → Option RequestId
 noted live c = option_flatten (slice_get live c)
 
 -- the request is live and of the class
-abbrev pub IsLiveOf : Plan → Classes → Standing → ℕ → RequestId → Type 0
+abbrev pub IsLiveOf : Plan → Classes → State → ℕ → RequestId → Type 0
 IsLiveOf plan classes s c id =
     (q : Req) × (request plan id ≡ Some q) × IsTrue (is_live (facts_at s q)) × (class_at classes q ≡ c)
 
 -- of the first n requests, each live one has one noted for its class; what is noted is live
-pub record AreLiveTo (plan : Plan) (classes : Classes) (s : Standing) (n : ℕ) (live : List (Option RequestId)) : Type 0 where
+pub record AreLiveTo (plan : Plan) (classes : Classes) (s : State) (n : ℕ) (live : List (Option RequestId)) : Type 0 where
   pub size : length live ≡ length classes.sizes
   pub known : (k : ℕ) (q : Req) → k < n → slice_get plan.requests k ≡ Some q → IsTrue (is_live (facts_at s q)) → IsSome (noted live (class_at classes q))
   pub own : (c : ℕ) (id : RequestId) → noted live c ≡ Some id → IsLiveOf plan classes s c id
 
 -- so of all requests
-abbrev pub AreLive : Plan → Classes → Standing → List (Option RequestId) → Type 0
+abbrev pub AreLive : Plan → Classes → State → List (Option RequestId) → Type 0
 AreLive plan classes s live = AreLiveTo plan classes s (length plan.requests) live
 
 -- the request that is noted for the first class that excludes a class and has one

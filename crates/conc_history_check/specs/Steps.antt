@@ -3,16 +3,16 @@ use Rattle.std.specs.Prelude.{List, Option, None, if◌then◌else◌}
 use Rattle.std.specs.List.{find}
 use Rattle.std.specs.Option.{option_and_then}
 use Rattle.conc_types.specs.declared.event.Event.{Event}
-use Rattle.conc_types.specs.declared.facts.Standing.{Standing}
+use Rattle.conc_types.specs.declared.facts.State.{State}
 use Rattle.conc_types.specs.declared.plan.Plan.{Plan}
 use Rattle.conc_types.specs.declared.plan.Req.{Req}
 use Rattle.conc_law.specs.Next.{has_step}
 use Rattle.conc_law.specs.Stages.{set_step}
-use Rattle.conc_law.specs.Standing.{facts_at}
+use Rattle.conc_law.specs.State.{facts_at}
 
 -- the step of a request, if it is an open set that has one
-unfoldable pub own_step : Plan → Standing → Req → Option Event
+unfoldable pub own_step : Plan → State → Req → Option Event
 own_step plan s r = if (facts_at s r).opened then set_step plan s r else None
 
-unfoldable pub step_among : Plan → Standing → List Req → Option Event
+unfoldable pub step_among : Plan → State → List Req → Option Event
 step_among plan s requests = option_and_then (set_step plan s) (find (has_step plan s) requests)

@@ -48,7 +48,7 @@ fn is_finished(
     requires read { AreFindings plan.now prepared.now (reverse events.now) findings.now }
     ensures { IsTrue result ↔ Finished plan.now readings.now.list events.now }
 {
-    is_at_rest(plan, prepared, &findings.standing, &findings.live)
+    is_at_rest(plan, prepared, &findings.state, &findings.live)
         && next_reading(plan, readings, findings).is_none()
 }
 

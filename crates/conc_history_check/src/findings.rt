@@ -1,7 +1,7 @@
 ghost use Rattle.std.specs.Prelude.{◌≡◌, ◌∷◌, ◌+◌, ◌<◌, ◌^◌, [], Bool, IfOk, List, false, length, map, reverse};
 ghost use Rattle.conc_types.specs.declared.event.Event.{Event};
 ghost use Rattle.conc_types.specs.declared.facts.Facts.{Facts};
-ghost use Rattle.conc_law.specs.Standing.{no_facts as no_facts_of, standing as standing_of};
+ghost use Rattle.conc_law.specs.State.{no_facts as no_facts_of, state as state_of};
 ghost use Rattle.conc_machine_reach.specs.Spans.{AreSpans};
 ghost use Rattle.conc_history_check.specs.Findings.{AreFindings, earlier_after as earlier_after_of, HasRoom, HasTaken, ticks_after as ticks_after_of};
 ghost use Rattle.conc_history_check.specs.Prepared.{IsPrepared};
@@ -11,13 +11,13 @@ use crate::prepared::Prepared;
 use conc_history_replay::take_in;
 use conc_law_effects::begin;
 use conc_machine_reach::Spans;
-use conc_types::{Event, Facts, Moment, NoMemory, Plan, RequestId, Seq, Standing};
+use conc_types::{Event, Facts, Moment, NoMemory, Plan, RequestId, Seq, State};
 use std::alloc::Global;
 
 /// What is read of the events before a position.
 #[derive(Drop)]
 pub(crate) struct Findings {
-    pub standing: Standing,
+    pub state: State,
     /// The moment of the last tick before the last life.
     pub earlier: Option<Moment>,
     /// How many ticks the last life has.
@@ -73,7 +73,7 @@ impl Findings {
         ensures { IfOk result (HasRoom plan.now prepared.now) }
     {
         Ok(Findings {
-            standing: begin(alloc, plan)?,
+            state: begin(alloc, plan)?,
             earlier: None,
             ticks: 0,
             live: room_for_live(alloc, &prepared.classes)?,
@@ -86,11 +86,11 @@ impl Findings {
         ensures read { HasTaken _plan.now [] self.new }
         ensures live { self.new.live ≡ self.old.live }
     {
-        clear_facts(&mut self.standing.facts);
-        clear_flags(&mut self.standing.done);
-        self.standing.used = Some(0);
-        self.standing.time = None;
-        self.standing.empty = true;
+        clear_facts(&mut self.state.facts);
+        clear_flags(&mut self.state.done);
+        self.state.used = Some(0);
+        self.state.time = None;
+        self.state.empty = true;
         self.earlier = None;
         self.ticks = 0;
     }
@@ -102,9 +102,9 @@ impl Findings {
         ensures read { (past : List Event) → HasTaken plan.now past self.old → HasTaken plan.now (e ∷ past) self.new }
         ensures live { self.new.live ≡ self.old.live }
     {
-        self.earlier = earlier_after(self.standing.time, self.earlier, e);
+        self.earlier = earlier_after(self.state.time, self.earlier, e);
         self.ticks = ticks_after(self.ticks, e);
-        take_in(plan, spans, &mut self.standing, e);
+        take_in(plan, spans, &mut self.state, e);
     }
 
     /// Reads these events, from the first one on, and nothing else. It takes no memory.
@@ -118,6 +118,6 @@ impl Findings {
         for e in events {
             self.take_in(plan, &prepared.spans, *e);
         }
-        note_live(plan, &prepared.classes, &self.standing, &mut self.live);
+        note_live(plan, &prepared.classes, &self.state, &mut self.live);
     }
 }

@@ -9,29 +9,29 @@ use crate::lets::forced_let;
 use crate::prepared::Prepared;
 use conc_law_decisions::{facts_at, forced_command, forced_interrupt, set_step};
 use conc_machine_reach::Spans;
-use conc_types::{Event, Plan, Req, RequestId, Seq, Standing};
+use conc_types::{Event, Plan, Req, RequestId, Seq, State};
 
 // ---- steps of sets
 
 // The step of a request, if it is an open set that has one.
 #[tactic(auto, unfolding(crate::specs::Steps::own_step))]
-fn own_step(plan: &Plan, spans: &Spans, standing: &Standing, r: &Req) -> Option<Event>
+fn own_step(plan: &Plan, spans: &Spans, state: &State, r: &Req) -> Option<Event>
     requires { AreSpans plan.now spans.now }
-    ensures { result ≡ own_step_of plan.now standing.now r.now }
+    ensures { result ≡ own_step_of plan.now state.now r.now }
 {
-    if !facts_at(standing, r).opened {
+    if !facts_at(state, r).opened {
         return None;
     }
-    set_step(plan, standing, r, spans.members(plan, r.number))
+    set_step(plan, state, r, spans.members(plan, r.number))
 }
 
 #[tactic(auto, unfolding(conc_law::specs::Next::forced_step, crate::specs::Steps::step_among))]
-fn forced_step(plan: &Plan, spans: &Spans, standing: &Standing) -> Option<Event>
+fn forced_step(plan: &Plan, spans: &Spans, state: &State) -> Option<Event>
     requires { AreSpans plan.now spans.now }
-    ensures { result ≡ forced_step_of plan.now standing.now }
+    ensures { result ≡ forced_step_of plan.now state.now }
 {
     for r in plan.requests.as_slice() {
-        match own_step(plan, spans, standing, r) {
+        match own_step(plan, spans, state, r) {
             Some(e) => return Some(e),
             None => {}
         }
@@ -46,21 +46,21 @@ fn forced_step(plan: &Plan, spans: &Spans, standing: &Standing) -> Option<Event>
 pub(crate) fn forced(
     plan: &Plan,
     prepared: &Prepared,
-    standing: &Standing,
+    state: &State,
     live: &Seq<Option<RequestId>>,
 ) -> Option<Event>
     requires prepared { IsPrepared plan.now prepared.now }
-    requires live { AreLive plan.now prepared.now.classes standing.now live.now }
-    ensures { result ≡ forced_of plan.now standing.now }
+    requires live { AreLive plan.now prepared.now.classes state.now live.now }
+    ensures { result ≡ forced_of plan.now state.now }
 {
-    if let Some(e) = forced_interrupt(plan, standing) {
+    if let Some(e) = forced_interrupt(plan, state) {
         return Some(e);
     }
-    if let Some(e) = forced_command(plan, standing) {
+    if let Some(e) = forced_command(plan, state) {
         return Some(e);
     }
-    if let Some(e) = forced_step(plan, &prepared.spans, standing) {
+    if let Some(e) = forced_step(plan, &prepared.spans, state) {
         return Some(e);
     }
-    forced_let(plan, prepared, standing, live)
+    forced_let(plan, prepared, state, live)
 }

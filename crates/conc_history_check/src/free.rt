@@ -2,7 +2,7 @@ ghost use Rattle.std.specs.Prelude.{◌≡◌, IsFalse, IsTrue, is_some};
 ghost use Rattle.std.specs.List.{find};
 ghost use Rattle.std.specs.Option.{option_copied};
 ghost use Rattle.conc_law.specs.Next.{is_free as is_free_of};
-ghost use Rattle.conc_law.specs.Standing.{facts_at, is_live as is_live_of};
+ghost use Rattle.conc_law.specs.State.{facts_at, is_live as is_live_of};
 ghost use Rattle.conc_law.specs.Words.{Has};
 ghost use Rattle.conc_machine_classes.specs.Classes.{AreClasses, rivals_at};
 ghost use Rattle.conc_history_check.specs.Live.{AreLive, noted as noted_of, rival_noted as rival_noted_of};
@@ -10,7 +10,7 @@ ghost use Rattle.conc_history_check.specs.Live.{AreLive, noted as noted_of, riva
 use crate::live::noted;
 use conc_law_decisions::blocks;
 use conc_machine_classes::Classes;
-use conc_types::{Plan, Req, RequestId, Seq, Standing};
+use conc_types::{Plan, Req, RequestId, Seq, State};
 
 fn first_noted<'a>(
     classes: &'a Classes,
@@ -37,21 +37,21 @@ fn rival_noted(classes: &Classes, live: &Seq<Option<RequestId>>, class: u32) -> 
 }
 
 // Whether the request with this number is live and excludes r.
-fn blocks_by_id(plan: &Plan, standing: &Standing, r: &Req, id: RequestId) -> bool
-    ensures { IsTrue result → IsFalse (is_free_of plan.now standing.now r.now) }
+fn blocks_by_id(plan: &Plan, state: &State, r: &Req, id: RequestId) -> bool
+    ensures { IsTrue result → IsFalse (is_free_of plan.now state.now r.now) }
 {
     match plan.request(id) {
-        Some(q) => blocks(plan, standing, r, q),
+        Some(q) => blocks(plan, state, r, q),
         None => false,
     }
 }
 
 // Whether no live request excludes r. It looks first at the one with this number.
 #[tactic(auto, unfolding(conc_law::specs::Next::is_free))]
-fn is_free_of_all(plan: &Plan, standing: &Standing, r: &Req, first: RequestId) -> bool
-    ensures { result ≡ is_free_of plan.now standing.now r.now }
+fn is_free_of_all(plan: &Plan, state: &State, r: &Req, first: RequestId) -> bool
+    ensures { result ≡ is_free_of plan.now state.now r.now }
 {
-    !blocks_by_id(plan, standing, r, first) && conc_law_decisions::is_free(plan, standing, r)
+    !blocks_by_id(plan, state, r, first) && conc_law_decisions::is_free(plan, state, r)
 }
 
 /// Whether no live request excludes r, which is none itself. It looks at all requests only where its
@@ -59,19 +59,19 @@ fn is_free_of_all(plan: &Plan, standing: &Standing, r: &Req, first: RequestId) -
 pub(crate) fn is_free(
     plan: &Plan,
     classes: &Classes,
-    standing: &Standing,
+    state: &State,
     live: &Seq<Option<RequestId>>,
     r: &Req,
 ) -> bool
     requires classes { AreClasses plan.now classes.now }
-    requires live { AreLive plan.now classes.now standing.now live.now }
+    requires live { AreLive plan.now classes.now state.now live.now }
     requires own { Has plan.now.requests r.now }
-    requires idle { IsFalse (is_live_of (facts_at standing.now r.now)) }
-    ensures { result ≡ is_free_of plan.now standing.now r.now }
+    requires idle { IsFalse (is_live_of (facts_at state.now r.now)) }
+    ensures { result ≡ is_free_of plan.now state.now r.now }
 {
     let class = classes.class(r);
     match rival_noted(classes, live, class) {
         None => true,
-        Some(rival) => classes.spares(class) && is_free_of_all(plan, standing, r, rival),
+        Some(rival) => classes.spares(class) && is_free_of_all(plan, state, r, rival),
     }
 }

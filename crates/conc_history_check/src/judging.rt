@@ -11,40 +11,40 @@ use conc_law_decisions::{
     may_start_by_id, one_runs,
 };
 use conc_time::place_count;
-use conc_types::{Event, Moment, PlaceId, Plan, Reading, Req, RequestId, Seq, Standing};
+use conc_types::{Event, Moment, PlaceId, Plan, Reading, Req, RequestId, Seq, State};
 
 // ---- rest
 
-fn one_may_start(plan: &Plan, standing: &Standing, place: PlaceId) -> bool
-    ensures { result ≡ list_any (λ r. may_start_of plan.now standing.now r place) plan.now.requests }
+fn one_may_start(plan: &Plan, state: &State, place: PlaceId) -> bool
+    ensures { result ≡ list_any (λ r. may_start_of plan.now state.now r place) plan.now.requests }
 {
     plan.requests
         .as_slice()
         .iter()
-        .any(|r| may_start(plan, standing, r, place))
+        .any(|r| may_start(plan, state, r, place))
 }
 
 // Whether a request may start at the place. It looks at the requests only where the place is usable.
-fn one_may_start_at(plan: &Plan, standing: &Standing, place: PlaceId) -> bool
-    ensures { result ≡ list_any (λ r. may_start_of plan.now standing.now r place) plan.now.requests }
+fn one_may_start_at(plan: &Plan, state: &State, place: PlaceId) -> bool
+    ensures { result ≡ list_any (λ r. may_start_of plan.now state.now r place) plan.now.requests }
 {
-    is_usable_now(plan, standing, place) && one_may_start(plan, standing, place)
+    is_usable_now(plan, state, place) && one_may_start(plan, state, place)
 }
 
 // Whether a request may start at one of so many places from an index on.
-fn one_may_start_among(plan: &Plan, standing: &Standing, from: u32, count: u32) -> bool
+fn one_may_start_among(plan: &Plan, state: &State, from: u32, count: u32) -> bool
     requires { from + count < 2 ^ 32 }
-    ensures { result ≡ list_any (λ p. list_any (λ r. may_start_of plan.now standing.now r p) plan.now.requests) (map (λ index. record { index = index }) (range_with_len from count)) }
+    ensures { result ≡ list_any (λ p. list_any (λ r. may_start_of plan.now state.now r p) plan.now.requests) (map (λ index. record { index = index }) (range_with_len from count)) }
 {
     count > 0
-        && (one_may_start_at(plan, standing, PlaceId { index: from })
-            || one_may_start_among(plan, standing, from + 1, count - 1))
+        && (one_may_start_at(plan, state, PlaceId { index: from })
+            || one_may_start_among(plan, state, from + 1, count - 1))
 }
 
-fn one_may_start_somewhere(plan: &Plan, standing: &Standing) -> bool
-    ensures { result ≡ list_any (may_start_somewhere plan.now standing.now) plan.now.requests }
+fn one_may_start_somewhere(plan: &Plan, state: &State) -> bool
+    ensures { result ≡ list_any (may_start_somewhere plan.now state.now) plan.now.requests }
 {
-    one_may_start_among(plan, standing, 0, place_count(plan))
+    one_may_start_among(plan, state, 0, place_count(plan))
 }
 
 /// Whether the system is at rest: nothing is forced, no request runs, and none may start.
@@ -52,31 +52,31 @@ fn one_may_start_somewhere(plan: &Plan, standing: &Standing) -> bool
 pub(crate) fn is_at_rest(
     plan: &Plan,
     prepared: &Prepared,
-    standing: &Standing,
+    state: &State,
     live: &Seq<Option<RequestId>>,
 ) -> bool
     requires prepared { IsPrepared plan.now prepared.now }
-    requires live { AreLive plan.now prepared.now.classes standing.now live.now }
-    ensures { result ≡ is_at_rest_of plan.now standing.now }
+    requires live { AreLive plan.now prepared.now.classes state.now live.now }
+    ensures { result ≡ is_at_rest_of plan.now state.now }
 {
-    forced(plan, prepared, standing, live).is_none()
-        && !one_runs(plan, standing)
-        && !one_may_start_somewhere(plan, standing)
+    forced(plan, prepared, state, live).is_none()
+        && !one_runs(plan, state)
+        && !one_may_start_somewhere(plan, state)
 }
 
 #[tactic(auto, unfolding(conc_law::specs::Next::may_take))]
 fn may_take(
     plan: &Plan,
     prepared: &Prepared,
-    standing: &Standing,
+    state: &State,
     live: &Seq<Option<RequestId>>,
     reading: Reading,
 ) -> bool
     requires prepared { IsPrepared plan.now prepared.now }
-    requires live { AreLive plan.now prepared.now.classes standing.now live.now }
-    ensures { result ≡ may_take_of plan.now standing.now reading }
+    requires live { AreLive plan.now prepared.now.classes state.now live.now }
+    ensures { result ≡ may_take_of plan.now state.now reading }
 {
-    reading.early || is_at_rest(plan, prepared, standing, live)
+    reading.early || is_at_rest(plan, prepared, state, live)
 }
 
 // ---- single events
@@ -85,21 +85,21 @@ fn may_take(
 fn may_tick(
     plan: &Plan,
     prepared: &Prepared,
-    standing: &Standing,
+    state: &State,
     live: &Seq<Option<RequestId>>,
     next: Option<Option<Reading>>,
     t: Moment,
 ) -> bool
     requires prepared { IsPrepared plan.now prepared.now }
-    requires live { AreLive plan.now prepared.now.classes standing.now live.now }
-    ensures { result ≡ may_tick_of plan.now standing.now next t }
+    requires live { AreLive plan.now prepared.now.classes state.now live.now }
+    ensures { result ≡ may_tick_of plan.now state.now next t }
 {
     match next {
         Some(Some(reading)) => {
-            t.seconds == reading.moment.seconds && may_take(plan, prepared, standing, live, reading)
+            t.seconds == reading.moment.seconds && may_take(plan, prepared, state, live, reading)
         }
         Some(None) => false,
-        None => is_not_earlier(standing.time, t),
+        None => is_not_earlier(state.time, t),
     }
 }
 
@@ -107,23 +107,23 @@ fn may_tick(
 fn is_allowed(
     plan: &Plan,
     prepared: &Prepared,
-    standing: &Standing,
+    state: &State,
     live: &Seq<Option<RequestId>>,
     next: Option<Option<Reading>>,
     e: Event,
 ) -> bool
     requires prepared { IsPrepared plan.now prepared.now }
-    requires live { AreLive plan.now prepared.now.classes standing.now live.now }
-    ensures { result ≡ is_allowed_of plan.now standing.now next e }
+    requires live { AreLive plan.now prepared.now.classes state.now live.now }
+    ensures { result ≡ is_allowed_of plan.now state.now next e }
 {
     match e {
-        Event::Started { request, place } => may_start_by_id(plan, standing, request, place),
+        Event::Started { request, place } => may_start_by_id(plan, state, request, place),
         Event::Ended {
             request,
             outcome,
             extent,
-        } => may_end_by_id(plan, standing, request, outcome, extent),
-        Event::Tick { moment } => may_tick(plan, prepared, standing, live, next, moment),
+        } => may_end_by_id(plan, state, request, outcome, extent),
+        Event::Tick { moment } => may_tick(plan, prepared, state, live, next, moment),
         _ => false,
     }
 }
@@ -134,20 +134,20 @@ fn is_allowed(
 pub(crate) fn may_come(
     plan: &Plan,
     prepared: &Prepared,
-    standing: &Standing,
+    state: &State,
     live: &Seq<Option<RequestId>>,
     next: Option<Option<Reading>>,
     e: Event,
 ) -> bool
     requires prepared { IsPrepared plan.now prepared.now }
-    requires live { AreLive plan.now prepared.now.classes standing.now live.now }
-    ensures { result ≡ may_come_of plan.now standing.now next e }
+    requires live { AreLive plan.now prepared.now.classes state.now live.now }
+    ensures { result ≡ may_come_of plan.now state.now next e }
 {
     if is_resume(e) {
-        return !standing.empty;
+        return !state.empty;
     }
-    match forced(plan, prepared, standing, live) {
+    match forced(plan, prepared, state, live) {
         Some(due) => is_same_event(e, due),
-        None => is_allowed(plan, prepared, standing, live, next, e),
+        None => is_allowed(plan, prepared, state, live, next, e),
     }
 }

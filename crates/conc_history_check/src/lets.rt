@@ -14,7 +14,7 @@ use crate::free::is_free;
 use crate::prepared::Prepared;
 use conc_law_decisions::{facts_at, has_come, is_completed, is_live, is_waiting, let_event};
 use conc_machine_queue::{request_at_turn, turn};
-use conc_types::{Event, Plan, Req, RequestId, Seq, Standing};
+use conc_types::{Event, Plan, Req, RequestId, Seq, State};
 
 fn flag_numbered(flags: &Seq<bool>, number: u32) -> bool
     ensures { result ≡ unwrap_or (numbered flags.now number) false }
@@ -40,19 +40,19 @@ fn is_runnable(_plan: &Plan, prepared: &Prepared, r: &Req) -> bool
 
 // Whether r can be let out, or opened, unless a live request excludes it.
 #[tactic(auto, unfolding(conc_law::specs::Next::is_ready))]
-fn is_ready(plan: &Plan, prepared: &Prepared, standing: &Standing, r: &Req) -> bool
+fn is_ready(plan: &Plan, prepared: &Prepared, state: &State, r: &Req) -> bool
     requires prepared { IsPrepared plan.now prepared.now }
     requires own { Has plan.now.requests r.now }
-    ensures { result ≡ is_ready_of plan.now standing.now r.now }
+    ensures { result ≡ is_ready_of plan.now state.now r.now }
 {
-    let facts = facts_at(standing, r);
+    let facts = facts_at(state, r);
     facts.entered
         && !is_live(facts)
         && !is_completed(facts)
         && !facts.held
-        && has_come(standing.time, r.start)
+        && has_come(state.time, r.start)
         && is_runnable(plan, prepared, r)
-        && !is_waiting(plan, standing, r)
+        && !is_waiting(plan, state, r)
 }
 
 // Whether the turn comes before the best one so far.
@@ -69,24 +69,24 @@ fn comes_before(turn: u64, best: Option<u64>) -> bool
 fn better(
     plan: &Plan,
     prepared: &Prepared,
-    standing: &Standing,
+    state: &State,
     live: &Seq<Option<RequestId>>,
     best: Option<u64>,
     r: &Req,
 ) -> Option<u64>
     requires prepared { IsPrepared plan.now prepared.now }
-    requires live { AreLive plan.now prepared.now.classes standing.now live.now }
+    requires live { AreLive plan.now prepared.now.classes state.now live.now }
     requires own { Has plan.now.requests r.now }
-    ensures { result ≡ lesser best (then_some (may_let_of plan.now standing.now r.now) (turn_of r.now)) }
+    ensures { result ≡ lesser best (then_some (may_let_of plan.now state.now r.now) (turn_of r.now)) }
 {
-    if !is_ready(plan, prepared, standing, r) {
+    if !is_ready(plan, prepared, state, r) {
         return best;
     }
     let turn = turn(r);
     if !comes_before(turn, best) {
         return best;
     }
-    if !is_free(plan, &prepared.classes, standing, live, r) {
+    if !is_free(plan, &prepared.classes, state, live, r) {
         return best;
     }
     Some(turn)
@@ -96,16 +96,16 @@ fn better(
 fn least_turn(
     plan: &Plan,
     prepared: &Prepared,
-    standing: &Standing,
+    state: &State,
     live: &Seq<Option<RequestId>>,
 ) -> Option<u64>
     requires prepared { IsPrepared plan.now prepared.now }
-    requires live { AreLive plan.now prepared.now.classes standing.now live.now }
-    ensures { result ≡ least (turns_of (may_let_of plan.now standing.now) plan.now.requests) }
+    requires live { AreLive plan.now prepared.now.classes state.now live.now }
+    ensures { result ≡ least (turns_of (may_let_of plan.now state.now) plan.now.requests) }
 {
     let mut best = None;
     for r in plan.requests.as_slice() {
-        best = better(plan, prepared, standing, live, best, r);
+        best = better(plan, prepared, state, live, best, r);
     }
     best
 }
@@ -127,12 +127,12 @@ fn event_at(plan: &Plan, turn: Option<u64>) -> Option<Event>
 pub(crate) fn forced_let(
     plan: &Plan,
     prepared: &Prepared,
-    standing: &Standing,
+    state: &State,
     live: &Seq<Option<RequestId>>,
 ) -> Option<Event>
     requires prepared { IsPrepared plan.now prepared.now }
-    requires live { AreLive plan.now prepared.now.classes standing.now live.now }
-    ensures { result ≡ forced_let_of plan.now standing.now }
+    requires live { AreLive plan.now prepared.now.classes state.now live.now }
+    ensures { result ≡ forced_let_of plan.now state.now }
 {
-    event_at(plan, least_turn(plan, prepared, standing, live))
+    event_at(plan, least_turn(plan, prepared, state, live))
 }

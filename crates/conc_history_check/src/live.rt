@@ -5,7 +5,7 @@ ghost use Rattle.conc_history_check.specs.Live.{AreLive, AreLiveTo, noted as not
 
 use conc_law_decisions::{facts_at, is_live};
 use conc_machine_classes::Classes;
-use conc_types::{NoMemory, Plan, RequestId, Seq, Standing};
+use conc_types::{NoMemory, Plan, RequestId, Seq, State};
 use std::alloc::Global;
 
 /// For each class a live request of it, or none where it has none.
@@ -38,17 +38,17 @@ pub(crate) fn noted(live: &Seq<Option<RequestId>>, class: u32) -> Option<Request
 fn note(
     plan: &Plan,
     classes: &Classes,
-    standing: &Standing,
+    state: &State,
     live: &mut Seq<Option<RequestId>>,
     i: usize,
 )
     requires classes { AreClasses plan.now classes.now }
     requires within { i < length plan.now.requests }
-    requires before { AreLiveTo plan.now classes.now standing.now i live.old }
-    ensures { AreLiveTo plan.now classes.now standing.now (suc i) live.new }
+    requires before { AreLiveTo plan.now classes.now state.now i live.old }
+    ensures { AreLiveTo plan.now classes.now state.now (suc i) live.new }
 {
     let q = &plan.requests.as_slice()[i];
-    if is_live(facts_at(standing, q)) {
+    if is_live(facts_at(state, q)) {
         live.set(classes.class(q) as usize, Some(q.number));
     }
 }
@@ -57,15 +57,15 @@ fn note(
 pub(crate) fn note_live(
     plan: &Plan,
     classes: &Classes,
-    standing: &Standing,
+    state: &State,
     live: &mut Seq<Option<RequestId>>,
 )
     requires classes { AreClasses plan.now classes.now }
     requires room { length live.old ≡ length classes.now.sizes }
-    ensures { AreLive plan.now classes.now standing.now live.new }
+    ensures { AreLive plan.now classes.now state.now live.new }
 {
     clear(live);
     for i in 0..plan.requests.len() {
-        note(plan, classes, standing, live, i);
+        note(plan, classes, state, live, i);
     }
 }

@@ -56,7 +56,7 @@ pub(crate) fn is_lawful_at(
     may_come(
         plan,
         prepared,
-        &findings.standing,
+        &findings.state,
         &findings.live,
         next,
         events[i],

@@ -2,7 +2,7 @@ ghost use Rattle.std.specs.Prelude.{◌≡◌, List, slice_get};
 ghost use Rattle.std.specs.List.{filter};
 ghost use Rattle.conc_types.specs.declared.event.Event.{Event};
 ghost use Rattle.conc_law.specs.Readings.{next_reading as next_reading_of};
-ghost use Rattle.conc_law.specs.Standing.{is_not_earlier as is_not_earlier_of};
+ghost use Rattle.conc_law.specs.State.{is_not_earlier as is_not_earlier_of};
 ghost use Rattle.conc_history_check.specs.Findings.{HasTaken};
 
 use crate::findings::Findings;

@@ -11,5 +11,5 @@ pub mod Clean
 pub mod PlacesBack
 pub mod ReadBack
 pub mod WholeTexts
-pub mod PastLines
+pub mod LawfulLines
 pub mod Written

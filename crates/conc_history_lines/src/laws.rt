@@ -2,7 +2,7 @@ ghost use Rattle.std.specs.Prelude.{◌≡◌, ◌++◌, List, None, Some, IsTru
 ghost use Rattle.std.specs.List.{list_all};
 ghost use Rattle.conc_types.specs.declared.event.Event.{Event};
 ghost use Rattle.conc_types.specs.declared.plan.Plan.{Plan};
-ghost use Rattle.conc_law.specs.Law.{Past};
+ghost use Rattle.conc_law.specs.Law.{LawfulSoFar};
 ghost use Rattle.conc_law.specs.Text.{event_words, events_text, spaced};
 ghost use Rattle.conc_history_lines.specs.EventLines.{event_of_line};
 ghost use Rattle.conc_history_lines.specs.History.{history_in};
@@ -24,13 +24,13 @@ pub fn event_lines_are_read_back()
 
 /// Each event of a lawful history has a line.
 pub fn lawful_events_have_lines()
-    ensures { (plan : Plan) (history : List Event) → Past plan history → IsTrue (list_all (has_line plan) history) }
+    ensures { (plan : Plan) (history : List Event) → LawfulSoFar plan history → IsTrue (list_all (has_line plan) history) }
 {}
 
 /// A history is read back from its text, where each of its events has a line; so is a lawful one.
 pub fn texts_are_read_back()
     ensures lines { (plan : Plan) (history : List Event) → IsTrue (list_all (has_line plan) history) → IsReadBack plan history }
-    ensures lawful { (plan : Plan) (history : List Event) → Past plan history → IsReadBack plan history }
+    ensures lawful { (plan : Plan) (history : List Event) → LawfulSoFar plan history → IsReadBack plan history }
 {}
 
 /// A text that is read without a bad line is the text of the events that are read, as far as the

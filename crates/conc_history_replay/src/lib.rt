@@ -3,4 +3,4 @@
 
 mod replay;
 
-pub use replay::{standing_after, take_in};
+pub use replay::{state_after, take_in};

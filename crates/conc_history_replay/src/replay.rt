@@ -1,12 +1,12 @@
 ghost use Rattle.std.specs.Prelude.{◌≡◌, ◌∷◌, IfOk, List, reverse, slice_get};
 ghost use Rattle.conc_types.specs.declared.event.Event.{Event};
 ghost use Rattle.conc_law_effects.specs.Advance.{all_after, IsAfter, one_by};
-ghost use Rattle.conc_law.specs.Standing.{standing as standing_of};
+ghost use Rattle.conc_law.specs.State.{state as state_of};
 ghost use Rattle.conc_machine_reach.specs.Spans.{AreSpans, LeavesOthers};
 
 use conc_law_effects::{begin, facts_after, mark_done, named_facts, tick_of, used_after};
 use conc_machine_reach::{Span, Spans};
-use conc_types::{Event, Facts, NoMemory, Plan, Seq, Standing};
+use conc_types::{Event, Facts, NoMemory, Plan, Seq, State};
 use std::alloc::Global;
 
 // Makes the facts of the request at an index what they are after an event.
@@ -31,35 +31,35 @@ fn step_within(plan: &Plan, named: Facts, e: Event, facts: &mut Seq<Facts>, span
 }
 
 /// Takes one more event into what stands.
-pub fn take_in(plan: &Plan, spans: &Spans, standing: &mut Standing, e: Event)
+pub fn take_in(plan: &Plan, spans: &Spans, state: &mut State, e: Event)
     requires { AreSpans plan.now spans.now }
-    ensures { IsAfter plan.now standing.old standing.new e }
+    ensures { IsAfter plan.now state.old state.new e }
 {
-    let named = named_facts(plan, standing.facts.as_slice(), e);
-    step_within(plan, named, e, &mut standing.facts, spans.reach(plan, e));
-    mark_done(&mut standing.done, e);
-    standing.used = used_after(standing.used, e);
-    standing.time = tick_of(e).or(standing.time);
-    standing.empty = false;
+    let named = named_facts(plan, state.facts.as_slice(), e);
+    step_within(plan, named, e, &mut state.facts, spans.reach(plan, e));
+    mark_done(&mut state.done, e);
+    state.used = used_after(state.used, e);
+    state.time = tick_of(e).or(state.time);
+    state.empty = false;
 }
 
 // Takes one more event: what stood after some events becomes what stands after these and the event.
-fn advance(plan: &Plan, spans: &Spans, standing: &mut Standing, e: Event)
+fn advance(plan: &Plan, spans: &Spans, state: &mut State, e: Event)
     requires { AreSpans plan.now spans.now }
-    ensures { (past : List Event) → standing.old ≡ standing_of plan.now past → standing.new ≡ standing_of plan.now (e ∷ past) }
+    ensures { (past : List Event) → state.old ≡ state_of plan.now past → state.new ≡ state_of plan.now (e ∷ past) }
 {
-    take_in(plan, spans, standing, e);
+    take_in(plan, spans, state, e);
 }
 
 /// What stands after these events of the plan, which stand in the order in which they came. Each event
 /// costs a step for each request whose facts it can change.
-pub fn standing_after(alloc: Global, plan: &Plan, events: &[Event]) -> Result<Standing, NoMemory>
-    ensures { IfOk result (λ s. s ≡ standing_of plan.now (reverse events.now)) }
+pub fn state_after(alloc: Global, plan: &Plan, events: &[Event]) -> Result<State, NoMemory>
+    ensures { IfOk result (λ s. s ≡ state_of plan.now (reverse events.now)) }
 {
     let spans = Spans::new(alloc, plan)?;
-    let mut standing = begin(alloc, plan)?;
+    let mut state = begin(alloc, plan)?;
     for e in events {
-        advance(plan, &spans, &mut standing, *e);
+        advance(plan, &spans, &mut state, *e);
     }
-    Ok(standing)
+    Ok(state)
 }

@@ -10,9 +10,9 @@ use Rattle.conc_types.specs.declared.script.Reading.{Reading}
 use Rattle.conc_types.specs.Words.{is_empty}
 use Rattle.conc_law.specs.Alone.{Alone, Follows, next_alone, opening}
 use Rattle.conc_law.specs.Kinds.{is_resume}
-use Rattle.conc_law.specs.Law.{is_lawful, is_past, may_follow}
+use Rattle.conc_law.specs.Law.{is_lawful, is_lawful_so_far, may_follow}
 use Rattle.conc_law.specs.Next.{may_come}
-use Rattle.conc_law.specs.Standing.{standing}
+use Rattle.conc_law.specs.State.{state}
 use Rattle.conc_law.proofs.AloneLawful.{next_alone-follows}
 use Rattle.conc_law.proofs.Positions.{is_empty-long, reverse-push, slice_get-some, take-suc_at}
 
@@ -20,16 +20,16 @@ use Rattle.conc_law.proofs.Positions.{is_empty-long, reverse-push, slice_get-som
 
 -- a resume may follow any event
 resume_follows : (plan : Plan) (readings : Option (List Reading)) (past : List Event) → is_empty past ≡ false → may_follow plan readings past event.Resume ≡ true
-unfolding may_follow may_come standing
+unfolding may_follow may_come state
 resume_follows plan readings past h = ap not h
 
 -- a resume after a lawful list makes a lawful one
-resume_lawful : (plan : Plan) (readings : List Reading) (past : List Event) → is_past plan past ≡ true → is_empty past ≡ false → is_lawful plan readings (event.Resume ∷ past) ≡ true
+resume_lawful : (plan : Plan) (readings : List Reading) (past : List Event) → is_lawful_so_far plan past ≡ true → is_empty past ≡ false → is_lawful plan readings (event.Resume ∷ past) ≡ true
 unfolding is_lawful
 resume_lawful plan readings past h some = and_from _ _ h (resume_follows plan (Some readings) past some)
 
 -- a resume after a lawful history makes a lawful one
-pub opening-lawful : (plan : Plan) (readings : List Reading) (found : List Event) → is_past plan (reverse found) ≡ true → is_lawful plan readings (reverse (opening found)) ≡ true
+pub opening-lawful : (plan : Plan) (readings : List Reading) (found : List Event) → is_lawful_so_far plan (reverse found) ≡ true → is_lawful plan readings (reverse (opening found)) ≡ true
 unfolding is_lawful
 opening-lawful plan readings [] h = refl
 opening-lawful plan readings (e ∷ es) h =
@@ -69,7 +69,7 @@ pub length-alone : (plan : Plan) (readings : List Reading) (found history : List
 length-alone plan readings found history h = ap length h.begins.1 ∙ length-append (opening found) h.begins.0
 
 -- a run without workers that goes on from a lawful history makes a lawful one
-pub alone_lawful : (plan : Plan) (readings : List Reading) (found history : List Event) → is_past plan (reverse found) ≡ true → Alone plan readings found history
+pub alone_lawful : (plan : Plan) (readings : List Reading) (found history : List Event) → is_lawful_so_far plan (reverse found) ≡ true → Alone plan readings found history
     → is_lawful plan readings (reverse history) ≡ true
 alone_lawful plan readings found history past h =
     let n : ℕ = length (opening found) in

@@ -14,7 +14,7 @@ use Rattle.conc_types.specs.declared.event.Event.TheVariants as event
 use Rattle.conc_types.specs.declared.event.Extent.{Extent}
 use Rattle.conc_types.specs.declared.event.Outcome.TheVariants as outcome
 use Rattle.conc_types.specs.declared.event.PlaceId.{PlaceId}
-use Rattle.conc_types.specs.declared.facts.Standing.{Standing}
+use Rattle.conc_types.specs.declared.facts.State.{State}
 use Rattle.conc_types.specs.declared.plan.Plan.{Plan}
 use Rattle.conc_types.specs.declared.plan.Req.{Req}
 use Rattle.conc_types.specs.declared.program.Job.{Job}
@@ -33,7 +33,7 @@ use Rattle.conc_law.specs.Plans.{precedes, program_of}
 use Rattle.conc_law.specs.Readings.{next_reading}
 use Rattle.conc_law.specs.Numbers.{whole_number}
 use Rattle.conc_law.specs.Report.{cell, first_bad, passes, full_text, header, outcome_by, passing, report, Report, report_by, Row}
-use Rattle.conc_law.specs.Standing.{facts_at, is_running, is_stopping, standing}
+use Rattle.conc_law.specs.State.{facts_at, is_running, is_stopping, state}
 use Rattle.conc_law.specs.Words.{first_by, Has}
 use Rattle.conc_law.proofs.EqualEvents.{eqb-refl, event_eq-refl}
 use Rattle.conc_law.proofs.FirstBy.{find-some}
@@ -126,12 +126,12 @@ report_of-good plan r made h =
 -- ---- an end
 
 -- a request that is to stop may end as terminated
-may_end-stopping : (s : Standing) (r : Req) → is_running (facts_at s r) ≡ true → is_stopping (facts_at s r) ≡ true → may_end s r outcome.Terminated None ≡ true
+may_end-stopping : (s : State) (r : Req) → is_running (facts_at s r) ≡ true → is_stopping (facts_at s r) ≡ true → may_end s r outcome.Terminated None ≡ true
 unfolding may_end
 may_end-stopping s r run stop = and_from _ _ run (cond-true _ _ _ stop)
 
 -- a request that runs on may end with a good report at the end of the spool
-may_end-report : (s : Standing) (r : Req) (made : Report) (offset : ℕ) → is_running (facts_at s r) ≡ true → is_stopping (facts_at s r) ≡ false
+may_end-report : (s : State) (r : Req) (made : Report) (offset : ℕ) → is_running (facts_at s r) ≡ true → is_stopping (facts_at s r) ≡ false
     → s.used ≡ Some offset → IsGood made → may_end s r made.outcome (Some (record { offset = offset; length = length made.text })) ≡ true
 unfolding may_end is_next_extent
 may_end-report s r made offset run going used good =
@@ -141,7 +141,7 @@ may_end-report s r made offset run going used good =
     ∙ and_from _ _ good.outcome (and_from _ _ (ap (some_and (λ n. offset == n)) used ∙ eqb-refl offset) fits))
 
 -- the end of a request that runs is allowed
-end_allowed : (plan : Plan) (s : Standing) (next : Option (Option Reading)) (r : Req) (e : Event) → Has plan.requests r → is_running (facts_at s r) ≡ true
+end_allowed : (plan : Plan) (s : State) (next : Option (Option Reading)) (r : Req) (e : Event) → Has plan.requests r → is_running (facts_at s r) ≡ true
     → (stop : Bool) → is_stopping (facts_at s r) ≡ stop
     → (if stop then Some (event.Ended r.number outcome.Terminated None) else option_and_then (λ made. option_map (end_with r made) s.used) (report_of plan r)) ≡ Some e
     → is_allowed plan s next e ≡ true
@@ -161,7 +161,7 @@ end_allowed plan s next r e hr run false is h =
     subst (λ d. is_allowed plan s next d ≡ true) q.2 ok
 
 -- the end of the first request that runs is allowed
-first_end-allowed : (plan : Plan) (s : Standing) (next : Option (Option Reading)) (e : Event) → first_end plan s ≡ Some e → is_allowed plan s next e ≡ true
+first_end-allowed : (plan : Plan) (s : State) (next : Option (Option Reading)) (e : Event) → first_end plan s ≡ Some e → is_allowed plan s next e ≡ true
 unfolding first_end runs_somewhere
 first_end-allowed plan s next e h =
     let p : (r : Req) × (find (runs_somewhere s) plan.requests ≡ Some r) × (end_of plan s r ≡ Some e) =
@@ -172,7 +172,7 @@ first_end-allowed plan s next e h =
 -- ---- a start
 
 -- the start of the first request that may start is allowed
-first_start-allowed : (plan : Plan) (s : Standing) (next : Option (Option Reading)) (e : Event) → first_start plan s ≡ Some e → is_allowed plan s next e ≡ true
+first_start-allowed : (plan : Plan) (s : State) (next : Option (Option Reading)) (e : Event) → first_start plan s ≡ Some e → is_allowed plan s next e ≡ true
 unfolding first_start is_allowed
 first_start-allowed plan s next e h =
     let p : (r : Req) × (first_by precedes (may_start_somewhere plan s) plan.requests ≡ Some r) × (start_of plan s r ≡ Some e) =
@@ -188,7 +188,7 @@ first_start-allowed plan s next e h =
 -- ---- a tick
 
 -- the tick of the next reading is allowed
-next_tick-allowed : (plan : Plan) (s : Standing) (next : Option Reading) (e : Event) → next_tick plan s next ≡ Some e → is_allowed plan s (Some next) e ≡ true
+next_tick-allowed : (plan : Plan) (s : State) (next : Option Reading) (e : Event) → next_tick plan s next ≡ Some e → is_allowed plan s (Some next) e ≡ true
 unfolding next_tick is_allowed may_tick
 next_tick-allowed plan s next e h =
     let p : (q : Reading) × (next ≡ Some q) × (then_some (may_take plan s q) (event.Tick q.moment) ≡ Some e) =
@@ -201,13 +201,13 @@ next_tick-allowed plan s next e h =
 -- ---- one event
 
 -- no resume is allowed as a free event
-allowed_no_resume : (plan : Plan) (s : Standing) (next : Option (Option Reading)) (e : Event) → is_allowed plan s next e ≡ true → is_resume e ≡ false
+allowed_no_resume : (plan : Plan) (s : State) (next : Option (Option Reading)) (e : Event) → is_allowed plan s next e ≡ true → is_resume e ≡ false
 unfolding is_allowed
 allowed_no_resume plan s next event.Resume h = cc
 allowed_no_resume plan s next _ h = refl
 
 -- the choice is no resume, and is the forced event or one that is allowed
-comes_by : (plan : Plan) (s : Standing) (next : Option Reading) (e : Event) → (due : Option Event) → forced plan s ≡ due
+comes_by : (plan : Plan) (s : State) (next : Option Reading) (e : Event) → (due : Option Event) → forced plan s ≡ due
     → none_or is_forced_kind due ≡ true
     → option_or due (option_or (first_end plan s) (option_or (first_start plan s) (next_tick plan s next))) ≡ Some e
     → (is_resume e ≡ false) × (obeys plan s (Some next) e (forced plan s) ≡ true)
@@ -227,7 +227,7 @@ comes_by plan s next e None is kind h =
     (allowed_no_resume plan s (Some next) e ok, ap (obeys plan s (Some next) e) is ∙ ok)
 
 -- the choice is no resume, and may come next
-pub choice-comes : (plan : Plan) (s : Standing) (next : Option Reading) (e : Event) → choice plan s next ≡ Some e
+pub choice-comes : (plan : Plan) (s : State) (next : Option Reading) (e : Event) → choice plan s next ≡ Some e
     → (is_resume e ≡ false) × (may_come plan s (Some next) e ≡ true)
 unfolding choice may_come
 choice-comes plan s next e h =
@@ -238,4 +238,4 @@ choice-comes plan s next e h =
 pub next_alone-follows : (plan : Plan) (readings : List Reading) (past : List Event) (e : Event) → next_alone plan readings past ≡ Some e
     → (is_resume e ≡ false) × (may_follow plan (Some readings) past e ≡ true)
 unfolding next_alone may_follow
-next_alone-follows plan readings past e h = choice-comes plan (standing plan past) (next_reading readings past) e h
+next_alone-follows plan readings past e h = choice-comes plan (state plan past) (next_reading readings past) e h

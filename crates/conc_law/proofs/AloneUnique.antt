@@ -5,7 +5,7 @@ use Rattle.std.specs.List.{find, list_any}
 use Rattle.std.proofs.lemmas.Bool.{and_left, and_parts, cases_order, not-true, or_parts}
 use Rattle.std.proofs.lemmas.List.{take_all}
 use Rattle.conc_types.specs.declared.event.Event.{Event}
-use Rattle.conc_types.specs.declared.facts.Standing.{Standing}
+use Rattle.conc_types.specs.declared.facts.State.{State}
 use Rattle.conc_types.specs.declared.plan.Plan.{Plan}
 use Rattle.conc_types.specs.declared.script.Reading.{Reading}
 use Rattle.conc_law.specs.Alone.{Alone, choice, first_end, first_start, Follows, next_alone, next_tick, opening}
@@ -13,7 +13,7 @@ use Rattle.conc_law.specs.Law.{Finished}
 use Rattle.conc_law.specs.Next.{forced, is_at_rest, may_start_somewhere, runs_somewhere}
 use Rattle.conc_law.specs.Plans.{precedes}
 use Rattle.conc_law.specs.Readings.{next_reading}
-use Rattle.conc_law.specs.Standing.{standing}
+use Rattle.conc_law.specs.State.{state}
 use Rattle.conc_law.proofs.AloneHistory.{length-alone, take-opening}
 use Rattle.conc_law.proofs.Positions.{slice_get-some, take-suc_at}
 
@@ -33,23 +33,23 @@ find-none test less (x ∷ xs) h k =
     rw miss (find-none test less xs p.1 k)
 
 -- where nothing runs nothing ends
-first_end-none : (plan : Plan) (s : Standing) → list_any (runs_somewhere s) plan.requests ≡ false → first_end plan s ≡ None
+first_end-none : (plan : Plan) (s : State) → list_any (runs_somewhere s) plan.requests ≡ false → first_end plan s ≡ None
 unfolding first_end
 first_end-none plan s h = rw (find-none (runs_somewhere s) (runs_somewhere s) plan.requests h (λ r k. k))
 
 -- where nothing may start nothing starts
-first_start-none : (plan : Plan) (s : Standing) → list_any (may_start_somewhere plan s) plan.requests ≡ false → first_start plan s ≡ None
+first_start-none : (plan : Plan) (s : State) → list_any (may_start_somewhere plan s) plan.requests ≡ false → first_start plan s ≡ None
 unfolding first_start
 first_start-none plan s h =
     rw (find-none (may_start_somewhere plan s) (λ x. may_start_somewhere plan s x && not (list_any (λ y. may_start_somewhere plan s y && precedes y x) plan.requests)) plan.requests h (λ r k. and_left _ _ k))
 
 -- without a reading there is no tick
-next_tick-none : (plan : Plan) (s : Standing) (next : Option Reading) → next ≡ None → next_tick plan s next ≡ None
+next_tick-none : (plan : Plan) (s : State) (next : Option Reading) → next ≡ None → next_tick plan s next ≡ None
 unfolding next_tick
 next_tick-none plan s next h = rw h
 
 -- at rest and without a reading nothing is chosen
-choice-none : (plan : Plan) (s : Standing) (next : Option Reading) → is_at_rest plan s ≡ true → next ≡ None → choice plan s next ≡ None
+choice-none : (plan : Plan) (s : State) (next : Option Reading) → is_at_rest plan s ≡ true → next ≡ None → choice plan s next ≡ None
 unfolding choice is_at_rest
 choice-none plan s next rest none =
     let p : (is_none (forced plan s) ≡ true) × ((not (list_any (runs_somewhere s) plan.requests) && not (list_any (may_start_somewhere plan s) plan.requests)) ≡ true) = and_parts _ _ rest in
@@ -64,7 +64,7 @@ choice-none plan s next rest none =
 pub next_alone-finished : (plan : Plan) (readings : List Reading) (history : List Event) → Finished plan readings history → next_alone plan readings (reverse history) ≡ None
 unfolding next_alone
 next_alone-finished plan readings history h =
-    choice-none plan (standing plan (reverse history)) (next_reading readings (reverse history)) h.0 (none_from_is_none (next_reading readings (reverse history)) h.1)
+    choice-none plan (state plan (reverse history)) (next_reading readings (reverse history)) h.0 (none_from_is_none (next_reading readings (reverse history)) h.1)
 
 -- ---- two that begin alike are alike
 

@@ -13,7 +13,7 @@ use Rattle.conc_types.specs.Stages.{has_bit, has_stage, with_stage}
 use Rattle.conc_types.specs.Words.{is_between}
 use Rattle.conc_law.specs.Facts.{stages_begun}
 use Rattle.conc_law.specs.Kinds.{begins_stage, stage_begun_by}
-use Rattle.conc_law.specs.Past.{stands}
+use Rattle.conc_law.specs.Before.{stands}
 use Rattle.conc_law.specs.Words.{id_eq}
 
 -- ---- bits

@@ -8,7 +8,7 @@ use Rattle.conc_types.specs.declared.event.Event.TheVariants as event
 use Rattle.conc_types.specs.declared.event.Outcome.{Outcome}
 use Rattle.conc_types.specs.declared.event.PlaceId.{PlaceId}
 use Rattle.conc_types.specs.declared.event.RequestId.{RequestId}
-use Rattle.conc_types.specs.declared.facts.Standing.{Standing}
+use Rattle.conc_types.specs.declared.facts.State.{State}
 use Rattle.conc_types.specs.declared.plan.Plan.{Plan}
 use Rattle.conc_types.specs.declared.plan.Req.{Req}
 use Rattle.conc_types.specs.declared.script.Reading.{Reading}
@@ -21,7 +21,7 @@ use Rattle.conc_law.specs.Next.{forced, has_step, is_allowed, is_vacant, may_com
 use Rattle.conc_law.specs.Places.{is_usable, place_of}
 use Rattle.conc_law.specs.Readings.{next_reading}
 use Rattle.conc_law.specs.Stages.{set_step}
-use Rattle.conc_law.specs.Standing.{facts_at, is_running, standing}
+use Rattle.conc_law.specs.State.{facts_at, is_running, state}
 use Rattle.conc_law.specs.Words.{Has, is_set}
 use Rattle.conc_law.proofs.EqualEvents.{event_same}
 use Rattle.conc_law.proofs.ForcedBy.{by_command, by_interrupt, by_let, by_step, forced-by, ForcedBy}
@@ -35,7 +35,7 @@ same_request plan q r hq hr n =
     cc
 
 -- an event that may come is a resume, or forced, or allowed where nothing is forced
-pub came : (plan : Plan) (s : Standing) (next : Option (Option Reading)) (e : Event) → is_resume e ≡ false → may_come plan s next e ≡ true
+pub came : (plan : Plan) (s : State) (next : Option (Option Reading)) (e : Event) → is_resume e ≡ false → may_come plan s next e ≡ true
     → (forced plan s ≡ Some e) ⊎ ((forced plan s ≡ None) × (is_allowed plan s next e ≡ true))
 unfolding may_come
 came plan s next e r h =
@@ -45,7 +45,7 @@ came plan s next e r h =
       by (Some d) k = inl (ap (λ x. Some x) (sym (event_same e d k)))
 
 -- an event that is never allowed comes where it is forced
-pub comes_forced : (plan : Plan) (s : Standing) (next : Option (Option Reading)) (e : Event) → is_resume e ≡ false → is_allowed plan s next e ≡ false
+pub comes_forced : (plan : Plan) (s : State) (next : Option (Option Reading)) (e : Event) → is_resume e ≡ false → is_allowed plan s next e ≡ false
     → may_come plan s next e ≡ true → ForcedBy plan s e
 comes_forced plan s next e r never h = elim (came plan s next e r h) [
   | inl f ↦ forced-by plan s e f
@@ -53,7 +53,7 @@ comes_forced plan s next e r never h = elim (came plan s next e r h) [
 ]
 
 -- an event of a kind that is never forced comes where it is allowed, and nothing is forced
-pub comes_allowed : (plan : Plan) (s : Standing) (next : Option (Option Reading)) (e : Event) → is_resume e ≡ false → is_forced_kind e ≡ false
+pub comes_allowed : (plan : Plan) (s : State) (next : Option (Option Reading)) (e : Event) → is_resume e ≡ false → is_forced_kind e ≡ false
     → may_come plan s next e ≡ true → (forced plan s ≡ None) × (is_allowed plan s next e ≡ true)
 comes_allowed plan s next e r never h = elim (came plan s next e r h) [
   | inl f ↦
@@ -66,16 +66,16 @@ comes_allowed plan s next e r never h = elim (came plan s next e r h) [
 
 -- a request that starts may start there
 pub start_comes : (plan : Plan) (readings : Option (List Reading)) (past : List Event) (r : Req) (place : PlaceId) → Has plan.requests r
-    → may_follow plan readings past (event.Started r.number place) ≡ true → may_start plan (standing plan past) r place ≡ true
+    → may_follow plan readings past (event.Started r.number place) ≡ true → may_start plan (state plan past) r place ≡ true
 unfolding may_follow is_allowed
 start_comes plan readings past r place hr h =
-    let s = standing plan past in
+    let s = state plan past in
     let allowed : some_and (λ q. may_start plan s q place) (request plan r.number) ≡ true =
     (comes_allowed plan s (option_map (λ known. next_reading known past) readings) (event.Started r.number place) refl refl h).1 in
     ap (some_and (λ q. may_start plan s q place)) (sym (numbered_plan plan r hr)) ∙ allowed
 
 -- what a request that may start meets: it is let and does not run, and nothing runs there
-pub may_start-parts : (plan : Plan) (s : Standing) (r : Req) (place : PlaceId) → may_start plan s r place ≡ true
+pub may_start-parts : (plan : Plan) (s : State) (r : Req) (place : PlaceId) → may_start plan s r place ≡ true
     → ((facts_at s r).let_out ≡ true) × (is_running (facts_at s r) ≡ false) × (is_vacant plan s place ≡ true)
 unfolding may_start
 may_start-parts plan s r place h =
@@ -89,7 +89,7 @@ may_start-parts plan s r place h =
 -- ---- a let, and a step of a set
 
 -- r is a request of the plan with this number, and it could be let
-pub record Lettable (plan : Plan) (s : Standing) (id : RequestId) (set : Bool) : Type 0 where
+pub record Lettable (plan : Plan) (s : State) (id : RequestId) (set : Bool) : Type 0 where
   pub req : Req
   pub element : Has plan.requests req
   pub number : req.number ≡ id
@@ -97,7 +97,7 @@ pub record Lettable (plan : Plan) (s : Standing) (id : RequestId) (set : Bool) :
   pub kind : is_set req.item ≡ set
 
 -- a forced let is that of a request that could be let
-let_by : (plan : Plan) (s : Standing) (id : RequestId) → ForcedBy plan s (event.LetOut id) → Lettable plan s id false
+let_by : (plan : Plan) (s : State) (id : RequestId) → ForcedBy plan s (event.LetOut id) → Lettable plan s id false
 let_by plan s id (by_interrupt r hr p e) = cc
 let_by plan s id (by_command n e) = cc
 let_by plan s id (by_step set hs p (inl e)) = let k : event.LetOut id ≡ event.Stage set.number e.0 = e.1 in cc
@@ -109,7 +109,7 @@ let_by plan s id (by_let r hr p (inr e)) =
     record { req = r; element = hr; number = n; could = p; kind = e.0 }
 
 -- a forced opening is that of a set that could be opened
-open_by : (plan : Plan) (s : Standing) (id : RequestId) → ForcedBy plan s (event.OpenSet id) → Lettable plan s id true
+open_by : (plan : Plan) (s : State) (id : RequestId) → ForcedBy plan s (event.OpenSet id) → Lettable plan s id true
 open_by plan s id (by_interrupt r hr p e) = cc
 open_by plan s id (by_command n e) = cc
 open_by plan s id (by_step set hs p (inl e)) = let k : event.OpenSet id ≡ event.Stage set.number e.0 = e.1 in cc
@@ -122,34 +122,34 @@ open_by plan s id (by_let r hr p (inl e)) =
 
 -- the request that an event lets out could be let, and is no set
 pub let_comes : (plan : Plan) (readings : Option (List Reading)) (past : List Event) (id : RequestId)
-    → may_follow plan readings past (event.LetOut id) ≡ true → Lettable plan (standing plan past) id false
+    → may_follow plan readings past (event.LetOut id) ≡ true → Lettable plan (state plan past) id false
 unfolding may_follow is_allowed
 let_comes plan readings past id h =
-    let_by plan (standing plan past) id
-    (comes_forced plan (standing plan past) (option_map (λ known. next_reading known past) readings) (event.LetOut id) refl refl h)
+    let_by plan (state plan past) id
+    (comes_forced plan (state plan past) (option_map (λ known. next_reading known past) readings) (event.LetOut id) refl refl h)
 
 -- the set that an event opens could be opened
 pub open_comes : (plan : Plan) (readings : Option (List Reading)) (past : List Event) (id : RequestId)
-    → may_follow plan readings past (event.OpenSet id) ≡ true → Lettable plan (standing plan past) id true
+    → may_follow plan readings past (event.OpenSet id) ≡ true → Lettable plan (state plan past) id true
 unfolding may_follow is_allowed
 open_comes plan readings past id h =
-    open_by plan (standing plan past) id
-    (comes_forced plan (standing plan past) (option_map (λ known. next_reading known past) readings) (event.OpenSet id) refl refl h)
+    open_by plan (state plan past) id
+    (comes_forced plan (state plan past) (option_map (λ known. next_reading known past) readings) (event.OpenSet id) refl refl h)
 
 -- r is a request of the plan with this number, and an open set
-pub record Opened (plan : Plan) (s : Standing) (id : RequestId) : Type 0 where
+pub record Opened (plan : Plan) (s : State) (id : RequestId) : Type 0 where
   pub req : Req
   pub element : Has plan.requests req
   pub number : req.number ≡ id
   pub opened : (facts_at s req).opened ≡ true
 
 -- a set that has a step is open
-has_step-opened : (plan : Plan) (s : Standing) (set : Req) → has_step plan s set ≡ true → (facts_at s set).opened ≡ true
+has_step-opened : (plan : Plan) (s : State) (set : Req) → has_step plan s set ≡ true → (facts_at s set).opened ≡ true
 unfolding has_step
 has_step-opened plan s set h = (and_parts (facts_at s set).opened (is_some (set_step plan s set)) h).0
 
 -- a forced stage is one of an open set
-stage_by : (plan : Plan) (s : Standing) (id : RequestId) (stage : ℕ) → ForcedBy plan s (event.Stage id stage) → Opened plan s id
+stage_by : (plan : Plan) (s : State) (id : RequestId) (stage : ℕ) → ForcedBy plan s (event.Stage id stage) → Opened plan s id
 stage_by plan s id stage (by_interrupt r hr p e) = cc
 stage_by plan s id stage (by_command n e) = cc
 stage_by plan s id stage (by_step set hs p (inl e)) =
@@ -161,7 +161,7 @@ stage_by plan s id stage (by_let r hr p (inl e)) = let k : event.Stage id stage 
 stage_by plan s id stage (by_let r hr p (inr e)) = let k : event.Stage id stage ≡ event.LetOut r.number = e.1 in cc
 
 -- a forced close is that of an open set
-close_by : (plan : Plan) (s : Standing) (id : RequestId) (o : Outcome) → ForcedBy plan s (event.CloseSet id o) → Opened plan s id
+close_by : (plan : Plan) (s : State) (id : RequestId) (o : Outcome) → ForcedBy plan s (event.CloseSet id o) → Opened plan s id
 close_by plan s id o (by_interrupt r hr p e) = cc
 close_by plan s id o (by_command n e) = cc
 close_by plan s id o (by_step set hs p (inl e)) = let k : event.CloseSet id o ≡ event.Stage set.number e.0 = e.1 in cc
@@ -174,16 +174,16 @@ close_by plan s id o (by_let r hr p (inr e)) = let k : event.CloseSet id o ≡ e
 
 -- a set of which a stage begins is open
 pub stage_comes : (plan : Plan) (readings : Option (List Reading)) (past : List Event) (id : RequestId) (stage : ℕ)
-    → may_follow plan readings past (event.Stage id stage) ≡ true → Opened plan (standing plan past) id
+    → may_follow plan readings past (event.Stage id stage) ≡ true → Opened plan (state plan past) id
 unfolding may_follow is_allowed
 stage_comes plan readings past id stage h =
-    stage_by plan (standing plan past) id stage
-    (comes_forced plan (standing plan past) (option_map (λ known. next_reading known past) readings) (event.Stage id stage) refl refl h)
+    stage_by plan (state plan past) id stage
+    (comes_forced plan (state plan past) (option_map (λ known. next_reading known past) readings) (event.Stage id stage) refl refl h)
 
 -- a set that closes is open
 pub close_comes : (plan : Plan) (readings : Option (List Reading)) (past : List Event) (id : RequestId) (o : Outcome)
-    → may_follow plan readings past (event.CloseSet id o) ≡ true → Opened plan (standing plan past) id
+    → may_follow plan readings past (event.CloseSet id o) ≡ true → Opened plan (state plan past) id
 unfolding may_follow is_allowed
 close_comes plan readings past id o h =
-    close_by plan (standing plan past) id o
-    (comes_forced plan (standing plan past) (option_map (λ known. next_reading known past) readings) (event.CloseSet id o) refl refl h)
+    close_by plan (state plan past) id o
+    (comes_forced plan (state plan past) (option_map (λ known. next_reading known past) readings) (event.CloseSet id o) refl refl h)

@@ -17,16 +17,16 @@ use Rattle.conc_types.specs.Stages.{has_stage}
 use Rattle.conc_types.specs.Words.{is_between, some_and}
 use Rattle.conc_law.specs.Facts.{cancels, completes, completion, holds, is_idle, is_let, is_open, stages_begun, unlets, waits_for_stage, was_completed}
 use Rattle.conc_law.specs.Kinds.{begins_stage, closes, opens, stops}
-use Rattle.conc_law.specs.Law.{is_past, may_follow}
+use Rattle.conc_law.specs.Law.{is_lawful_so_far, may_follow}
 use Rattle.conc_law.specs.Next.{may_let}
-use Rattle.conc_law.specs.Past.{stands, stands_since}
+use Rattle.conc_law.specs.Before.{stands, stands_since}
 use Rattle.conc_law.specs.Plans.{parent}
-use Rattle.conc_law.specs.Standing.{standing}
+use Rattle.conc_law.specs.State.{state}
 use Rattle.conc_law.specs.Words.{Has, id_eq, is_set}
 use Rattle.conc_law.proofs.BegunStages.{stages_begun-stand}
 use Rattle.conc_law.proofs.Comes.{close_comes, Opened, same_request, stage_comes}
 use Rattle.conc_law.proofs.EqualEvents.{id_same}
-use Rattle.conc_law.proofs.FactsAt.{is_completed-standing, is_waiting-standing, opened-standing}
+use Rattle.conc_law.proofs.FactsAt.{is_completed-state, is_waiting-state, opened-state}
 use Rattle.conc_law.proofs.LiveApart.{is_let-more, let_could, may_let-parts}
 use Rattle.conc_law.proofs.Numbering.{found}
 use Rattle.conc_law.proofs.Options.{and_then-some}
@@ -81,10 +81,10 @@ still_open past set e h k =
     and_from _ _ p.0 (or_right _ _ (and_from _ _ (not_from_false _ k) p.1))
 
 -- a request of the plan that is opened by its number is open
-pub opened_open : (plan : Plan) (past : List Event) (r : Req) → Has plan.requests r → Opened plan (standing plan past) r.number → is_open past r ≡ true
+pub opened_open : (plan : Plan) (past : List Event) (r : Req) → Has plan.requests r → Opened plan (state plan past) r.number → is_open past r ≡ true
 opened_open plan past r hr o =
     let same : o.req ≡ r = same_request plan o.req r o.element hr o.number in
-    subst (λ z. is_open past z ≡ true) same (sym (opened-standing plan past o.req o.element) ∙ o.opened)
+    subst (λ z. is_open past z ≡ true) same (sym (opened-state plan past o.req o.element) ∙ o.opened)
 
 -- a set of which a stage begins is open
 stage_open : (plan : Plan) (past : List Event) (set : Req) (k : ℕ) (e : Event) → Has plan.requests set → may_follow plan None past e ≡ true
@@ -96,12 +96,12 @@ stage_open plan past set k (event.Stage s l) hs h b =
 stage_open plan past set k _ hs h b = cc
 
 -- a set of which a stage began is open or completed
-begun_set : (plan : Plan) (past : List Event) (set : Req) (k : ℕ) → Has plan.requests set → is_past plan past ≡ true
+begun_set : (plan : Plan) (past : List Event) (set : Req) (k : ℕ) → Has plan.requests set → is_lawful_so_far plan past ≡ true
     → stands (begins_stage set.number k) past ≡ true → (is_open past set ≡ true) ⊎ (was_completed plan past set ≡ true)
-unfolding is_past
+unfolding is_lawful_so_far
 begun_set plan [] set k hs lawful h = cc
 begun_set plan (e ∷ past) set k hs lawful h =
-    let p : (is_past plan past ≡ true) × (may_follow plan None past e ≡ true) = and_parts _ _ lawful in
+    let p : (is_lawful_so_far plan past ≡ true) × (may_follow plan None past e ≡ true) = and_parts _ _ lawful in
     elim (or_cases (begins_stage set.number k e) _ h) [
       | inl b ↦ inl (stage_open plan past set k e hs p.1 b)
       | inr old ↦ elim (begun_set plan past set k hs p.0 old) [
@@ -142,25 +142,25 @@ waits-more plan past r e h = by (parent plan r) h where
 -- ---- a let request
 
 -- a let request does not wait for its stage
-let_waits_no_more : (plan : Plan) (past : List Event) (r : Req) → Has plan.requests r → is_past plan past ≡ true → is_let plan past r ≡ true
+let_waits_no_more : (plan : Plan) (past : List Event) (r : Req) → Has plan.requests r → is_lawful_so_far plan past ≡ true → is_let plan past r ≡ true
     → waits_for_stage plan past r ≡ false
-unfolding is_past is_let
+unfolding is_lawful_so_far is_let
 let_waits_no_more plan [] r hr lawful h = cc
 let_waits_no_more plan (e ∷ past) r hr lawful h =
-    let p : (is_past plan past ≡ true) × (may_follow plan None past e ≡ true) = and_parts _ _ lawful in
+    let p : (is_lawful_so_far plan past ≡ true) × (may_follow plan None past e ≡ true) = and_parts _ _ lawful in
     waits-more plan past r e (elim (is_let-more plan past r e h) [
       | inl l ↦
-          let could : may_let plan (standing plan past) r ≡ true = (let_could plan None past r hr (subst (λ d. may_follow plan None past d ≡ true) l p.1)).0 in
-          sym (is_waiting-standing plan past r) ∙ (may_let-parts plan (standing plan past) r could).1
+          let could : may_let plan (state plan past) r ≡ true = (let_could plan None past r hr (subst (λ d. may_follow plan None past d ≡ true) l p.1)).0 in
+          sym (is_waiting-state plan past r) ∙ (may_let-parts plan (state plan past) r could).1
       | inr s ↦ let_waits_no_more plan past r hr p.0 s.1
     ])
 
 -- a let request is no set
-pub let_no_set : (plan : Plan) (past : List Event) (r : Req) → Has plan.requests r → is_past plan past ≡ true → is_let plan past r ≡ true → is_set r.item ≡ false
-unfolding is_past is_let
+pub let_no_set : (plan : Plan) (past : List Event) (r : Req) → Has plan.requests r → is_lawful_so_far plan past ≡ true → is_let plan past r ≡ true → is_set r.item ≡ false
+unfolding is_lawful_so_far is_let
 let_no_set plan [] r hr lawful h = cc
 let_no_set plan (e ∷ past) r hr lawful h =
-    let p : (is_past plan past ≡ true) × (may_follow plan None past e ≡ true) = and_parts _ _ lawful in
+    let p : (is_lawful_so_far plan past ≡ true) × (may_follow plan None past e ≡ true) = and_parts _ _ lawful in
     elim (is_let-more plan past r e h) [
       | inl l ↦ (let_could plan None past r hr (subst (λ d. may_follow plan None past d ≡ true) l p.1)).1
       | inr s ↦ let_no_set plan past r hr p.0 s.1
@@ -200,7 +200,7 @@ parent_begun plan past r set h w =
     ((found plan p.0 set p.2).1, not-false _ n)
 
 -- the set of a let member is not cancelled
-pub parent_cancel : (plan : Plan) (past : List Event) (r : Req) (e : Event) → is_past plan past ≡ true → waits_for_stage plan past r ≡ false
+pub parent_cancel : (plan : Plan) (past : List Event) (r : Req) (e : Event) → is_lawful_so_far plan past ≡ true → waits_for_stage plan past r ≡ false
     → (o : Option Req) → parent plan r ≡ o → some_and (λ set. cancels plan past (completion plan past) set e) o ≡ false
 parent_cancel plan past r e lawful w None is = refl
 parent_cancel plan past r e lawful w (Some set) is =
@@ -216,7 +216,7 @@ unlets-parts plan past r e h =
     (p.0, (or_parts (holds plan r past e) _ p.1).1)
 
 -- an event after which a let request is let does not complete it
-completes_not : (plan : Plan) (past : List Event) (r : Req) (e : Event) → Has plan.requests r → is_past plan past ≡ true
+completes_not : (plan : Plan) (past : List Event) (r : Req) (e : Event) → Has plan.requests r → is_lawful_so_far plan past ≡ true
     → may_follow plan None past e ≡ true → is_let plan past r ≡ true → unlets plan r past e ≡ false
     → is_some (completes plan past (completion plan past) r e) ≡ false
 unfolding completes is_open
@@ -245,16 +245,16 @@ unfolding completes
 let_completes_not plan past r = refl
 
 -- what stands at each position of a lawful history: a let request is not completed
-pub let_not_completed : (plan : Plan) (past : List Event) (r : Req) → Has plan.requests r → is_past plan past ≡ true → is_let plan past r ≡ true
+pub let_not_completed : (plan : Plan) (past : List Event) (r : Req) → Has plan.requests r → is_lawful_so_far plan past ≡ true → is_let plan past r ≡ true
     → was_completed plan past r ≡ false
-unfolding is_past is_let
+unfolding is_lawful_so_far is_let
 let_not_completed plan [] r hr lawful h = cc
 let_not_completed plan (e ∷ past) r hr lawful h =
-    let p : (is_past plan past ≡ true) × (may_follow plan None past e ≡ true) = and_parts _ _ lawful in
+    let p : (is_lawful_so_far plan past ≡ true) × (may_follow plan None past e ≡ true) = and_parts _ _ lawful in
     elim (is_let-more plan past r e h) [
       | inl l ↦
-          let could : may_let plan (standing plan past) r ≡ true = (let_could plan None past r hr (subst (λ d. may_follow plan None past d ≡ true) l p.1)).0 in
-          let before : was_completed plan past r ≡ false = sym (is_completed-standing plan past r hr) ∙ (may_let-parts plan (standing plan past) r could).0 in
+          let could : may_let plan (state plan past) r ≡ true = (let_could plan None past r hr (subst (λ d. may_follow plan None past d ≡ true) l p.1)).0 in
+          let before : was_completed plan past r ≡ false = sym (is_completed-state plan past r hr) ∙ (may_let-parts plan (state plan past) r could).0 in
           subst (λ d. was_completed plan (d ∷ past) r ≡ false) (sym l)
           (was_completed-neither plan past r (event.LetOut r.number) before (let_completes_not plan past r))
       | inr s ↦ was_completed-neither plan past r e (let_not_completed plan past r hr p.0 s.1) (completes_not plan past r e hr p.0 p.1 s.1 s.0)
@@ -262,10 +262,10 @@ let_not_completed plan (e ∷ past) r hr lawful h =
 
 -- where a request starts it is not completed
 pub start_not_completed : (plan : Plan) (before : List Event) (r : Req) (place : PlaceId) → Has plan.requests r
-    → is_past plan (reverse (before ++ event.Started r.number place ∷ [])) ≡ true → was_completed plan (reverse before) r ≡ false
-unfolding is_past
+    → is_lawful_so_far plan (reverse (before ++ event.Started r.number place ∷ [])) ≡ true → was_completed plan (reverse before) r ≡ false
+unfolding is_lawful_so_far
 start_not_completed plan before r place hr h =
-    let turned : is_past plan (event.Started r.number place ∷ reverse before) ≡ true =
-    ap (is_past plan) (sym (reverse-append before (event.Started r.number place ∷ []))) ∙ h in
-    let p : (is_past plan (reverse before) ≡ true) × (may_follow plan None (reverse before) (event.Started r.number place) ≡ true) = and_parts _ _ turned in
+    let turned : is_lawful_so_far plan (event.Started r.number place ∷ reverse before) ≡ true =
+    ap (is_lawful_so_far plan) (sym (reverse-append before (event.Started r.number place ∷ []))) ∙ h in
+    let p : (is_lawful_so_far plan (reverse before) ≡ true) × (may_follow plan None (reverse before) (event.Started r.number place) ≡ true) = and_parts _ _ turned in
     let_not_completed plan (reverse before) r hr p.0 (start_let plan None (reverse before) r place hr p.1)

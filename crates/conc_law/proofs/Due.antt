@@ -7,7 +7,7 @@ use Rattle.std.proofs.lemmas.Bool.{and_parts, not-true}
 use Rattle.conc_types.specs.declared.event.Event.{Event}
 use Rattle.conc_types.specs.declared.event.Event.TheVariants as event
 use Rattle.conc_types.specs.declared.event.RequestId.{RequestId}
-use Rattle.conc_types.specs.declared.facts.Standing.{Standing}
+use Rattle.conc_types.specs.declared.facts.State.{State}
 use Rattle.conc_types.specs.declared.plan.Plan.{Plan}
 use Rattle.conc_types.specs.declared.plan.Req.{Req}
 use Rattle.conc_types.specs.declared.script.Order.{Order}
@@ -18,7 +18,7 @@ use Rattle.conc_law.specs.Next.{forced, forced_command, forced_interrupt, forced
 use Rattle.conc_law.specs.Plans.{precedes}
 use Rattle.conc_law.specs.Readings.{next_reading}
 use Rattle.conc_law.specs.Stages.{set_step}
-use Rattle.conc_law.specs.Standing.{has_come, is_done, standing}
+use Rattle.conc_law.specs.State.{has_come, is_done, state}
 use Rattle.conc_law.specs.Words.{first_by, Has}
 use Rattle.conc_law.proofs.Comes.{came}
 use Rattle.conc_law.proofs.FactsAt.{numbered-map}
@@ -38,22 +38,22 @@ pub record IsUndone (plan : Plan) (past : List Event) (n : ℕ) : Type 0 where
 
 -- a command that is due is not done
 due_undone : (plan : Plan) (past : List Event) (order : ℕ × Order) → Has (enumerate_from 1 plan.script.commands) order
-    → is_due (standing plan past) order ≡ true → is_done past order ≡ false
-unfolding is_due standing
+    → is_due (state plan past) order ≡ true → is_done past order ≡ false
+unfolding is_due state
 due_undone plan past order here h =
     let commands = enumerate_from 1 plan.script.commands in
-    let p : not (unwrap_or (numbered (standing plan past).done order.0) false) ≡ true =
-    (and_parts (not (unwrap_or (numbered (standing plan past).done order.0) false)) (has_come (standing plan past).time order.1.at) h).0 in
-    let q : unwrap_or (numbered (standing plan past).done order.0) false ≡ false = not-true _ p in
+    let p : not (unwrap_or (numbered (state plan past).done order.0) false) ≡ true =
+    (and_parts (not (unwrap_or (numbered (state plan past).done order.0) false)) (has_come (state plan past).time order.1.at) h).0 in
+    let q : unwrap_or (numbered (state plan past).done order.0) false ≡ false = not-true _ p in
     sym (ap (λ o. unwrap_or o false) (numbered-map (is_done past) commands order.0)
     ∙ ap (λ o. unwrap_or (option_map (is_done past) o) false) (enumerated-numbered plan.script.commands order here))
     ∙ q
 
 -- a forced command is one that is due
-forced-command : (plan : Plan) (past : List Event) (n : ℕ) → forced plan (standing plan past) ≡ Some (event.Command n) → IsUndone plan past n
+forced-command : (plan : Plan) (past : List Event) (n : ℕ) → forced plan (state plan past) ≡ Some (event.Command n) → IsUndone plan past n
 unfolding forced forced_interrupt forced_command forced_step forced_let
 forced-command plan past n h =
-    let s = standing plan past in
+    let s = state plan past in
     let commands = enumerate_from 1 plan.script.commands in
     elim (or-some (forced_interrupt plan s) _ _ h) [
       | inl a ↦
@@ -85,7 +85,7 @@ pub command_undone : (plan : Plan) (readings : Option (List Reading)) (past : Li
     → IsUndone plan past n
 unfolding may_follow is_allowed
 command_undone plan readings past n h =
-    elim (came plan (standing plan past) (option_map (λ known. next_reading known past) readings) (event.Command n) refl h) [
+    elim (came plan (state plan past) (option_map (λ known. next_reading known past) readings) (event.Command n) refl h) [
       | inl f ↦ forced-command plan past n f
       | inr a ↦ cc
     ]
@@ -93,14 +93,14 @@ command_undone plan readings past n h =
 -- ---- a stage
 
 -- the set with this number is a request of the plan, and begins this stage next
-pub record IsStepped (plan : Plan) (s : Standing) (id : RequestId) (k : ℕ) : Type 0 where
+pub record IsStepped (plan : Plan) (s : State) (id : RequestId) (k : ℕ) : Type 0 where
   pub req : Req
   pub element : Has plan.requests req
   pub number : req.number ≡ id
   pub step : set_step plan s req ≡ Some (event.Stage id k)
 
 -- a forced stage is the step of its set
-forced-stage : (plan : Plan) (s : Standing) (id : RequestId) (k : ℕ) → forced plan s ≡ Some (event.Stage id k) → IsStepped plan s id k
+forced-stage : (plan : Plan) (s : State) (id : RequestId) (k : ℕ) → forced plan s ≡ Some (event.Stage id k) → IsStepped plan s id k
 unfolding forced forced_interrupt forced_command forced_step forced_let
 forced-stage plan s id k h =
     elim (or-some (forced_interrupt plan s) _ _ h) [
@@ -135,10 +135,10 @@ forced-stage plan s id k h =
 
 -- a stage that may follow is the step of its set
 pub stage_stepped : (plan : Plan) (readings : Option (List Reading)) (past : List Event) (id : RequestId) (k : ℕ) → may_follow plan readings past (event.Stage id k) ≡ true
-    → IsStepped plan (standing plan past) id k
+    → IsStepped plan (state plan past) id k
 unfolding may_follow is_allowed
 stage_stepped plan readings past id k h =
-    elim (came plan (standing plan past) (option_map (λ known. next_reading known past) readings) (event.Stage id k) refl h) [
-      | inl f ↦ forced-stage plan (standing plan past) id k f
+    elim (came plan (state plan past) (option_map (λ known. next_reading known past) readings) (event.Stage id k) refl h) [
+      | inl f ↦ forced-stage plan (state plan past) id k f
       | inr a ↦ cc
     ]

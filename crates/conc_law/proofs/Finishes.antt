@@ -7,7 +7,7 @@ use Rattle.std.proofs.lemmas.Bool.{and_from, and_parts, both_ways, cases_Bool, n
 use Rattle.conc_types.specs.declared.event.Event.{Event}
 use Rattle.conc_types.specs.declared.event.Event.TheVariants as event
 use Rattle.conc_types.specs.declared.event.Outcome.TheVariants as outcome
-use Rattle.conc_types.specs.declared.facts.Standing.{Standing}
+use Rattle.conc_types.specs.declared.facts.State.{State}
 use Rattle.conc_types.specs.declared.item.Item.{Item}
 use Rattle.conc_types.specs.declared.item.Item.TheVariants as item
 use Rattle.conc_types.specs.declared.plan.Plan.{Plan}
@@ -18,17 +18,17 @@ use Rattle.conc_types.specs.declared.table.Table.{Table}
 use Rattle.conc_types.specs.Tables.{can_report, has_columns, table_named}
 use Rattle.conc_law.specs.Alone.{choice, end_of, end_with, first_end, first_start, next_alone, next_tick, report_of, start_of}
 use Rattle.conc_law.specs.Facts.{is_let}
-use Rattle.conc_law.specs.Law.{Finished, is_past, may_follow}
+use Rattle.conc_law.specs.Law.{Finished, is_lawful_so_far, may_follow}
 use Rattle.conc_law.specs.Next.{can_run, forced, is_at_rest, is_ready, may_let, may_start, may_start_somewhere, may_take, runs_somewhere}
 use Rattle.conc_law.specs.Places.{all_places}
 use Rattle.conc_law.specs.Plans.{is_admitted, is_enabled, precedes, program_at, program_of}
 use Rattle.conc_law.specs.Readings.{next_reading}
 use Rattle.conc_law.specs.Report.{report, Report}
-use Rattle.conc_law.specs.Standing.{facts_at, has_come, is_completed, is_live, is_running, is_stopping, standing}
+use Rattle.conc_law.specs.State.{facts_at, has_come, is_completed, is_live, is_running, is_stopping, state}
 use Rattle.conc_law.specs.Words.{first_by, Has, is_set}
-use Rattle.conc_law.proofs.FactsAt.{is_running-standing}
+use Rattle.conc_law.proofs.FactsAt.{is_running-state}
 use Rattle.conc_law.proofs.FirstBy.{find-found, find-some, first_by-none, none_any, precedes-order}
-use Rattle.conc_law.proofs.LawfulIsPast.{all-get}
+use Rattle.conc_law.proofs.LawfulSoFar.{all-get}
 use Rattle.conc_law.proofs.LiveApart.{is_let-more, let_could}
 use Rattle.conc_law.proofs.Options.{some_and-some}
 use Rattle.conc_law.proofs.RunningIsLet.{runs_let}
@@ -56,7 +56,7 @@ find-none_any test xs h = none_any test xs (λ y k. elim (cases_Bool (test y)) [
 -- ---- the report of a request that runs
 
 -- a request that could be let can run
-could_run : (plan : Plan) (s : Standing) (r : Req) → may_let plan s r ≡ true → can_run plan r ≡ true
+could_run : (plan : Plan) (s : State) (r : Req) → may_let plan s r ≡ true → can_run plan r ≡ true
 unfolding may_let is_ready
 could_run plan s r h =
     let f = facts_at s r in
@@ -80,16 +80,16 @@ run_program plan r h set = elim (or_cases (is_set r.item) _ h) [
 ]
 
 -- so a let request is of a program
-let_program : (plan : Plan) (past : List Event) (r : Req) → Has plan.requests r → is_past plan past ≡ true → is_let plan past r ≡ true
+let_program : (plan : Plan) (past : List Event) (r : Req) → Has plan.requests r → is_lawful_so_far plan past ≡ true → is_let plan past r ≡ true
     → (program : Program) × (program_of plan r ≡ Some program)
-unfolding is_past is_let
+unfolding is_lawful_so_far is_let
 let_program plan [] r hr lawful h = cc
 let_program plan (e ∷ past) r hr lawful h =
-    let p : (is_past plan past ≡ true) × (may_follow plan None past e ≡ true) = and_parts _ _ lawful in
+    let p : (is_lawful_so_far plan past ≡ true) × (may_follow plan None past e ≡ true) = and_parts _ _ lawful in
     elim (is_let-more plan past r e h) [
       | inl l ↦
-          let could : (may_let plan (standing plan past) r ≡ true) × (is_set r.item ≡ false) = let_could plan None past r hr (subst (λ d. may_follow plan None past d ≡ true) l p.1) in
-          run_program plan r (could_run plan (standing plan past) r could.0) could.1
+          let could : (may_let plan (state plan past) r ≡ true) × (is_set r.item ≡ false) = let_could plan None past r hr (subst (λ d. may_follow plan None past d ≡ true) l p.1) in
+          run_program plan r (could_run plan (state plan past) r could.0) could.1
       | inr s ↦ let_program plan past r hr p.0 s.1
     ]
 
@@ -115,7 +115,7 @@ report_there plan r program h =
 -- ---- nothing ends, starts or ticks
 
 -- a request that has a report, where the spool has room, has an end
-end_there : (plan : Plan) (s : Standing) (r : Req) (made : Report) (n : ℕ) → report_of plan r ≡ Some made → s.used ≡ Some n → (stop : Bool)
+end_there : (plan : Plan) (s : State) (r : Req) (made : Report) (n : ℕ) → report_of plan r ≡ Some made → s.used ≡ Some n → (stop : Bool)
     → (if stop then Some (event.Ended r.number outcome.Terminated None) else option_and_then (λ made. option_map (end_with r made) s.used) (report_of plan r)) ≡ None → ⊥
 end_there plan s r made n h k true none = cc
 end_there plan s r made n h k false none =
@@ -124,24 +124,24 @@ end_there plan s r made n h k false none =
     cc
 
 -- where nothing ends nothing runs
-none_runs : (plan : Plan) (past : List Event) (n : ℕ) → is_past plan past ≡ true → (standing plan past).used ≡ Some n → first_end plan (standing plan past) ≡ None
-    → list_any (runs_somewhere (standing plan past)) plan.requests ≡ false
+none_runs : (plan : Plan) (past : List Event) (n : ℕ) → is_lawful_so_far plan past ≡ true → (state plan past).used ≡ Some n → first_end plan (state plan past) ≡ None
+    → list_any (runs_somewhere (state plan past)) plan.requests ≡ false
 unfolding first_end runs_somewhere
 none_runs plan past n lawful room none =
-    by (find (λ r. is_running (facts_at (standing plan past) r)) plan.requests) refl none where
-      by : (o : Option Req) → find (λ r. is_running (facts_at (standing plan past) r)) plan.requests ≡ o → option_and_then (end_of plan (standing plan past)) o ≡ None
-          → list_any (λ r. is_running (facts_at (standing plan past) r)) plan.requests ≡ false
-      by None is h = find-none_any (λ r. is_running (facts_at (standing plan past) r)) plan.requests is
+    by (find (λ r. is_running (facts_at (state plan past) r)) plan.requests) refl none where
+      by : (o : Option Req) → find (λ r. is_running (facts_at (state plan past) r)) plan.requests ≡ o → option_and_then (end_of plan (state plan past)) o ≡ None
+          → list_any (λ r. is_running (facts_at (state plan past) r)) plan.requests ≡ false
+      by None is h = find-none_any (λ r. is_running (facts_at (state plan past) r)) plan.requests is
       by (Some r) is h =
-          let s = standing plan past in
+          let s = state plan past in
           let f : (is_running (facts_at s r) ≡ true) × Has plan.requests r = find-some (λ r. is_running (facts_at s r)) plan.requests r is in
-          let l : is_let plan past r ≡ true = runs_let plan past r f.1 lawful (sym (is_running-standing plan past r f.1) ∙ f.0) in
+          let l : is_let plan past r ≡ true = runs_let plan past r f.1 lawful (sym (is_running-state plan past r f.1) ∙ f.0) in
           let p : (program : Program) × (program_of plan r ≡ Some program) = let_program plan past r f.1 lawful l in
           let made : (made : Report) × (report_of plan r ≡ Some made) = report_there plan r p.0 p.1 in
           absurd (end_there plan s r made.0 n made.1 room (is_stopping (facts_at s r)) h)
 
 -- where nothing starts nothing may
-none_starts : (plan : Plan) (s : Standing) → first_start plan s ≡ None → list_any (may_start_somewhere plan s) plan.requests ≡ false
+none_starts : (plan : Plan) (s : State) → first_start plan s ≡ None → list_any (may_start_somewhere plan s) plan.requests ≡ false
 unfolding first_start may_start_somewhere
 none_starts plan s none = by (first_by precedes (may_start_somewhere plan s) plan.requests) refl none where
   by : (o : Option Req) → first_by precedes (may_start_somewhere plan s) plan.requests ≡ o → option_and_then (start_of plan s) o ≡ None
@@ -155,7 +155,7 @@ none_starts plan s none = by (first_by precedes (may_start_somewhere plan s) pla
       absurd (both_ways _ (find-none_any (may_start plan s r) (all_places plan) gone) here)
 
 -- where nothing ticks at rest no reading is left
-none_left : (plan : Plan) (s : Standing) (next : Option Reading) → is_at_rest plan s ≡ true → next_tick plan s next ≡ None → is_none next ≡ true
+none_left : (plan : Plan) (s : State) (next : Option Reading) → is_at_rest plan s ≡ true → next_tick plan s next ≡ None → is_none next ≡ true
 unfolding next_tick may_take
 none_left plan s None rest h = refl
 none_left plan s (Some q) rest h =
@@ -166,12 +166,12 @@ none_left plan s (Some q) rest h =
 -- ---- all of them
 
 -- where nothing comes next in a run without workers, the history is finished
-pub next_alone-none : (plan : Plan) (readings : List Reading) (history : List Event) → is_past plan (reverse history) ≡ true
+pub next_alone-none : (plan : Plan) (readings : List Reading) (history : List Event) → is_lawful_so_far plan (reverse history) ≡ true
     → next_alone plan readings (reverse history) ≡ None → Finished plan readings history
 unfolding next_alone choice is_at_rest
 next_alone-none plan readings history lawful h =
     let past = reverse history in
-    let s = standing plan past in
+    let s = state plan past in
     let room : (n : ℕ) × (s.used ≡ Some n) = used_fits plan past lawful in
     let a : (forced plan s ≡ None) × (option_or (first_end plan s) (option_or (first_start plan s) (next_tick plan s (next_reading readings past))) ≡ None) = or-none _ _ h in
     let b : (first_end plan s ≡ None) × (option_or (first_start plan s) (next_tick plan s (next_reading readings past)) ≡ None) = or-none _ _ a.1 in

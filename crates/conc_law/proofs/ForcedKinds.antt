@@ -5,7 +5,7 @@ use Rattle.std.specs.Bool.{then_some}
 use Rattle.std.specs.List.{enumerate_from, find}
 use Rattle.conc_types.specs.declared.event.Event.{Event}
 use Rattle.conc_types.specs.declared.event.Event.TheVariants as event
-use Rattle.conc_types.specs.declared.facts.Standing.{Standing}
+use Rattle.conc_types.specs.declared.facts.State.{State}
 use Rattle.conc_types.specs.declared.plan.Plan.{Plan}
 use Rattle.conc_types.specs.declared.plan.Req.{Req}
 use Rattle.conc_types.specs.Words.{none_or}
@@ -13,7 +13,7 @@ use Rattle.conc_law.specs.Kinds.{is_resume}
 use Rattle.conc_law.specs.Next.{forced, forced_command, forced_interrupt, forced_let, forced_step, has_step, is_due, is_left_running, let_event, may_let}
 use Rattle.conc_law.specs.Plans.{precedes}
 use Rattle.conc_law.specs.Stages.{after_stage, has_ended, next_stage, set_step, step_from}
-use Rattle.conc_law.specs.Standing.{facts_at}
+use Rattle.conc_law.specs.State.{facts_at}
 use Rattle.conc_law.specs.Words.{first_by, is_set}
 
 -- a kind of event that may be forced
@@ -54,12 +54,12 @@ tested true e h = h
 tested false e h = refl
 
 -- a stage is followed by a stage or by a close
-after : (plan : Plan) (s : Standing) (set : Req) (last : ℕ) (next : Option ℕ) → is_forced_kind (after_stage plan s set last next) ≡ true
+after : (plan : Plan) (s : State) (set : Req) (last : ℕ) (next : Option ℕ) → is_forced_kind (after_stage plan s set last next) ≡ true
 after plan s set last None = refl
 after plan s set last (Some n) = refl
 
 -- the step of a set is a stage or a close
-stepped : (plan : Plan) (s : Standing) (set : Req) (current : Option ℕ) → Holds (step_from plan s set current)
+stepped : (plan : Plan) (s : State) (set : Req) (current : Option ℕ) → Holds (step_from plan s set current)
 stepped plan s set None = refl
 stepped plan s set (Some stage) = tested (has_ended plan s set stage) _ (after plan s set stage (next_stage plan s set stage))
 
@@ -69,7 +69,7 @@ let_kind r true = refl
 let_kind r false = refl
 
 -- a forced event is of one of these kinds
-pub forced_kind : (plan : Plan) (s : Standing) → none_or is_forced_kind (forced plan s) ≡ true
+pub forced_kind : (plan : Plan) (s : State) → none_or is_forced_kind (forced plan s) ≡ true
 unfolding forced forced_interrupt forced_command forced_step forced_let set_step
 forced_kind plan s =
     either (forced_interrupt plan s) _ (mapped (λ r. event.Interrupt r.number) (find (is_left_running s) plan.requests) (λ r. refl))

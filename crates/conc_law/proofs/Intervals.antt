@@ -10,16 +10,16 @@ use Rattle.conc_types.specs.declared.plan.Req.{Req}
 use Rattle.conc_types.specs.Words.{some_and}
 use Rattle.conc_law.specs.Facts.{facts_of, is_open}
 use Rattle.conc_law.specs.Kinds.{closes, opens, starts, stops}
-use Rattle.conc_law.specs.Law.{is_past}
+use Rattle.conc_law.specs.Law.{is_lawful_so_far}
 use Rattle.conc_law.specs.Overlap.{begins_interval, ends_interval, HasAt, IsInterval}
-use Rattle.conc_law.specs.Past.{stands_since}
+use Rattle.conc_law.specs.Before.{stands_since}
 use Rattle.conc_law.specs.Plans.{are_exclusive}
-use Rattle.conc_law.specs.Standing.{is_live}
+use Rattle.conc_law.specs.State.{is_live}
 use Rattle.conc_law.specs.Words.{Has, is_set}
 use Rattle.conc_law.proofs.EqualEvents.{id_same}
 use Rattle.conc_law.proofs.LiveApart.{are_exclusive_comm, live_apart, not_itself}
 use Rattle.conc_law.proofs.Positions.{reverse-push, slice_get-some, take-suc_at}
-use Rattle.conc_law.proofs.Prefixes.{is_past-prefix}
+use Rattle.conc_law.proofs.Prefixes.{is_lawful_so_far-prefix}
 use Rattle.conc_law.proofs.Running.{runs-stands}
 use Rattle.conc_law.proofs.RunningIsLet.{runs_let}
 
@@ -30,9 +30,9 @@ take_next : (history : List Event) (m : ℕ) (e : Event) → slice_get history m
 take_next history m e h = ap reverse (take-suc_at history m e h) ∙ reverse-push (take m history) e
 
 -- what stands before a position of a lawful history is lawful
-is_past-before : (plan : Plan) (history : List Event) (m : ℕ) → is_past plan (reverse history) ≡ true → is_past plan (reverse (take m history)) ≡ true
-is_past-before plan history m h =
-    is_past-prefix plan (take m history) (drop m history) (ap (λ l. is_past plan (reverse l)) (take-append-drop m history) ∙ h)
+is_lawful_so_far-before : (plan : Plan) (history : List Event) (m : ℕ) → is_lawful_so_far plan (reverse history) ≡ true → is_lawful_so_far plan (reverse (take m history)) ≡ true
+is_lawful_so_far-before plan history m h =
+    is_lawful_so_far-prefix plan (take m history) (drop m history) (ap (λ l. is_lawful_so_far plan (reverse l)) (take-append-drop m history) ∙ h)
 
 -- ---- an interval, seen from within
 
@@ -70,7 +70,7 @@ since_from kind other history i begins (suc m) after fits lasts =
 -- ---- what stands in an interval is live
 
 -- a set that is opened and not closed since, or a program that was started and not stopped since, is live
-live_by : (plan : Plan) (past : List Event) (r : Req) → Has plan.requests r → is_past plan past ≡ true → (b : Bool) → is_set r.item ≡ b
+live_by : (plan : Plan) (past : List Event) (r : Req) → Has plan.requests r → is_lawful_so_far plan past ≡ true → (b : Bool) → is_set r.item ≡ b
     → stands_since (λ _ e. if b then opens r.number e else starts r.number e) (λ _ e. if b then closes r.number e else stops r.number e) past ≡ true
     → is_live (facts_of plan past r) ≡ true
 unfolding facts_of is_open
@@ -78,7 +78,7 @@ live_by plan past r hr lawful true is h = or_right _ _ (and_from _ _ is h)
 live_by plan past r hr lawful false is h = or_left _ _ (runs_let plan past r hr lawful (runs-stands past r.number ∙ h))
 
 -- the same, by the words for intervals
-live_within : (plan : Plan) (past : List Event) (r : Req) → Has plan.requests r → is_past plan past ≡ true
+live_within : (plan : Plan) (past : List Event) (r : Req) → Has plan.requests r → is_lawful_so_far plan past ≡ true
     → stands_since (λ _ e. begins_interval r e) (λ _ e. ends_interval r e) past ≡ true → is_live (facts_of plan past r) ≡ true
 live_within plan past r hr lawful h = live_by plan past r hr lawful (is_set r.item) refl h
 
@@ -106,7 +106,7 @@ apart_by x y (event.Started q p) false b g h = cc
 apart_by x y _ a true g h = cc
 apart_by x y _ a false g h = cc
 
-module _ (plan : Plan) (history : List Event) (lawful : is_past plan (reverse history) ≡ true) where
+module _ (plan : Plan) (history : List Event) (lawful : is_lawful_so_far plan (reverse history) ≡ true) where
   -- an interval that begins within another one
   later : (x y : Req) (i j k l : ℕ) → Has plan.requests x → Has plan.requests y → are_exclusive plan x y ≡ true
       → IsInterval history x i j → IsInterval history y k l → i < k → k ≤ j → ⊥
@@ -121,7 +121,7 @@ module _ (plan : Plan) (history : List Event) (lawful : is_past plan (reverse hi
         ]
       ] in
       let past : List Event = reverse (take (suc k) history) in
-      let ok : is_past plan past ≡ true = is_past-before plan history (suc k) lawful in
+      let ok : is_lawful_so_far plan past ≡ true = is_lawful_so_far-before plan history (suc k) lawful in
       let lx : is_live (facts_of plan past x) ≡ true = live_within plan past x hx ok (since_from (begins_interval x) (ends_interval x) history i ix.begins (suc k) (omega arith) (omega arith) (λ n a b. ix.lasts n a (omega arith))) in
       let ly : is_live (facts_of plan past y) ≡ true = live_within plan past y hy ok (since_from (begins_interval y) (ends_interval y) history k iy.begins (suc k) (omega arith) (omega arith) (λ n a b. absurd (omega arith))) in
       live_apart plan past x y hx hy ok ex lx ly

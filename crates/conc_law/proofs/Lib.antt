@@ -7,7 +7,7 @@ pub mod Prefixes
 pub mod Running
 pub mod BegunStages
 pub mod AloneLawful
-pub mod LawfulIsPast
+pub mod LawfulSoFar
 pub mod Positions
 pub mod AloneHistory
 pub mod AloneUnique

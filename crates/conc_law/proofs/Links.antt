@@ -7,7 +7,7 @@ use Rattle.std.proofs.lemmas.Bool.{and_parts, leb-true, ltb-true}
 use Rattle.conc_types.specs.declared.event.Event.TheVariants as event
 use Rattle.conc_types.specs.declared.event.Outcome.{Outcome}
 use Rattle.conc_types.specs.declared.event.RequestId.{RequestId}
-use Rattle.conc_types.specs.declared.facts.Standing.{Standing}
+use Rattle.conc_types.specs.declared.facts.State.{State}
 use Rattle.conc_types.specs.declared.plan.Plan.{Plan}
 use Rattle.conc_types.specs.declared.plan.Req.{Req}
 use Rattle.conc_types.specs.declared.set.SetDef.{SetDef}
@@ -16,8 +16,8 @@ use Rattle.conc_types.specs.Sets.{leads_on}
 use Rattle.conc_types.specs.Words.{none_or, numbered}
 use Rattle.conc_law.specs.Plans.{set_at, stages_of}
 use Rattle.conc_law.specs.Stages.{after_stage, has_ended, link, link_place, next_stage, set_outcome, set_step, stage_outcome, step_from}
-use Rattle.conc_law.specs.Standing.{facts_at}
-use Rattle.conc_law.proofs.LawfulIsPast.{all-get}
+use Rattle.conc_law.specs.State.{facts_at}
+use Rattle.conc_law.proofs.LawfulSoFar.{all-get}
 use Rattle.conc_law.proofs.Numbers.{enumerate-get, numbered-get}
 use Rattle.conc_law.proofs.Options.{and_then-some, map-some, then_some-some}
 
@@ -56,7 +56,7 @@ none_found c found h =
     cc
 
 -- the stage that follows one is a later one
-next_stage-later : (plan : Plan) (s : Standing) (set : Req) (c k : ℕ) → next_stage plan s set c ≡ Some k → (c < k) × (k ≤ 64)
+next_stage-later : (plan : Plan) (s : State) (set : Req) (c k : ℕ) → next_stage plan s set c ≡ Some k → (c < k) × (k ≤ 64)
 unfolding next_stage stages_of
 next_stage-later plan s set c k h =
     let o : Outcome = stage_outcome plan s set c in
@@ -70,7 +70,7 @@ next_stage-later plan s set c k h =
       by (Some def) found o place here there = link-later def c found o place here there
 
 -- the stage that a set begins next, by its current one
-step_from-later : (plan : Plan) (s : Standing) (set : Req) (current : Option ℕ) (id : RequestId) (k : ℕ) → step_from plan s set current ≡ Some (event.Stage id k)
+step_from-later : (plan : Plan) (s : State) (set : Req) (current : Option ℕ) (id : RequestId) (k : ℕ) → step_from plan s set current ≡ Some (event.Stage id k)
     → (unwrap_or current 0 < k) × (k ≤ 64)
 step_from-later plan s set None id k h =
     let e : event.Stage set.number 1 ≡ event.Stage id k = cc in
@@ -88,7 +88,7 @@ step_from-later plan s set (Some c) id k h =
           next_stage-later plan s set c k (is ∙ ap (λ m. Some m) same)
 
 -- the stage that a set begins next is later than its current one, and one of the first 64
-pub set_step-later : (plan : Plan) (s : Standing) (set : Req) (id : RequestId) (k : ℕ) → set_step plan s set ≡ Some (event.Stage id k)
+pub set_step-later : (plan : Plan) (s : State) (set : Req) (id : RequestId) (k : ℕ) → set_step plan s set ≡ Some (event.Stage id k)
     → (unwrap_or (facts_at s set).stage 0 < k) × (k ≤ 64)
 unfolding set_step
 set_step-later plan s set id k h = step_from-later plan s set (facts_at s set).stage id k h

@@ -5,22 +5,22 @@ use Rattle.std.proofs.lemmas.Bool.{and_from, and_left, and_parts, and_right, bot
 use Rattle.conc_types.specs.declared.event.Event.{Event}
 use Rattle.conc_types.specs.declared.event.Event.TheVariants as event
 use Rattle.conc_types.specs.declared.event.RequestId.{RequestId}
-use Rattle.conc_types.specs.declared.facts.Standing.{Standing}
+use Rattle.conc_types.specs.declared.facts.State.{State}
 use Rattle.conc_types.specs.declared.plan.Plan.{Plan}
 use Rattle.conc_types.specs.declared.plan.Req.{Req}
 use Rattle.conc_types.specs.declared.script.Reading.{Reading}
 use Rattle.conc_law.specs.Exclusion.{excludes}
 use Rattle.conc_law.specs.Facts.{facts_of, is_let, is_open, unlets}
 use Rattle.conc_law.specs.Kinds.{closes, lets, opens}
-use Rattle.conc_law.specs.Law.{is_past, may_follow}
+use Rattle.conc_law.specs.Law.{is_lawful_so_far, may_follow}
 use Rattle.conc_law.specs.Next.{blocks, can_run, is_free, is_ready, may_let}
-use Rattle.conc_law.specs.Past.{stands_since}
+use Rattle.conc_law.specs.Before.{stands_since}
 use Rattle.conc_law.specs.Plans.{are_exclusive, parent_item}
-use Rattle.conc_law.specs.Standing.{facts_at, has_come, is_completed, is_live, is_waiting, standing}
+use Rattle.conc_law.specs.State.{facts_at, has_come, is_completed, is_live, is_waiting, state}
 use Rattle.conc_law.specs.Words.{Has, is_set}
 use Rattle.conc_law.proofs.Comes.{let_comes, Lettable, open_comes, same_request}
 use Rattle.conc_law.proofs.EqualEvents.{id_same}
-use Rattle.conc_law.proofs.FactsAt.{is_live-standing}
+use Rattle.conc_law.proofs.FactsAt.{is_live-state}
 use Rattle.conc_law.proofs.FirstBy.{any-some}
 use Rattle.conc_law.proofs.Symmetry.{excludes_comm}
 
@@ -83,7 +83,7 @@ is_live-more plan past r e h = elim (or_cases (is_let plan (e ∷ past) r) _ h) 
 ]
 
 -- a request of the plan with the number of one that could be let could be let
-lettable_could : (plan : Plan) (s : Standing) (r : Req) (set : Bool) → Has plan.requests r → Lettable plan s r.number set
+lettable_could : (plan : Plan) (s : State) (r : Req) (set : Bool) → Has plan.requests r → Lettable plan s r.number set
     → (may_let plan s r ≡ true) × (is_set r.item ≡ set)
 lettable_could plan s r set hr l =
     let same : l.req ≡ r = same_request plan l.req r l.element hr l.number in
@@ -91,22 +91,22 @@ lettable_could plan s r set hr l =
 
 -- a request that is let out could be let, and is no set
 pub let_could : (plan : Plan) (readings : Option (List Reading)) (past : List Event) (r : Req) → Has plan.requests r
-    → may_follow plan readings past (event.LetOut r.number) ≡ true → (may_let plan (standing plan past) r ≡ true) × (is_set r.item ≡ false)
-let_could plan readings past r hr h = lettable_could plan (standing plan past) r false hr (let_comes plan readings past r.number h)
+    → may_follow plan readings past (event.LetOut r.number) ≡ true → (may_let plan (state plan past) r ≡ true) × (is_set r.item ≡ false)
+let_could plan readings past r hr h = lettable_could plan (state plan past) r false hr (let_comes plan readings past r.number h)
 
 -- a request that is opened could be opened, and is a set
 pub open_could : (plan : Plan) (readings : Option (List Reading)) (past : List Event) (r : Req) → Has plan.requests r
-    → may_follow plan readings past (event.OpenSet r.number) ≡ true → (may_let plan (standing plan past) r ≡ true) × (is_set r.item ≡ true)
-open_could plan readings past r hr h = lettable_could plan (standing plan past) r true hr (open_comes plan readings past r.number h)
+    → may_follow plan readings past (event.OpenSet r.number) ≡ true → (may_let plan (state plan past) r ≡ true) × (is_set r.item ≡ true)
+open_could plan readings past r hr h = lettable_could plan (state plan past) r true hr (open_comes plan readings past r.number h)
 
 -- a request that goes live could be let
 went_live : (plan : Plan) (past : List Event) (r : Req) (e : Event) → Has plan.requests r → may_follow plan None past e ≡ true → GoesLive r e
-    → may_let plan (standing plan past) r ≡ true
+    → may_let plan (state plan past) r ≡ true
 went_live plan past r e hr h (inl l) = (let_could plan None past r hr (subst (λ d. may_follow plan None past d ≡ true) l h)).0
 went_live plan past r e hr h (inr o) = (open_could plan None past r hr (subst (λ d. may_follow plan None past d ≡ true) o h)).0
 
 -- what a request that can be let meets: it is not completed, does not wait for its stage, and none excludes it
-pub may_let-parts : (plan : Plan) (s : Standing) (r : Req) → may_let plan s r ≡ true
+pub may_let-parts : (plan : Plan) (s : State) (r : Req) → may_let plan s r ≡ true
     → (is_completed (facts_at s r) ≡ false) × (is_waiting plan s r ≡ false) × (is_free plan s r ≡ true)
 unfolding may_let is_ready
 may_let-parts plan s r h =
@@ -120,13 +120,13 @@ may_let-parts plan s r h =
     (not-true _ open_part.0, not-true _ begun, both.1)
 
 -- a request that can be let is excluded by no live one
-let_is_free : (plan : Plan) (past : List Event) (r q : Req) → may_let plan (standing plan past) r ≡ true → Has plan.requests q
+let_is_free : (plan : Plan) (past : List Event) (r q : Req) → may_let plan (state plan past) r ≡ true → Has plan.requests q
     → is_live (facts_of plan past q) ≡ true → are_exclusive plan q r ≡ true → ⊥
 unfolding is_free blocks
 let_is_free plan past r q h hq live ex =
-    let s = standing plan past in
+    let s = state plan past in
     let free : is_free plan s r ≡ true = (may_let-parts plan s r h).2 in
-    let here : is_live (facts_at s q) ≡ true = is_live-standing plan past q hq ∙ live in
+    let here : is_live (facts_at s q) ≡ true = is_live-state plan past q hq ∙ live in
     both_ways (list_any (blocks plan s r) plan.requests) (not-true _ free) (any-some (blocks plan s r) plan.requests q hq (and_from _ _ here ex))
 
 -- one event makes one request live
@@ -142,12 +142,12 @@ unfolding facts_of is_let is_open
 none_live plan r = and_right (is_set r.item) false refl
 
 -- two live requests never exclude each other
-pub live_apart : (plan : Plan) (past : List Event) (x y : Req) → Has plan.requests x → Has plan.requests y → is_past plan past ≡ true
+pub live_apart : (plan : Plan) (past : List Event) (x y : Req) → Has plan.requests x → Has plan.requests y → is_lawful_so_far plan past ≡ true
     → are_exclusive plan x y ≡ true → is_live (facts_of plan past x) ≡ true → is_live (facts_of plan past y) ≡ true → ⊥
-unfolding is_past
+unfolding is_lawful_so_far
 live_apart plan [] x y hx hy lawful ex lx ly = both_ways _ (none_live plan x) lx
 live_apart plan (e ∷ past) x y hx hy lawful ex lx ly =
-    let p : (is_past plan past ≡ true) × (may_follow plan None past e ≡ true) = and_parts _ _ lawful in
+    let p : (is_lawful_so_far plan past ≡ true) × (may_follow plan None past e ≡ true) = and_parts _ _ lawful in
     elim (is_live-more plan past x e lx) [
       | inl bx ↦ elim (is_live-more plan past y e ly) [
         | inl by ↦ live_apart plan past x y hx hy p.0 ex bx by

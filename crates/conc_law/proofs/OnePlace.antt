@@ -12,14 +12,14 @@ use Rattle.conc_types.specs.declared.plan.Req.{Req}
 use Rattle.conc_types.specs.Words.{some_and}
 use Rattle.conc_law.specs.Facts.{running_place, runs}
 use Rattle.conc_law.specs.Kinds.{start_place, starts_at, stops}
-use Rattle.conc_law.specs.Law.{is_past, may_follow}
+use Rattle.conc_law.specs.Law.{is_lawful_so_far, may_follow}
 use Rattle.conc_law.specs.Next.{is_vacant, runs_at}
-use Rattle.conc_law.specs.Past.{stands_since}
-use Rattle.conc_law.specs.Standing.{facts_at, standing}
+use Rattle.conc_law.specs.Before.{stands_since}
+use Rattle.conc_law.specs.State.{facts_at, state}
 use Rattle.conc_law.specs.Words.{Has, id_eq}
 use Rattle.conc_law.proofs.Comes.{may_start-parts, start_comes}
 use Rattle.conc_law.proofs.EqualEvents.{eqb-refl}
-use Rattle.conc_law.proofs.FactsAt.{is_running-standing, place-standing}
+use Rattle.conc_law.proofs.FactsAt.{is_running-state, place-state}
 use Rattle.conc_law.proofs.FirstBy.{any-some}
 use Rattle.conc_law.proofs.RunningPlace.{place-runs, running_place-more, start_place-some}
 
@@ -30,19 +30,19 @@ starts_alone : (plan : Plan) (past : List Event) (x y : Req) (place : PlaceId) �
     → may_follow plan None past (event.Started x.number place) ≡ true → running_place past y.number ≡ Some place → ⊥
 unfolding is_vacant runs_at
 starts_alone plan past x y place hx hy h run =
-    let s = standing plan past in
+    let s = state plan past in
     let vacant : is_vacant plan s place ≡ true = (may_start-parts plan s x place (start_comes plan None past x place hx h)).2 in
-    let at : (facts_at s y).place ≡ Some place = place-standing plan past y hy ∙ run in
+    let at : (facts_at s y).place ≡ Some place = place-state plan past y hy ∙ run in
     let here : runs_at s place y ≡ true = ap (some_and (λ p. p.index == place.index)) at ∙ eqb-refl place.index in
     both_ways _ (not-true _ vacant) (any-some (runs_at s place) plan.requests y hy here)
 
 -- what stands at each position of a lawful history: two requests that run at one place are one
 pub one_at_place : (plan : Plan) (past : List Event) (x y : Req) (place : PlaceId) → Has plan.requests x → Has plan.requests y
-    → is_past plan past ≡ true → running_place past x.number ≡ Some place → running_place past y.number ≡ Some place → x.number ≡ y.number
-unfolding is_past running_place
+    → is_lawful_so_far plan past ≡ true → running_place past x.number ≡ Some place → running_place past y.number ≡ Some place → x.number ≡ y.number
+unfolding is_lawful_so_far running_place
 one_at_place plan [] x y place hx hy lawful rx ry = cc
 one_at_place plan (e ∷ past) x y place hx hy lawful rx ry =
-    let l : (is_past plan past ≡ true) × (may_follow plan None past e ≡ true) = and_parts _ _ lawful in
+    let l : (is_lawful_so_far plan past ≡ true) × (may_follow plan None past e ≡ true) = and_parts _ _ lawful in
     elim (running_place-more past e x.number place rx) [
       | inl sx ↦ elim (running_place-more past e y.number place ry) [
         | inl sy ↦ let same : event.Started x.number place ≡ event.Started y.number place = sym sx ∙ sy in cc
@@ -61,7 +61,7 @@ starts_idle : (plan : Plan) (past : List Event) (r : Req) (place : PlaceId) → 
     → may_follow plan None past (event.Started r.number place) ≡ true → running_place past r.number ≡ None
 starts_idle plan past r place hr h = by (running_place past r.number) refl where
   idle : runs past r.number ≡ false
-  idle = sym (is_running-standing plan past r hr) ∙ (may_start-parts plan (standing plan past) r place (start_comes plan None past r place hr h)).1
+  idle = sym (is_running-state plan past r hr) ∙ (may_start-parts plan (state plan past) r place (start_comes plan None past r place hr h)).1
 
   by : (o : Option PlaceId) → running_place past r.number ≡ o → running_place past r.number ≡ None
   by None is = is
@@ -110,13 +110,13 @@ started-stands r place p o before none earlier =
     ∙ sym (ap (λ b. (b && p.index == place.index) || before) same)
 
 -- the place at which a request runs is the one at which a start of it stands with no end or interrupt after it
-pub place-stands : (plan : Plan) (past : List Event) (r : Req) (place : PlaceId) → Has plan.requests r → is_past plan past ≡ true
+pub place-stands : (plan : Plan) (past : List Event) (r : Req) (place : PlaceId) → Has plan.requests r → is_lawful_so_far plan past ≡ true
     → some_and (λ p. p.index == place.index) (running_place past r.number)
     ≡ stands_since (λ _ e. starts_at r.number place e) (λ _ e. stops r.number e) past
-unfolding is_past running_place
+unfolding is_lawful_so_far running_place
 place-stands plan [] r place hr lawful = refl
 place-stands plan (e ∷ past) r place hr lawful =
-    let l : (is_past plan past ≡ true) × (may_follow plan None past e ≡ true) = and_parts _ _ lawful in
+    let l : (is_lawful_so_far plan past ≡ true) × (may_follow plan None past e ≡ true) = and_parts _ _ lawful in
     by (place-stands plan past r place hr l.0) l.1 (start_place r.number e) refl where
       since : List Event → Bool
       since events = stands_since (λ _ d. starts_at r.number place d) (λ _ d. stops r.number d) events

@@ -7,7 +7,7 @@ use Rattle.conc_types.specs.declared.plan.Plan.{Plan}
 use Rattle.conc_types.specs.declared.plan.Req.{Req}
 use Rattle.conc_law.specs.Facts.{cancels, current_stage, facts_of, holds, is_let, is_open, running_place, unlets, was_completed, was_started}
 use Rattle.conc_law.specs.Kinds.{act_of, is_resume}
-use Rattle.conc_law.specs.Past.{last_life}
+use Rattle.conc_law.specs.Before.{last_life}
 use Rattle.conc_law.specs.Words.{id_eq}
 use Rattle.conc_law.proofs.Completed.{was_completed-more}
 use Rattle.conc_law.proofs.LiveApart.{is_let-more}

@@ -20,18 +20,18 @@ use Rattle.conc_types.specs.Plans.{request}
 use Rattle.conc_types.specs.Words.{some_and}
 use Rattle.conc_law.specs.Facts.{facts_of}
 use Rattle.conc_law.specs.Kinds.{is_command, is_resume}
-use Rattle.conc_law.specs.Law.{is_past, may_follow}
+use Rattle.conc_law.specs.Law.{is_lawful_so_far, may_follow}
 use Rattle.conc_law.specs.Next.{is_allowed, may_end, may_start}
-use Rattle.conc_law.specs.Past.{earlier_lives, last_life}
+use Rattle.conc_law.specs.Before.{earlier_lives, last_life}
 use Rattle.conc_law.specs.Readings.{life_readings, next_reading, ticks}
 use Rattle.conc_law.specs.Remaining.{commands_left, remaining}
-use Rattle.conc_law.specs.Standing.{is_done, standing}
+use Rattle.conc_law.specs.State.{is_done, state}
 use Rattle.conc_law.specs.Words.{Has, id_eq}
 use Rattle.conc_law.proofs.Comes.{close_comes, comes_allowed, let_comes, Lettable, open_comes, Opened, stage_comes}
 use Rattle.conc_law.proofs.Completed.{let_no_set}
 use Rattle.conc_law.proofs.Due.{command_undone, IsUndone}
 use Rattle.conc_law.proofs.EqualEvents.{id_same}
-use Rattle.conc_law.proofs.LawfulIsPast.{IsRead, tick_read}
+use Rattle.conc_law.proofs.LawfulSoFar.{IsRead, tick_read}
 use Rattle.conc_law.proofs.Numbering.{found}
 use Rattle.conc_law.proofs.Options.{some_and-some}
 use Rattle.conc_law.proofs.Others.{command_lets_not, does, is_about, others_kept, others_let}
@@ -44,7 +44,7 @@ use Rattle.conc_law.proofs.Weights.{left-kept, left-unlet}
 -- ---- the request that an event is about
 
 -- it has fewer events left
-about_less : (plan : Plan) (readings : Option (List Reading)) (past : List Event) (r : Req) (e : Event) → Has plan.requests r → is_past plan past ≡ true
+about_less : (plan : Plan) (readings : Option (List Reading)) (past : List Event) (r : Req) (e : Event) → Has plan.requests r → is_lawful_so_far plan past ≡ true
     → may_follow plan readings past e ≡ true → is_about r.number e ≡ true → left plan (e ∷ past) r < left plan past r
 about_less plan readings past r (event.OpenSet s) hr lawful m h =
     subst (λ z. may_follow plan readings past (event.OpenSet z) ≡ true → left plan (event.OpenSet z ∷ past) r < left plan past r) (sym (id_same s r.number h)) (open_less plan readings past r hr lawful) m
@@ -77,7 +77,7 @@ start_about : (plan : Plan) (readings : Option (List Reading)) (past : List Even
     → IsAboutOne plan (event.Started id p)
 unfolding may_follow is_allowed
 start_about plan readings past id p h =
-    let s = standing plan past in
+    let s = state plan past in
     let allowed : some_and (λ q. may_start plan s q p) (request plan id) ≡ true =
     (comes_allowed plan s (option_map (λ known. next_reading known past) readings) (event.Started id p) refl refl h).1 in
     let q : (q : Req) × (request plan id ≡ Some q) × (may_start plan s q p ≡ true) = some_and-some (λ q. may_start plan s q p) (request plan id) allowed in
@@ -89,7 +89,7 @@ pub end_about : (plan : Plan) (readings : Option (List Reading)) (past : List Ev
     → IsAboutOne plan (event.Ended id o x)
 unfolding may_follow is_allowed
 end_about plan readings past id o x h =
-    let s = standing plan past in
+    let s = state plan past in
     let allowed : some_and (λ q. may_end s q o x) (request plan id) ≡ true =
     (comes_allowed plan s (option_map (λ known. next_reading known past) readings) (event.Ended id o x) refl refl h).1 in
     let q : (q : Req) × (request plan id ≡ Some q) × (may_end s q o x ≡ true) = some_and-some (λ q. may_end s q o x) (request plan id) allowed in
@@ -106,17 +106,17 @@ is_about_any _ = true
 -- each of these events is about a request of the plan
 pub about_one : (plan : Plan) (readings : Option (List Reading)) (past : List Event) (e : Event) → may_follow plan readings past e ≡ true → is_about_any e ≡ true → IsAboutOne plan e
 about_one plan readings past (event.OpenSet s) m h =
-    let l : Lettable plan (standing plan past) s true = open_comes plan readings past s m in (l.req, l.element, same_id s l.req.number l.number)
+    let l : Lettable plan (state plan past) s true = open_comes plan readings past s m in (l.req, l.element, same_id s l.req.number l.number)
 about_one plan readings past (event.Stage s k) m h =
-    let l : Opened plan (standing plan past) s = stage_comes plan readings past s k m in (l.req, l.element, same_id s l.req.number l.number)
+    let l : Opened plan (state plan past) s = stage_comes plan readings past s k m in (l.req, l.element, same_id s l.req.number l.number)
 about_one plan readings past (event.CloseSet s o) m h =
-    let l : Opened plan (standing plan past) s = close_comes plan readings past s o m in (l.req, l.element, same_id s l.req.number l.number)
+    let l : Opened plan (state plan past) s = close_comes plan readings past s o m in (l.req, l.element, same_id s l.req.number l.number)
 about_one plan readings past (event.LetOut q) m h =
-    let l : Lettable plan (standing plan past) q false = let_comes plan readings past q m in (l.req, l.element, same_id q l.req.number l.number)
+    let l : Lettable plan (state plan past) q false = let_comes plan readings past q m in (l.req, l.element, same_id q l.req.number l.number)
 about_one plan readings past (event.Started q p) m h = start_about plan readings past q p m
 about_one plan readings past (event.Ended q o x) m h = end_about plan readings past q o x m
 about_one plan readings past (event.Interrupt q) m h =
-    let l : LeftRunning plan (standing plan past) q = interrupt_comes plan readings past q m in (l.req, l.element, same_id q l.req.number l.number)
+    let l : LeftRunning plan (state plan past) q = interrupt_comes plan readings past q m in (l.req, l.element, same_id q l.req.number l.number)
 about_one plan readings past (event.Tick t) m h = cc
 about_one plan readings past (event.Command n) m h = cc
 about_one plan readings past event.Resume m h = cc
@@ -128,7 +128,7 @@ abbrev all_left : Plan → List Event → ℕ
 all_left plan past = sum_by (left plan past) plan.requests
 
 -- an event keeps or lowers the bound of each request, unless it does a command
-each_below : (plan : Plan) (readings : Option (List Reading)) (past : List Event) (r : Req) (e : Event) → Has plan.requests r → is_past plan past ≡ true
+each_below : (plan : Plan) (readings : Option (List Reading)) (past : List Event) (r : Req) (e : Event) → Has plan.requests r → is_lawful_so_far plan past ≡ true
     → may_follow plan readings past e ≡ true → is_resume e ≡ false → does e ≡ false → left plan (e ∷ past) r ≤ left plan past r
 each_below plan readings past r e hr lawful m n d = elim (cases_Bool (is_about r.number e)) [
   | inl h ↦ omega (arith, about_less plan readings past r e hr lawful m h)
@@ -138,13 +138,13 @@ each_below plan readings past r e hr lawful m n d = elim (cases_Bool (is_about r
 ]
 
 -- so it does not raise that of all
-all_below : (plan : Plan) (readings : Option (List Reading)) (past : List Event) (e : Event) → is_past plan past ≡ true
+all_below : (plan : Plan) (readings : Option (List Reading)) (past : List Event) (e : Event) → is_lawful_so_far plan past ≡ true
     → may_follow plan readings past e ≡ true → is_resume e ≡ false → does e ≡ false → all_left plan (e ∷ past) ≤ all_left plan past
 all_below plan readings past e lawful m n d =
     sum_by-below (left plan (e ∷ past)) (left plan past) plan.requests (λ r hr. each_below plan readings past r e hr lawful m n d)
 
 -- and lowers it if it is about a request
-all_less : (plan : Plan) (readings : Option (List Reading)) (past : List Event) (e : Event) → is_past plan past ≡ true
+all_less : (plan : Plan) (readings : Option (List Reading)) (past : List Event) (e : Event) → is_lawful_so_far plan past ≡ true
     → may_follow plan readings past e ≡ true → is_resume e ≡ false → does e ≡ false → is_about_any e ≡ true → all_left plan (e ∷ past) < all_left plan past
 all_less plan readings past e lawful m n d h =
     let p : IsAboutOne plan e = about_one plan readings past e m h in
@@ -152,7 +152,7 @@ all_less plan readings past e lawful m n d h =
     (λ r hr. each_below plan readings past r e hr lawful m n d)
 
 -- a command raises it by one for each request at most
-all_grow : (plan : Plan) (past : List Event) (n : ℕ) → is_past plan past ≡ true → all_left plan (event.Command n ∷ past) ≤ all_left plan past + length plan.requests
+all_grow : (plan : Plan) (past : List Event) (n : ℕ) → is_lawful_so_far plan past ≡ true → all_left plan (event.Command n ∷ past) ≤ all_left plan past + length plan.requests
 all_grow plan past n lawful =
     sum_by-grows (left plan (event.Command n ∷ past)) (left plan past) plan.requests (λ r hr.
     left-unlet r (facts_of plan past r) (facts_of plan (event.Command n ∷ past) r) (others_kept plan past r (event.Command n) refl refl)
@@ -239,7 +239,7 @@ less_by_command a b c d e f k requests less readings =
     omega arith
 
 -- an event about a request lowers the bound
-about_any_less : (plan : Plan) (readings : List Reading) (past : List Event) (e : Event) → is_past plan past ≡ true → may_follow plan (Some readings) past e ≡ true
+about_any_less : (plan : Plan) (readings : List Reading) (past : List Event) (e : Event) → is_lawful_so_far plan past ≡ true → may_follow plan (Some readings) past e ≡ true
     → is_resume e ≡ false → does e ≡ false → is_about_any e ≡ true → is_tick e ≡ false → remaining plan readings (e ∷ past) < remaining plan readings past
 unfolding remaining
 about_any_less plan readings past e lawful m n d h t =
@@ -248,7 +248,7 @@ about_any_less plan readings past e lawful m n d h t =
     (all_less plan (Some readings) past e lawful m n d h) (commands_left-kept plan past e d) (readings_left-kept readings past e n t)
 
 -- a tick does
-tick_less : (plan : Plan) (readings : List Reading) (past : List Event) (t : Moment) → is_past plan past ≡ true → may_follow plan (Some readings) past (event.Tick t) ≡ true
+tick_less : (plan : Plan) (readings : List Reading) (past : List Event) (t : Moment) → is_lawful_so_far plan past ≡ true → may_follow plan (Some readings) past (event.Tick t) ≡ true
     → remaining plan readings (event.Tick t ∷ past) < remaining plan readings past
 unfolding remaining
 tick_less plan readings past t lawful m =
@@ -258,7 +258,7 @@ tick_less plan readings past t lawful m =
     (all_below plan (Some readings) past (event.Tick t) lawful m refl refl) (commands_left-kept plan past (event.Tick t) refl) (readings_left-less plan readings past t m)
 
 -- a command does
-command_less : (plan : Plan) (readings : List Reading) (past : List Event) (n : ℕ) → is_past plan past ≡ true → may_follow plan (Some readings) past (event.Command n) ≡ true
+command_less : (plan : Plan) (readings : List Reading) (past : List Event) (n : ℕ) → is_lawful_so_far plan past ≡ true → may_follow plan (Some readings) past (event.Command n) ≡ true
     → remaining plan readings (event.Command n ∷ past) < remaining plan readings past
 unfolding remaining
 command_less plan readings past n lawful m =
@@ -268,7 +268,7 @@ command_less plan readings past n lawful m =
     (all_grow plan past n lawful) (commands_left-less plan (Some readings) past n m) (readings_left-kept readings past (event.Command n) refl refl)
 
 -- each event but a resume lowers the bound
-pub remaining_less : (plan : Plan) (readings : List Reading) (past : List Event) (e : Event) → is_past plan past ≡ true
+pub remaining_less : (plan : Plan) (readings : List Reading) (past : List Event) (e : Event) → is_lawful_so_far plan past ≡ true
     → may_follow plan (Some readings) past e ≡ true → is_resume e ≡ false → remaining plan readings (e ∷ past) < remaining plan readings past
 remaining_less plan readings past (event.Tick t) lawful m n = tick_less plan readings past t lawful m
 remaining_less plan readings past (event.Command k) lawful m n = command_less plan readings past k lawful m

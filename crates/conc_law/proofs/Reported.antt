@@ -11,7 +11,7 @@ use Rattle.conc_types.specs.declared.event.Outcome.{Outcome}
 use Rattle.conc_types.specs.declared.event.Outcome.TheVariants as outcome
 use Rattle.conc_types.specs.declared.event.PlaceId.{PlaceId}
 use Rattle.conc_types.specs.declared.event.RequestId.{RequestId}
-use Rattle.conc_types.specs.declared.facts.Standing.{Standing}
+use Rattle.conc_types.specs.declared.facts.State.{State}
 use Rattle.conc_types.specs.declared.plan.Plan.{Plan}
 use Rattle.conc_types.specs.declared.plan.Req.{Req}
 use Rattle.conc_types.specs.declared.script.Reading.{Reading}
@@ -24,7 +24,7 @@ use Rattle.conc_law.specs.Places.{all_places}
 use Rattle.conc_law.specs.Plans.{precedes}
 use Rattle.conc_law.specs.Readings.{next_reading}
 use Rattle.conc_law.specs.Report.{Report}
-use Rattle.conc_law.specs.Standing.{facts_at, is_stopping, standing}
+use Rattle.conc_law.specs.State.{facts_at, is_stopping, state}
 use Rattle.conc_law.specs.Words.{first_by, Has}
 use Rattle.conc_law.proofs.FirstBy.{find-some}
 use Rattle.conc_law.proofs.ForcedKinds.{forced_kind, is_forced_kind}
@@ -34,7 +34,7 @@ use Rattle.conc_law.proofs.Options.{and_then-some, map-some, or-some, then_some-
 -- ---- the end of a request that runs
 
 -- the end of a request with an extent is that of its report
-end_reported : (plan : Plan) (s : Standing) (r : Req) (id : RequestId) (o : Outcome) (x : Extent) → Has plan.requests r → (stop : Bool)
+end_reported : (plan : Plan) (s : State) (r : Req) (id : RequestId) (o : Outcome) (x : Extent) → Has plan.requests r → (stop : Bool)
     → (if stop then Some (event.Ended r.number outcome.Terminated None) else option_and_then (λ made. option_map (end_with r made) s.used) (report_of plan r))
     ≡ Some (event.Ended id o (Some x))
     → IsReported plan id o x
@@ -58,7 +58,7 @@ end_reported plan s r id o x hr false h =
     }
 
 -- the end of the request that runs is that of its report
-first_end_reported : (plan : Plan) (s : Standing) (id : RequestId) (o : Outcome) (x : Extent) → first_end plan s ≡ Some (event.Ended id o (Some x)) → IsReported plan id o x
+first_end_reported : (plan : Plan) (s : State) (id : RequestId) (o : Outcome) (x : Extent) → first_end plan s ≡ Some (event.Ended id o (Some x)) → IsReported plan id o x
 unfolding first_end
 first_end_reported plan s id o x h =
     let p : (r : Req) × (find (runs_somewhere s) plan.requests ≡ Some r) × (end_of plan s r ≡ Some (event.Ended id o (Some x))) =
@@ -68,11 +68,11 @@ first_end_reported plan s id o x h =
 -- ---- nothing else is an end
 
 -- no forced event is an end
-forced_no_end : (plan : Plan) (s : Standing) (id : RequestId) (o : Outcome) (x : Option Extent) → forced plan s ≡ Some (event.Ended id o x) → ⊥
+forced_no_end : (plan : Plan) (s : State) (id : RequestId) (o : Outcome) (x : Option Extent) → forced plan s ≡ Some (event.Ended id o x) → ⊥
 forced_no_end plan s id o x h = let k : is_forced_kind (event.Ended id o x) ≡ true = ap (none_or is_forced_kind) (sym h) ∙ forced_kind plan s in cc
 
 -- no start is an end
-first_start_no_end : (plan : Plan) (s : Standing) (id : RequestId) (o : Outcome) (x : Option Extent) → first_start plan s ≡ Some (event.Ended id o x) → ⊥
+first_start_no_end : (plan : Plan) (s : State) (id : RequestId) (o : Outcome) (x : Option Extent) → first_start plan s ≡ Some (event.Ended id o x) → ⊥
 unfolding first_start
 first_start_no_end plan s id o x h =
     let p : (r : Req) × (first_by precedes (may_start_somewhere plan s) plan.requests ≡ Some r) × (start_of plan s r ≡ Some (event.Ended id o x)) =
@@ -82,7 +82,7 @@ first_start_no_end plan s id o x h =
     cc
 
 -- no tick is an end
-next_tick_no_end : (plan : Plan) (s : Standing) (next : Option Reading) (id : RequestId) (o : Outcome) (x : Option Extent) → next_tick plan s next ≡ Some (event.Ended id o x) → ⊥
+next_tick_no_end : (plan : Plan) (s : State) (next : Option Reading) (id : RequestId) (o : Outcome) (x : Option Extent) → next_tick plan s next ≡ Some (event.Ended id o x) → ⊥
 unfolding next_tick
 next_tick_no_end plan s next id o x h =
     let p : (q : Reading) × (next ≡ Some q) × (then_some (may_take plan s q) (event.Tick q.moment) ≡ Some (event.Ended id o x)) =
@@ -97,7 +97,7 @@ next_reported : (plan : Plan) (readings : List Reading) (past : List Event) (id 
     → next_alone plan readings past ≡ Some (event.Ended id o (Some x)) → IsReported plan id o x
 unfolding next_alone choice
 next_reported plan readings past id o x h =
-    let s = standing plan past in
+    let s = state plan past in
     elim (or-some (forced plan s) _ _ h) [
       | inl a ↦ absurd (forced_no_end plan s id o (Some x) a)
       | inr b ↦ elim (or-some (first_end plan s) _ _ b) [

@@ -7,7 +7,7 @@ use Rattle.conc_types.specs.declared.event.Event.TheVariants as event
 use Rattle.conc_types.specs.declared.event.RequestId.{RequestId}
 use Rattle.conc_law.specs.Facts.{running_place, runs}
 use Rattle.conc_law.specs.Kinds.{start_place, starts, stops}
-use Rattle.conc_law.specs.Past.{latest_since, stands_since}
+use Rattle.conc_law.specs.Before.{latest_since, stands_since}
 use Rattle.conc_law.specs.Words.{id_eq}
 
 -- a test gives something where it passes

@@ -10,18 +10,18 @@ use Rattle.conc_types.specs.declared.plan.Req.{Req}
 use Rattle.conc_types.specs.declared.script.Reading.{Reading}
 use Rattle.conc_law.specs.Facts.{cancels, completion, holds, is_idle, is_let, running_place, runs, unlets}
 use Rattle.conc_law.specs.Kinds.{act_of, stops}
-use Rattle.conc_law.specs.Law.{is_past, may_follow}
-use Rattle.conc_law.specs.Standing.{standing}
+use Rattle.conc_law.specs.Law.{is_lawful_so_far, may_follow}
+use Rattle.conc_law.specs.State.{state}
 use Rattle.conc_law.specs.Words.{Has}
 use Rattle.conc_law.proofs.Comes.{may_start-parts, start_comes}
-use Rattle.conc_law.proofs.FactsAt.{let_out-standing}
+use Rattle.conc_law.proofs.FactsAt.{let_out-state}
 use Rattle.conc_law.proofs.RunningPlace.{place-runs, running_place-more, runs-place}
 
 -- a request that starts is let
 pub start_let : (plan : Plan) (readings : Option (List Reading)) (past : List Event) (r : Req) (place : PlaceId) → Has plan.requests r
     → may_follow plan readings past (event.Started r.number place) ≡ true → is_let plan past r ≡ true
 start_let plan readings past r place hr h =
-    sym (let_out-standing plan past r hr) ∙ (may_start-parts plan (standing plan past) r place (start_comes plan readings past r place hr h)).0
+    sym (let_out-state plan past r hr) ∙ (may_start-parts plan (state plan past) r place (start_comes plan readings past r place hr h)).0
 
 -- a request that runs is not idle
 running_not_idle : (past : List Event) (c : Req → Option Outcome) (r : Req) → runs past r.number ≡ true → is_idle past c r ≡ false
@@ -49,12 +49,12 @@ unfolding is_let
 stays_let plan past r e before stays = or_right _ _ (and_from _ _ (not_from_false _ stays) before)
 
 -- a request that runs at a place is let
-runs_let_at : (plan : Plan) (past : List Event) (r : Req) (p : PlaceId) → Has plan.requests r → is_past plan past ≡ true
+runs_let_at : (plan : Plan) (past : List Event) (r : Req) (p : PlaceId) → Has plan.requests r → is_lawful_so_far plan past ≡ true
     → running_place past r.number ≡ Some p → is_let plan past r ≡ true
-unfolding is_past running_place
+unfolding is_lawful_so_far running_place
 runs_let_at plan [] r p hr lawful run = cc
 runs_let_at plan (e ∷ past) r p hr lawful run =
-    let l : (is_past plan past ≡ true) × (may_follow plan None past e ≡ true) = and_parts _ _ lawful in
+    let l : (is_lawful_so_far plan past ≡ true) × (may_follow plan None past e ≡ true) = and_parts _ _ lawful in
     elim (running_place-more past e r.number p run) [
       | inl start ↦
           let m : may_follow plan None past (event.Started r.number p) ≡ true = subst (λ d. may_follow plan None past d ≡ true) start l.1 in
@@ -66,7 +66,7 @@ runs_let_at plan (e ∷ past) r p hr lawful run =
     ]
 
 -- what stands at each position of a lawful history: a request that runs is let
-pub runs_let : (plan : Plan) (past : List Event) (r : Req) → Has plan.requests r → is_past plan past ≡ true → runs past r.number ≡ true
+pub runs_let : (plan : Plan) (past : List Event) (r : Req) → Has plan.requests r → is_lawful_so_far plan past ≡ true → runs past r.number ≡ true
     → is_let plan past r ≡ true
 runs_let plan past r hr lawful run =
     let p : (place : PlaceId) × (running_place past r.number ≡ Some place) = runs-place past r.number run in

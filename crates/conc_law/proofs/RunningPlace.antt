@@ -7,7 +7,7 @@ use Rattle.conc_types.specs.declared.event.PlaceId.{PlaceId}
 use Rattle.conc_types.specs.declared.event.RequestId.{RequestId}
 use Rattle.conc_law.specs.Facts.{running_place, runs}
 use Rattle.conc_law.specs.Kinds.{start_place, stops}
-use Rattle.conc_law.specs.Past.{latest_since}
+use Rattle.conc_law.specs.Before.{latest_since}
 use Rattle.conc_law.specs.Words.{id_eq}
 use Rattle.conc_law.proofs.EqualEvents.{id_same}
 use Rattle.conc_law.proofs.Options.{or-some, then_some-some}

@@ -11,16 +11,16 @@ use Rattle.conc_types.specs.declared.plan.Req.{Req}
 use Rattle.conc_types.specs.declared.script.Reading.{Reading}
 use Rattle.conc_law.specs.Facts.{cancels, current_stage, facts_of, holds, is_let, is_open, running_place, runs, unlets}
 use Rattle.conc_law.specs.Kinds.{act_of}
-use Rattle.conc_law.specs.Law.{is_past, may_follow}
+use Rattle.conc_law.specs.Law.{is_lawful_so_far, may_follow}
 use Rattle.conc_law.specs.Next.{may_let}
 use Rattle.conc_law.specs.Stages.{set_step}
-use Rattle.conc_law.specs.Standing.{facts_at, standing}
+use Rattle.conc_law.specs.State.{facts_at, state}
 use Rattle.conc_law.specs.Words.{Has, is_set}
 use Rattle.conc_law.proofs.Comes.{close_comes, same_request, stage_comes}
 use Rattle.conc_law.proofs.Completed.{closed_set, opened_open}
 use Rattle.conc_law.proofs.Due.{IsStepped, stage_stepped}
 use Rattle.conc_law.proofs.EqualEvents.{eqb-refl}
-use Rattle.conc_law.proofs.FactsAt.{facts_at-standing}
+use Rattle.conc_law.proofs.FactsAt.{facts_at-state}
 use Rattle.conc_law.proofs.Links.{set_step-later}
 use Rattle.conc_law.proofs.LiveApart.{open_could}
 use Rattle.conc_law.proofs.OpenSets.{open_not_completed, open_set, set_runs_not}
@@ -28,7 +28,7 @@ use Rattle.conc_law.proofs.UsesUp.{could_not_completed, could_not_live, facts-co
 use Rattle.conc_law.proofs.Weights.{left-completed, left-open, left-open-le, left-unopened}
 
 -- the bound of an open set
-left-of_open : (plan : Plan) (past : List Event) (r : Req) → Has plan.requests r → is_past plan past ≡ true → is_open past r ≡ true
+left-of_open : (plan : Plan) (past : List Event) (r : Req) → Has plan.requests r → is_lawful_so_far plan past ≡ true → is_open past r ≡ true
     → left plan past r ≡ 1 + (65 - unwrap_or (facts_of plan past r).stage 0)
 left-of_open plan past r hr lawful h =
     let set : is_set r.item ≡ true = open_set past r h in
@@ -57,10 +57,10 @@ unfolding is_open
 open-open past r set = and_from _ _ set (or_left _ _ (eqb-refl r.number.number))
 
 -- the opening of a set lowers its bound
-pub open_less : (plan : Plan) (readings : Option (List Reading)) (past : List Event) (r : Req) → Has plan.requests r → is_past plan past ≡ true
+pub open_less : (plan : Plan) (readings : Option (List Reading)) (past : List Event) (r : Req) → Has plan.requests r → is_lawful_so_far plan past ≡ true
     → may_follow plan readings past (event.OpenSet r.number) ≡ true → left plan (event.OpenSet r.number ∷ past) r < left plan past r
 open_less plan readings past r hr lawful m =
-    let could : (may_let plan (standing plan past) r ≡ true) × (is_set r.item ≡ true) = open_could plan readings past r hr m in
+    let could : (may_let plan (state plan past) r ≡ true) × (is_set r.item ≡ true) = open_could plan readings past r hr m in
     let dead : (is_let plan past r ≡ false) × (is_open past r ≡ false) = could_not_live plan past r hr could.0 in
     let n : runs past r.number ≡ false = set_runs_not plan past r hr lawful could.1 in
     let before : left plan past r ≡ 67 =
@@ -95,18 +95,18 @@ unfolding facts_of current_stage
 stage-current plan past r k = rw (eqb-refl r.number.number) refl
 
 -- a stage of a set lowers its bound
-pub stage_less : (plan : Plan) (readings : Option (List Reading)) (past : List Event) (r : Req) (k : ℕ) → Has plan.requests r → is_past plan past ≡ true
+pub stage_less : (plan : Plan) (readings : Option (List Reading)) (past : List Event) (r : Req) (k : ℕ) → Has plan.requests r → is_lawful_so_far plan past ≡ true
     → may_follow plan readings past (event.Stage r.number k) ≡ true → left plan (event.Stage r.number k ∷ past) r < left plan past r
 stage_less plan readings past r k hr lawful m =
     let h : is_open past r ≡ true = opened_open plan past r hr (stage_comes plan readings past r.number k m) in
     let set : is_set r.item ≡ true = open_set past r h in
     let n : runs past r.number ≡ false = set_runs_not plan past r hr lawful set in
     let l : is_let plan past r ≡ false = set_let_not plan past r hr lawful set in
-    let p : IsStepped plan (standing plan past) r.number k = stage_stepped plan readings past r.number k m in
+    let p : IsStepped plan (state plan past) r.number k = stage_stepped plan readings past r.number k m in
     let same : p.req ≡ r = same_request plan p.req r p.element hr p.number in
-    let step : set_step plan (standing plan past) r ≡ Some (event.Stage r.number k) = subst (λ z. set_step plan (standing plan past) z ≡ Some (event.Stage r.number k)) same p.step in
-    let later : (unwrap_or (facts_at (standing plan past) r).stage 0 < k) × (k ≤ 64) = set_step-later plan (standing plan past) r r.number k step in
-    let current : unwrap_or (facts_at (standing plan past) r).stage 0 ≡ unwrap_or (facts_of plan past r).stage 0 = ap (λ f. unwrap_or f.stage 0) (facts_at-standing plan past r hr) in
+    let step : set_step plan (state plan past) r ≡ Some (event.Stage r.number k) = subst (λ z. set_step plan (state plan past) z ≡ Some (event.Stage r.number k)) same p.step in
+    let later : (unwrap_or (facts_at (state plan past) r).stage 0 < k) × (k ≤ 64) = set_step-later plan (state plan past) r r.number k step in
+    let current : unwrap_or (facts_at (state plan past) r).stage 0 ≡ unwrap_or (facts_of plan past r).stage 0 = ap (λ f. unwrap_or f.stage 0) (facts_at-state plan past r hr) in
     let before : left plan past r ≡ 1 + (65 - unwrap_or (facts_of plan past r).stage 0) = left-of_open plan past r hr lawful h in
     let next = event.Stage r.number k ∷ past in
     let now : unwrap_or (facts_of plan next r).stage 0 ≡ k = ap (λ o. unwrap_or o 0) (stage-current plan past r k) in
@@ -118,7 +118,7 @@ stage_less plan readings past r k hr lawful m =
 -- ---- the close
 
 -- the close of a set lowers its bound
-pub close_less : (plan : Plan) (readings : Option (List Reading)) (past : List Event) (r : Req) (o : Outcome) → Has plan.requests r → is_past plan past ≡ true
+pub close_less : (plan : Plan) (readings : Option (List Reading)) (past : List Event) (r : Req) (o : Outcome) → Has plan.requests r → is_lawful_so_far plan past ≡ true
     → may_follow plan readings past (event.CloseSet r.number o) ≡ true → left plan (event.CloseSet r.number o ∷ past) r < left plan past r
 close_less plan readings past r o hr lawful m =
     let h : is_open past r ≡ true = opened_open plan past r hr (close_comes plan readings past r.number o m) in

@@ -12,16 +12,16 @@ use Rattle.conc_types.specs.declared.plan.Plan.{Plan}
 use Rattle.conc_types.specs.declared.plan.Req.{Req}
 use Rattle.conc_types.specs.declared.script.Reading.{Reading}
 use Rattle.conc_law.specs.Facts.{completes, completion, facts_of, is_let, is_open, running_place, runs, unlets, was_completed, was_started}
-use Rattle.conc_law.specs.Law.{is_past, may_follow}
+use Rattle.conc_law.specs.Law.{is_lawful_so_far, may_follow}
 use Rattle.conc_law.specs.Next.{is_ready, may_let}
-use Rattle.conc_law.specs.Past.{last_life}
+use Rattle.conc_law.specs.Before.{last_life}
 use Rattle.conc_law.specs.Remaining.{events_left}
-use Rattle.conc_law.specs.Standing.{facts_at, is_completed, is_live, is_running, standing}
+use Rattle.conc_law.specs.State.{facts_at, is_completed, is_live, is_running, state}
 use Rattle.conc_law.specs.Words.{Has, is_set}
 use Rattle.conc_law.proofs.Comes.{may_start-parts, start_comes}
 use Rattle.conc_law.proofs.Completed.{let_no_set, let_not_completed, was_completed-by}
 use Rattle.conc_law.proofs.EqualEvents.{eqb-refl}
-use Rattle.conc_law.proofs.FactsAt.{facts_at-standing, is_completed-standing, is_live-standing, is_running-standing, let_out-standing}
+use Rattle.conc_law.proofs.FactsAt.{facts_at-state, is_completed-state, is_live-state, is_running-state, let_out-state}
 use Rattle.conc_law.proofs.LiveApart.{let_could, may_let-parts}
 use Rattle.conc_law.proofs.RunningIsLet.{runs_let}
 use Rattle.conc_law.proofs.Stops.{end_runs, interrupt_left, interrupt_runs}
@@ -54,32 +54,32 @@ unfolding facts_of
 facts-opened plan past r = refl
 
 -- a request that is not let does not run
-pub let_not_runs_not : (plan : Plan) (past : List Event) (r : Req) → Has plan.requests r → is_past plan past ≡ true → is_let plan past r ≡ false → runs past r.number ≡ false
+pub let_not_runs_not : (plan : Plan) (past : List Event) (r : Req) → Has plan.requests r → is_lawful_so_far plan past ≡ true → is_let plan past r ≡ false → runs past r.number ≡ false
 let_not_runs_not plan past r hr lawful h = elim (cases_Bool (runs past r.number)) [
   | inl t ↦ absurd (both_ways _ h (runs_let plan past r hr lawful t))
   | inr f ↦ f
 ]
 
 -- no set is let
-pub set_let_not : (plan : Plan) (past : List Event) (r : Req) → Has plan.requests r → is_past plan past ≡ true → is_set r.item ≡ true → is_let plan past r ≡ false
+pub set_let_not : (plan : Plan) (past : List Event) (r : Req) → Has plan.requests r → is_lawful_so_far plan past ≡ true → is_set r.item ≡ true → is_let plan past r ≡ false
 set_let_not plan past r hr lawful set = elim (cases_Bool (is_let plan past r)) [
   | inl t ↦ absurd (both_ways _ (let_no_set plan past r hr lawful t) set)
   | inr f ↦ f
 ]
 
 -- a request that could be let is not live
-pub could_not_live : (plan : Plan) (past : List Event) (r : Req) → Has plan.requests r → may_let plan (standing plan past) r ≡ true → (is_let plan past r ≡ false) × (is_open past r ≡ false)
+pub could_not_live : (plan : Plan) (past : List Event) (r : Req) → Has plan.requests r → may_let plan (state plan past) r ≡ true → (is_let plan past r ≡ false) × (is_open past r ≡ false)
 unfolding may_let is_ready facts_of
 could_not_live plan past r hr h =
-    let f = facts_at (standing plan past) r in
-    let ready : is_ready plan (standing plan past) r ≡ true = (and_parts _ _ h).0 in
+    let f = facts_at (state plan past) r in
+    let ready : is_ready plan (state plan past) r ≡ true = (and_parts _ _ h).0 in
     let a : (not (is_live f) && _) ≡ true = (and_parts f.entered _ ready).1 in
     let b : is_live f ≡ false = not-true _ (and_parts (not (is_live f)) _ a).0 in
-    or_parts (is_let plan past r) (is_open past r) (sym (is_live-standing plan past r hr) ∙ b)
+    or_parts (is_let plan past r) (is_open past r) (sym (is_live-state plan past r hr) ∙ b)
 
 -- one that could be let is not completed
-pub could_not_completed : (plan : Plan) (past : List Event) (r : Req) → Has plan.requests r → may_let plan (standing plan past) r ≡ true → was_completed plan past r ≡ false
-could_not_completed plan past r hr h = sym (is_completed-standing plan past r hr) ∙ (may_let-parts plan (standing plan past) r h).0
+pub could_not_completed : (plan : Plan) (past : List Event) (r : Req) → Has plan.requests r → may_let plan (state plan past) r ≡ true → was_completed plan past r ≡ false
+could_not_completed plan past r hr h = sym (is_completed-state plan past r hr) ∙ (may_let-parts plan (state plan past) r h).0
 
 -- ---- a start
 
@@ -94,13 +94,13 @@ unfolding facts_of was_started last_life
 start-started plan past r p = or_left _ _ (eqb-refl r.number.number)
 
 -- a start lowers the bound
-pub start_less : (plan : Plan) (readings : Option (List Reading)) (past : List Event) (r : Req) (p : PlaceId) → Has plan.requests r → is_past plan past ≡ true
+pub start_less : (plan : Plan) (readings : Option (List Reading)) (past : List Event) (r : Req) (p : PlaceId) → Has plan.requests r → is_lawful_so_far plan past ≡ true
     → may_follow plan readings past (event.Started r.number p) ≡ true → left plan (event.Started r.number p ∷ past) r < left plan past r
 start_less plan readings past r p hr lawful m =
-    let s = standing plan past in
+    let s = state plan past in
     let parts = may_start-parts plan s r p (start_comes plan readings past r p hr m) in
-    let l : is_let plan past r ≡ true = sym (let_out-standing plan past r hr) ∙ parts.0 in
-    let n : runs past r.number ≡ false = sym (is_running-standing plan past r hr) ∙ parts.1 in
+    let l : is_let plan past r ≡ true = sym (let_out-state plan past r hr) ∙ parts.0 in
+    let n : runs past r.number ≡ false = sym (is_running-state plan past r hr) ∙ parts.1 in
     let before : left plan past r ≡ 2 =
     left-let r (facts_of plan past r) (facts-completed plan past r ∙ let_not_completed plan past r hr lawful l) (facts-runs plan past r ∙ n) (facts-let plan past r ∙ l) in
     let next = event.Started r.number p ∷ past in
@@ -120,7 +120,7 @@ pub end-completed : (plan : Plan) (past : List Event) (r : Req) (o : Outcome) (x
 end-completed plan past r o x = was_completed-by plan past r (event.Ended r.number o x) (end-outcome plan past r o x)
 
 -- an end lowers the bound
-pub end_less : (plan : Plan) (readings : Option (List Reading)) (past : List Event) (r : Req) (o : Outcome) (x : Option Extent) → Has plan.requests r → is_past plan past ≡ true
+pub end_less : (plan : Plan) (readings : Option (List Reading)) (past : List Event) (r : Req) (o : Outcome) (x : Option Extent) → Has plan.requests r → is_lawful_so_far plan past ≡ true
     → may_follow plan readings past (event.Ended r.number o x) ≡ true → left plan (event.Ended r.number o x ∷ past) r < left plan past r
 end_less plan readings past r o x hr lawful m =
     let n : runs past r.number ≡ true = end_runs plan readings past r o x hr m in
@@ -144,12 +144,12 @@ unfolding is_let unlets
 interrupt-let plan past r = and_left _ _ (not_from_true _ (or_left _ _ (eqb-refl r.number.number)))
 
 -- an interrupt lowers the bound
-pub interrupt_less : (plan : Plan) (readings : Option (List Reading)) (past : List Event) (r : Req) → Has plan.requests r → is_past plan past ≡ true
+pub interrupt_less : (plan : Plan) (readings : Option (List Reading)) (past : List Event) (r : Req) → Has plan.requests r → is_lawful_so_far plan past ≡ true
     → may_follow plan readings past (event.Interrupt r.number) ≡ true → left plan (event.Interrupt r.number ∷ past) r < left plan past r
 interrupt_less plan readings past r hr lawful m =
     let n : runs past r.number ≡ true = interrupt_runs plan readings past r hr m in
     let l : is_let plan past r ≡ true = runs_let plan past r hr lawful n in
-    let old : (facts_of plan past r).started ≡ false = ap (λ f. f.started) (sym (facts_at-standing plan past r hr)) ∙ (interrupt_left plan readings past r hr m).1 in
+    let old : (facts_of plan past r).started ≡ false = ap (λ f. f.started) (sym (facts_at-state plan past r hr)) ∙ (interrupt_left plan readings past r hr m).1 in
     let before : left plan past r ≡ 4 =
     left-left_running r (facts_of plan past r) (facts-completed plan past r ∙ let_not_completed plan past r hr lawful l) (facts-runs plan past r ∙ n) old in
     let next = event.Interrupt r.number ∷ past in
@@ -170,10 +170,10 @@ unfolding is_let
 let-let plan past r = or_left _ _ (eqb-refl r.number.number)
 
 -- a let lowers the bound
-pub let_less : (plan : Plan) (readings : Option (List Reading)) (past : List Event) (r : Req) → Has plan.requests r → is_past plan past ≡ true
+pub let_less : (plan : Plan) (readings : Option (List Reading)) (past : List Event) (r : Req) → Has plan.requests r → is_lawful_so_far plan past ≡ true
     → may_follow plan readings past (event.LetOut r.number) ≡ true → left plan (event.LetOut r.number ∷ past) r < left plan past r
 let_less plan readings past r hr lawful m =
-    let could : (may_let plan (standing plan past) r ≡ true) × (is_set r.item ≡ false) = let_could plan readings past r hr m in
+    let could : (may_let plan (state plan past) r ≡ true) × (is_set r.item ≡ false) = let_could plan readings past r hr m in
     let dead : (is_let plan past r ≡ false) × (is_open past r ≡ false) = could_not_live plan past r hr could.0 in
     let n : runs past r.number ≡ false = let_not_runs_not plan past r hr lawful dead.0 in
     let before : left plan past r ≡ 3 =

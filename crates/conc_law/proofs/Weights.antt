@@ -5,7 +5,7 @@ use Rattle.std.proofs.lemmas.Bool.{both_ways}
 use Rattle.conc_types.specs.declared.facts.Facts.{Facts}
 use Rattle.conc_types.specs.declared.plan.Req.{Req}
 use Rattle.conc_law.specs.Remaining.{events_left}
-use Rattle.conc_law.specs.Standing.{is_completed, is_running}
+use Rattle.conc_law.specs.State.{is_completed, is_running}
 use Rattle.conc_law.specs.Words.{is_set}
 
 -- ---- the cases of the bound

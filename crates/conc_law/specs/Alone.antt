@@ -6,7 +6,7 @@ use Rattle.std.specs.Option.{option_and_then, option_map, option_or}
 use Rattle.conc_types.specs.declared.event.Event.{Event}
 use Rattle.conc_types.specs.declared.event.Event.TheVariants as event
 use Rattle.conc_types.specs.declared.event.Outcome.TheVariants as outcome
-use Rattle.conc_types.specs.declared.facts.Standing.{Standing}
+use Rattle.conc_types.specs.declared.facts.State.{State}
 use Rattle.conc_types.specs.declared.plan.Plan.{Plan}
 use Rattle.conc_types.specs.declared.plan.Req.{Req}
 use Rattle.conc_types.specs.declared.script.Reading.{Reading}
@@ -17,7 +17,7 @@ use Rattle.conc_law.specs.Places.{all_places}
 use Rattle.conc_law.specs.Plans.{precedes, program_of}
 use Rattle.conc_law.specs.Readings.{next_reading}
 use Rattle.conc_law.specs.Report.{Report, report}
-use Rattle.conc_law.specs.Standing.{facts_at, is_stopping, standing}
+use Rattle.conc_law.specs.State.{facts_at, is_stopping, state}
 use Rattle.conc_law.specs.Words.{first_by}
 
 -- the report of a request of a program
@@ -31,30 +31,30 @@ report_of plan r =
 abbrev pub end_with : Req → Report → ℕ → Event
 end_with r made offset = event.Ended r.number made.outcome (Some (record { offset = offset; length = length made.text }))
 
-abbrev pub end_of : Plan → Standing → Req → Option Event
+abbrev pub end_of : Plan → State → Req → Option Event
 end_of plan s r =
     if is_stopping (facts_at s r)
     then Some (event.Ended r.number outcome.Terminated None)
     else option_and_then (λ made. option_map (end_with r made) s.used) (report_of plan r)
 
 -- the end of the request that runs
-unfoldable pub first_end : Plan → Standing → Option Event
+unfoldable pub first_end : Plan → State → Option Event
 first_end plan s = option_and_then (end_of plan s) (find (runs_somewhere s) plan.requests)
 
 -- the start of the first let request in precedence that has an allowed place, at the first such place
-abbrev pub start_of : Plan → Standing → Req → Option Event
+abbrev pub start_of : Plan → State → Req → Option Event
 start_of plan s r = option_map (λ place. event.Started r.number place) (find (may_start plan s r) (all_places plan))
 
-unfoldable pub first_start : Plan → Standing → Option Event
+unfoldable pub first_start : Plan → State → Option Event
 first_start plan s =
     option_and_then (start_of plan s) (first_by precedes (may_start_somewhere plan s) plan.requests)
 
 -- the tick of the next reading, where it may be taken
-unfoldable pub next_tick : Plan → Standing → Option Reading → Option Event
+unfoldable pub next_tick : Plan → State → Option Reading → Option Event
 next_tick plan s next = option_and_then (λ q. then_some (may_take plan s q) (event.Tick q.moment)) next
 
 -- the one event that comes next: the forced one, else an end, else a start, else a tick
-unfoldable pub choice : Plan → Standing → Option Reading → Option Event
+unfoldable pub choice : Plan → State → Option Reading → Option Event
 choice plan s next =
     option_or (forced plan s)
     (option_or (first_end plan s)
@@ -62,7 +62,7 @@ choice plan s next =
     (next_tick plan s next)))
 
 unfoldable pub next_alone : Plan → List Reading → List Event → Option Event
-next_alone plan readings past = choice plan (standing plan past) (next_reading readings past)
+next_alone plan readings past = choice plan (state plan past) (next_reading readings past)
 
 -- a life begins with the events found, and a resume after them if there are any
 abbrev pub opening : List Event → List Event

@@ -14,7 +14,7 @@ use Rattle.conc_types.specs.declared.plan.Req.{Req}
 use Rattle.conc_types.specs.Stages.{has_stage, with_stage}
 use Rattle.conc_types.specs.Words.{some_and}
 use Rattle.conc_law.specs.Kinds.{act_of, closes, is_cancel, is_command, is_hold, is_terminate, is_unhold, lets, opens, stage_begun_by, start_place, starts, stops}
-use Rattle.conc_law.specs.Past.{last_life, latest, latest_since, stands, stands_since}
+use Rattle.conc_law.specs.Before.{last_life, latest, latest_since, stands, stands_since}
 use Rattle.conc_law.specs.Plans.{has_restart, parent}
 use Rattle.conc_law.specs.Words.{id_eq, is_set}
 

@@ -4,9 +4,9 @@ pub mod Managers
 pub mod Places
 pub mod Plans
 pub mod Kinds
-pub mod Past
+pub mod Before
 pub mod Facts
-pub mod Standing
+pub mod State
 pub mod Stages
 pub mod Status
 pub mod Events

@@ -4,8 +4,8 @@ use Rattle.std.specs.List.{filter, filter_map}
 use Rattle.conc_types.specs.declared.event.Event.{Event}
 use Rattle.conc_types.specs.declared.script.Reading.{Reading}
 use Rattle.conc_law.specs.Kinds.{tick_of}
-use Rattle.conc_law.specs.Past.{earlier_lives, last_life}
-use Rattle.conc_law.specs.Standing.{is_not_earlier, now}
+use Rattle.conc_law.specs.Before.{earlier_lives, last_life}
+use Rattle.conc_law.specs.State.{is_not_earlier, now}
 
 -- the readings of the last life: those not earlier than the last tick of the lives before
 unfoldable pub life_readings : List Reading → List Event → List Reading

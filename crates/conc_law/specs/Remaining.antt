@@ -8,7 +8,7 @@ use Rattle.conc_types.specs.declared.plan.Req.{Req}
 use Rattle.conc_types.specs.declared.script.Reading.{Reading}
 use Rattle.conc_law.specs.Facts.{facts_of}
 use Rattle.conc_law.specs.Readings.{life_readings, ticks}
-use Rattle.conc_law.specs.Standing.{is_completed, is_done, is_running}
+use Rattle.conc_law.specs.State.{is_completed, is_done, is_running}
 use Rattle.conc_law.specs.Words.{is_set}
 
 -- how many events of its own a request still has at most. A set has at most 64 stages

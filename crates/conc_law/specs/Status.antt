@@ -8,11 +8,11 @@ use Rattle.conc_types.specs.declared.event.Phase.TheVariants as phase
 use Rattle.conc_types.specs.declared.event.Status.{Status}
 use Rattle.conc_types.specs.declared.event.Status.TheVariants as status
 use Rattle.conc_types.specs.declared.facts.Facts.{Facts}
-use Rattle.conc_types.specs.declared.facts.Standing.{Standing}
+use Rattle.conc_types.specs.declared.facts.State.{State}
 use Rattle.conc_types.specs.declared.plan.Plan.{Plan}
 use Rattle.conc_types.specs.declared.plan.Req.{Req}
 use Rattle.conc_law.specs.Plans.{is_admitted, is_enabled}
-use Rattle.conc_law.specs.Standing.{facts_at, has_come, is_running, is_stopping, is_waiting}
+use Rattle.conc_law.specs.State.{facts_at, has_come, is_running, is_stopping, is_waiting}
 use Rattle.conc_law.specs.Words.{is_set}
 
 abbrev pub status_of_outcome : Outcome → Status
@@ -23,7 +23,7 @@ status_of_outcome outcome.Terminated = status.Terminated
 status_of_outcome outcome.Cancelled = status.Cancelled
 
 -- why a request that was not let waits, or that it was let: the first condition that holds
-unfoldable pub waiting_status : Plan → Standing → Req → Facts → Phase × Status
+unfoldable pub waiting_status : Plan → State → Req → Facts → Phase × Status
 waiting_status plan s r facts =
     if is_waiting plan s r then (phase.Pending, status.Waiting)
     else (if not (has_come s.time r.start) then (phase.Pending, status.Scheduled)
@@ -31,7 +31,7 @@ waiting_status plan s r facts =
     else (phase.Pending, status.Standby)))
 
 -- of a request that is not completed: the first condition that holds
-unfoldable pub open_status : Plan → Standing → Req → Facts → Phase × Status
+unfoldable pub open_status : Plan → State → Req → Facts → Phase × Status
 open_status plan s r facts =
     if is_running facts then (phase.Running, (if is_stopping facts then status.Terminating else status.Normal))
     else (if facts.opened then (phase.Running, (if is_some facts.stage then status.Paused else status.Normal))
@@ -40,11 +40,11 @@ open_status plan s r facts =
     else (if not (is_set r.item) && not (is_admitted plan r) then (phase.Inactive, status.NoManager)
     else waiting_status plan s r facts))))
 
-abbrev pub status_by : Plan → Standing → Req → Facts → Option Outcome → Phase × Status
+abbrev pub status_by : Plan → State → Req → Facts → Option Outcome → Phase × Status
 status_by plan s r facts (Some o) = (phase.Completed, status_of_outcome o)
 status_by plan s r facts None = open_status plan s r facts
 
 -- the phase and status of a request, which only a submitted one has
-unfoldable pub status_of : Plan → Standing → Req → Option (Phase × Status)
+unfoldable pub status_of : Plan → State → Req → Option (Phase × Status)
 status_of plan s r =
     then_some (facts_at s r).entered (status_by plan s r (facts_at s r) (facts_at s r).outcome)

@@ -20,7 +20,7 @@ use Rattle.conc_types.specs.declared.item.Item.{Item}
 use Rattle.conc_types.specs.declared.item.Item.TheVariants as item
 use Rattle.conc_law.specs.Moments.{moment_text}
 use Rattle.conc_law.specs.Places.{place_of}
-use Rattle.conc_law.specs.Standing.{standing}
+use Rattle.conc_law.specs.State.{state}
 use Rattle.conc_law.specs.Status.{status_of}
 
 abbrev pub outcome_word : Outcome → List ℕ
@@ -91,7 +91,7 @@ item_name plan (item.Set n) = option_map_or (λ s. s.name) (slice_get plan.setup
 unfoldable pub request_line : Plan → List Event → Req → List ℕ
 request_line plan past r =
     option_map_or (λ s. line_of (id_word r.number ∷ phase_word s.0 ∷ status_word s.1 ∷ item_name plan r.item ∷ []))
-    (status_of plan (standing plan past) r) []
+    (status_of plan (state plan past) r) []
 
 -- the table of the submitted requests, in order of their numbers
 unfoldable pub table_text : Plan → List Event → List ℕ

@@ -22,9 +22,9 @@ ghost use Rattle.conc_law.specs.Ends.{AreReported};
 ghost use Rattle.conc_law.specs.Exclusion.{excludes};
 ghost use Rattle.conc_law.specs.Facts.{is_let, running_place, runs, stages_begun, was_completed};
 ghost use Rattle.conc_law.specs.Kinds.{begins_stage, is_resume, starts, starts_at, stops, tick_of};
-ghost use Rattle.conc_law.specs.Law.{Finished, Lawful, may_follow, Past};
+ghost use Rattle.conc_law.specs.Law.{Finished, Lawful, may_follow, LawfulSoFar};
 ghost use Rattle.conc_law.specs.Overlap.{NoOverlap};
-ghost use Rattle.conc_law.specs.Past.{stands, stands_since};
+ghost use Rattle.conc_law.specs.Before.{stands, stands_since};
 ghost use Rattle.conc_law.specs.Remaining.{remaining};
 ghost use Rattle.conc_law.specs.Report.{report};
 ghost use Rattle.conc_law.specs.Words.{Has};
@@ -51,20 +51,20 @@ pub fn report_is_short()
 
 /// Running intervals of requests that exclude each other do not overlap.
 pub fn no_overlap()
-    ensures { (plan : Plan) (history : List Event) → Past plan history → NoOverlap plan history }
+    ensures { (plan : Plan) (history : List Event) → LawfulSoFar plan history → NoOverlap plan history }
 {}
 
 /// No start of a request stands after its completion.
 pub fn no_start_after_completion()
     ensures { (plan : Plan) (before : List Event) (r : Req) (place : PlaceId) →
-        Has plan.requests r → Past plan (before ++ Event.Started r.number place ∷ []) →
+        Has plan.requests r → LawfulSoFar plan (before ++ Event.Started r.number place ∷ []) →
         IsFalse (was_completed plan (reverse before) r) }
 {}
 
 /// Two requests that run at one place are one.
 pub fn one_at_a_place()
     ensures { (plan : Plan) (history : List Event) (x y : Req) (place : PlaceId) →
-        Has plan.requests x → Has plan.requests y → Past plan history →
+        Has plan.requests x → Has plan.requests y → LawfulSoFar plan history →
         running_place (reverse history) x.number ≡ Some place →
         running_place (reverse history) y.number ≡ Some place →
         x.number ≡ y.number }
@@ -73,23 +73,23 @@ pub fn one_at_a_place()
 /// A request that runs is let.
 pub fn running_is_let()
     ensures { (plan : Plan) (history : List Event) (r : Req) →
-        Has plan.requests r → Past plan history →
+        Has plan.requests r → LawfulSoFar plan history →
         IsTrue (runs (reverse history) r.number) → IsTrue (is_let plan (reverse history) r) }
 {}
 
 /// The first event is a tick.
 pub fn begins_with_a_tick()
-    ensures { (plan : Plan) (e : Event) (history : List Event) → Past plan (e ∷ history) → IsSome (tick_of e) }
+    ensures { (plan : Plan) (e : Event) (history : List Event) → LawfulSoFar plan (e ∷ history) → IsSome (tick_of e) }
 {}
 
 /// The history up to any event is lawful too, with every life judged as an earlier one.
-pub fn prefix_is_past()
-    ensures { (plan : Plan) (before after : List Event) → Past plan (before ++ after) → Past plan before }
+pub fn prefix_is_lawful_so_far()
+    ensures { (plan : Plan) (before after : List Event) → LawfulSoFar plan (before ++ after) → LawfulSoFar plan before }
 {}
 
 /// A history that is lawful for some readings is lawful with every life judged as an earlier one.
-pub fn lawful_is_past()
-    ensures { (plan : Plan) (readings : Readings) (history : List Event) → Lawful plan readings.list history → Past plan history }
+pub fn lawful_is_lawful_so_far()
+    ensures { (plan : Plan) (readings : Readings) (history : List Event) → Lawful plan readings.list history → LawfulSoFar plan history }
 {}
 
 // ---- the run without a choice
@@ -104,12 +104,12 @@ pub fn choice_is_lawful()
 /// A run without workers that goes on from a lawful history makes a lawful one.
 pub fn alone_is_lawful()
     ensures { (plan : Plan) (readings : List Reading) (found history : List Event) →
-        Past plan found → Alone plan readings found history → Lawful plan readings history }
+        LawfulSoFar plan found → Alone plan readings found history → Lawful plan readings history }
 {}
 
 /// Where nothing comes next in a run without workers, the history is finished.
 pub fn alone_finishes()
-    ensures { (plan : Plan) (readings : List Reading) (history : List Event) → Past plan history →
+    ensures { (plan : Plan) (readings : List Reading) (history : List Event) → LawfulSoFar plan history →
         next_alone plan readings (reverse history) ≡ None → Finished plan readings history }
 {}
 
@@ -121,7 +121,7 @@ pub fn alone_reports()
 
 /// A life ends: each event but a resume lowers the bound on the events that it still has.
 pub fn each_event_uses_up()
-    ensures { (plan : Plan) (readings : List Reading) (history : List Event) (e : Event) → Past plan history →
+    ensures { (plan : Plan) (readings : List Reading) (history : List Event) (e : Event) → LawfulSoFar plan history →
         IsTrue (may_follow plan (Some readings) (reverse history) e) → IsFalse (is_resume e) →
         remaining plan readings (e ∷ reverse history) < remaining plan readings (reverse history) }
 {}
@@ -149,7 +149,7 @@ pub fn running_stands()
 /// In a lawful history a request runs at the place at which a start of it stands with no end or
 /// interrupt after it.
 pub fn running_place_stands()
-    ensures { (plan : Plan) (history : List Event) (r : Req) (place : PlaceId) → Has plan.requests r → Past plan history →
+    ensures { (plan : Plan) (history : List Event) (r : Req) (place : PlaceId) → Has plan.requests r → LawfulSoFar plan history →
         some_and (λ p. p.index == place.index) (running_place (reverse history) r.number)
         ≡ stands_since (λ _ e. starts_at r.number place e) (λ _ e. stops r.number e) (reverse history) }
 {}

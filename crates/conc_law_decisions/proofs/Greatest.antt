@@ -6,7 +6,7 @@ use Rattle.std.specs.List.{filter, filter_map}
 use Rattle.conc_types.specs.Words.{greatest}
 use Rattle.conc_types.specs.declared.event.RequestId.{RequestId}
 use Rattle.conc_types.specs.declared.plan.Req.{Req}
-use Rattle.conc_types.specs.declared.facts.Standing.{Standing}
+use Rattle.conc_types.specs.declared.facts.State.{State}
 use Rattle.conc_law.specs.Plans.{is_member}
 use Rattle.conc_law.specs.Stages.{outcome_at, severity}
 use Rattle.conc_law_decisions.specs.Members.{worst_among}
@@ -15,17 +15,17 @@ pub greatest-append : (xs ys : List ℕ) → greatest (xs ++ ys) ≡ max (greate
 greatest-append [] ys = omega arith
 greatest-append (x ∷ xs) ys = ap (max x) (greatest-append xs ys) ∙ omega arith
 
-module _ (standing : Standing) (set : RequestId) (stage : ℕ) where
-  pub worst_among-append : (xs ys : List Req) → worst_among standing set stage (xs ++ ys) ≡ max (worst_among standing set stage xs) (worst_among standing set stage ys)
+module _ (state : State) (set : RequestId) (stage : ℕ) where
+  pub worst_among-append : (xs ys : List Req) → worst_among state set stage (xs ++ ys) ≡ max (worst_among state set stage xs) (worst_among state set stage ys)
   worst_among-append xs ys =
-      ap (λ l. greatest (map severity (filter_map (outcome_at standing) l))) (filter-append (is_member set stage) xs ys)
-      ∙ ap (λ l. greatest (map severity l)) (filter_map-append (outcome_at standing) (filter (is_member set stage) xs) (filter (is_member set stage) ys))
-      ∙ ap greatest (map-append severity (filter_map (outcome_at standing) (filter (is_member set stage) xs)) (filter_map (outcome_at standing) (filter (is_member set stage) ys)))
-      ∙ greatest-append (map severity (filter_map (outcome_at standing) (filter (is_member set stage) xs))) (map severity (filter_map (outcome_at standing) (filter (is_member set stage) ys)))
+      ap (λ l. greatest (map severity (filter_map (outcome_at state) l))) (filter-append (is_member set stage) xs ys)
+      ∙ ap (λ l. greatest (map severity l)) (filter_map-append (outcome_at state) (filter (is_member set stage) xs) (filter (is_member set stage) ys))
+      ∙ ap greatest (map-append severity (filter_map (outcome_at state) (filter (is_member set stage) xs)) (filter_map (outcome_at state) (filter (is_member set stage) ys)))
+      ∙ greatest-append (map severity (filter_map (outcome_at state) (filter (is_member set stage) xs))) (map severity (filter_map (outcome_at state) (filter (is_member set stage) ys)))
 
   -- the worst of one request more
   pub worst_among-more : (xs : List Req) (i : ℕ) (r : Req) → i < length xs → r ≡ get_or xs i r →
-      worst_among standing set stage (take (i + 1) xs) ≡ max (worst_among standing set stage (take i xs)) (worst_among standing set stage (r ∷ []))
+      worst_among state set stage (take (i + 1) xs) ≡ max (worst_among state set stage (take i xs)) (worst_among state set stage (r ∷ []))
   worst_among-more xs i r within is =
-      ap (worst_among standing set stage) (take_more xs i r within ∙ ap (λ (y : Req). take i xs ++ y ∷ []) (sym is))
+      ap (worst_among state set stage) (take_more xs i r within ∙ ap (λ (y : Req). take i xs ++ y ∷ []) (sym is))
       ∙ worst_among-append (take i xs) (r ∷ [])

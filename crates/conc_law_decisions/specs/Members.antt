@@ -5,7 +5,7 @@ use Rattle.conc_types.specs.Words.{greatest}
 use Rattle.conc_types.specs.declared.event.RequestId.{RequestId}
 use Rattle.conc_types.specs.declared.plan.Plan.{Plan}
 use Rattle.conc_types.specs.declared.plan.Req.{Req}
-use Rattle.conc_types.specs.declared.facts.Standing.{Standing}
+use Rattle.conc_types.specs.declared.facts.State.{State}
 use Rattle.conc_law.specs.Plans.{is_member, members}
 use Rattle.conc_law.specs.Stages.{outcome_at, severity}
 
@@ -14,5 +14,5 @@ abbrev pub AreMembers : Plan → RequestId → List Req → Type 0
 AreMembers plan set requests = (stage : ℕ) → filter (is_member set stage) requests ≡ members plan set stage
 
 -- the worst severity of the outcomes of those of the requests that are members of the stage
-abbrev pub worst_among : Standing → RequestId → ℕ → List Req → ℕ
-worst_among standing set stage requests = greatest (map severity (filter_map (outcome_at standing) (filter (is_member set stage) requests)))
+abbrev pub worst_among : State → RequestId → ℕ → List Req → ℕ
+worst_among state set stage requests = greatest (map severity (filter_map (outcome_at state) (filter (is_member set stage) requests)))

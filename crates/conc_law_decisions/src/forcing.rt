@@ -10,34 +10,34 @@ ghost use Rattle.conc_law_decisions.specs.Members.{AreMembers};
 use crate::lookup::{facts_at, has_come, is_completed, is_live, is_running, is_waiting};
 use crate::stages::set_step;
 use conc_rules::{are_exclusive, can_run, is_set, precedes};
-use conc_types::{Event, Order, Plan, Req, Standing, numbered};
+use conc_types::{Event, Order, Plan, Req, State, numbered};
 
 // ---- interrupts
 
 /// Whether r ran at the stop of the system: it runs, and was not started since.
 #[tactic(auto, unfolding(conc_law::specs::Next::is_left_running))]
-pub fn is_left_running(standing: &Standing, r: &Req) -> bool
-    ensures { result ≡ is_left_running_of standing.now r.now }
+pub fn is_left_running(state: &State, r: &Req) -> bool
+    ensures { result ≡ is_left_running_of state.now r.now }
 {
-    let facts = facts_at(standing, r);
+    let facts = facts_at(state, r);
     is_running(facts) && !facts.started
 }
 
-fn first_left_running<'a>(plan: &'a Plan, standing: &Standing) -> Option<&'a Req>
-    ensures { option_copied result ≡ find (is_left_running_of standing.now) plan.now.requests }
+fn first_left_running<'a>(plan: &'a Plan, state: &State) -> Option<&'a Req>
+    ensures { option_copied result ≡ find (is_left_running_of state.now) plan.now.requests }
 {
     plan.requests
         .as_slice()
         .iter()
-        .find(|r| is_left_running(standing, r))
+        .find(|r| is_left_running(state, r))
 }
 
 /// The interrupt that is forced, if one is due: that of the first request that ran at the stop.
 #[tactic(auto, unfolding(conc_law::specs::Next::forced_interrupt))]
-pub fn forced_interrupt(plan: &Plan, standing: &Standing) -> Option<Event>
-    ensures { result ≡ forced_interrupt_of plan.now standing.now }
+pub fn forced_interrupt(plan: &Plan, state: &State) -> Option<Event>
+    ensures { result ≡ forced_interrupt_of plan.now state.now }
 {
-    match first_left_running(plan, standing) {
+    match first_left_running(plan, state) {
         Some(r) => Some(Event::Interrupt { request: r.number }),
         None => None,
     }
@@ -45,40 +45,40 @@ pub fn forced_interrupt(plan: &Plan, standing: &Standing) -> Option<Event>
 
 // ---- commands
 
-fn is_done(standing: &Standing, number: u32) -> bool
-    ensures { result ≡ unwrap_or (numbered_of standing.now.done number) false }
+fn is_done(state: &State, number: u32) -> bool
+    ensures { result ≡ unwrap_or (numbered_of state.now.done number) false }
 {
-    numbered(standing.done.as_slice(), number)
+    numbered(state.done.as_slice(), number)
         .copied()
         .unwrap_or(false)
 }
 
 /// Whether a command, which is given with its number, is due: it is not done, and its moment has come.
 #[tactic(auto, unfolding(conc_law::specs::Next::is_due))]
-pub fn is_due(standing: &Standing, number: u32, order: &Order) -> bool
-    ensures { result ≡ is_due_of standing.now (number, order.now) }
+pub fn is_due(state: &State, number: u32, order: &Order) -> bool
+    ensures { result ≡ is_due_of state.now (number, order.now) }
 {
-    !is_done(standing, number) && has_come(standing.time, order.at)
+    !is_done(state, number) && has_come(state.time, order.at)
 }
 
 // The number of the first command that is due, of those from this number on.
-fn first_due(standing: &Standing, orders: &[Order], number: u32) -> Option<u32>
+fn first_due(state: &State, orders: &[Order], number: u32) -> Option<u32>
     requires { number + length orders.now < 2 ^ 32 }
-    ensures { result ≡ option_map (λ order. order.0) (find (is_due_of standing.now) (enumerate_from number orders.now)) }
+    ensures { result ≡ option_map (λ order. order.0) (find (is_due_of state.now) (enumerate_from number orders.now)) }
 {
     match orders.split_first() {
         None => None,
-        Some((order, _)) if is_due(standing, number, order) => Some(number),
-        Some((_, rest)) => first_due(standing, rest, number + 1),
+        Some((order, _)) if is_due(state, number, order) => Some(number),
+        Some((_, rest)) => first_due(state, rest, number + 1),
     }
 }
 
 /// The command that is forced, if one is due.
 #[tactic(auto, unfolding(conc_law::specs::Next::forced_command))]
-pub fn forced_command(plan: &Plan, standing: &Standing) -> Option<Event>
-    ensures { result ≡ forced_command_of plan.now standing.now }
+pub fn forced_command(plan: &Plan, state: &State) -> Option<Event>
+    ensures { result ≡ forced_command_of plan.now state.now }
 {
-    match first_due(standing, plan.script.commands.as_slice(), 1) {
+    match first_due(state, plan.script.commands.as_slice(), 1) {
         Some(number) => Some(Event::Command { number }),
         None => None,
     }
@@ -89,29 +89,29 @@ pub fn forced_command(plan: &Plan, standing: &Standing) -> Option<Event>
 /// Whether a request is an open set that has something to do. All members of the set stand among the
 /// requests that are given.
 #[tactic(auto, unfolding(conc_law::specs::Next::has_step))]
-pub fn has_step(plan: &Plan, standing: &Standing, r: &Req, members: &[Req]) -> bool
+pub fn has_step(plan: &Plan, state: &State, r: &Req, members: &[Req]) -> bool
     requires { AreMembers plan.now r.now.number members.now }
-    ensures { result ≡ has_step_of plan.now standing.now r.now }
+    ensures { result ≡ has_step_of plan.now state.now r.now }
 {
-    facts_at(standing, r).opened && set_step(plan, standing, r, members).is_some()
+    facts_at(state, r).opened && set_step(plan, state, r, members).is_some()
 }
 
 #[tactic(auto, unfolding(conc_law::specs::Plans::members))]
-fn first_with_step<'a>(plan: &'a Plan, standing: &Standing) -> Option<&'a Req>
-    ensures { option_copied result ≡ find (has_step_of plan.now standing.now) plan.now.requests }
+fn first_with_step<'a>(plan: &'a Plan, state: &State) -> Option<&'a Req>
+    ensures { option_copied result ≡ find (has_step_of plan.now state.now) plan.now.requests }
 {
     plan.requests
         .as_slice()
         .iter()
-        .find(|r| has_step(plan, standing, r, plan.requests.as_slice()))
+        .find(|r| has_step(plan, state, r, plan.requests.as_slice()))
 }
 
 #[tactic(auto, unfolding(conc_law::specs::Next::forced_step, conc_law::specs::Plans::members))]
-fn forced_step(plan: &Plan, standing: &Standing) -> Option<Event>
-    ensures { result ≡ forced_step_of plan.now standing.now }
+fn forced_step(plan: &Plan, state: &State) -> Option<Event>
+    ensures { result ≡ forced_step_of plan.now state.now }
 {
-    match first_with_step(plan, standing) {
-        Some(r) => set_step(plan, standing, r, plan.requests.as_slice()),
+    match first_with_step(plan, state) {
+        Some(r) => set_step(plan, state, r, plan.requests.as_slice()),
         None => None,
     }
 }
@@ -120,79 +120,79 @@ fn forced_step(plan: &Plan, standing: &Standing) -> Option<Event>
 
 /// Whether q is live and excludes r.
 #[tactic(auto, unfolding(conc_law::specs::Next::blocks))]
-pub fn blocks(plan: &Plan, standing: &Standing, r: &Req, q: &Req) -> bool
-    ensures { result ≡ blocks_of plan.now standing.now r.now q.now }
+pub fn blocks(plan: &Plan, state: &State, r: &Req, q: &Req) -> bool
+    ensures { result ≡ blocks_of plan.now state.now r.now q.now }
 {
-    is_live(facts_at(standing, q)) && are_exclusive(plan, q, r)
+    is_live(facts_at(state, q)) && are_exclusive(plan, q, r)
 }
 
-fn is_blocked(plan: &Plan, standing: &Standing, r: &Req) -> bool
-    ensures { result ≡ list_any (blocks_of plan.now standing.now r.now) plan.now.requests }
+fn is_blocked(plan: &Plan, state: &State, r: &Req) -> bool
+    ensures { result ≡ list_any (blocks_of plan.now state.now r.now) plan.now.requests }
 {
     plan.requests
         .as_slice()
         .iter()
-        .any(|q| blocks(plan, standing, r, q))
+        .any(|q| blocks(plan, state, r, q))
 }
 
 /// Whether no live request excludes r.
 #[tactic(auto, unfolding(conc_law::specs::Next::is_free))]
-pub fn is_free(plan: &Plan, standing: &Standing, r: &Req) -> bool
-    ensures { result ≡ is_free_of plan.now standing.now r.now }
+pub fn is_free(plan: &Plan, state: &State, r: &Req) -> bool
+    ensures { result ≡ is_free_of plan.now state.now r.now }
 {
-    !is_blocked(plan, standing, r)
+    !is_blocked(plan, state, r)
 }
 
 /// Whether r can be let out, or opened, unless a live request excludes it.
 #[tactic(auto, unfolding(conc_law::specs::Next::is_ready))]
-pub fn is_ready(plan: &Plan, standing: &Standing, r: &Req) -> bool
-    ensures { result ≡ is_ready_of plan.now standing.now r.now }
+pub fn is_ready(plan: &Plan, state: &State, r: &Req) -> bool
+    ensures { result ≡ is_ready_of plan.now state.now r.now }
 {
-    let facts = facts_at(standing, r);
+    let facts = facts_at(state, r);
     facts.entered
         && !is_live(facts)
         && !is_completed(facts)
         && !facts.held
-        && has_come(standing.time, r.start)
+        && has_come(state.time, r.start)
         && can_run(plan, r)
-        && !is_waiting(plan, standing, r)
+        && !is_waiting(plan, state, r)
 }
 
 #[tactic(auto, unfolding(conc_law::specs::Next::may_let))]
-fn may_let(plan: &Plan, standing: &Standing, r: &Req) -> bool
-    ensures { result ≡ may_let_of plan.now standing.now r.now }
+fn may_let(plan: &Plan, state: &State, r: &Req) -> bool
+    ensures { result ≡ may_let_of plan.now state.now r.now }
 {
-    is_ready(plan, standing, r) && is_free(plan, standing, r)
+    is_ready(plan, state, r) && is_free(plan, state, r)
 }
 
-fn stands_before(plan: &Plan, standing: &Standing, r: &Req, q: &Req) -> bool
-    ensures { result ≡ (may_let_of plan.now standing.now q.now && precedes_of q.now r.now) }
+fn stands_before(plan: &Plan, state: &State, r: &Req, q: &Req) -> bool
+    ensures { result ≡ (may_let_of plan.now state.now q.now && precedes_of q.now r.now) }
 {
-    may_let(plan, standing, q) && precedes(q, r)
+    may_let(plan, state, q) && precedes(q, r)
 }
 
-fn is_behind(plan: &Plan, standing: &Standing, r: &Req) -> bool
-    ensures { result ≡ list_any (λ q. may_let_of plan.now standing.now q && precedes_of q r.now) plan.now.requests }
+fn is_behind(plan: &Plan, state: &State, r: &Req) -> bool
+    ensures { result ≡ list_any (λ q. may_let_of plan.now state.now q && precedes_of q r.now) plan.now.requests }
 {
     plan.requests
         .as_slice()
         .iter()
-        .any(|q| stands_before(plan, standing, r, q))
+        .any(|q| stands_before(plan, state, r, q))
 }
 
-fn is_first(plan: &Plan, standing: &Standing, r: &Req) -> bool
-    ensures { result ≡ (may_let_of plan.now standing.now r.now && not (list_any (λ q. may_let_of plan.now standing.now q && precedes_of q r.now) plan.now.requests)) }
+fn is_first(plan: &Plan, state: &State, r: &Req) -> bool
+    ensures { result ≡ (may_let_of plan.now state.now r.now && not (list_any (λ q. may_let_of plan.now state.now q && precedes_of q r.now) plan.now.requests)) }
 {
-    may_let(plan, standing, r) && !is_behind(plan, standing, r)
+    may_let(plan, state, r) && !is_behind(plan, state, r)
 }
 
-fn first_to_let<'a>(plan: &'a Plan, standing: &Standing) -> Option<&'a Req>
-    ensures { option_copied result ≡ first_by precedes_of (may_let_of plan.now standing.now) plan.now.requests }
+fn first_to_let<'a>(plan: &'a Plan, state: &State) -> Option<&'a Req>
+    ensures { option_copied result ≡ first_by precedes_of (may_let_of plan.now state.now) plan.now.requests }
 {
     plan.requests
         .as_slice()
         .iter()
-        .find(|r| is_first(plan, standing, r))
+        .find(|r| is_first(plan, state, r))
 }
 
 /// The let of a request, or the open where it is a set.
@@ -207,10 +207,10 @@ pub fn let_event(r: &Req) -> Event
 }
 
 #[tactic(auto, unfolding(conc_law::specs::Next::forced_let))]
-fn forced_let(plan: &Plan, standing: &Standing) -> Option<Event>
-    ensures { result ≡ forced_let_of plan.now standing.now }
+fn forced_let(plan: &Plan, state: &State) -> Option<Event>
+    ensures { result ≡ forced_let_of plan.now state.now }
 {
-    match first_to_let(plan, standing) {
+    match first_to_let(plan, state) {
         Some(r) => Some(let_event(r)),
         None => None,
     }
@@ -222,17 +222,17 @@ fn forced_let(plan: &Plan, standing: &Standing) -> Option<Event>
 /// at the stop, by number; the first command that is due; the step of the first open set that has
 /// one; or the let, or open, of the first request in precedence that can be let out.
 #[tactic(auto, unfolding(conc_law::specs::Next::forced))]
-pub fn forced(plan: &Plan, standing: &Standing) -> Option<Event>
-    ensures { result ≡ forced_of plan.now standing.now }
+pub fn forced(plan: &Plan, state: &State) -> Option<Event>
+    ensures { result ≡ forced_of plan.now state.now }
 {
-    if let Some(e) = forced_interrupt(plan, standing) {
+    if let Some(e) = forced_interrupt(plan, state) {
         return Some(e);
     }
-    if let Some(e) = forced_command(plan, standing) {
+    if let Some(e) = forced_command(plan, state) {
         return Some(e);
     }
-    if let Some(e) = forced_step(plan, standing) {
+    if let Some(e) = forced_step(plan, state) {
         return Some(e);
     }
-    forced_let(plan, standing)
+    forced_let(plan, state)
 }

@@ -1,15 +1,15 @@
 ghost use Rattle.std.specs.Prelude.{◌≡◌};
-ghost use Rattle.conc_law.specs.Standing.{facts_at as facts_at_of, has_come as has_come_of, is_completed as is_completed_of, is_live as is_live_of, is_not_earlier as is_not_earlier_of, is_running as is_running_of, is_stopping as is_stopping_of, is_waiting as is_waiting_of};
+ghost use Rattle.conc_law.specs.State.{facts_at as facts_at_of, has_come as has_come_of, is_completed as is_completed_of, is_live as is_live_of, is_not_earlier as is_not_earlier_of, is_running as is_running_of, is_stopping as is_stopping_of, is_waiting as is_waiting_of};
 
 use conc_rules::parent;
-use conc_types::{Facts, Moment, Plan, Req, Standing, numbered};
+use conc_types::{Facts, Moment, Plan, Req, State, numbered};
 
 /// The facts of a request.
-#[tactic(auto, unfolding(conc_law::specs::Standing::facts_at))]
-pub fn facts_at(standing: &Standing, r: &Req) -> Facts
-    ensures { result ≡ facts_at_of standing.now r.now }
+#[tactic(auto, unfolding(conc_law::specs::State::facts_at))]
+pub fn facts_at(state: &State, r: &Req) -> Facts
+    ensures { result ≡ facts_at_of state.now r.now }
 {
-    numbered(standing.facts.as_slice(), r.number.number)
+    numbered(state.facts.as_slice(), r.number.number)
         .copied()
         .unwrap_or(Facts::NONE)
 }
@@ -41,18 +41,18 @@ pub fn is_completed(facts: Facts) -> bool
 }
 
 /// Whether r is a member whose stage has not begun.
-#[tactic(auto, unfolding(conc_law::specs::Standing::is_waiting))]
-pub fn is_waiting(plan: &Plan, standing: &Standing, r: &Req) -> bool
-    ensures { result ≡ is_waiting_of plan.now standing.now r.now }
+#[tactic(auto, unfolding(conc_law::specs::State::is_waiting))]
+pub fn is_waiting(plan: &Plan, state: &State, r: &Req) -> bool
+    ensures { result ≡ is_waiting_of plan.now state.now r.now }
 {
     match parent(plan, r) {
-        Some(set) => !facts_at(standing, set).begun.contains(r.stage),
+        Some(set) => !facts_at(state, set).begun.contains(r.stage),
         None => false,
     }
 }
 
 /// Whether a moment has come: it is not after the last tick.
-#[tactic(auto, unfolding(conc_law::specs::Standing::has_come))]
+#[tactic(auto, unfolding(conc_law::specs::State::has_come))]
 pub fn has_come(now: Option<Moment>, t: Moment) -> bool
     ensures { result ≡ has_come_of now t }
 {
@@ -63,7 +63,7 @@ pub fn has_come(now: Option<Moment>, t: Moment) -> bool
 }
 
 /// Whether a moment is not earlier than the last tick.
-#[tactic(auto, unfolding(conc_law::specs::Standing::is_not_earlier))]
+#[tactic(auto, unfolding(conc_law::specs::State::is_not_earlier))]
 pub fn is_not_earlier(now: Option<Moment>, t: Moment) -> bool
     ensures { result ≡ is_not_earlier_of now t }
 {

@@ -7,7 +7,7 @@ ghost use Rattle.conc_law_decisions.specs.Members.{AreMembers, worst_among};
 
 use crate::lookup::{facts_at, is_completed};
 use conc_rules::{is_member, stages_of};
-use conc_types::{Event, Facts, Outcome, Plan, Req, RequestId, Stage, Standing};
+use conc_types::{Event, Facts, Outcome, Plan, Req, RequestId, Stage, State};
 
 fn severity(outcome: Outcome) -> u32
     ensures { result ≡ severity_of outcome }
@@ -30,59 +30,59 @@ fn of_severity(severity: u32) -> Outcome
 }
 
 #[tactic(auto, unfolding(conc_law::specs::Stages::completed_at))]
-fn is_completed_at(standing: &Standing, r: &Req) -> bool
-    ensures { result ≡ completed_at_of standing.now r.now }
+fn is_completed_at(state: &State, r: &Req) -> bool
+    ensures { result ≡ completed_at_of state.now r.now }
 {
-    is_completed(facts_at(standing, r))
+    is_completed(facts_at(state, r))
 }
 
 #[tactic(auto, unfolding(conc_law::specs::Stages::outcome_at))]
-fn outcome_at(standing: &Standing, r: &Req) -> Option<Outcome>
-    ensures { result ≡ outcome_at_of standing.now r.now }
+fn outcome_at(state: &State, r: &Req) -> Option<Outcome>
+    ensures { result ≡ outcome_at_of state.now r.now }
 {
-    facts_at(standing, r).outcome
+    facts_at(state, r).outcome
 }
 
 // Whether those of the requests that are members of the stage are completed.
-fn are_members_completed(standing: &Standing, set: RequestId, stage: u32, requests: &[Req]) -> bool
-    ensures { result ≡ list_all (completed_at_of standing.now) (filter (is_member_of set stage) requests.now) }
+fn are_members_completed(state: &State, set: RequestId, stage: u32, requests: &[Req]) -> bool
+    ensures { result ≡ list_all (completed_at_of state.now) (filter (is_member_of set stage) requests.now) }
 {
     requests
         .iter()
         .filter(|r| is_member(set, stage, r))
-        .all(|r| is_completed_at(standing, r))
+        .all(|r| is_completed_at(state, r))
 }
 
 // The severity of the request's outcome, where it is a completed member of the stage, else 0.
-fn member_severity(standing: &Standing, set: RequestId, stage: u32, r: &Req) -> u32
-    ensures { result ≡ worst_among standing.now set stage (r.now ∷ []) }
+fn member_severity(state: &State, set: RequestId, stage: u32, r: &Req) -> u32
+    ensures { result ≡ worst_among state.now set stage (r.now ∷ []) }
 {
     if !is_member(set, stage, r) {
         return 0;
     }
-    match outcome_at(standing, r) {
+    match outcome_at(state, r) {
         Some(outcome) => severity(outcome),
         None => 0,
     }
 }
 
 // The worst severity among those of the requests that are members of the stage.
-fn worst_member(standing: &Standing, set: RequestId, stage: u32, requests: &[Req]) -> u32
-    ensures { result ≡ worst_among standing.now set stage requests.now }
+fn worst_member(state: &State, set: RequestId, stage: u32, requests: &[Req]) -> u32
+    ensures { result ≡ worst_among state.now set stage requests.now }
 {
     let mut worst = 0;
     for r in requests {
-        worst = member_severity(standing, set, stage, r).max(worst);
+        worst = member_severity(state, set, stage, r).max(worst);
     }
     worst
 }
 
 // The worst outcome among those of the requests that are members of the stage.
 #[tactic(auto, unfolding(conc_law::specs::Stages::worst))]
-fn worst_outcome(standing: &Standing, set: RequestId, stage: u32, requests: &[Req]) -> Outcome
-    ensures { result ≡ worst (filter_map (outcome_at_of standing.now) (filter (is_member_of set stage) requests.now)) }
+fn worst_outcome(state: &State, set: RequestId, stage: u32, requests: &[Req]) -> Outcome
+    ensures { result ≡ worst (filter_map (outcome_at_of state.now) (filter (is_member_of set stage) requests.now)) }
 {
-    of_severity(worst_member(standing, set, stage, requests))
+    of_severity(worst_member(state, set, stage, requests))
 }
 
 fn link(stage: &Stage, outcome: Outcome) -> Option<u32>
@@ -99,19 +99,19 @@ fn link(stage: &Stage, outcome: Outcome) -> Option<u32>
 #[tactic(auto, unfolding(conc_law::specs::Stages::next_stage, conc_law::specs::Stages::stage_outcome))]
 fn next_stage(
     plan: &Plan,
-    standing: &Standing,
+    state: &State,
     set: &Req,
     stage: u32,
     members: &[Req],
 ) -> Option<u32>
     requires { AreMembers plan.now set.now.number members.now }
-    ensures { result ≡ next_stage_of plan.now standing.now set.now stage }
+    ensures { result ≡ next_stage_of plan.now state.now set.now stage }
 {
     if stage == 0 {
         return None;
     }
     match stages_of(plan, set).get(stage as usize - 1) {
-        Some(found) => match link(found, worst_outcome(standing, set.number, stage, members)) {
+        Some(found) => match link(found, worst_outcome(state, set.number, stage, members)) {
             Some(place) => Some(place + 1),
             None => None,
         },
@@ -141,7 +141,7 @@ fn none_counts(facts: Facts, stages: &[Stage], number: u32) -> bool
 
 // The worst severity among those of the stages that are critical and ran.
 fn worst_critical(
-    standing: &Standing,
+    state: &State,
     set: RequestId,
     facts: Facts,
     stages: &[Stage],
@@ -149,14 +149,14 @@ fn worst_critical(
     members: &[Req],
 ) -> u32
     requires { number + length stages.now < 2 ^ 32 }
-    ensures { result ≡ greatest (map severity_of (map (λ stage. worst (filter_map (outcome_at_of standing.now) (filter (is_member_of set stage.0) members.now))) (filter (counts_for_set_of facts) (enumerate_from number stages.now)))) }
+    ensures { result ≡ greatest (map severity_of (map (λ stage. worst (filter_map (outcome_at_of state.now) (filter (is_member_of set stage.0) members.now))) (filter (counts_for_set_of facts) (enumerate_from number stages.now)))) }
 {
     match stages.split_first() {
         None => 0,
         Some((stage, rest)) => {
-            let below = worst_critical(standing, set, facts, rest, number + 1, members);
+            let below = worst_critical(state, set, facts, rest, number + 1, members);
             if counts_for_set(facts, number, stage) {
-                severity(worst_outcome(standing, set, number, members)).max(below)
+                severity(worst_outcome(state, set, number, members)).max(below)
             } else {
                 below
             }
@@ -164,43 +164,43 @@ fn worst_critical(
     }
 }
 
-fn set_outcome(plan: &Plan, standing: &Standing, set: &Req, last: u32, members: &[Req]) -> Outcome
+fn set_outcome(plan: &Plan, state: &State, set: &Req, last: u32, members: &[Req]) -> Outcome
     requires { AreMembers plan.now set.now.number members.now }
-    ensures { result ≡ set_outcome_of plan.now standing.now set.now last }
+    ensures { result ≡ set_outcome_of plan.now state.now set.now last }
 {
-    let facts = facts_at(standing, set);
+    let facts = facts_at(state, set);
     let stages = stages_of(plan, set);
     if none_counts(facts, stages, 1) {
-        worst_outcome(standing, set.number, last, members)
+        worst_outcome(state, set.number, last, members)
     } else {
-        of_severity(worst_critical(standing, set.number, facts, stages, 1, members))
+        of_severity(worst_critical(state, set.number, facts, stages, 1, members))
     }
 }
 
 /// What an open set does next, where something is due: its first stage, the stage that follows, or
 /// its close. All members of the set stand among the requests that are given.
 #[tactic(auto, unfolding(conc_law::specs::Stages::set_step, conc_law::specs::Stages::has_ended))]
-pub fn set_step(plan: &Plan, standing: &Standing, set: &Req, members: &[Req]) -> Option<Event>
+pub fn set_step(plan: &Plan, state: &State, set: &Req, members: &[Req]) -> Option<Event>
     requires { AreMembers plan.now set.now.number members.now }
-    ensures { result ≡ set_step_of plan.now standing.now set.now }
+    ensures { result ≡ set_step_of plan.now state.now set.now }
 {
-    match facts_at(standing, set).stage {
+    match facts_at(state, set).stage {
         None => Some(Event::Stage {
             set: set.number,
             stage: 1,
         }),
         Some(stage) => {
-            if !are_members_completed(standing, set.number, stage, members) {
+            if !are_members_completed(state, set.number, stage, members) {
                 return None;
             }
-            match next_stage(plan, standing, set, stage, members) {
+            match next_stage(plan, state, set, stage, members) {
                 Some(next) => Some(Event::Stage {
                     set: set.number,
                     stage: next,
                 }),
                 None => Some(Event::CloseSet {
                     set: set.number,
-                    outcome: set_outcome(plan, standing, set, stage, members),
+                    outcome: set_outcome(plan, state, set, stage, members),
                 }),
             }
         }

@@ -3,7 +3,7 @@ ghost use Rattle.conc_law.specs.Status.{open_status as open_status_of, status_of
 
 use crate::lookup::{facts_at, has_come, is_running, is_stopping, is_waiting};
 use conc_rules::{is_admitted, is_enabled, is_set};
-use conc_types::{Facts, Outcome, Phase, Plan, Req, Standing, Status};
+use conc_types::{Facts, Outcome, Phase, Plan, Req, State, Status};
 
 fn of_outcome(outcome: Outcome) -> Status
     ensures { result ≡ status_of_outcome outcome }
@@ -18,12 +18,12 @@ fn of_outcome(outcome: Outcome) -> Status
 }
 
 #[tactic(auto, unfolding(conc_law::specs::Status::waiting_status))]
-fn waiting_status(plan: &Plan, standing: &Standing, r: &Req, facts: Facts) -> (Phase, Status)
-    ensures { result ≡ waiting_status_of plan.now standing.now r.now facts }
+fn waiting_status(plan: &Plan, state: &State, r: &Req, facts: Facts) -> (Phase, Status)
+    ensures { result ≡ waiting_status_of plan.now state.now r.now facts }
 {
-    if is_waiting(plan, standing, r) {
+    if is_waiting(plan, state, r) {
         (Phase::Pending, Status::Waiting)
-    } else if !has_come(standing.time, r.start) {
+    } else if !has_come(state.time, r.start) {
         (Phase::Pending, Status::Scheduled)
     } else if facts.let_out {
         (Phase::Pending, Status::Normal)
@@ -33,8 +33,8 @@ fn waiting_status(plan: &Plan, standing: &Standing, r: &Req, facts: Facts) -> (P
 }
 
 #[tactic(auto, unfolding(conc_law::specs::Status::open_status))]
-fn open_status(plan: &Plan, standing: &Standing, r: &Req, facts: Facts) -> (Phase, Status)
-    ensures { result ≡ open_status_of plan.now standing.now r.now facts }
+fn open_status(plan: &Plan, state: &State, r: &Req, facts: Facts) -> (Phase, Status)
+    ensures { result ≡ open_status_of plan.now state.now r.now facts }
 {
     if is_running(facts) {
         if is_stopping(facts) {
@@ -55,21 +55,21 @@ fn open_status(plan: &Plan, standing: &Standing, r: &Req, facts: Facts) -> (Phas
     } else if !is_set(r.item) && !is_admitted(plan, r) {
         (Phase::Inactive, Status::NoManager)
     } else {
-        waiting_status(plan, standing, r, facts)
+        waiting_status(plan, state, r, facts)
     }
 }
 
 /// The phase and status of a request; None exactly where it is not submitted.
 #[tactic(auto, unfolding(conc_law::specs::Status::status_of))]
-pub fn status(plan: &Plan, standing: &Standing, r: &Req) -> Option<(Phase, Status)>
-    ensures { result ≡ status_of plan.now standing.now r.now }
+pub fn status(plan: &Plan, state: &State, r: &Req) -> Option<(Phase, Status)>
+    ensures { result ≡ status_of plan.now state.now r.now }
 {
-    let facts = facts_at(standing, r);
+    let facts = facts_at(state, r);
     if !facts.entered {
         return None;
     }
     match facts.outcome {
         Some(outcome) => Some((Phase::Completed, of_outcome(outcome))),
-        None => Some(open_status(plan, standing, r, facts)),
+        None => Some(open_status(plan, state, r, facts)),
     }
 }

@@ -13,9 +13,9 @@ use Rattle.conc_types.specs.declared.script.Act.TheVariants as act
 use Rattle.conc_types.specs.Words.{numbered, some_and}
 use Rattle.conc_law.specs.Facts.{completion, facts_of, is_idle, runs}
 use Rattle.conc_law.specs.Kinds.{act_of, is_cancel}
-use Rattle.conc_law.specs.Standing.{facts_at, no_facts, standing}
+use Rattle.conc_law.specs.State.{facts_at, no_facts, state}
 use Rattle.conc_law.specs.Words.{Has}
-use Rattle.conc_law.proofs.FactsAt.{facts_at-standing}
+use Rattle.conc_law.proofs.FactsAt.{facts_at-state}
 use Rattle.conc_law_effects.specs.Advance.{all_after, cancelled, named_by, named_facts}
 use Rattle.conc_law_effects.specs.Step.{facts_after, idle}
 use Rattle.conc_law_effects.proofs.FactSteps.{IsNamed, facts-step}
@@ -23,9 +23,9 @@ use Rattle.conc_law_effects.proofs.FactSteps.{IsNamed, facts-step}
 -- the facts of a request of the plan, found by its number
 named_facts-own : (plan : Plan) (past : List Event) (id : RequestId) (r : Req) → Has plan.requests r → id.number ≡ r.number.number
     → named_facts (map (facts_of plan past) plan.requests) (Some id) ≡ facts_of plan past r
-unfolding named_facts facts_at standing
+unfolding named_facts facts_at state
 named_facts-own plan past id r has same =
-    ap (λ n. unwrap_or (numbered (map (facts_of plan past) plan.requests) n) no_facts) same ∙ facts_at-standing plan past r has
+    ap (λ n. unwrap_or (numbered (map (facts_of plan past) plan.requests) n) no_facts) same ∙ facts_at-state plan past r has
 
 -- those of the request that a command cancels
 named_facts-cancelled : (plan : Plan) (past : List Event) (a : Option Act) (r : Req) → Has plan.requests r

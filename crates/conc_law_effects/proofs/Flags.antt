@@ -9,7 +9,7 @@ use Rattle.std.specs.List.{enumerate_from}
 use Rattle.conc_types.specs.declared.event.Event.{Event}
 use Rattle.conc_types.specs.declared.event.Event.TheVariants as event
 use Rattle.conc_types.specs.declared.script.Order.{Order}
-use Rattle.conc_law.specs.Standing.{is_done}
+use Rattle.conc_law.specs.State.{is_done}
 use Rattle.conc_law_effects.specs.Advance.{done_after, marked}
 
 -- two functions that agree at each element

@@ -2,5 +2,5 @@ pub mod FactSteps
 pub mod Passes
 pub mod Flags
 pub mod AllFacts
-pub mod NextStanding
+pub mod NextState
 pub mod NoEvents

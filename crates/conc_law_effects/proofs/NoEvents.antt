@@ -2,13 +2,13 @@
 use Rattle.std.proofs.Common.{◌≡◌, ℕ, ◌+◌, Bool, true, false, ◌&&◌, List, [], ◌∷◌, map, None, Some, refl, ◌∙◌, ap}
 use Rattle.std.specs.List.{enumerate_from}
 use Rattle.conc_types.specs.declared.facts.Facts.{Facts}
-use Rattle.conc_types.specs.declared.facts.Standing.{Standing}
+use Rattle.conc_types.specs.declared.facts.State.{State}
 use Rattle.conc_types.specs.declared.plan.Plan.{Plan}
 use Rattle.conc_types.specs.declared.plan.Req.{Req}
 use Rattle.conc_types.specs.declared.script.Order.{Order}
 use Rattle.conc_law.specs.Facts.{completion, current_stage, facts_of, is_entered, is_held, is_let, is_open, running_place, stages_begun, was_started, was_terminated}
-use Rattle.conc_law.specs.Past.{last_life}
-use Rattle.conc_law.specs.Standing.{is_done, no_facts, now, standing, used}
+use Rattle.conc_law.specs.Before.{last_life}
+use Rattle.conc_law.specs.State.{is_done, no_facts, now, state, used}
 use Rattle.conc_law.specs.Words.{is_set}
 use Rattle.conc_law.proofs.FirstEvent.{facts_of-none}
 
@@ -27,9 +27,9 @@ map-not_done n [] = refl
 map-not_done n (x ∷ xs) = ap (λ z. false ∷ z) (map-not_done (n + 1) xs)
 
 -- all that stands
-pub standing-none : (plan : Plan) (done : List Bool) (facts : List Facts) → done ≡ map (λ (order : Order). false) plan.script.commands
+pub state-none : (plan : Plan) (done : List Bool) (facts : List Facts) → done ≡ map (λ (order : Order). false) plan.script.commands
     → facts ≡ map (λ (r : Req). no_facts) plan.requests
-    → ◌≡◌ {A = Standing} record { empty = true; time = None; used = Some 0; done = done; facts = facts } (standing plan [])
-unfolding standing now used
-standing-none plan done facts d f =
+    → ◌≡◌ {A = State} record { empty = true; time = None; used = Some 0; done = done; facts = facts } (state plan [])
+unfolding state now used
+state-none plan done facts d f =
     rw (d ∙ map-not_done 1 plan.script.commands, f ∙ map-no_facts plan plan.requests) refl

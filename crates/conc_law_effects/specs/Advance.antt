@@ -5,14 +5,14 @@ use Rattle.conc_types.specs.declared.event.Event.{Event}
 use Rattle.conc_types.specs.declared.event.Event.TheVariants as event
 use Rattle.conc_types.specs.declared.event.RequestId.{RequestId}
 use Rattle.conc_types.specs.declared.facts.Facts.{Facts}
-use Rattle.conc_types.specs.declared.facts.Standing.{Standing}
+use Rattle.conc_types.specs.declared.facts.State.{State}
 use Rattle.conc_types.specs.declared.plan.Plan.{Plan}
 use Rattle.conc_types.specs.declared.plan.Req.{Req}
 use Rattle.conc_types.specs.declared.script.Act.{Act}
 use Rattle.conc_types.specs.declared.script.Act.TheVariants as act
 use Rattle.conc_types.specs.Words.{numbered}
 use Rattle.conc_law.specs.Kinds.{act_of, extent_length, tick_of}
-use Rattle.conc_law.specs.Standing.{fitting, no_facts}
+use Rattle.conc_law.specs.State.{fitting, no_facts}
 use Rattle.conc_law_effects.specs.Step.{facts_after}
 
 -- the request that a cancel or a close names
@@ -52,7 +52,7 @@ abbrev pub used_after : Option ℕ → Event → Option ℕ
 used_after used e = option_and_then (λ n. fitting (n + extent_length e)) used
 
 -- all that stands after one more event
-pub record IsAfter (plan : Plan) (old new : Standing) (e : Event) : Type 0 where
+pub record IsAfter (plan : Plan) (old new : State) (e : Event) : Type 0 where
   pub empty : new.empty ≡ false
   pub time : new.time ≡ option_or (tick_of e) old.time
   pub used : new.used ≡ used_after old.used e

@@ -1,9 +1,9 @@
 ghost use Rattle.std.specs.Prelude.{◌≡◌, [], Bool, IfOk, List, false, map};
 ghost use Rattle.conc_types.specs.declared.script.Order.{Order};
 ghost use Rattle.conc_law.specs.Facts.{facts_of};
-ghost use Rattle.conc_law.specs.Standing.{no_facts as no_facts_of, standing};
+ghost use Rattle.conc_law.specs.State.{no_facts as no_facts_of, state};
 
-use conc_types::{Facts, NoMemory, Order, Plan, Req, Seq, Standing};
+use conc_types::{Facts, NoMemory, Order, Plan, Req, Seq, State};
 use std::alloc::Global;
 
 fn all_facts(alloc: Global, requests: &[Req]) -> Result<Seq<Facts>, NoMemory>
@@ -29,12 +29,12 @@ fn no_flags(alloc: Global, orders: &[Order]) -> Result<Seq<bool>, NoMemory>
 }
 
 /// What stands after no events. It takes all the memory that `advance` needs.
-pub fn begin(alloc: Global, plan: &Plan) -> Result<Standing, NoMemory>
-    ensures { IfOk result (λ s. s ≡ standing plan.now []) }
+pub fn begin(alloc: Global, plan: &Plan) -> Result<State, NoMemory>
+    ensures { IfOk result (λ s. s ≡ state plan.now []) }
 {
     let facts = all_facts(alloc, plan.requests.as_slice())?;
     let done = no_flags(alloc, plan.script.commands.as_slice())?;
-    Ok(Standing {
+    Ok(State {
         empty: true,
         time: None,
         used: Some(0),

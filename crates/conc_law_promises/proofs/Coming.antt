@@ -6,17 +6,17 @@ use Rattle.std.proofs.lemmas.List.{reverse-append}
 use Rattle.conc_types.specs.declared.event.Event.{Event}
 use Rattle.conc_types.specs.declared.event.Event.TheVariants as event
 use Rattle.conc_types.specs.declared.event.PlaceId.{PlaceId}
-use Rattle.conc_types.specs.declared.facts.Standing.{Standing}
+use Rattle.conc_types.specs.declared.facts.State.{State}
 use Rattle.conc_types.specs.declared.plan.Plan.{Plan}
 use Rattle.conc_types.specs.declared.plan.Req.{Req}
 use Rattle.conc_types.specs.Words.{some_and}
-use Rattle.conc_law.specs.Law.{is_past, may_follow}
+use Rattle.conc_law.specs.Law.{is_lawful_so_far, may_follow}
 use Rattle.conc_law.specs.Managers.{admits}
 use Rattle.conc_law.specs.Next.{forced, forced_command, forced_interrupt, forced_let, forced_step, has_step, is_allowed, is_due, is_left_running, is_vacant, let_event, may_let, may_start}
 use Rattle.conc_law.specs.Places.{is_usable, place_of}
 use Rattle.conc_law.specs.Plans.{precedes}
 use Rattle.conc_law.specs.Stages.{after_stage, has_ended, next_stage, set_outcome, set_step, step_from}
-use Rattle.conc_law.specs.Standing.{facts_at, is_running, standing}
+use Rattle.conc_law.specs.State.{facts_at, is_running, state}
 use Rattle.conc_law.specs.Words.{first_by, Has}
 use Rattle.conc_law.proofs.Comes.{came, same_request}
 use Rattle.conc_law.proofs.FirstBy.{find-some}
@@ -25,15 +25,15 @@ use Rattle.conc_law.proofs.Options.{and_then-some, map-some, or-some, then_some-
 use Rattle.conc_law_promises.specs.Promises.{IsAdmitted, IsNextAfter, IsNextStage}
 
 -- the last event of a history that is lawful may follow those before it
-pub last-follows : (plan : Plan) (before : List Event) (e : Event) → is_past plan (reverse (before ++ e ∷ [])) ≡ true → may_follow plan None (reverse before) e ≡ true
-unfolding is_past
+pub last-follows : (plan : Plan) (before : List Event) (e : Event) → is_lawful_so_far plan (reverse (before ++ e ∷ [])) ≡ true → may_follow plan None (reverse before) e ≡ true
+unfolding is_lawful_so_far
 last-follows plan before e h =
-    let turned : is_past plan (e ∷ reverse before) ≡ true = ap (is_past plan) (sym (reverse-append before (e ∷ []))) ∙ h in
-    (and_parts (is_past plan (reverse before)) _ turned).1
+    let turned : is_lawful_so_far plan (e ∷ reverse before) ≡ true = ap (is_lawful_so_far plan) (sym (reverse-append before (e ∷ []))) ∙ h in
+    (and_parts (is_lawful_so_far plan (reverse before)) _ turned).1
 
 -- ---- a start
 
-pub start-admitted : (plan : Plan) (s : Standing) (r : Req) (place : PlaceId) → may_start plan s r place ≡ true → IsAdmitted plan s r place
+pub start-admitted : (plan : Plan) (s : State) (r : Req) (place : PlaceId) → may_start plan s r place ≡ true → IsAdmitted plan s r place
 unfolding may_start
 start-admitted plan s r place h =
     let admitted : Bool = some_and (λ p. admits p.manager r) (place_of plan place) in
@@ -46,7 +46,7 @@ start-admitted plan s r place h =
 -- ---- a stage
 
 -- a forced stage is the step of its set
-stage-step : (plan : Plan) (s : Standing) (set : Req) (stage : ℕ) → Has plan.requests set → forced_step plan s ≡ Some (event.Stage set.number stage) → set_step plan s set ≡ Some (event.Stage set.number stage)
+stage-step : (plan : Plan) (s : State) (set : Req) (stage : ℕ) → Has plan.requests set → forced_step plan s ≡ Some (event.Stage set.number stage) → set_step plan s set ≡ Some (event.Stage set.number stage)
 unfolding forced_step
 stage-step plan s set stage hs h =
     let p : (other : Req) × (find (has_step plan s) plan.requests ≡ Some other) × (set_step plan s other ≡ Some (event.Stage set.number stage)) =
@@ -61,7 +61,7 @@ stage-step plan s set stage hs h =
     ] in
     subst (λ (q : Req). set_step plan s q ≡ Some (event.Stage set.number stage)) own p.2
 
-forced-stage : (plan : Plan) (s : Standing) (set : Req) (stage : ℕ) → Has plan.requests set → forced plan s ≡ Some (event.Stage set.number stage) → set_step plan s set ≡ Some (event.Stage set.number stage)
+forced-stage : (plan : Plan) (s : State) (set : Req) (stage : ℕ) → Has plan.requests set → forced plan s ≡ Some (event.Stage set.number stage) → set_step plan s set ≡ Some (event.Stage set.number stage)
 unfolding forced forced_interrupt forced_command forced_let
 forced-stage plan s set stage hs h =
     let e : Event = event.Stage set.number stage in
@@ -89,7 +89,7 @@ forced-stage plan s set stage hs h =
     ]
 
 -- the step that begins a stage, by the stage that began last
-step-next : (plan : Plan) (s : Standing) (set : Req) (last : Option ℕ) (stage : ℕ) → step_from plan s set last ≡ Some (event.Stage set.number stage) → IsNextAfter plan s set stage last
+step-next : (plan : Plan) (s : State) (set : Req) (last : Option ℕ) (stage : ℕ) → step_from plan s set last ≡ Some (event.Stage set.number stage) → IsNextAfter plan s set stage last
 step-next plan s set None stage h =
     let e : event.Stage set.number 1 ≡ event.Stage set.number stage = cc in
     let same : 1 ≡ stage = cc in
@@ -105,10 +105,10 @@ step-next plan s set (Some last) stage h =
           let same : n ≡ stage = cc in
           is ∙ ap (λ m. Some m) same
 
-pub stage-next : (plan : Plan) (past : List Event) (set : Req) (stage : ℕ) → Has plan.requests set → may_follow plan None past (event.Stage set.number stage) ≡ true → IsNextStage plan (standing plan past) set stage
+pub stage-next : (plan : Plan) (past : List Event) (set : Req) (stage : ℕ) → Has plan.requests set → may_follow plan None past (event.Stage set.number stage) ≡ true → IsNextStage plan (state plan past) set stage
 unfolding may_follow is_allowed set_step
 stage-next plan past set stage hs h =
-    let s : Standing = standing plan past in
+    let s : State = state plan past in
     elim (came plan s None (event.Stage set.number stage) refl h) [
       | inl f ↦ step-next plan s set (facts_at s set).stage stage (forced-stage plan s set stage hs f)
       | inr a ↦ absurd (cc a.1)

@@ -6,13 +6,13 @@ use Rattle.std.proofs.lemmas.Bool.{and_from, and_parts, cases_Bool}
 use Rattle.std.proofs.lemmas.List.{length-set}
 use Rattle.conc_types.specs.declared.event.Event.{Event}
 use Rattle.conc_types.specs.declared.event.Event.TheVariants as event
-use Rattle.conc_types.specs.declared.facts.Standing.{Standing}
+use Rattle.conc_types.specs.declared.facts.State.{State}
 use Rattle.conc_types.specs.declared.plan.Plan.{Plan}
 use Rattle.conc_types.specs.declared.plan.Req.{Req}
 use Rattle.conc_types.specs.Words.{numbered}
 use Rattle.conc_law_effects.specs.Advance.{done_after}
 use Rattle.conc_law.specs.Next.{has_step, is_left_running, runs_somewhere}
-use Rattle.conc_law.specs.Standing.{facts_at, no_facts}
+use Rattle.conc_law.specs.State.{facts_at, no_facts}
 use Rattle.conc_machine_queue.specs.Written.{IsAlike}
 use Rattle.conc_machine_queue.proofs.Maps.{numbers_of-alike}
 use Rattle.conc_machine_classes.specs.Classes.{AreClasses}
@@ -33,18 +33,18 @@ use Rattle.conc_machine.proofs.Undone.{all_before, first_undone-few}
 
 -- ---- the same facts, at another moment
 
-facts_at-same : (before after : Standing) → after.facts ≡ before.facts → (q : Req) → facts_at after q ≡ facts_at before q
+facts_at-same : (before after : State) → after.facts ≡ before.facts → (q : Req) → facts_at after q ≡ facts_at before q
 unfolding facts_at
 facts_at-same before after same q = ap (λ facts. unwrap_or (numbered facts q.number.number) no_facts) same
 
-pub AreRunning-same : (plan : Plan) (before after : Standing) (running : Running) → after.facts ≡ before.facts
+pub AreRunning-same : (plan : Plan) (before after : State) (running : Running) → after.facts ≡ before.facts
     → AreRunning plan before running → AreRunning plan after running
 AreRunning-same plan before after running same are = record {
   all = are.all ∙ sym (numbers_of-alike plan (runs_somewhere before) (runs_somewhere after) (λ q has. runs-same before after q (facts_at-same before after same q)));
   left = are.left ∙ sym (numbers_of-alike plan (is_left_running before) (is_left_running after) (λ q has. is_left-same before after q (facts_at-same before after same q)));
 }
 
-pub AreSteps-same : (plan : Plan) (before after : Standing) (steps : Steps) → after.facts ≡ before.facts
+pub AreSteps-same : (plan : Plan) (before after : State) (steps : Steps) → after.facts ≡ before.facts
     → AreSteps plan before steps → AreSteps plan after steps
 AreSteps-same plan before after steps same are = record {
   due = are.due ∙ sym (numbers_of-alike plan (has_step plan before) (has_step plan after)
@@ -53,19 +53,19 @@ AreSteps-same plan before after steps same are = record {
 
 -- ---- the same facts, at the same moment
 
-pub AreParts-alike : (plan : Plan) (before after : Kept) → HasParts before after → IsAlike before.standing after.standing
+pub AreParts-alike : (plan : Plan) (before after : Kept) → HasParts before after → IsAlike before.state after.state
     → AreParts plan before → AreParts plan after
 AreParts-alike plan before after parts alike are = record {
   all = ap length alike.facts ∙ are.all;
   spans = subst (AreSpans plan) (sym parts.spans) are.spans;
   classes = subst (AreClasses plan) (sym parts.classes) are.classes;
-  running = subst (AreRunning plan after.standing) (sym parts.running) (AreRunning-alike plan before.standing after.standing alike before.running are.running);
-  steps = subst (AreSteps plan after.standing) (sym parts.steps) (AreSteps-alike plan before.standing after.standing alike before.steps are.steps);
+  running = subst (AreRunning plan after.state) (sym parts.running) (AreRunning-alike plan before.state after.state alike before.running are.running);
+  steps = subst (AreSteps plan after.state) (sym parts.steps) (AreSteps-alike plan before.state after.state alike before.steps are.steps);
   lets =
-      subst (λ lets. AreLets plan after.classes after.standing lets) (sym parts.lets)
-      (subst (λ classes. AreLets plan classes after.standing before.lets) (sym parts.classes)
-      (AreLets-alike plan before.classes before.standing after.standing before.lets alike are.lets));
-  starts = subst (AreStarts plan after.standing) (sym parts.starts) (AreStarts-alike plan before.standing after.standing before.starts alike are.starts);
+      subst (λ lets. AreLets plan after.classes after.state lets) (sym parts.lets)
+      (subst (λ classes. AreLets plan classes after.state before.lets) (sym parts.classes)
+      (AreLets-alike plan before.classes before.state after.state before.lets alike are.lets));
+  starts = subst (AreStarts plan after.state) (sym parts.starts) (AreStarts-alike plan before.state after.state before.starts alike are.starts);
 }
 
 -- ---- one more command is done

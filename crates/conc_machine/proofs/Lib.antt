@@ -1,5 +1,5 @@
 pub mod Frames
 pub mod Passes
 pub mod Rest
-pub mod Standings
+pub mod States
 pub mod Undone

@@ -13,9 +13,9 @@ use Rattle.conc_machine.specs.declared.kept.Kept.{Kept}
 
 -- nothing has changed before the first of them
 pub AreFacts-none : (plan : Plan) (kept : Kept) (named : Facts) (e : Event) (span : Span) → LeavesOthers plan e span
-    → AreFacts kept kept (all_after plan named e (take span.from plan.requests) kept.standing.facts)
+    → AreFacts kept kept (all_after plan named e (take span.from plan.requests) kept.state.facts)
 AreFacts-none plan kept named e span leaves = record {
-  facts = sym (all_after-before plan named e span kept.standing.facts leaves);
+  facts = sym (all_after-before plan named e span kept.state.facts leaves);
   empty = refl;
   time = refl;
   used = refl;

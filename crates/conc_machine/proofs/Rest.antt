@@ -5,7 +5,7 @@ use Rattle.std.specs.List.{find, list_any}
 use Rattle.std.specs.Option.{option_and_then, option_map}
 use Rattle.std.proofs.lemmas.Bool.{and_parts, cases_Bool}
 use Rattle.conc_types.specs.declared.event.Event.TheVariants as event
-use Rattle.conc_types.specs.declared.facts.Standing.{Standing}
+use Rattle.conc_types.specs.declared.facts.State.{State}
 use Rattle.conc_types.specs.declared.plan.Plan.{Plan}
 use Rattle.conc_types.specs.declared.plan.Req.{Req}
 use Rattle.conc_law.specs.Alone.{first_start, start_of}
@@ -34,13 +34,13 @@ other-of a true h = rw h refl
 other-of a false h = rw h refl
 
 -- a request that may start somewhere has a start
-start-some : (plan : Plan) (s : Standing) (r : Req) → may_start_somewhere plan s r ≡ true → is_some (start_of plan s r) ≡ true
+start-some : (plan : Plan) (s : State) (r : Req) → may_start_somewhere plan s r ≡ true → is_some (start_of plan s r) ≡ true
 unfolding may_start_somewhere
 start-some plan s r may =
     some-map (λ place. event.Started r.number place) (find (may_start plan s r) (all_places plan)) ∙ find-any (may_start plan s r) (all_places plan) ∙ may
 
 -- there is a first start exactly where a request may start
-pub first_start-any : (plan : Plan) (s : Standing) → is_some (first_start plan s) ≡ list_any (may_start_somewhere plan s) plan.requests
+pub first_start-any : (plan : Plan) (s : State) → is_some (first_start plan s) ≡ list_any (may_start_somewhere plan s) plan.requests
 unfolding first_start
 first_start-any plan s = by (first_by precedes (may_start_somewhere plan s) plan.requests) refl where
   by : (o : Option Req) → first_by precedes (may_start_somewhere plan s) plan.requests ≡ o

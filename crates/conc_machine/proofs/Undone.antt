@@ -8,14 +8,14 @@ use Rattle.std.proofs.lemmas.Bool.{and_from, and_parts, and_left, and_right, bot
 use Rattle.std.proofs.lemmas.Bool.Decides.{nat_tests}
 use Rattle.conc_types.specs.declared.event.Event.TheVariants as event
 use Rattle.conc_types.specs.declared.event.Moment.{Moment}
-use Rattle.conc_types.specs.declared.facts.Standing.{Standing}
+use Rattle.conc_types.specs.declared.facts.State.{State}
 use Rattle.conc_types.specs.declared.plan.Plan.{Plan}
 use Rattle.conc_types.specs.declared.script.Order.{Order}
 use Rattle.conc_types.specs.declared.setup.Setup.{Setup}
 use Rattle.conc_types.specs.Scripts.{are_commands_from, entered_by, is_act}
 use Rattle.conc_types.specs.Words.{numbered}
 use Rattle.conc_law.specs.Next.{forced_command, is_due}
-use Rattle.conc_law.specs.Standing.{has_come}
+use Rattle.conc_law.specs.State.{has_come}
 use Rattle.conc_law.proofs.Numbering.{numbered-at}
 use Rattle.conc_machine.specs.Kept.{first_undone}
 
@@ -57,7 +57,7 @@ first_undone-is (suc n) (true ∷ done) other all few here =
 -- ---- due
 
 -- each of the commands is not before a moment
-come_later : (s : Standing) (setup : Setup) (next seconds m : ℕ) (orders : List Order) → are_commands_from setup next seconds orders ≡ true
+come_later : (s : State) (setup : Setup) (next seconds m : ℕ) (orders : List Order) → are_commands_from setup next seconds orders ≡ true
     → ((t : Moment) → seconds ≤ t.seconds → has_come s.time t ≡ false) → find (is_due s) (enumerate_from m orders) ≡ None
 unfolding is_due
 come_later s setup next seconds m [] ok late = refl
@@ -75,12 +75,12 @@ not_come None t u behind h = refl
 not_come (Some n) t u behind h = grind (arith, nat_tests)
 
 -- a command that is done is not due
-is_done-not_due : (s : Standing) (n : ℕ) (order : Order) → unwrap_or (numbered s.done n) false ≡ true → is_due s (n, order) ≡ false
+is_done-not_due : (s : State) (n : ℕ) (order : Order) → unwrap_or (numbered s.done n) false ≡ true → is_due s (n, order) ≡ false
 unfolding is_due
 is_done-not_due s n order done = and_left _ _ (ap not done)
 
 -- one that is not done is due where its moment has come, and else none behind it is
-first_or : (s : Standing) (n : ℕ) (order : Order) (orders : List Order) → unwrap_or (numbered s.done n) false ≡ false
+first_or : (s : State) (n : ℕ) (order : Order) (orders : List Order) → unwrap_or (numbered s.done n) false ≡ false
     → (has_come s.time order.at ≡ false → find (is_due s) (enumerate_from (n + 1) orders) ≡ None)
     → find (is_due s) ((n, order) ∷ enumerate_from (n + 1) orders) ≡ then_some (is_due s (n, order)) (n, order)
 unfolding is_due
@@ -90,7 +90,7 @@ first_or s n order orders undone none = elim (cases_Bool (has_come s.time order.
 ]
 
 -- the first that is due is the first that is not done, where its moment has come. The commands begin at a place
-due_from : (s : Standing) (setup : Setup) (next seconds m : ℕ) (orders : List Order) (done : List Bool) → are_commands_from setup next seconds orders ≡ true
+due_from : (s : State) (setup : Setup) (next seconds m : ℕ) (orders : List Order) (done : List Bool) → are_commands_from setup next seconds orders ≡ true
     → ((k : ℕ) → unwrap_or (numbered s.done (m + 1 + k)) false ≡ get_or done k false) → length done ≡ length orders
     → find (is_due s) (enumerate_from (m + 1) orders)
     ≡ option_and_then (λ order. then_some (is_due s (m + 1 + first_undone done, order)) (m + 1 + first_undone done, order)) (slice_get orders (first_undone done))
@@ -122,7 +122,7 @@ flag_at [] k = refl
 flag_at (d ∷ done) zero = refl
 flag_at (d ∷ done) (suc k) = flag_at done k
 
-command_of : (s : Standing) (n m : ℕ) (o : Option Order) → n ≡ m
+command_of : (s : State) (n m : ℕ) (o : Option Order) → n ≡ m
     → option_map (λ (order : ℕ × Order). event.Command order.0) (option_and_then (λ order. then_some (is_due s (n, order)) (n, order)) o)
     ≡ option_and_then (λ order. then_some (is_due s (m, order)) (event.Command m)) o
 command_of s n m None same = refl
@@ -132,7 +132,7 @@ command_of s n m (Some order) same = rw same (by (is_due s (m, order))) where
   by false = refl
 
 -- the command that is forced is the first that is not done, where it is due
-pub forced-first : (plan : Plan) (s : Standing) (next : ℕ) → length s.done ≡ length plan.script.commands → next ≡ first_undone s.done
+pub forced-first : (plan : Plan) (s : State) (next : ℕ) → length s.done ≡ length plan.script.commands → next ≡ first_undone s.done
     → option_and_then (λ order. then_some (is_due s (next + 1, order)) (event.Command (next + 1))) (slice_get plan.script.commands next) ≡ forced_command plan s
 unfolding forced_command
 forced-first plan s next same is =

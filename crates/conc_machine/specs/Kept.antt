@@ -17,25 +17,25 @@ first_undone (false ∷ done) = 0
 
 -- each part is that of what stands
 pub record AreParts (plan : Plan) (kept : Kept) : Type 0 where
-  pub all : length kept.standing.facts ≡ length plan.requests
+  pub all : length kept.state.facts ≡ length plan.requests
   pub spans : AreSpans plan kept.spans
   pub classes : AreClasses plan kept.classes
-  pub running : AreRunning plan kept.standing kept.running
-  pub steps : AreSteps plan kept.standing kept.steps
-  pub lets : AreLets plan kept.classes kept.standing kept.lets
-  pub starts : AreStarts plan kept.standing kept.starts
+  pub running : AreRunning plan kept.state kept.running
+  pub steps : AreSteps plan kept.state kept.steps
+  pub lets : AreLets plan kept.classes kept.state kept.lets
+  pub starts : AreStarts plan kept.state kept.starts
 
 -- and the next command is the first that is not done
 pub record AreKept (plan : Plan) (kept : Kept) : Type 0 where
   pub parts : AreParts plan kept
-  pub flags : length kept.standing.done ≡ length plan.script.commands
-  pub command : kept.next_command ≡ first_undone kept.standing.done
+  pub flags : length kept.state.done ≡ length plan.script.commands
+  pub command : kept.next_command ≡ first_undone kept.state.done
 
 -- all is kept as it was but the facts, which are these
 pub record AreFacts (before after : Kept) (all : List Facts) : Type 0 where
-  pub facts : after.standing.facts ≡ all
-  pub empty : after.standing.empty ≡ before.standing.empty
-  pub time : after.standing.time ≡ before.standing.time
-  pub used : after.standing.used ≡ before.standing.used
-  pub done : after.standing.done ≡ before.standing.done
+  pub facts : after.state.facts ≡ all
+  pub empty : after.state.empty ≡ before.state.empty
+  pub time : after.state.time ≡ before.state.time
+  pub used : after.state.used ≡ before.state.used
+  pub done : after.state.done ≡ before.state.done
   pub command : after.next_command ≡ before.next_command

@@ -1,3 +1,3 @@
 pub mod Kept
-pub mod Stands
+pub mod StandsFor
 pub mod Taken

@@ -18,19 +18,19 @@ pub record HasParts (before after : Kept) : Type 0 where
 
 -- the command of the event is done, and all else is as it was
 pub record HasCommand (before after : Kept) (e : Event) : Type 0 where
-  pub done : after.standing.done ≡ done_after before.standing.done e
-  pub command : after.next_command ≡ first_undone after.standing.done
+  pub done : after.state.done ≡ done_after before.state.done e
+  pub command : after.next_command ≡ first_undone after.state.done
   pub parts : HasParts before after
-  pub empty : after.standing.empty ≡ before.standing.empty
-  pub time : after.standing.time ≡ before.standing.time
-  pub used : after.standing.used ≡ before.standing.used
-  pub facts : after.standing.facts ≡ before.standing.facts
+  pub empty : after.state.empty ≡ before.state.empty
+  pub time : after.state.time ≡ before.state.time
+  pub used : after.state.used ≡ before.state.used
+  pub facts : after.state.facts ≡ before.state.facts
 
 -- the last tick is that of the event, if it is one, and what else stands is as it was
 pub record HasTick (before after : Kept) (e : Event) : Type 0 where
-  pub time : after.standing.time ≡ option_or (tick_of e) before.standing.time
-  pub empty : after.standing.empty ≡ before.standing.empty
-  pub used : after.standing.used ≡ before.standing.used
-  pub done : after.standing.done ≡ before.standing.done
-  pub facts : after.standing.facts ≡ before.standing.facts
+  pub time : after.state.time ≡ option_or (tick_of e) before.state.time
+  pub empty : after.state.empty ≡ before.state.empty
+  pub used : after.state.used ≡ before.state.used
+  pub done : after.state.done ≡ before.state.done
+  pub facts : after.state.facts ≡ before.state.facts
   pub command : after.next_command ≡ before.next_command

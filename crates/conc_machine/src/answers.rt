@@ -12,9 +12,9 @@ ghost use Rattle.conc_law.specs.Law.{may_follow};
 ghost use Rattle.conc_law.specs.Next.{forced as forced_of, is_at_rest as is_at_rest_of, may_start as may_start_of, may_take as may_take_of, runs_somewhere};
 ghost use Rattle.conc_law.specs.Places.{is_usable as is_usable_of};
 ghost use Rattle.conc_law.specs.Readings.{next_reading as next_reading_of};
-ghost use Rattle.conc_law.specs.Standing.{facts_at as facts_at_of, is_stopping, now, standing};
+ghost use Rattle.conc_law.specs.State.{facts_at as facts_at_of, is_stopping, now, state};
 ghost use Rattle.conc_law.specs.Status.{status_of};
-ghost use Rattle.conc_machine.specs.Stands.{plan_of, readings_of, Stands};
+ghost use Rattle.conc_machine.specs.StandsFor.{plan_of, readings_of, StandsFor};
 
 use crate::forcing::forced;
 use crate::judging::{is_at_rest, may_come, may_start, may_take};
@@ -26,7 +26,7 @@ use conc_types::{Event, Phase, PlaceId, Reading, RequestId, Status};
 impl<'p> Machine<'p> {
     // The next reading of this life, where its readings are known.
     fn known_next(&self) -> Option<Option<Reading>>
-        ensures { (past : List Event) → Stands self.now past → result ≡ option_map (λ readings. next_reading_of readings past) (readings_of self.now) }
+        ensures { (past : List Event) → StandsFor self.now past → result ≡ option_map (λ readings. next_reading_of readings past) (readings_of self.now) }
     {
         match &self.life {
             Some(life) => Some(life.next_reading()),
@@ -36,40 +36,40 @@ impl<'p> Machine<'p> {
 
     /// Whether the event may come next.
     pub fn judge(&self, event: &Event) -> bool
-        ensures { (past : List Event) → Stands self.now past → result ≡ may_follow (plan_of self.now) (readings_of self.now) past event.now }
+        ensures { (past : List Event) → StandsFor self.now past → result ≡ may_follow (plan_of self.now) (readings_of self.now) past event.now }
     {
         may_come(self.plan, &self.kept, self.known_next(), *event)
     }
 
     /// The event that is forced, if one is due.
     pub fn forced(&self) -> Option<Event>
-        ensures { (past : List Event) → Stands self.now past → result ≡ forced_of (plan_of self.now) (standing (plan_of self.now) past) }
+        ensures { (past : List Event) → StandsFor self.now past → result ≡ forced_of (plan_of self.now) (state (plan_of self.now) past) }
     {
         forced(self.plan, &self.kept)
     }
 
     /// Whether a request may start at a place, where nothing is forced.
     pub fn may_start(&self, request: RequestId, place: PlaceId) -> bool
-        ensures { (past : List Event) → Stands self.now past →
-            result ≡ some_and (λ r. may_start_of (plan_of self.now) (standing (plan_of self.now) past) r place) (request_of (plan_of self.now) request) }
+        ensures { (past : List Event) → StandsFor self.now past →
+            result ≡ some_and (λ r. may_start_of (plan_of self.now) (state (plan_of self.now) past) r place) (request_of (plan_of self.now) request) }
     {
         may_start(self.plan, &self.kept, request, place)
     }
 
     /// The first let request in precedence that has an allowed place, with the first such place.
     pub fn first_start(&self) -> Option<(RequestId, PlaceId)>
-        ensures { (past : List Event) → Stands self.now past →
-            option_map (λ (start : RequestId × PlaceId). event.Started start.0 start.1) result ≡ first_start_of (plan_of self.now) (standing (plan_of self.now) past) }
+        ensures { (past : List Event) → StandsFor self.now past →
+            option_map (λ (start : RequestId × PlaceId). event.Started start.0 start.1) result ≡ first_start_of (plan_of self.now) (state (plan_of self.now) past) }
     {
-        self.kept.starts.first_start(self.plan, &self.kept.standing)
+        self.kept.starts.first_start(self.plan, &self.kept.state)
     }
 
     /// The request with the least number of those that run at a place.
     pub fn first_running(&self) -> Option<RequestId>
-        ensures { (past : List Event) → Stands self.now past →
-            result ≡ option_map (λ r. r.number) (find (runs_somewhere (standing (plan_of self.now) past)) (plan_of self.now).requests) }
+        ensures { (past : List Event) → StandsFor self.now past →
+            result ≡ option_map (λ r. r.number) (find (runs_somewhere (state (plan_of self.now) past)) (plan_of self.now).requests) }
     {
-        match self.kept.running.first(self.plan, &self.kept.standing) {
+        match self.kept.running.first(self.plan, &self.kept.state) {
             Some(r) => Some(r.number),
             None => None,
         }
@@ -77,7 +77,7 @@ impl<'p> Machine<'p> {
 
     /// The next reading of this life, if one is left. Without readings there is none.
     pub fn next_reading(&self) -> Option<Reading>
-        ensures { (past : List Event) → Stands self.now past → result ≡ option_and_then (λ readings. next_reading_of readings past) (readings_of self.now) }
+        ensures { (past : List Event) → StandsFor self.now past → result ≡ option_and_then (λ readings. next_reading_of readings past) (readings_of self.now) }
     {
         match &self.life {
             Some(life) => life.next_reading(),
@@ -87,8 +87,8 @@ impl<'p> Machine<'p> {
 
     /// Whether the next reading may be taken: one is left, and it is early or the system is at rest.
     pub fn may_tick(&self) -> bool
-        ensures { (past : List Event) → Stands self.now past →
-            result ≡ some_and (may_take_of (plan_of self.now) (standing (plan_of self.now) past)) (option_and_then (λ readings. next_reading_of readings past) (readings_of self.now)) }
+        ensures { (past : List Event) → StandsFor self.now past →
+            result ≡ some_and (may_take_of (plan_of self.now) (state (plan_of self.now) past)) (option_and_then (λ readings. next_reading_of readings past) (readings_of self.now)) }
     {
         match self.next_reading() {
             Some(reading) => may_take(self.plan, &self.kept, reading),
@@ -98,23 +98,23 @@ impl<'p> Machine<'p> {
 
     /// Whether the system is at rest: nothing is forced, no request runs, and none may start.
     pub fn at_rest(&self) -> bool
-        ensures { (past : List Event) → Stands self.now past → result ≡ is_at_rest_of (plan_of self.now) (standing (plan_of self.now) past) }
+        ensures { (past : List Event) → StandsFor self.now past → result ≡ is_at_rest_of (plan_of self.now) (state (plan_of self.now) past) }
     {
         is_at_rest(self.plan, &self.kept)
     }
 
     /// How many bytes of the spool the extents take, where 64 bits hold it.
     pub fn used(&self) -> Option<u64>
-        ensures { (past : List Event) → Stands self.now past → result ≡ (standing (plan_of self.now) past).used }
+        ensures { (past : List Event) → StandsFor self.now past → result ≡ (state (plan_of self.now) past).used }
     {
-        self.kept.standing.used
+        self.kept.state.used
     }
 
     /// Whether a place may be used at the last tick. Before the first tick none may.
     pub fn usable(&self, place: PlaceId) -> bool
-        ensures { (past : List Event) → Stands self.now past → result ≡ some_and (λ t. is_usable_of (plan_of self.now) t place) (now past) }
+        ensures { (past : List Event) → StandsFor self.now past → result ≡ some_and (λ t. is_usable_of (plan_of self.now) t place) (now past) }
     {
-        match self.kept.standing.time {
+        match self.kept.state.time {
             Some(t) => is_usable(self.plan, t, place),
             None => false,
         }
@@ -122,12 +122,12 @@ impl<'p> Machine<'p> {
 
     /// Whether a request has to stop: it runs, and was terminated.
     pub fn must_stop(&self, request: RequestId) -> bool
-        ensures { (past : List Event) → Stands self.now past →
-            result ≡ some_and (λ r. is_stopping (facts_at_of (standing (plan_of self.now) past) r)) (request_of (plan_of self.now) request) }
+        ensures { (past : List Event) → StandsFor self.now past →
+            result ≡ some_and (λ r. is_stopping (facts_at_of (state (plan_of self.now) past) r)) (request_of (plan_of self.now) request) }
     {
         match self.plan.request(request) {
             Some(r) => {
-                let facts = facts_at(&self.kept.standing, r);
+                let facts = facts_at(&self.kept.state, r);
                 facts.place.is_some() && facts.terminated
             }
             None => false,
@@ -136,11 +136,11 @@ impl<'p> Machine<'p> {
 
     /// The phase and status of a request; None exactly where it is not submitted.
     pub fn status(&self, request: RequestId) -> Option<(Phase, Status)>
-        ensures { (past : List Event) → Stands self.now past →
-            result ≡ option_and_then (status_of (plan_of self.now) (standing (plan_of self.now) past)) (request_of (plan_of self.now) request) }
+        ensures { (past : List Event) → StandsFor self.now past →
+            result ≡ option_and_then (status_of (plan_of self.now) (state (plan_of self.now) past)) (request_of (plan_of self.now) request) }
     {
         match self.plan.request(request) {
-            Some(r) => status(self.plan, &self.kept.standing, r),
+            Some(r) => status(self.plan, &self.kept.state, r),
             None => None,
         }
     }

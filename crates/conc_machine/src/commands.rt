@@ -7,7 +7,7 @@ ghost use Rattle.conc_law.specs.Next.{forced_command as forced_command_of, is_du
 ghost use Rattle.conc_machine.specs.Kept.{first_undone as first_undone_of};
 
 use conc_law_decisions::is_due;
-use conc_types::{Event, Plan, Standing};
+use conc_types::{Event, Plan, State};
 
 /// The place of the first command that is not done, from 0, where all before one are done.
 pub(crate) fn first_undone(done: &[bool], from: usize) -> usize
@@ -23,12 +23,12 @@ pub(crate) fn first_undone(done: &[bool], from: usize) -> usize
 }
 
 // The command at a place, from 0, if it is due.
-fn due_at(plan: &Plan, standing: &Standing, place: usize) -> Option<Event>
-    ensures { result ≡ option_and_then (λ order. then_some (is_due_of standing.now (place + 1, order)) (command (place + 1))) (slice_get plan.now.script.commands place) }
+fn due_at(plan: &Plan, state: &State, place: usize) -> Option<Event>
+    ensures { result ≡ option_and_then (λ order. then_some (is_due_of state.now (place + 1, order)) (command (place + 1))) (slice_get plan.now.script.commands place) }
 {
     let order = plan.script.commands.as_slice().get(place)?;
     let number = place as u32 + 1;
-    if is_due(standing, number, order) {
+    if is_due(state, number, order) {
         Some(Event::Command { number })
     } else {
         None
@@ -36,10 +36,10 @@ fn due_at(plan: &Plan, standing: &Standing, place: usize) -> Option<Event>
 }
 
 /// The first command that is due, where the first that is not done stands at a place.
-pub(crate) fn forced_command(plan: &Plan, standing: &Standing, next: usize) -> Option<Event>
-    requires flags { length standing.now.done ≡ length plan.now.script.commands }
-    requires next { next ≡ first_undone_of standing.now.done }
-    ensures { result ≡ forced_command_of plan.now standing.now }
+pub(crate) fn forced_command(plan: &Plan, state: &State, next: usize) -> Option<Event>
+    requires flags { length state.now.done ≡ length plan.now.script.commands }
+    requires next { next ≡ first_undone_of state.now.done }
+    ensures { result ≡ forced_command_of plan.now state.now }
 {
-    due_at(plan, standing, next)
+    due_at(plan, state, next)
 }

@@ -10,17 +10,17 @@ use conc_types::{Event, Plan};
 #[tactic(auto, unfolding(conc_law::specs::Next::forced))]
 pub(crate) fn forced(plan: &Plan, kept: &Kept) -> Option<Event>
     requires { AreKept plan.now kept.now }
-    ensures { result ≡ forced_of plan.now kept.now.standing }
+    ensures { result ≡ forced_of plan.now kept.now.state }
 {
-    if let Some(e) = kept.running.forced_interrupt(plan, &kept.standing) {
+    if let Some(e) = kept.running.forced_interrupt(plan, &kept.state) {
         return Some(e);
     }
-    if let Some(e) = forced_command(plan, &kept.standing, kept.next_command) {
+    if let Some(e) = forced_command(plan, &kept.state, kept.next_command) {
         return Some(e);
     }
-    if let Some(e) = kept.steps.forced_step(plan, &kept.spans, &kept.standing) {
+    if let Some(e) = kept.steps.forced_step(plan, &kept.spans, &kept.state) {
         return Some(e);
     }
     kept.lets
-        .forced_let(plan, &kept.classes, &kept.spans, &kept.standing)
+        .forced_let(plan, &kept.classes, &kept.spans, &kept.state)
 }

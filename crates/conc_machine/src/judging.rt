@@ -14,23 +14,23 @@ use conc_types::{Event, Moment, PlaceId, Plan, Reading, RequestId};
 
 fn none_runs(plan: &Plan, kept: &Kept) -> bool
     requires { AreKept plan.now kept.now }
-    ensures { result ≡ not (list_any (runs_somewhere kept.now.standing) plan.now.requests) }
+    ensures { result ≡ not (list_any (runs_somewhere kept.now.state) plan.now.requests) }
 {
-    kept.running.first(plan, &kept.standing).is_none()
+    kept.running.first(plan, &kept.state).is_none()
 }
 
 fn none_may_start(plan: &Plan, kept: &Kept) -> bool
     requires { AreKept plan.now kept.now }
-    ensures { result ≡ not (list_any (may_start_somewhere plan.now kept.now.standing) plan.now.requests) }
+    ensures { result ≡ not (list_any (may_start_somewhere plan.now kept.now.state) plan.now.requests) }
 {
-    kept.starts.first_start(plan, &kept.standing).is_none()
+    kept.starts.first_start(plan, &kept.state).is_none()
 }
 
 /// Whether the system is at rest: nothing is forced, no request runs, and none may start.
 #[tactic(auto, unfolding(conc_law::specs::Next::is_at_rest))]
 pub(crate) fn is_at_rest(plan: &Plan, kept: &Kept) -> bool
     requires { AreKept plan.now kept.now }
-    ensures { result ≡ is_at_rest_of plan.now kept.now.standing }
+    ensures { result ≡ is_at_rest_of plan.now kept.now.state }
 {
     forced(plan, kept).is_none() && none_runs(plan, kept) && none_may_start(plan, kept)
 }
@@ -39,7 +39,7 @@ pub(crate) fn is_at_rest(plan: &Plan, kept: &Kept) -> bool
 #[tactic(auto, unfolding(conc_law::specs::Next::may_take))]
 pub(crate) fn may_take(plan: &Plan, kept: &Kept, reading: Reading) -> bool
     requires { AreKept plan.now kept.now }
-    ensures { result ≡ may_take_of plan.now kept.now.standing reading }
+    ensures { result ≡ may_take_of plan.now kept.now.state reading }
 {
     reading.early || is_at_rest(plan, kept)
 }
@@ -49,24 +49,24 @@ pub(crate) fn may_take(plan: &Plan, kept: &Kept, reading: Reading) -> bool
 #[tactic(auto, unfolding(conc_law::specs::Next::may_tick))]
 fn may_tick(plan: &Plan, kept: &Kept, next: Option<Option<Reading>>, t: Moment) -> bool
     requires { AreKept plan.now kept.now }
-    ensures { result ≡ may_tick_of plan.now kept.now.standing next t }
+    ensures { result ≡ may_tick_of plan.now kept.now.state next t }
 {
     match next {
         Some(Some(reading)) => {
             t.seconds == reading.moment.seconds && may_take(plan, kept, reading)
         }
         Some(None) => false,
-        None => is_not_earlier(kept.standing.time, t),
+        None => is_not_earlier(kept.state.time, t),
     }
 }
 
 /// Whether the request with this number may start at a place.
 pub(crate) fn may_start(plan: &Plan, kept: &Kept, id: RequestId, place: PlaceId) -> bool
     requires { AreKept plan.now kept.now }
-    ensures { result ≡ some_and (λ q. may_start_of plan.now kept.now.standing q place) (request_of plan.now id) }
+    ensures { result ≡ some_and (λ q. may_start_of plan.now kept.now.state q place) (request_of plan.now id) }
 {
     match plan.request(id) {
-        Some(r) => kept.starts.may_start(plan, &kept.standing, r, place),
+        Some(r) => kept.starts.may_start(plan, &kept.state, r, place),
         None => false,
     }
 }
@@ -74,7 +74,7 @@ pub(crate) fn may_start(plan: &Plan, kept: &Kept, id: RequestId, place: PlaceId)
 #[tactic(auto, unfolding(conc_law::specs::Next::is_allowed))]
 fn is_allowed(plan: &Plan, kept: &Kept, next: Option<Option<Reading>>, e: Event) -> bool
     requires { AreKept plan.now kept.now }
-    ensures { result ≡ is_allowed_of plan.now kept.now.standing next e }
+    ensures { result ≡ is_allowed_of plan.now kept.now.state next e }
 {
     match e {
         Event::Started { request, place } => may_start(plan, kept, request, place),
@@ -82,7 +82,7 @@ fn is_allowed(plan: &Plan, kept: &Kept, next: Option<Option<Reading>>, e: Event)
             request,
             outcome,
             extent,
-        } => may_end_by_id(plan, &kept.standing, request, outcome, extent),
+        } => may_end_by_id(plan, &kept.state, request, outcome, extent),
         Event::Tick { moment } => may_tick(plan, kept, next, moment),
         _ => false,
     }
@@ -93,10 +93,10 @@ fn is_allowed(plan: &Plan, kept: &Kept, next: Option<Option<Reading>>, e: Event)
 #[tactic(auto, unfolding(conc_law::specs::Next::may_come))]
 pub(crate) fn may_come(plan: &Plan, kept: &Kept, next: Option<Option<Reading>>, e: Event) -> bool
     requires { AreKept plan.now kept.now }
-    ensures { result ≡ may_come_of plan.now kept.now.standing next e }
+    ensures { result ≡ may_come_of plan.now kept.now.state next e }
 {
     if is_resume(e) {
-        return !kept.standing.empty;
+        return !kept.state.empty;
     }
     match forced(plan, kept) {
         Some(due) => is_same_event(e, due),

@@ -3,14 +3,14 @@ use conc_machine_reach::Spans;
 use conc_machine_release::Lets;
 use conc_machine_starts::Starts;
 use conc_machine_steps::{Running, Steps};
-use conc_types::Standing;
+use conc_types::State;
 
 /// What a machine keeps: what stands, and of it what the next event is found by.
 #[derive(Drop)]
 pub(crate) struct Kept {
     pub(crate) spans: Spans,
     pub(crate) classes: Classes,
-    pub(crate) standing: Standing,
+    pub(crate) state: State,
     pub(crate) running: Running,
     pub(crate) steps: Steps,
     pub(crate) lets: Lets,

@@ -1,10 +1,10 @@
 ghost use Rattle.std.specs.Prelude.{◌≡◌, [], ◌∷◌, IfOk, List, None, OnErr, OnOk, Some};
 ghost use Rattle.std.specs.Option.{option_map};
 ghost use Rattle.conc_types.specs.declared.event.Event.{Event};
-ghost use Rattle.conc_law.specs.Past.{last_life};
-ghost use Rattle.conc_law.specs.Standing.{now, standing};
+ghost use Rattle.conc_law.specs.Before.{last_life};
+ghost use Rattle.conc_law.specs.State.{now, state};
 ghost use Rattle.conc_machine.specs.Kept.{AreKept};
-ghost use Rattle.conc_machine.specs.Stands.{AreLived, plan_of, readings_of, Stands};
+ghost use Rattle.conc_machine.specs.StandsFor.{AreLived, plan_of, readings_of, StandsFor};
 
 use crate::kept::Kept;
 use crate::machine::Machine;
@@ -22,12 +22,12 @@ use std::alloc::Global;
 // What is kept before the first event.
 fn begun(alloc: Global, plan: &Plan) -> Result<Kept, NoMemory>
     ensures kept { IfOk result (λ kept. AreKept plan.now kept) }
-    ensures none { IfOk result (λ kept. kept.standing ≡ standing plan.now []) }
+    ensures none { IfOk result (λ kept. kept.state ≡ state plan.now []) }
 {
     let classes = Classes::new(alloc, plan)?;
     Ok(Kept {
         spans: Spans::new(alloc, plan)?,
-        standing: begin(alloc, plan)?,
+        state: begin(alloc, plan)?,
         running: Running::new(alloc, plan)?,
         steps: Steps::new(alloc, plan)?,
         lets: Lets::new(alloc, plan, &classes)?,
@@ -50,11 +50,11 @@ fn live_on(life: &mut Option<Life>, e: Event, time: Option<Moment>)
 impl<'p> Machine<'p> {
     /// The machine that stands for no events. It takes all the memory that later calls need, but for the
     /// readings.
-    #[tactic(auto, unfolding(crate::specs::Stands::readings_of))]
+    #[tactic(auto, unfolding(crate::specs::StandsFor::readings_of))]
     pub fn new(alloc: Global, plan: &'p Plan) -> Result<Machine<'p>, NoMemory>
         ensures plan { IfOk result (λ machine. plan_of machine ≡ plan.now) }
         ensures readings { IfOk result (λ machine. readings_of machine ≡ None) }
-        ensures stands { IfOk result (λ machine. Stands machine []) }
+        ensures stands { IfOk result (λ machine. StandsFor machine []) }
     {
         Ok(Machine {
             plan,
@@ -68,10 +68,10 @@ impl<'p> Machine<'p> {
     pub fn take_readings(&mut self, alloc: Global, readings: &Readings) -> Result<(), NoMemory>
         ensures plan { plan_of self.new ≡ plan_of self.old }
         ensures readings { OnOk result (readings_of self.new ≡ Some readings.now.list) }
-        ensures stands { OnOk result ((past : List Event) → last_life past ≡ [] → Stands self.old past → Stands self.new past) }
+        ensures stands { OnOk result ((past : List Event) → last_life past ≡ [] → StandsFor self.old past → StandsFor self.new past) }
         ensures err { OnErr result (self.new ≡ self.old) }
     {
-        let life = Life::new(alloc, readings, self.kept.standing.time)?;
+        let life = Life::new(alloc, readings, self.kept.state.time)?;
         self.life = Some(life);
         Ok(())
     }
@@ -80,9 +80,9 @@ impl<'p> Machine<'p> {
     pub fn apply(&mut self, event: Event)
         ensures plan { plan_of self.new ≡ plan_of self.old }
         ensures readings { readings_of self.new ≡ readings_of self.old }
-        ensures stands { (past : List Event) → Stands self.old past → Stands self.new (event ∷ past) }
+        ensures stands { (past : List Event) → StandsFor self.old past → StandsFor self.new (event ∷ past) }
     {
-        let time = self.kept.standing.time;
+        let time = self.kept.state.time;
         live_on(&mut self.life, event, time);
         take_in(self.plan, &mut self.kept, event);
     }

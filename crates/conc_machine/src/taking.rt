@@ -11,11 +11,11 @@ use conc_types::{Event, Plan};
 
 // Takes in the command of an event, if it is one.
 fn take_command(kept: &mut Kept, e: Event)
-    requires { kept.old.next_command ≡ first_undone_of kept.old.standing.done }
+    requires { kept.old.next_command ≡ first_undone_of kept.old.state.done }
     ensures { HasCommand kept.old kept.new e }
 {
-    mark_done(&mut kept.standing.done, e);
-    kept.next_command = first_undone(kept.standing.done.as_slice(), kept.next_command);
+    mark_done(&mut kept.state.done, e);
+    kept.next_command = first_undone(kept.state.done.as_slice(), kept.next_command);
 }
 
 // Takes in the moment of an event, if it is a tick.
@@ -25,9 +25,9 @@ fn take_tick(plan: &Plan, kept: &mut Kept, e: Event)
     ensures tick { HasTick kept.old kept.new e }
 {
     if let Event::Tick { moment } = e {
-        kept.standing.time = Some(moment);
-        kept.lets.tick(plan, &kept.classes, &kept.standing);
-        kept.starts.tick(plan, &kept.standing);
+        kept.state.time = Some(moment);
+        kept.lets.tick(plan, &kept.classes, &kept.state);
+        kept.starts.tick(plan, &kept.state);
     }
 }
 
@@ -35,13 +35,13 @@ fn take_tick(plan: &Plan, kept: &mut Kept, e: Event)
 pub(crate) fn take_in(plan: &Plan, kept: &mut Kept, e: Event)
     requires { AreKept plan.now kept.old }
     ensures kept { AreKept plan.now kept.new }
-    ensures after { IsAfter plan.now kept.old.standing kept.new.standing e }
+    ensures after { IsAfter plan.now kept.old.state kept.new.state e }
 {
-    let named = named_facts(plan, kept.standing.facts.as_slice(), e);
+    let named = named_facts(plan, kept.state.facts.as_slice(), e);
     let span = kept.spans.reach(plan, e);
     write_all(plan, kept, named, e, span);
     take_command(kept, e);
-    kept.standing.used = used_after(kept.standing.used, e);
-    kept.standing.empty = false;
+    kept.state.used = used_after(kept.state.used, e);
+    kept.state.empty = false;
     take_tick(plan, kept, e);
 }

@@ -13,25 +13,25 @@ fn write(plan: &Plan, kept: &mut Kept, i: usize, own: Facts)
     requires parts { AreParts plan.now kept.old }
     requires index { i < length plan.now.requests }
     ensures parts { AreParts plan.now kept.new }
-    ensures facts { AreFacts kept.old kept.new (slice_set kept.old.standing.facts i own) }
+    ensures facts { AreFacts kept.old kept.new (slice_set kept.old.state.facts i own) }
 {
-    let old = kept.standing.facts.as_slice()[i];
-    kept.standing.facts.set(i, own);
-    kept.running.write(plan, &kept.standing, i, old);
-    kept.steps.write(plan, &kept.spans, &kept.standing, i, old);
+    let old = kept.state.facts.as_slice()[i];
+    kept.state.facts.set(i, own);
+    kept.running.write(plan, &kept.state, i, old);
+    kept.steps.write(plan, &kept.spans, &kept.state, i, old);
     kept.lets
-        .write(plan, &kept.classes, &kept.spans, &kept.standing, i, old);
-    kept.starts.write(plan, &kept.standing, i, old);
+        .write(plan, &kept.classes, &kept.spans, &kept.state, i, old);
+    kept.starts.write(plan, &kept.state, i, old);
 }
 
 // Writes the facts of the request at an index as they are after an event.
 fn write_next(plan: &Plan, kept: &mut Kept, named: Facts, e: Event, i: usize)
     requires parts { AreParts plan.now kept.old }
     ensures parts { AreParts plan.now kept.new }
-    ensures facts { AreFacts kept.old kept.new (one_by plan.now named e kept.old.standing.facts i (slice_get plan.now.requests i) (slice_get kept.old.standing.facts i)) }
+    ensures facts { AreFacts kept.old kept.new (one_by plan.now named e kept.old.state.facts i (slice_get plan.now.requests i) (slice_get kept.old.state.facts i)) }
 {
     if let Some(r) = plan.requests.as_slice().get(i) {
-        if let Some(own) = kept.standing.facts.as_slice().get(i).copied() {
+        if let Some(own) = kept.state.facts.as_slice().get(i).copied() {
             write(plan, kept, i, facts_after(plan, named, e, r, own));
         }
     }
@@ -44,7 +44,7 @@ pub(crate) fn write_all(plan: &Plan, kept: &mut Kept, named: Facts, e: Event, sp
     requires inside { span.to ≤ length plan.now.requests }
     requires leaves { LeavesOthers plan.now e span }
     ensures parts { AreParts plan.now kept.new }
-    ensures facts { AreFacts kept.old kept.new (all_after plan.now named e plan.now.requests kept.old.standing.facts) }
+    ensures facts { AreFacts kept.old kept.new (all_after plan.now named e plan.now.requests kept.old.state.facts) }
 {
     for i in span.from..span.to {
         write_next(plan, kept, named, e, i);

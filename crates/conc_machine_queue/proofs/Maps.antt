@@ -5,12 +5,12 @@ use Rattle.std.specs.Bool.{then_some}
 use Rattle.std.proofs.lemmas.List.{length-map}
 use Rattle.std.proofs.lemmas.Option.{slice_get_within}
 use Rattle.conc_types.specs.declared.facts.Facts.{Facts}
-use Rattle.conc_types.specs.declared.facts.Standing.{Standing}
+use Rattle.conc_types.specs.declared.facts.State.{State}
 use Rattle.conc_types.specs.declared.plan.Plan.{Plan}
 use Rattle.conc_types.specs.declared.plan.Req.{Req}
 use Rattle.conc_types.specs.Plans.{request}
 use Rattle.conc_types.specs.Words.{numbered}
-use Rattle.conc_law.specs.Standing.{facts_at, no_facts}
+use Rattle.conc_law.specs.State.{facts_at, no_facts}
 use Rattle.conc_law.specs.Words.{Has}
 use Rattle.conc_law.proofs.Numbering.{found, numbered-at, numbered_plan}
 use Rattle.conc_machine_queue.specs.Least.{vacant}
@@ -98,7 +98,7 @@ numbered-set_other xs i (suc k) y h =
     ∙ sym (numbered-at xs (suc k) k (omega arith))
 
 -- the facts of another request stay
-pub facts_at-written : (plan : Plan) (before after : Standing) (i : ℕ) (old : Facts) → IsWritten plan before after i old
+pub facts_at-written : (plan : Plan) (before after : State) (i : ℕ) (old : Facts) → IsWritten plan before after i old
     → (q : Req) → (q.number.number ≡ i + 1 → ⊥) → facts_at after q ≡ facts_at before q
 unfolding facts_at
 facts_at-written plan before after i old w q ne =
@@ -106,7 +106,7 @@ facts_at-written plan before after i old w q ne =
     ∙ ap (λ o. unwrap_or o no_facts) (numbered-set_other before.facts i q.number.number w.own ne)
 
 -- the facts of the request that is written, before
-pub facts_at-before : (plan : Plan) (before after : Standing) (i : ℕ) (old : Facts) → IsWritten plan before after i old
+pub facts_at-before : (plan : Plan) (before after : State) (i : ℕ) (old : Facts) → IsWritten plan before after i old
     → (r : Req) → slice_get plan.requests i ≡ Some r → facts_at before r ≡ old
 unfolding facts_at
 facts_at-before plan before after i old w r h =
@@ -114,7 +114,7 @@ facts_at-before plan before after i old w r h =
     ap (λ o. unwrap_or o no_facts) (numbered-at before.facts r.number.number i (omega (arith, p.0)) ∙ w.was)
 
 -- the facts of the request that is written, afterwards
-pub facts_at-after : (plan : Plan) (before after : Standing) (i : ℕ) (old : Facts) (w : IsWritten plan before after i old)
+pub facts_at-after : (plan : Plan) (before after : State) (i : ℕ) (old : Facts) (w : IsWritten plan before after i old)
     → (r : Req) → slice_get plan.requests i ≡ Some r → facts_at after r ≡ w.own
 unfolding facts_at
 facts_at-after plan before after i old w r h =
@@ -123,7 +123,7 @@ facts_at-after plan before after i old w r h =
     ∙ ap (λ o. unwrap_or o no_facts) (numbered-at (set before.facts i w.own) r.number.number i (omega (arith, p.0)) ∙ slice_get-set_same before.facts i old w.own w.was)
 
 -- where the same facts stand, each request's facts are the same
-pub facts_at-alike : (before after : Standing) → IsAlike before after → (q : Req) → facts_at after q ≡ facts_at before q
+pub facts_at-alike : (before after : State) → IsAlike before after → (q : Req) → facts_at after q ≡ facts_at before q
 unfolding facts_at
 facts_at-alike before after same q = ap (λ l. unwrap_or (numbered l q.number.number) no_facts) same.facts
 

@@ -12,9 +12,9 @@ use Rattle.conc_types.specs.declared.event.Event.{Event}
 use Rattle.conc_types.specs.declared.event.Event.TheVariants as event
 use Rattle.conc_types.specs.declared.event.Moment.{Moment}
 use Rattle.conc_law.specs.Kinds.{tick_of}
-use Rattle.conc_law.specs.Past.{earlier_lives, last_life}
+use Rattle.conc_law.specs.Before.{earlier_lives, last_life}
 use Rattle.conc_law.specs.Readings.{life_readings, next_reading, ticks}
-use Rattle.conc_law.specs.Standing.{is_not_earlier, now}
+use Rattle.conc_law.specs.State.{is_not_earlier, now}
 use Rattle.conc_machine_readings.specs.declared.life.Life.{Life}
 use Rattle.conc_machine_readings.specs.Life.{IsLife}
 

@@ -8,7 +8,7 @@ use Rattle.std.proofs.lemmas.Bool.Decides.{nat_tests}
 use Rattle.conc_types.specs.declared.event.Moment.{Moment}
 use Rattle.conc_types.specs.declared.script.Reading.{Reading}
 use Rattle.conc_types.specs.Scripts.{are_in_order}
-use Rattle.conc_law.specs.Standing.{is_not_earlier}
+use Rattle.conc_law.specs.State.{is_not_earlier}
 
 -- each reading is not earlier than a first one
 after_first : (n : ℕ) (qs : List Reading) (j : ℕ) (d : Reading) → list_all (λ r. nat_le n r.moment.seconds) qs ≡ true → j < length qs

@@ -1,9 +1,9 @@
 ghost use Rattle.std.specs.Prelude.{◌≡◌, ◌≤◌, [], ◌∷◌, drop, length, IfOk, List};
 ghost use Rattle.std.specs.List.{filter};
 ghost use Rattle.conc_types.specs.declared.event.Event.{Event};
-ghost use Rattle.conc_law.specs.Past.{last_life};
+ghost use Rattle.conc_law.specs.Before.{last_life};
 ghost use Rattle.conc_law.specs.Readings.{next_reading};
-ghost use Rattle.conc_law.specs.Standing.{is_not_earlier, now};
+ghost use Rattle.conc_law.specs.State.{is_not_earlier, now};
 ghost use Rattle.conc_machine_readings.specs.Life.{IsLife};
 
 use conc_types::{Event, Moment, NoMemory, Reading, Readings, Seq};

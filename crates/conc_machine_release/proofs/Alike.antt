@@ -4,11 +4,11 @@ use Rattle.std.specs.Prelude.{unwrap_or}
 use Rattle.std.proofs.lemmas.Bool.{and_parts, cases_lt, le-leb, leb-true, lt-leb, ltb-true}
 use Rattle.std.proofs.lemmas.Bool.Decides.{nat_tests}
 use Rattle.conc_types.specs.declared.event.Moment.{Moment}
-use Rattle.conc_types.specs.declared.facts.Standing.{Standing}
+use Rattle.conc_types.specs.declared.facts.State.{State}
 use Rattle.conc_types.specs.declared.plan.Plan.{Plan}
 use Rattle.conc_types.specs.declared.plan.Req.{Req}
 use Rattle.conc_types.specs.Words.{numbered}
-use Rattle.conc_law.specs.Standing.{facts_at, has_come, is_live, no_facts}
+use Rattle.conc_law.specs.State.{facts_at, has_come, is_live, no_facts}
 use Rattle.conc_law.specs.Words.{Has}
 use Rattle.conc_machine_queue.specs.Written.{IsAlike}
 use Rattle.conc_machine_queue.specs.Turns.{turns_of}
@@ -26,14 +26,14 @@ use Rattle.conc_machine_release.proofs.Written.{ready-same, waiting-same}
 -- ---- what stays
 
 -- the live rivals are the same where each request's facts are
-pub rivals-alike : (plan : Plan) (classes : Classes) (before after : Standing) → ((q : Req) → facts_at after q ≡ facts_at before q) → (c : ℕ)
+pub rivals-alike : (plan : Plan) (classes : Classes) (before after : State) → ((q : Req) → facts_at after q ≡ facts_at before q) → (c : ℕ)
     → live_rivals plan classes before c ≡ live_rivals plan classes after c
 unfolding live_rivals is_live_rival
 rivals-alike plan classes before after same c = length-filter_same (is_live_rival classes after c) (is_live_rival classes before c) plan.requests
     (λ q has. ap (λ f. is_live f && are_rivals classes (class_at classes q) c) (sym (same q)))
 
 -- what is kept stays right where the facts are the same, and the same starts have come
-kept-alike : (plan : Plan) (classes : Classes) (before after : Standing) (lets : Lets) → ((q : Req) → facts_at after q ≡ facts_at before q)
+kept-alike : (plan : Plan) (classes : Classes) (before after : State) (lets : Lets) → ((q : Req) → facts_at after q ≡ facts_at before q)
     → ((q : Req) → Has plan.requests q → has_come after.time q.start ≡ has_come before.time q.start) → AreLets plan classes before lets → AreLets plan classes after lets
 kept-alike plan classes before after lets facts come are = record {
   ready = are.ready ∙ map_range-same (λ c. turns_of (is_ready plan before) (of_class plan classes c)) (λ c. turns_of (is_ready plan after) (of_class plan classes c)) 0 (length classes.sizes)
@@ -47,14 +47,14 @@ kept-alike plan classes before after lets facts come are = record {
 }
 
 -- what is kept stays right where the same facts and the same moment stand
-pub AreLets-alike : (plan : Plan) (classes : Classes) (before after : Standing) (lets : Lets) → IsAlike before after → AreLets plan classes before lets → AreLets plan classes after lets
+pub AreLets-alike : (plan : Plan) (classes : Classes) (before after : State) (lets : Lets) → IsAlike before after → AreLets plan classes before lets → AreLets plan classes after lets
 AreLets-alike plan classes before after lets alike are =
     kept-alike plan classes before after lets (facts_at-alike before after alike) (λ q has. ap (λ t. has_come t q.start) alike.time) are
 
 -- ---- moments between which no start comes
 
 -- at a moment of the lull the same starts have come
-come-alike : (plan : Plan) (classes : Classes) (before : Standing) (lets : Lets) → AreLets plan classes before lets → (time : Option Moment) → is_in_lull lets.lull time ≡ true
+come-alike : (plan : Plan) (classes : Classes) (before : State) (lets : Lets) → AreLets plan classes before lets → (time : Option Moment) → is_in_lull lets.lull time ≡ true
     → (q : Req) → Has plan.requests q → has_come time q.start ≡ has_come before.time q.start
 unfolding has_come
 come-alike plan classes before lets are None h q has = cc
@@ -63,7 +63,7 @@ come-alike plan classes before lets are (Some t) h q has =
     sym (are.lull t.seconds (leb-true _ _ p.0) (ltb-true _ _ p.1) q has)
 
 -- so what is kept stays right at a tick within it
-pub kept-in_lull : (plan : Plan) (classes : Classes) (before after : Standing) (lets : Lets) → after.facts ≡ before.facts → is_in_lull lets.lull after.time ≡ true
+pub kept-in_lull : (plan : Plan) (classes : Classes) (before after : State) (lets : Lets) → after.facts ≡ before.facts → is_in_lull lets.lull after.time ≡ true
     → AreLets plan classes before lets → AreLets plan classes after lets
 unfolding facts_at
 kept-in_lull plan classes before after lets same within are =

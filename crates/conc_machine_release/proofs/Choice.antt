@@ -4,7 +4,7 @@ use Rattle.std.specs.Prelude.{slice_get, unwrap_or}
 use Rattle.std.proofs.lemmas.Bool.{and_left, and_parts, both_ways, lt-ltb}
 use Rattle.std.proofs.lemmas.Bool.Decides.{nat_tests}
 use Rattle.std.proofs.lemmas.List.FromFn.{get_or-map-range_with_len, length-map-range_with_len}
-use Rattle.conc_types.specs.declared.facts.Standing.{Standing}
+use Rattle.conc_types.specs.declared.facts.State.{State}
 use Rattle.conc_types.specs.declared.plan.Plan.{Plan}
 use Rattle.conc_types.specs.declared.plan.Req.{Req}
 use Rattle.conc_types.specs.Plans.{request}
@@ -29,17 +29,17 @@ use Rattle.conc_machine_queue.proofs.LeastTurns.{least-filter, least-or, least_o
 
 -- ---- what is kept of a class
 
-pub ready-kept : (plan : Plan) (classes : Classes) (s : Standing) (lets : Lets) → AreLets plan classes s lets → (c : ℕ) → c < length classes.sizes
+pub ready-kept : (plan : Plan) (classes : Classes) (s : State) (lets : Lets) → AreLets plan classes s lets → (c : ℕ) → c < length classes.sizes
     → (d : List (Option ℕ)) → get_or lets.ready.items c d ≡ turns_of (is_ready plan s) (of_class plan classes c)
 ready-kept plan classes s lets are c within d =
     ap (λ l. get_or l c d) are.ready
     ∙ get_or-map-range_with_len (λ e. turns_of (is_ready plan s) (of_class plan classes e)) 0 (length classes.sizes) c c d within (omega arith)
 
-pub ready-count : (plan : Plan) (classes : Classes) (s : Standing) (lets : Lets) → AreLets plan classes s lets → length lets.ready.items ≡ length classes.sizes
+pub ready-count : (plan : Plan) (classes : Classes) (s : State) (lets : Lets) → AreLets plan classes s lets → length lets.ready.items ≡ length classes.sizes
 ready-count plan classes s lets are =
     ap length are.ready ∙ length-map-range_with_len (λ e. turns_of (is_ready plan s) (of_class plan classes e)) 0 (length classes.sizes)
 
-pub rivals-kept : (plan : Plan) (classes : Classes) (s : Standing) (lets : Lets) → AreLets plan classes s lets → (c : ℕ) → c < length classes.sizes
+pub rivals-kept : (plan : Plan) (classes : Classes) (s : State) (lets : Lets) → AreLets plan classes s lets → (c : ℕ) → c < length classes.sizes
     → unwrap_or (slice_get lets.rivals c) 0 ≡ live_rivals plan classes s c
 rivals-kept plan classes s lets are c within =
     ap (λ l. unwrap_or (slice_get l c) 0) are.rivals
@@ -48,14 +48,14 @@ rivals-kept plan classes s lets are c within =
 -- ---- the least turn of a class
 
 -- where none of the class is ready, none may be let
-pub class-none : (plan : Plan) (classes : Classes) (s : Standing) (c : ℕ) → least (turns_of (is_ready plan s) (of_class plan classes c)) ≡ None
+pub class-none : (plan : Plan) (classes : Classes) (s : State) (c : ℕ) → least (turns_of (is_ready plan s) (of_class plan classes c)) ≡ None
     → None ≡ turn_in_class plan classes s c
 unfolding turn_in_class turns_of
 class-none plan classes s c none = sym (least_of-none (may_let plan s) (of_class plan classes c) (λ r has.
     may_let-parts plan s r ∙ and_left _ _ (least-none (is_ready plan s) turn (of_class plan classes c) none r has)))
 
 -- where no rival is live, each ready one may be let
-pub class-free : (plan : Plan) (classes : Classes) (s : Standing) → AreClasses plan classes → (c : ℕ) → live_rivals plan classes s c ≡ 0
+pub class-free : (plan : Plan) (classes : Classes) (s : State) → AreClasses plan classes → (c : ℕ) → live_rivals plan classes s c ≡ 0
     → least (turns_of (is_ready plan s) (of_class plan classes c)) ≡ turn_in_class plan classes s c
 unfolding turn_in_class
 class-free plan classes s are c none = ap least (turns-same (is_ready plan s) (may_let plan s) (of_class plan classes c) (λ r has.
@@ -63,7 +63,7 @@ class-free plan classes s are c none = ap least (turns-same (is_ready plan s) (m
     free-may_let plan classes s are r p.0 (ap (live_rivals plan classes s) p.1 ∙ none)))
 
 -- where a rival is live and the class spares no kin, none may be let
-pub class-blocked : (plan : Plan) (classes : Classes) (s : Standing) → AreClasses plan classes → (c : ℕ) → (live_rivals plan classes s c ≡ 0 → ⊥) → spares_at classes c ≡ false
+pub class-blocked : (plan : Plan) (classes : Classes) (s : State) → AreClasses plan classes → (c : ℕ) → (live_rivals plan classes s c ≡ 0 → ⊥) → spares_at classes c ≡ false
     → None ≡ turn_in_class plan classes s c
 unfolding turn_in_class
 class-blocked plan classes s are c some spares = sym (least_of-none (may_let plan s) (of_class plan classes c) (λ r has.
@@ -71,12 +71,12 @@ class-blocked plan classes s are c some spares = sym (least_of-none (may_let pla
     rival-may_let plan classes s are r p.0 (λ z. some (ap (live_rivals plan classes s) (sym p.1) ∙ z)) (ap (spares_at classes) p.1 ∙ spares)))
 
 -- those of the class that may be let
-class-let : (plan : Plan) (classes : Classes) (s : Standing) (c : ℕ) → turn_in_class plan classes s c ≡ least (turns_of (λ r. (class_at classes r == c) && may_let plan s r) plan.requests)
+class-let : (plan : Plan) (classes : Classes) (s : State) (c : ℕ) → turn_in_class plan classes s c ≡ least (turns_of (λ r. (class_at classes r == c) && may_let plan s r) plan.requests)
 unfolding turn_in_class of_class
 class-let plan classes s c = least-filter (λ r. class_at classes r == c) (may_let plan s) plan.requests
 
 -- otherwise those may be let of which all live rivals are kin
-pub class-spared : (plan : Plan) (classes : Classes) (s : Standing) → AreClasses plan classes → (c rivals : ℕ) → rivals ≡ live_rivals plan classes s c
+pub class-spared : (plan : Plan) (classes : Classes) (s : State) → AreClasses plan classes → (c rivals : ℕ) → rivals ≡ live_rivals plan classes s c
     → least (turns_of (is_spared plan classes s c rivals) plan.requests) ≡ turn_in_class plan classes s c
 class-spared plan classes s are c rivals e =
     ap (λ n. least (turns_of (is_spared plan classes s c n) plan.requests)) e
@@ -85,7 +85,7 @@ class-spared plan classes s are c rivals e =
     ∙ sym (class-let plan classes s c)
 
 -- the first of those that are ready, where it may be let
-class-first : (plan : Plan) (classes : Classes) (s : Standing) (c t : ℕ) (r : Req) → least (turns_of (is_ready plan s) (of_class plan classes c)) ≡ Some t
+class-first : (plan : Plan) (classes : Classes) (s : State) (c t : ℕ) (r : Req) → least (turns_of (is_ready plan s) (of_class plan classes c)) ≡ Some t
     → request_at_turn plan t ≡ Some r → may_let plan s r ≡ true → Some t ≡ turn_in_class plan classes s c
 unfolding turn_in_class turns_of
 class-first plan classes s c t r first at may = by (least (turns_of (may_let plan s) (of_class plan classes c))) refl where
@@ -112,7 +112,7 @@ unfolding request_at_turn
 at_turn plan t r h = h
 
 -- so where it is spared
-pub class-first_spared : (plan : Plan) (classes : Classes) (s : Standing) → AreClasses plan classes → (c rivals : ℕ) → rivals ≡ live_rivals plan classes s c
+pub class-first_spared : (plan : Plan) (classes : Classes) (s : State) → AreClasses plan classes → (c rivals : ℕ) → rivals ≡ live_rivals plan classes s c
     → (t : ℕ) → least (turns_of (is_ready plan s) (of_class plan classes c)) ≡ Some t
     → some_and (is_spared plan classes s c rivals) (request_at_turn plan t) ≡ true → Some t ≡ turn_in_class plan classes s c
 class-first_spared plan classes s are c rivals e t is h =
@@ -124,20 +124,20 @@ class-first_spared plan classes s are c rivals e t is h =
 -- ---- all classes
 
 -- the least turn of those of the first classes
-abbrev pub turn_below : Plan → Classes → Standing → ℕ → Option ℕ
+abbrev pub turn_below : Plan → Classes → State → ℕ → Option ℕ
 turn_below plan classes s i = least (turns_of (λ r. nat_lt (class_at classes r) i && may_let plan s r) plan.requests)
 
 below-start-none : (n : ℕ) → nat_lt n 0 ≡ false
 below-start-none n = grind (arith, nat_tests)
 
-pub below-start : (plan : Plan) (classes : Classes) (s : Standing) → None ≡ turn_below plan classes s 0
+pub below-start : (plan : Plan) (classes : Classes) (s : State) → None ≡ turn_below plan classes s 0
 below-start plan classes s = sym (least_of-none (λ r. nat_lt (class_at classes r) 0 && may_let plan s r) plan.requests
     (λ r has. and_left (nat_lt (class_at classes r) 0) (may_let plan s r) (below-start-none (class_at classes r))))
 
 below-more : (n i : ℕ) (m : Bool) → ((nat_lt n i && m) || ((n == i) && m)) ≡ (nat_lt n (i + 1) && m)
 below-more n i m = grind (arith, nat_tests)
 
-pub below-next : (plan : Plan) (classes : Classes) (s : Standing) (i : ℕ) → lesser (turn_below plan classes s i) (turn_in_class plan classes s i) ≡ turn_below plan classes s (i + 1)
+pub below-next : (plan : Plan) (classes : Classes) (s : State) (i : ℕ) → lesser (turn_below plan classes s i) (turn_in_class plan classes s i) ≡ turn_below plan classes s (i + 1)
 below-next plan classes s i =
     ap (lesser (turn_below plan classes s i)) (class-let plan classes s i)
     ∙ sym (least-or (λ r. nat_lt (class_at classes r) i && may_let plan s r) (λ r. (class_at classes r == i) && may_let plan s r) plan.requests)
@@ -145,7 +145,7 @@ below-next plan classes s i =
     (λ r. nat_lt (class_at classes r) (i + 1) && may_let plan s r) plan.requests (λ r has. below-more (class_at classes r) i (may_let plan s r)))
 
 -- a class of which none is ready changes nothing
-pub below-skip : (plan : Plan) (classes : Classes) (s : Standing) (i : ℕ) → least (turns_of (is_ready plan s) (of_class plan classes i)) ≡ None
+pub below-skip : (plan : Plan) (classes : Classes) (s : State) (i : ℕ) → least (turns_of (is_ready plan s) (of_class plan classes i)) ≡ None
     → turn_below plan classes s i ≡ turn_below plan classes s (i + 1)
 below-skip plan classes s i none =
     sym (lesser-none (turn_below plan classes s i)) ∙ ap (lesser (turn_below plan classes s i)) (class-none plan classes s i none) ∙ below-next plan classes s i
@@ -154,7 +154,7 @@ below-skip plan classes s i none =
     lesser-none None = refl
     lesser-none (Some n) = refl
 
-pub below-end : (plan : Plan) (classes : Classes) (s : Standing) → AreClasses plan classes → (i : ℕ) → length classes.sizes ≤ i
+pub below-end : (plan : Plan) (classes : Classes) (s : State) → AreClasses plan classes → (i : ℕ) → length classes.sizes ≤ i
     → turn_below plan classes s i ≡ least (turns_of (may_let plan s) plan.requests)
 below-end plan classes s are i all = ap least (turns-same (λ r. nat_lt (class_at classes r) i && may_let plan s r) (may_let plan s) plan.requests
     (λ r has. let known : class_at classes r < length classes.sizes = are.known r has in

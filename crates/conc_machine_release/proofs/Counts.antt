@@ -6,10 +6,10 @@ use Rattle.std.specs.Option.{option_map}
 use Rattle.std.proofs.lemmas.Bool.{and_parts, cases_eq, eq-eqb, ltb-true, ne_eqb, or_from, or_left}
 use Rattle.std.proofs.lemmas.Option.{slice_get-map, slice_get_within}
 use Rattle.conc_types.specs.declared.facts.Facts.{Facts}
-use Rattle.conc_types.specs.declared.facts.Standing.{Standing}
+use Rattle.conc_types.specs.declared.facts.State.{State}
 use Rattle.conc_types.specs.declared.plan.Plan.{Plan}
 use Rattle.conc_types.specs.declared.plan.Req.{Req}
-use Rattle.conc_law.specs.Standing.{facts_at, is_live}
+use Rattle.conc_law.specs.State.{facts_at, is_live}
 use Rattle.conc_law.specs.Words.{Has}
 use Rattle.conc_machine_queue.specs.Written.{IsWritten}
 use Rattle.conc_machine_queue.proofs.Maps.{facts_at-before, facts_at-written, request_at_place, slice_get-set_other, slice_get-set_same}
@@ -71,7 +71,7 @@ counted_all-get more most (x ∷ xs) counts d ok =
 -- ---- live rivals
 
 -- the live rivals of a class before and after the write
-rivals-written : (plan : Plan) (classes : Classes) (before s : Standing) (i : ℕ) (old : Facts) → IsWritten plan before s i old → (r : Req) → slice_get plan.requests i ≡ Some r → (c : ℕ)
+rivals-written : (plan : Plan) (classes : Classes) (before s : State) (i : ℕ) (old : Facts) → IsWritten plan before s i old → (r : Req) → slice_get plan.requests i ≡ Some r → (c : ℕ)
     → live_rivals plan classes s c + cond (is_live old && are_rivals classes (class_at classes r) c) 1 0
     ≡ live_rivals plan classes before c + cond (is_live (facts_at s r) && are_rivals classes (class_at classes r) c) 1 0
 unfolding live_rivals is_live_rival
@@ -83,7 +83,7 @@ rivals-written plan classes before s i old w r at c =
     (facts_at-written plan before s i old w q (λ (m : q.number.number ≡ i + 1). ne (omega (arith, n.0)))))
 
 -- live rivals are few
-rivals-few : (plan : Plan) (classes : Classes) (s : Standing) (c : ℕ) → live_rivals plan classes s c ≤ 16384
+rivals-few : (plan : Plan) (classes : Classes) (s : State) (c : ℕ) → live_rivals plan classes s c ≤ 16384
 unfolding live_rivals
 rivals-few plan classes s c = omega (arith, length-filter_most (is_live_rival classes s c) plan.requests, plan.few)
 
@@ -96,7 +96,7 @@ counted-right true true a f g few d e = cc
 counted-right false false a f g few d e = cc
 
 -- the counts after a write, where a request became live or ceased to be so
-counts-changed : (plan : Plan) (classes : Classes) → AreClasses plan classes → (before s : Standing) (i : ℕ) (old : Facts) → IsWritten plan before s i old → (r : Req)
+counts-changed : (plan : Plan) (classes : Classes) → AreClasses plan classes → (before s : State) (i : ℕ) (old : Facts) → IsWritten plan before s i old → (r : Req)
     → slice_get plan.requests i ≡ Some r → (live was : Bool) → is_live (facts_at s r) ≡ live → is_live old ≡ was → live ≡ not was
     → (counts : List ℕ) → counts ≡ map (live_rivals plan classes before) (all_classes classes)
     → counted_all live (rivals_at classes (class_at classes r)) counts ≡ map (live_rivals plan classes s) (all_classes classes)
@@ -128,7 +128,7 @@ counts-changed plan classes are before s i old w r at live was now then d counts
           ap (λ n. Some n) (value k c (omega (arith, p.0)))
 
 -- the counts after a write, where the request is live or not as before
-counts-same : (plan : Plan) (classes : Classes) (before s : Standing) (i : ℕ) (old : Facts) → IsWritten plan before s i old → (r : Req)
+counts-same : (plan : Plan) (classes : Classes) (before s : State) (i : ℕ) (old : Facts) → IsWritten plan before s i old → (r : Req)
     → slice_get plan.requests i ≡ Some r → is_live (facts_at s r) ≡ is_live old
     → (counts : List ℕ) → counts ≡ map (live_rivals plan classes before) (all_classes classes) → counts ≡ map (live_rivals plan classes s) (all_classes classes)
 counts-same plan classes before s i old w r at same counts is =
@@ -138,7 +138,7 @@ counts-same plan classes before s i old w r at same counts is =
       sums a b n e = omega arith
 
 -- the counts after a write are those of what stands
-pub recounted-is : (plan : Plan) (classes : Classes) → AreClasses plan classes → (before s : Standing) (i : ℕ) (old : Facts) → IsWritten plan before s i old
+pub recounted-is : (plan : Plan) (classes : Classes) → AreClasses plan classes → (before s : State) (i : ℕ) (old : Facts) → IsWritten plan before s i old
     → (counts : List ℕ) → counts ≡ map (live_rivals plan classes before) (all_classes classes)
     → recounted classes s old counts (slice_get plan.requests i) ≡ map (live_rivals plan classes s) (all_classes classes)
 recounted-is plan classes are before s i old w counts is = by (slice_get plan.requests i) refl where

@@ -5,7 +5,7 @@ use Rattle.std.specs.List.{filter}
 use Rattle.std.specs.Option.{option_and_then}
 use Rattle.std.proofs.lemmas.Bool.{and_left, and_parts, and_right, both_ways, cases_Bool, cases_eq, eq-eqb, eqb-true, false_from_ne_true, leb-true, ltb-true, ne_eqb, not-true}
 use Rattle.conc_types.specs.declared.event.RequestId.{RequestId}
-use Rattle.conc_types.specs.declared.facts.Standing.{Standing}
+use Rattle.conc_types.specs.declared.facts.State.{State}
 use Rattle.conc_types.specs.declared.plan.Plan.{Plan}
 use Rattle.conc_types.specs.declared.plan.Req.{Req}
 use Rattle.conc_types.specs.Plans.{request}
@@ -13,7 +13,7 @@ use Rattle.conc_types.specs.Words.{some_and}
 use Rattle.conc_law.specs.Exclusion.{excludes, is_kin}
 use Rattle.conc_law.specs.Next.{blocks, is_free, is_ready, may_let}
 use Rattle.conc_law.specs.Plans.{are_exclusive, parent}
-use Rattle.conc_law.specs.Standing.{facts_at, is_live}
+use Rattle.conc_law.specs.State.{facts_at, is_live}
 use Rattle.conc_law.specs.Words.{Has, id_eq}
 use Rattle.conc_law.proofs.Numbering.{found, numbered_plan}
 use Rattle.conc_machine_queue.proofs.Maps.{place_of_request, request_at_place}
@@ -44,7 +44,7 @@ child-outside plan spans are set k y at out = false_from_ne_true (is_child set y
     let w = and_parts _ _ (are.members k y set at (p.1 ∙ ap (λ z. Some z) same)) in
     out (leb-true _ _ w.0) (ltb-true _ _ w.1))
 
-pub members-outside : (plan : Plan) (spans : Spans) → AreSpans plan spans → (classes : Classes) (s : Standing) (c : ℕ) (r : Req) (k : ℕ) (y : Req)
+pub members-outside : (plan : Plan) (spans : Spans) → AreSpans plan spans → (classes : Classes) (s : State) (c : ℕ) (r : Req) (k : ℕ) (y : Req)
     → slice_get plan.requests k ≡ Some y → ((span_of_members spans r.number).from ≤ k → k < (span_of_members spans r.number).to → ⊥)
     → is_live_member classes s c r y ≡ false
 unfolding is_live_member
@@ -115,7 +115,7 @@ both-second true false false = refl
 both-second false c p = refl
 
 -- the live requests that are kin of r, and whose classes exclude its class
-kin-count : (plan : Plan) (classes : Classes) (s : Standing) (c : ℕ) (r : Req)
+kin-count : (plan : Plan) (classes : Classes) (s : State) (c : ℕ) (r : Req)
     → length (filter (λ q. is_live_rival classes s c q && is_kin q r) plan.requests) ≡ live_members plan classes s c r + live_parents plan classes s c r
 unfolding is_kin live_members live_parents is_live_member is_live_outside
 kin-count plan classes s c r =
@@ -132,11 +132,11 @@ kin-count plan classes s c r =
 -- ---- those that exclude a ready request
 
 -- the live requests that exclude r
-pub strangers : Plan → Classes → Standing → ℕ → Req → ℕ
+pub strangers : Plan → Classes → State → ℕ → Req → ℕ
 strangers plan classes s c r = length (filter (λ q. is_live_rival classes s c q && not (is_kin q r)) plan.requests)
 
 -- all live rivals are kin or not
-pub rivals-parts : (plan : Plan) (classes : Classes) (s : Standing) (c : ℕ) (r : Req)
+pub rivals-parts : (plan : Plan) (classes : Classes) (s : State) (c : ℕ) (r : Req)
     → live_rivals plan classes s c ≡ live_members plan classes s c r + live_parents plan classes s c r + strangers plan classes s c r
 unfolding live_rivals strangers
 rivals-parts plan classes s c r =
@@ -144,7 +144,7 @@ rivals-parts plan classes s c r =
     ∙ ap (λ n. n + length (filter (λ q. is_live_rival classes s c q && not (is_kin q r)) plan.requests)) (kin-count plan classes s c r)
 
 -- a ready request is not live
-pub ready-not_live : (plan : Plan) (s : Standing) (r : Req) → is_ready plan s r ≡ true → is_live (facts_at s r) ≡ false
+pub ready-not_live : (plan : Plan) (s : State) (r : Req) → is_ready plan s r ≡ true → is_live (facts_at s r) ≡ false
 unfolding is_ready
 ready-not_live plan s r h = not-true _ (and_parts _ _ (and_parts _ _ h).1).0
 
@@ -158,7 +158,7 @@ arranged true i k c h = rw (h refl) (by k c) where
   by false false = refl
 
 -- a live request excludes a ready one where its class does and it is no kin
-blocks-ready : (plan : Plan) (classes : Classes) (s : Standing) → AreClasses plan classes → (q r : Req) → Has plan.requests q → Has plan.requests r → is_ready plan s r ≡ true
+blocks-ready : (plan : Plan) (classes : Classes) (s : State) → AreClasses plan classes → (q r : Req) → Has plan.requests q → Has plan.requests r → is_ready plan s r ≡ true
     → blocks plan s r q ≡ (is_live_rival classes s (class_at classes r) q && not (is_kin q r))
 unfolding blocks are_exclusive excludes is_live_rival clash facts_at
 blocks-ready plan classes s are q r hq hr ready =
@@ -168,7 +168,7 @@ blocks-ready plan classes s are q r hq hr ready =
     ∙ ap (λ b. (is_live (facts_at s q) && b) && not (is_kin q r)) (are.rivals q r hq hr)
 
 -- a ready request is free where no stranger is live
-pub free-count : (plan : Plan) (classes : Classes) (s : Standing) → AreClasses plan classes → (r : Req) → Has plan.requests r → is_ready plan s r ≡ true
+pub free-count : (plan : Plan) (classes : Classes) (s : State) → AreClasses plan classes → (r : Req) → Has plan.requests r → is_ready plan s r ≡ true
     → is_free plan s r ≡ (strangers plan classes s (class_at classes r) r == 0)
 unfolding is_free strangers
 free-count plan classes s are r has ready =
@@ -181,12 +181,12 @@ free-count plan classes s are r has ready =
       twice false = refl
 
 -- a request may be let where it is ready and free
-pub may_let-parts : (plan : Plan) (s : Standing) (r : Req) → may_let plan s r ≡ (is_ready plan s r && is_free plan s r)
+pub may_let-parts : (plan : Plan) (s : State) (r : Req) → may_let plan s r ≡ (is_ready plan s r && is_free plan s r)
 unfolding may_let
 may_let-parts plan s r = refl
 
 -- a request is spared where so many live rivals are kin of it as there are
-pub spared-may_let : (plan : Plan) (classes : Classes) (s : Standing) → AreClasses plan classes → (c : ℕ) (r : Req) → Has plan.requests r
+pub spared-may_let : (plan : Plan) (classes : Classes) (s : State) → AreClasses plan classes → (c : ℕ) (r : Req) → Has plan.requests r
     → is_spared plan classes s c (live_rivals plan classes s c) r ≡ ((class_at classes r == c) && may_let plan s r)
 unfolding is_spared
 spared-may_let plan classes s are c r has = elim (cases_Bool (class_at classes r == c)) [
@@ -209,7 +209,7 @@ spared-may_let plan classes s are c r has = elim (cases_Bool (class_at classes r
   ]
 
 -- where no rival is live, a ready request may be let
-pub free-may_let : (plan : Plan) (classes : Classes) (s : Standing) → AreClasses plan classes → (r : Req) → Has plan.requests r
+pub free-may_let : (plan : Plan) (classes : Classes) (s : State) → AreClasses plan classes → (r : Req) → Has plan.requests r
     → live_rivals plan classes s (class_at classes r) ≡ 0 → is_ready plan s r ≡ may_let plan s r
 free-may_let plan classes s are r has none = elim (cases_Bool (is_ready plan s r)) [
   | inr f ↦ f ∙ sym (may_let-parts plan s r ∙ and_left _ _ f)
@@ -220,7 +220,7 @@ free-may_let plan classes s are r has none = elim (cases_Bool (is_ready plan s r
 ]
 
 -- where a rival is live and the class spares no kin, none may be let
-pub rival-may_let : (plan : Plan) (classes : Classes) (s : Standing) → AreClasses plan classes → (r : Req) → Has plan.requests r
+pub rival-may_let : (plan : Plan) (classes : Classes) (s : State) → AreClasses plan classes → (r : Req) → Has plan.requests r
     → (live_rivals plan classes s (class_at classes r) ≡ 0 → ⊥) → spares_at classes (class_at classes r) ≡ false → may_let plan s r ≡ false
 unfolding live_rivals strangers is_live_rival
 rival-may_let plan classes s are r has some spares = elim (cases_Bool (is_ready plan s r)) [

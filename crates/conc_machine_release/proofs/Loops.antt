@@ -1,7 +1,7 @@
 -- Loops that renew keys and count, one step more.
 use Rattle.std.proofs.Common.{◌≡◌, ℕ, zero, suc, ◌+◌, ◌<◌, ◌≤◌, Bool, List, [], ◌∷◌, length, get_or, set, drop, Option, refl, sym, ap, add-one, arith}
 use Rattle.std.specs.Prelude.{slice_get}
-use Rattle.conc_types.specs.declared.facts.Standing.{Standing}
+use Rattle.conc_types.specs.declared.facts.State.{State}
 use Rattle.conc_types.specs.declared.plan.Plan.{Plan}
 use Rattle.conc_machine_classes.specs.declared.classes.Classes.{Classes}
 use Rattle.conc_machine_release.specs.Refresh.{put_in, refreshed, refreshed_all}
@@ -21,14 +21,14 @@ put_in-past [] c seat key q h e k = absurd (omega arith)
 put_in-past (x ∷ xs) zero seat key q h e k = ap (λ l. l ∷ xs) (sym (set-past x seat key (omega (arith, ap length e))))
 put_in-past (x ∷ xs) (suc c) seat key q h e k = ap (λ l. x ∷ l) (put_in-past xs c seat key q (omega arith) e k)
 
-pub refreshed_all-next : (plan : Plan) (classes : Classes) (s : Standing) (n m i : ℕ) (queues : List (List (Option ℕ))) → n ≡ m + 1
+pub refreshed_all-next : (plan : Plan) (classes : Classes) (s : State) (n m i : ℕ) (queues : List (List (Option ℕ))) → n ≡ m + 1
     → refreshed_all plan classes s n i queues ≡ refreshed_all plan classes s m (i + 1) (refreshed plan classes s queues i)
 unfolding refreshed_all
 refreshed_all-next plan classes s zero m i queues e = absurd (omega arith)
 refreshed_all-next plan classes s (suc n) m i queues e =
     let same : n ≡ m = omega arith in ap (λ k. refreshed_all plan classes s k (i + 1) (refreshed plan classes s queues i)) same
 
-pub refreshed_all-none : (plan : Plan) (classes : Classes) (s : Standing) (n i : ℕ) (queues : List (List (Option ℕ))) → n ≡ 0
+pub refreshed_all-none : (plan : Plan) (classes : Classes) (s : State) (n i : ℕ) (queues : List (List (Option ℕ))) → n ≡ 0
     → refreshed_all plan classes s n i queues ≡ queues
 unfolding refreshed_all
 refreshed_all-none plan classes s zero i queues e = refl

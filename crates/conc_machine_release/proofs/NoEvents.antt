@@ -6,7 +6,7 @@ use Rattle.std.specs.List.{range_with_len}
 use Rattle.std.proofs.lemmas.Bool.{and_left}
 use Rattle.conc_types.specs.declared.plan.Plan.{Plan}
 use Rattle.conc_types.specs.declared.plan.Req.{Req}
-use Rattle.conc_law.specs.Standing.{is_live, standing}
+use Rattle.conc_law.specs.State.{is_live, state}
 use Rattle.conc_law.specs.Words.{Has}
 use Rattle.conc_machine_queue.specs.Least.{vacant}
 use Rattle.conc_machine_queue.specs.Turns.{turn, turns_of}
@@ -19,14 +19,14 @@ use Rattle.conc_machine_release.proofs.Lists.{length-filter_none, map_range-with
 use Rattle.conc_machine_release.proofs.Queues.{of_class-has}
 
 -- none is ready
-ready-none : (plan : Plan) (r : Req) → Has plan.requests r → is_ready plan (standing plan []) r ≡ false
+ready-none : (plan : Plan) (r : Req) → Has plan.requests r → is_ready plan (state plan []) r ≡ false
 unfolding is_ready
 ready-none plan r has = and_left _ _ (ap (λ f. f.entered) (facts_at-none plan r))
 
 -- none is live
-pub live-none : (plan : Plan) (classes : Classes) (c : ℕ) → live_rivals plan classes (standing plan []) c ≡ 0
+pub live-none : (plan : Plan) (classes : Classes) (c : ℕ) → live_rivals plan classes (state plan []) c ≡ 0
 unfolding live_rivals is_live_rival
-live-none plan classes c = length-filter_none (is_live_rival classes (standing plan []) c) plan.requests
+live-none plan classes c = length-filter_none (is_live_rival classes (state plan []) c) plan.requests
     (λ q has. and_left _ _ (ap (λ f. is_live f) (facts_at-none plan q)))
 
 vacant-turns : (test : Req → Bool) (xs : List Req) → ((y : Req) → Has xs y → test y ≡ false) → vacant (length xs) ≡ turns_of test xs
@@ -37,19 +37,19 @@ vacant-turns test (x ∷ xs) h = ap (λ l. None ∷ l) (vacant-turns test xs (λ
 -- vacant queues are those of no events
 pub queues-none : (plan : Plan) (classes : Classes) → AreClasses plan classes → (n : ℕ) → n ≡ length classes.sizes
     → map (λ c. vacant (unwrap_or (slice_get classes.sizes c) 0)) (range_with_len 0 n)
-    ≡ map (λ c. turns_of (is_ready plan (standing plan [])) (of_class plan classes c)) (all_classes classes)
+    ≡ map (λ c. turns_of (is_ready plan (state plan [])) (of_class plan classes c)) (all_classes classes)
 queues-none plan classes are n e =
     ap (λ m. map (λ c. vacant (unwrap_or (slice_get classes.sizes c) 0)) (range_with_len 0 m)) e
-    ∙ map_range-within (λ c. vacant (unwrap_or (slice_get classes.sizes c) 0)) (λ c. turns_of (is_ready plan (standing plan [])) (of_class plan classes c)) 0 (length classes.sizes)
+    ∙ map_range-within (λ c. vacant (unwrap_or (slice_get classes.sizes c) 0)) (λ c. turns_of (is_ready plan (state plan [])) (of_class plan classes c)) 0 (length classes.sizes)
     (λ c le within.
     let size : (m : ℕ) × (slice_get classes.sizes c ≡ Some m) = place-some classes.sizes c (omega (arith, within)) in
     ap (λ o. vacant (unwrap_or o 0)) size.1
     ∙ ap vacant (sym (are.sized c size.0 size.1))
-    ∙ vacant-turns (is_ready plan (standing plan [])) (of_class plan classes c) (λ y has. ready-none plan y (of_class-has plan classes c y has).0))
+    ∙ vacant-turns (is_ready plan (state plan [])) (of_class plan classes c) (λ y has. ready-none plan y (of_class-has plan classes c y has).0))
 
 -- zeros are the counts of no events
 pub zeros-none : (plan : Plan) (classes : Classes) (n : ℕ) → n ≡ length classes.sizes
-    → map (λ (c : ℕ). 0) (range_with_len 0 n) ≡ map (live_rivals plan classes (standing plan [])) (all_classes classes)
+    → map (λ (c : ℕ). 0) (range_with_len 0 n) ≡ map (live_rivals plan classes (state plan [])) (all_classes classes)
 zeros-none plan classes n e =
     ap (λ m. map (λ (c : ℕ). 0) (range_with_len 0 m)) e
-    ∙ map_range-within (λ (c : ℕ). 0) (live_rivals plan classes (standing plan [])) 0 (length classes.sizes) (λ c le within. sym (live-none plan classes c))
+    ∙ map_range-within (λ (c : ℕ). 0) (live_rivals plan classes (state plan [])) 0 (length classes.sizes) (λ c le within. sym (live-none plan classes c))

@@ -4,7 +4,7 @@ use Rattle.std.specs.Prelude.{if◌then◌else◌, slice_get, unwrap_or}
 use Rattle.std.specs.Bool.{then_some}
 use Rattle.std.specs.List.{range_with_len}
 use Rattle.std.proofs.lemmas.Bool.{cases_eq, eq-eqb, eqb-true, ne_eqb}
-use Rattle.conc_types.specs.declared.facts.Standing.{Standing}
+use Rattle.conc_types.specs.declared.facts.State.{State}
 use Rattle.conc_types.specs.declared.plan.Plan.{Plan}
 use Rattle.conc_types.specs.declared.plan.Req.{Req}
 use Rattle.conc_types.specs.Plans.{request}
@@ -119,7 +119,7 @@ pub at_number-other : (n : ℕ) (g f : Req → Bool) (q : Req) → (q.number.num
 at_number-other n g f q e = rw (ne_eqb q.number.number n e)
 
 -- the request at an index is renewed
-pub refreshed-is : (plan : Plan) (classes : Classes) (s : Standing) → AreClasses plan classes → (i : ℕ) (f : Req → Bool)
+pub refreshed-is : (plan : Plan) (classes : Classes) (s : State) → AreClasses plan classes → (i : ℕ) (f : Req → Bool)
     → refreshed plan classes s (queues_of plan classes f) i ≡ queues_of plan classes (at_number (i + 1) (is_ready plan s) f)
 refreshed-is plan classes s are i f = by (slice_get plan.requests i) refl where
   by : (o : Option Req) → slice_get plan.requests i ≡ o
@@ -137,7 +137,7 @@ refreshed-is plan classes s are i f = by (slice_get plan.requests i) refl where
       (λ q has ne. at_number-other (i + 1) (is_ready plan s) f q (λ (n : q.number.number ≡ i + 1). ne (omega (arith, p.0))))
 
 -- the requests within so many from an index on are renewed: one test is theirs, and another one that of the others
-pub refreshed_all-is : (plan : Plan) (classes : Classes) (s : Standing) → AreClasses plan classes → (n i : ℕ) (f h : Req → Bool)
+pub refreshed_all-is : (plan : Plan) (classes : Classes) (s : State) → AreClasses plan classes → (n i : ℕ) (f h : Req → Bool)
     → ((q : Req) → Has plan.requests q → i < q.number.number → q.number.number ≤ i + n → h q ≡ is_ready plan s q)
     → ((q : Req) → Has plan.requests q → ((i < q.number.number) × (q.number.number ≤ i + n) → ⊥) → h q ≡ f q)
     → refreshed_all plan classes s n i (queues_of plan classes f) ≡ queues_of plan classes h

@@ -5,7 +5,7 @@ use Rattle.std.proofs.lemmas.Bool.{and_parts, cases_eq, eqb-true, leb-true, ltb-
 use Rattle.std.proofs.lemmas.Option.{slice_get_within}
 use Rattle.conc_types.specs.declared.event.RequestId.{RequestId}
 use Rattle.conc_types.specs.declared.facts.Facts.{Facts}
-use Rattle.conc_types.specs.declared.facts.Standing.{Standing}
+use Rattle.conc_types.specs.declared.facts.State.{State}
 use Rattle.conc_types.specs.declared.plan.Plan.{Plan}
 use Rattle.conc_types.specs.declared.plan.Req.{Req}
 use Rattle.conc_types.specs.Plans.{request}
@@ -13,7 +13,7 @@ use Rattle.conc_types.specs.Stages.{has_stage}
 use Rattle.conc_types.specs.Words.{numbered, some_and}
 use Rattle.conc_law.specs.Next.{can_run, is_ready}
 use Rattle.conc_law.specs.Plans.{parent}
-use Rattle.conc_law.specs.Standing.{facts_at, has_come, is_completed, is_live, is_waiting, no_facts}
+use Rattle.conc_law.specs.State.{facts_at, has_come, is_completed, is_live, is_waiting, no_facts}
 use Rattle.conc_law.specs.Words.{Has}
 use Rattle.conc_law.proofs.Numbering.{found}
 use Rattle.conc_law.proofs.Options.{and_then-some}
@@ -35,7 +35,7 @@ ready_by plan q facts come waits =
     facts.entered && (not (is_live facts) && (not (is_completed facts) && (not facts.held && (come && (can_run plan q && not waits)))))
 
 -- a request is as ready as before where its facts, the coming of its start and its waiting are the same
-pub ready-same : (plan : Plan) (before after : Standing) (q : Req) → facts_at after q ≡ facts_at before q → has_come after.time q.start ≡ has_come before.time q.start
+pub ready-same : (plan : Plan) (before after : State) (q : Req) → facts_at after q ≡ facts_at before q → has_come after.time q.start ≡ has_come before.time q.start
     → is_waiting plan after q ≡ is_waiting plan before q → is_ready plan after q ≡ is_ready plan before q
 unfolding is_ready
 ready-same plan before after q f t w =
@@ -44,7 +44,7 @@ ready-same plan before after q f t w =
     ∙ ap (λ x. ready_by plan q (facts_at before q) (has_come before.time q.start) x) w
 
 -- a member waits as before where the begun stages of its set are the same
-pub waiting-same : (plan : Plan) (before after : Standing) (q : Req)
+pub waiting-same : (plan : Plan) (before after : State) (q : Req)
     → ((set : Req) → parent plan q ≡ Some set → (facts_at after set).begun.bits ≡ (facts_at before set).begun.bits)
     → is_waiting plan after q ≡ is_waiting plan before q
 unfolding is_waiting
@@ -55,7 +55,7 @@ waiting-same plan before after q h = by (parent plan q) refl where
   by (Some set) e = ap (λ bits. not (has_stage bits q.stage)) (h set e)
 
 -- requests of one number have one standing
-facts_at-number : (s : Standing) (x y : Req) → x.number.number ≡ y.number.number → facts_at s x ≡ facts_at s y
+facts_at-number : (s : State) (x y : Req) → x.number.number ≡ y.number.number → facts_at s x ≡ facts_at s y
 unfolding facts_at
 facts_at-number s x y e = ap (λ n. unwrap_or (numbered s.facts n) no_facts) e
 
@@ -69,7 +69,7 @@ parent-named plan q set h =
 -- ---- a write
 
 -- where the begun stages of the request that is written are the same, all begun stages are
-begun-same : (plan : Plan) (before s : Standing) (i : ℕ) (old : Facts) → IsWritten plan before s i old → (r : Req) → slice_get plan.requests i ≡ Some r
+begun-same : (plan : Plan) (before s : State) (i : ℕ) (old : Facts) → IsWritten plan before s i old → (r : Req) → slice_get plan.requests i ≡ Some r
     → (facts_at s r).begun.bits ≡ old.begun.bits → (set : Req) → (facts_at s set).begun.bits ≡ (facts_at before set).begun.bits
 begun-same plan before s i old w r at e set = elim (cases_eq set.number.number (i + 1)) [
   | inr ne ↦ ap (λ f. f.begun.bits) (facts_at-written plan before s i old w set ne)
@@ -95,7 +95,7 @@ parent-outside plan spans are r q set has h out e =
 
 -- the keys after the write are those of what stands
 pub renewed-is : (plan : Plan) (classes : Classes) (spans : Spans) → AreClasses plan classes → AreSpans plan spans
-    → (before s : Standing) (i : ℕ) (old : Facts) → IsWritten plan before s i old → (queues : List (List (Option ℕ))) → queues ≡ queues_of plan classes (is_ready plan before)
+    → (before s : State) (i : ℕ) (old : Facts) → IsWritten plan before s i old → (queues : List (List (Option ℕ))) → queues ≡ queues_of plan classes (is_ready plan before)
     → renewed plan classes spans s old queues (slice_get plan.requests i) ≡ queues_of plan classes (is_ready plan s)
 renewed-is plan classes spans are stand before s i old w queues is = by (slice_get plan.requests i) refl where
   mixed : Req → Bool
@@ -140,7 +140,7 @@ renewed-is plan classes spans are stand before s i old w queues is = by (slice_g
 -- ---- all of them
 
 -- once all keys are renewed, they are those of what stands
-pub all-renewed : (plan : Plan) (classes : Classes) → AreClasses plan classes → (s : Standing) (f : Req → Bool) (n : ℕ) → n ≡ length plan.requests
+pub all-renewed : (plan : Plan) (classes : Classes) → AreClasses plan classes → (s : State) (f : Req → Bool) (n : ℕ) → n ≡ length plan.requests
     → (queues : List (List (Option ℕ))) → queues ≡ queues_of plan classes f → refreshed_all plan classes s n 0 queues ≡ queues_of plan classes (is_ready plan s)
 all-renewed plan classes are s f n all queues is =
     ap (refreshed_all plan classes s n 0) is

@@ -1,7 +1,7 @@
 -- The keys of requests in the queues of their classes, and their renewal.
 use Rattle.std.specs.Prelude.{ℕ, zero, suc, ◌+◌, Bool, if◌then◌else◌, List, [], map, Option, None, Some, slice_get, slice_set, unwrap_or}
 use Rattle.std.specs.Bool.{then_some}
-use Rattle.conc_types.specs.declared.facts.Standing.{Standing}
+use Rattle.conc_types.specs.declared.facts.State.{State}
 use Rattle.conc_types.specs.declared.plan.Plan.{Plan}
 use Rattle.conc_types.specs.declared.plan.Req.{Req}
 use Rattle.conc_types.specs.Words.{is_between}
@@ -12,7 +12,7 @@ use Rattle.conc_law.specs.Next.{is_ready}
 use Rattle.conc_machine_release.specs.Lets.{all_classes}
 
 -- the key of a request: its turn, where it is ready
-abbrev pub key : Plan → Standing → Req → Option ℕ
+abbrev pub key : Plan → State → Req → Option ℕ
 key plan s r = then_some (is_ready plan s r) (turn r)
 
 -- the queues of the classes, with the turns of the requests that pass
@@ -24,19 +24,19 @@ abbrev pub put_in : List (List (Option ℕ)) → ℕ → ℕ → Option ℕ → 
 put_in queues c seat key = slice_set queues c (slice_set (unwrap_or (slice_get queues c) []) seat key)
 
 -- the key of a request is what stands
-abbrev pub refreshed_at : Plan → Classes → Standing → List (List (Option ℕ)) → Req → List (List (Option ℕ))
+abbrev pub refreshed_at : Plan → Classes → State → List (List (Option ℕ)) → Req → List (List (Option ℕ))
 refreshed_at plan classes s queues r = put_in queues (class_at classes r) (seat_at classes r) (key plan s r)
 
-abbrev pub refreshed_by : Plan → Classes → Standing → List (List (Option ℕ)) → Option Req → List (List (Option ℕ))
+abbrev pub refreshed_by : Plan → Classes → State → List (List (Option ℕ)) → Option Req → List (List (Option ℕ))
 refreshed_by plan classes s queues None = queues
 refreshed_by plan classes s queues (Some r) = refreshed_at plan classes s queues r
 
 -- that of the request at an index
-abbrev pub refreshed : Plan → Classes → Standing → List (List (Option ℕ)) → ℕ → List (List (Option ℕ))
+abbrev pub refreshed : Plan → Classes → State → List (List (Option ℕ)) → ℕ → List (List (Option ℕ))
 refreshed plan classes s queues i = refreshed_by plan classes s queues (slice_get plan.requests i)
 
 -- those of so many requests, from an index on
-unfoldable pub refreshed_all : Plan → Classes → Standing → ℕ → ℕ → List (List (Option ℕ)) → List (List (Option ℕ))
+unfoldable pub refreshed_all : Plan → Classes → State → ℕ → ℕ → List (List (Option ℕ)) → List (List (Option ℕ))
 refreshed_all plan classes s zero i queues = queues
 refreshed_all plan classes s (suc n) i queues = refreshed_all plan classes s n (i + 1) (refreshed plan classes s queues i)
 

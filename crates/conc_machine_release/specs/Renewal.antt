@@ -1,10 +1,10 @@
 -- What the write of one request's facts changes of the keys and the counts.
 use Rattle.std.specs.Prelude.{ℕ, ◌-◌, Bool, true, false, ◌==◌, List, Option, None, Some}
 use Rattle.conc_types.specs.declared.facts.Facts.{Facts}
-use Rattle.conc_types.specs.declared.facts.Standing.{Standing}
+use Rattle.conc_types.specs.declared.facts.State.{State}
 use Rattle.conc_types.specs.declared.plan.Plan.{Plan}
 use Rattle.conc_types.specs.declared.plan.Req.{Req}
-use Rattle.conc_law.specs.Standing.{facts_at, is_live}
+use Rattle.conc_law.specs.State.{facts_at, is_live}
 use Rattle.conc_machine_classes.specs.Classes.{class_at, rivals_at}
 use Rattle.conc_machine_classes.specs.declared.classes.Classes.{Classes}
 use Rattle.conc_machine_reach.specs.Spans.{span_of_members}
@@ -14,12 +14,12 @@ use Rattle.conc_machine_release.specs.Refresh.{refreshed_all, refreshed_at}
 use Rattle.conc_machine_release.specs.Rivals.{counted_all}
 
 -- the keys within a span are what stands, unless the begun stages are the same
-abbrev pub renewed_within : Plan → Classes → Standing → Span → Bool → List (List (Option ℕ)) → List (List (Option ℕ))
+abbrev pub renewed_within : Plan → Classes → State → Span → Bool → List (List (Option ℕ)) → List (List (Option ℕ))
 renewed_within plan classes s span true queues = queues
 renewed_within plan classes s span false queues = refreshed_all plan classes s (span.to - span.from) span.from queues
 
 -- the key of the request that was written is what stands, and those of its members where its begun stages changed
-abbrev pub renewed : Plan → Classes → Spans → Standing → Facts → List (List (Option ℕ)) → Option Req → List (List (Option ℕ))
+abbrev pub renewed : Plan → Classes → Spans → State → Facts → List (List (Option ℕ)) → Option Req → List (List (Option ℕ))
 renewed plan classes spans s old queues None = queues
 renewed plan classes spans s old queues (Some r) =
     renewed_within plan classes s (span_of_members spans r.number) ((facts_at s r).begun.bits == old.begun.bits) (refreshed_at plan classes s queues r)
@@ -31,6 +31,6 @@ recounted_by false true rivals counts = counted_all false rivals counts
 recounted_by true true rivals counts = counts
 recounted_by false false rivals counts = counts
 
-abbrev pub recounted : Classes → Standing → Facts → List ℕ → Option Req → List ℕ
+abbrev pub recounted : Classes → State → Facts → List ℕ → Option Req → List ℕ
 recounted classes s old counts None = counts
 recounted classes s old counts (Some r) = recounted_by (is_live (facts_at s r)) (is_live old) (rivals_at classes (class_at classes r)) counts

@@ -13,7 +13,7 @@ use conc_law_decisions::{is_ready, let_event};
 use conc_machine_classes::Classes;
 use conc_machine_queue::{lesser, request_at_turn, turn};
 use conc_machine_reach::Spans;
-use conc_types::{Event, Plan, Req, Standing};
+use conc_types::{Event, Plan, Req, State};
 
 // Whether r is of the class and ready, and so many live requests as exclude its class are kin of it.
 #[tactic(auto, unfolding(crate::specs::Forced::is_spared))]
@@ -21,18 +21,18 @@ fn is_spared(
     plan: &Plan,
     classes: &Classes,
     spans: &Spans,
-    standing: &Standing,
+    state: &State,
     class: u32,
     rivals: u32,
     r: &Req,
 ) -> bool
     requires { AreSpans plan.now spans.now }
-    ensures { result ≡ is_spared_of plan.now classes.now standing.now class rivals r.now }
+    ensures { result ≡ is_spared_of plan.now classes.now state.now class rivals r.now }
 {
     classes.class(r) == class
-        && is_ready(plan, standing, r)
-        && live_members(plan, classes, spans, standing, class, r)
-            + live_parents(plan, classes, standing, class, r)
+        && is_ready(plan, state, r)
+        && live_members(plan, classes, spans, state, class, r)
+            + live_parents(plan, classes, state, class, r)
             == rivals as usize
 }
 
@@ -40,15 +40,15 @@ fn turn_if_spared(
     plan: &Plan,
     classes: &Classes,
     spans: &Spans,
-    standing: &Standing,
+    state: &State,
     class: u32,
     rivals: u32,
     r: &Req,
 ) -> Option<u64>
     requires { AreSpans plan.now spans.now }
-    ensures { result ≡ then_some (is_spared_of plan.now classes.now standing.now class rivals r.now) (turn_of r.now) }
+    ensures { result ≡ then_some (is_spared_of plan.now classes.now state.now class rivals r.now) (turn_of r.now) }
 {
-    is_spared(plan, classes, spans, standing, class, rivals, r).then_some(turn(r))
+    is_spared(plan, classes, spans, state, class, rivals, r).then_some(turn(r))
 }
 
 /// Whether the request that has this turn is spared by so many rivals of its class as are live.
@@ -56,16 +56,16 @@ pub(crate) fn is_turn_spared(
     plan: &Plan,
     classes: &Classes,
     spans: &Spans,
-    standing: &Standing,
+    state: &State,
     class: u32,
     rivals: u32,
     turn: u64,
 ) -> bool
     requires { AreSpans plan.now spans.now }
-    ensures { result ≡ some_and (is_spared_of plan.now classes.now standing.now class rivals) (request_at_turn_of plan.now turn) }
+    ensures { result ≡ some_and (is_spared_of plan.now classes.now state.now class rivals) (request_at_turn_of plan.now turn) }
 {
     match request_at_turn(plan, turn) {
-        Some(r) => is_spared(plan, classes, spans, standing, class, rivals, r),
+        Some(r) => is_spared(plan, classes, spans, state, class, rivals, r),
         None => false,
     }
 }
@@ -75,18 +75,18 @@ pub(crate) fn least_spared(
     plan: &Plan,
     classes: &Classes,
     spans: &Spans,
-    standing: &Standing,
+    state: &State,
     class: u32,
     rivals: u32,
 ) -> Option<u64>
     requires { AreSpans plan.now spans.now }
-    ensures { result ≡ least_of (turns_of (is_spared_of plan.now classes.now standing.now class rivals) plan.now.requests) }
+    ensures { result ≡ least_of (turns_of (is_spared_of plan.now classes.now state.now class rivals) plan.now.requests) }
 {
     let mut best = None;
     for r in plan.requests.as_slice() {
         best = lesser(
             best,
-            turn_if_spared(plan, classes, spans, standing, class, rivals, r),
+            turn_if_spared(plan, classes, spans, state, class, rivals, r),
         );
     }
     best

@@ -8,7 +8,7 @@ use conc_law_decisions::{facts_at, is_live};
 use conc_machine_classes::Classes;
 use conc_machine_reach::Spans;
 use conc_rules::parent;
-use conc_types::{Plan, Req, RequestId, Standing};
+use conc_types::{Plan, Req, RequestId, State};
 
 #[tactic(auto, unfolding(conc_machine_classes::specs::Classes::are_rivals))]
 fn are_rivals(classes: &Classes, a: u32, b: u32) -> bool
@@ -18,10 +18,10 @@ fn are_rivals(classes: &Classes, a: u32, b: u32) -> bool
 }
 
 #[tactic(auto, unfolding(crate::specs::Lets::is_live_rival))]
-fn is_live_rival(classes: &Classes, standing: &Standing, class: u32, q: &Req) -> bool
-    ensures { result ≡ is_live_rival_of classes.now standing.now class q.now }
+fn is_live_rival(classes: &Classes, state: &State, class: u32, q: &Req) -> bool
+    ensures { result ≡ is_live_rival_of classes.now state.now class q.now }
 {
-    is_live(facts_at(standing, q)) && are_rivals(classes, classes.class(q), class)
+    is_live(facts_at(state, q)) && are_rivals(classes, classes.class(q), class)
 }
 
 fn is_child(set: RequestId, q: &Req) -> bool
@@ -34,17 +34,17 @@ fn is_child(set: RequestId, q: &Req) -> bool
 }
 
 #[tactic(auto, unfolding(crate::specs::Forced::is_live_member))]
-fn is_live_member(classes: &Classes, standing: &Standing, class: u32, r: &Req, q: &Req) -> bool
-    ensures { result ≡ is_live_member_of classes.now standing.now class r.now q.now }
+fn is_live_member(classes: &Classes, state: &State, class: u32, r: &Req, q: &Req) -> bool
+    ensures { result ≡ is_live_member_of classes.now state.now class r.now q.now }
 {
-    is_live_rival(classes, standing, class, q) && is_child(r.number, q)
+    is_live_rival(classes, state, class, q) && is_child(r.number, q)
 }
 
 #[tactic(auto, unfolding(crate::specs::Forced::is_live_outside))]
-fn is_live_outside(classes: &Classes, standing: &Standing, class: u32, r: &Req, q: &Req) -> bool
-    ensures { result ≡ is_live_outside_of classes.now standing.now class r.now q.now }
+fn is_live_outside(classes: &Classes, state: &State, class: u32, r: &Req, q: &Req) -> bool
+    ensures { result ≡ is_live_outside_of classes.now state.now class r.now q.now }
 {
-    is_live_rival(classes, standing, class, q) && !is_child(r.number, q)
+    is_live_rival(classes, state, class, q) && !is_child(r.number, q)
 }
 
 /// How many live members r has whose classes exclude a class.
@@ -53,19 +53,19 @@ pub(crate) fn live_members(
     plan: &Plan,
     classes: &Classes,
     spans: &Spans,
-    standing: &Standing,
+    state: &State,
     class: u32,
     r: &Req,
 ) -> usize
     requires { AreSpans plan.now spans.now }
-    ensures exact { result ≡ live_members_of plan.now classes.now standing.now class r.now }
+    ensures exact { result ≡ live_members_of plan.now classes.now state.now class r.now }
     ensures few { result ≤ length plan.now.requests }
 {
     let span = spans.span_of_members(r.number);
     let requests = plan.requests.as_slice();
     let mut count = 0;
     for i in span.from..span.to {
-        if is_live_member(classes, standing, class, r, &requests[i]) {
+        if is_live_member(classes, state, class, r, &requests[i]) {
             count += 1;
         }
     }
@@ -77,15 +77,15 @@ pub(crate) fn live_members(
 pub(crate) fn live_parents(
     plan: &Plan,
     classes: &Classes,
-    standing: &Standing,
+    state: &State,
     class: u32,
     r: &Req,
 ) -> usize
-    ensures exact { result ≡ live_parents_of plan.now classes.now standing.now class r.now }
+    ensures exact { result ≡ live_parents_of plan.now classes.now state.now class r.now }
     ensures few { result ≤ 1 }
 {
     match parent(plan, r) {
-        Some(set) if is_live_outside(classes, standing, class, r, set) => 1,
+        Some(set) if is_live_outside(classes, state, class, r, set) => 1,
         _ => 0,
     }
 }

@@ -1,7 +1,7 @@
 ghost use Rattle.std.specs.Prelude.{◌≡◌, ◌<◌, [], IfOk, Some, length, slice_get, unwrap_or};
-ghost use Rattle.conc_types.specs.declared.facts.Standing.{Standing};
+ghost use Rattle.conc_types.specs.declared.facts.State.{State};
 ghost use Rattle.conc_law.specs.Next.{forced_let as forced_let_of, is_ready, may_let};
-ghost use Rattle.conc_law.specs.Standing.{standing};
+ghost use Rattle.conc_law.specs.State.{state};
 ghost use Rattle.conc_machine_classes.specs.Classes.{AreClasses, of_class};
 ghost use Rattle.conc_machine_queue.specs.Least.{least};
 ghost use Rattle.conc_machine_queue.specs.Turns.{turns_of};
@@ -18,7 +18,7 @@ use crate::starts::Lull;
 use conc_machine_classes::Classes;
 use conc_machine_queue::{Queue, lesser};
 use conc_machine_reach::{Span, Spans};
-use conc_types::{Event, Facts, NoMemory, Plan, Seq, Standing};
+use conc_types::{Event, Facts, NoMemory, Plan, Seq, State};
 use std::alloc::Global;
 
 /// What is kept of the requests that wait to be let out.
@@ -36,7 +36,7 @@ impl Lets {
     /// What is kept before the first event. It takes all the memory that the other calls need.
     pub fn new(alloc: Global, _plan: &Plan, classes: &Classes) -> Result<Lets, NoMemory>
         requires { AreClasses _plan.now classes.now }
-        ensures { IfOk result (λ lets. AreLets _plan.now classes.now (standing _plan.now []) lets) }
+        ensures { IfOk result (λ lets. AreLets _plan.now classes.now (state _plan.now []) lets) }
     {
         if classes.count() > u32::MAX as usize {
             return Err(NoMemory);
@@ -55,13 +55,13 @@ impl Lets {
         plan: &Plan,
         classes: &Classes,
         spans: &Spans,
-        after: &Standing,
+        after: &State,
         i: usize,
         old: Facts,
     )
         requires classes { AreClasses plan.now classes.now }
         requires spans { AreSpans plan.now spans.now }
-        ensures { (before : Standing) → IsWritten plan.now before after.now i old → AreLets plan.now classes.now before self.old → AreLets plan.now classes.now after.now self.new }
+        ensures { (before : State) → IsWritten plan.now before after.now i old → AreLets plan.now classes.now before self.old → AreLets plan.now classes.now after.now self.new }
     {
         renew(&mut self.ready, plan, classes, spans, after, i, old);
         recount(&mut self.rivals, plan, classes, after, i, old);
@@ -69,9 +69,9 @@ impl Lets {
 
     /// Takes in another moment of the last tick. It looks through the requests only where a start
     /// comes.
-    pub fn tick(&mut self, plan: &Plan, classes: &Classes, after: &Standing)
+    pub fn tick(&mut self, plan: &Plan, classes: &Classes, after: &State)
         requires { AreClasses plan.now classes.now }
-        ensures { (before : Standing) → after.now.facts ≡ before.facts → AreLets plan.now classes.now before self.old → AreLets plan.now classes.now after.now self.new }
+        ensures { (before : State) → after.now.facts ≡ before.facts → AreLets plan.now classes.now before self.old → AreLets plan.now classes.now after.now self.new }
     {
         if self.lull.contains(after.time) {
             return;
@@ -99,16 +99,16 @@ impl Lets {
         plan: &Plan,
         classes: &Classes,
         spans: &Spans,
-        standing: &Standing,
+        state: &State,
         class: u32,
         first: u64,
     ) -> Option<u64>
         requires classes { AreClasses plan.now classes.now }
         requires spans { AreSpans plan.now spans.now }
-        requires stands { AreLets plan.now classes.now standing.now self.now }
+        requires stands { AreLets plan.now classes.now state.now self.now }
         requires within { class < length classes.now.sizes }
-        requires first { least (turns_of (is_ready plan.now standing.now) (of_class plan.now classes.now class)) ≡ Some first }
-        ensures { result ≡ turn_in_class_of plan.now classes.now standing.now class }
+        requires first { least (turns_of (is_ready plan.now state.now) (of_class plan.now classes.now class)) ≡ Some first }
+        ensures { result ≡ turn_in_class_of plan.now classes.now state.now class }
     {
         let rivals = self.rival_count(class as usize);
         if rivals == 0 {
@@ -117,10 +117,10 @@ impl Lets {
         if !classes.spares(class) {
             return None;
         }
-        if is_turn_spared(plan, classes, spans, standing, class, rivals, first) {
+        if is_turn_spared(plan, classes, spans, state, class, rivals, first) {
             return Some(first);
         }
-        least_spared(plan, classes, spans, standing, class, rivals)
+        least_spared(plan, classes, spans, state, class, rivals)
     }
 
     // The least turn of those that may be let.
@@ -129,19 +129,19 @@ impl Lets {
         plan: &Plan,
         classes: &Classes,
         spans: &Spans,
-        standing: &Standing,
+        state: &State,
     ) -> Option<u64>
         requires classes { AreClasses plan.now classes.now }
         requires spans { AreSpans plan.now spans.now }
-        requires stands { AreLets plan.now classes.now standing.now self.now }
-        ensures { result ≡ least (turns_of (may_let plan.now standing.now) plan.now.requests) }
+        requires stands { AreLets plan.now classes.now state.now self.now }
+        ensures { result ≡ least (turns_of (may_let plan.now state.now) plan.now.requests) }
     {
         let mut best = None;
         for (class, queue) in self.ready.iter().enumerate() {
             let Some(first) = queue.least() else {
                 continue;
             };
-            let turn = self.turn_in_class(plan, classes, spans, standing, class as u32, first);
+            let turn = self.turn_in_class(plan, classes, spans, state, class as u32, first);
             best = lesser(best, turn);
         }
         best
@@ -153,13 +153,13 @@ impl Lets {
         plan: &Plan,
         classes: &Classes,
         spans: &Spans,
-        standing: &Standing,
+        state: &State,
     ) -> Option<Event>
         requires classes { AreClasses plan.now classes.now }
         requires spans { AreSpans plan.now spans.now }
-        requires stands { AreLets plan.now classes.now standing.now self.now }
-        ensures { result ≡ forced_let_of plan.now standing.now }
+        requires stands { AreLets plan.now classes.now state.now self.now }
+        ensures { result ≡ forced_let_of plan.now state.now }
     {
-        event_at(plan, self.least_turn(plan, classes, spans, standing))
+        event_at(plan, self.least_turn(plan, classes, spans, state))
     }
 }

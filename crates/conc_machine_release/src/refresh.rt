@@ -5,7 +5,7 @@ use conc_law_decisions::is_ready;
 use conc_machine_classes::Classes;
 use conc_machine_queue::{Queue, turn};
 use conc_machine_reach::Span;
-use conc_types::{Plan, Req, Standing};
+use conc_types::{Plan, Req, State};
 
 // Gives a seat in the queue of a class this key, or none.
 fn put_in(queues: &mut Vec<Queue>, class: usize, seat: usize, key: Option<u64>)
@@ -19,22 +19,22 @@ fn put_in(queues: &mut Vec<Queue>, class: usize, seat: usize, key: Option<u64>)
 }
 
 // The key of a request: its turn, where it is ready.
-fn key(plan: &Plan, standing: &Standing, r: &Req) -> Option<u64>
-    ensures { result ≡ key_of plan.now standing.now r.now }
+fn key(plan: &Plan, state: &State, r: &Req) -> Option<u64>
+    ensures { result ≡ key_of plan.now state.now r.now }
 {
-    is_ready(plan, standing, r).then_some(turn(r))
+    is_ready(plan, state, r).then_some(turn(r))
 }
 
 pub(crate) fn refresh_request(
     queues: &mut Vec<Queue>,
     plan: &Plan,
     classes: &Classes,
-    standing: &Standing,
+    state: &State,
     r: &Req,
 )
-    ensures { queues.new.items ≡ refreshed_at plan.now classes.now standing.now queues.old.items r.now }
+    ensures { queues.new.items ≡ refreshed_at plan.now classes.now state.now queues.old.items r.now }
 {
-    let key = key(plan, standing, r);
+    let key = key(plan, state, r);
     put_in(
         queues,
         classes.class(r) as usize,
@@ -48,13 +48,13 @@ pub(crate) fn refresh(
     queues: &mut Vec<Queue>,
     plan: &Plan,
     classes: &Classes,
-    standing: &Standing,
+    state: &State,
     i: usize,
 )
-    ensures { queues.new.items ≡ refreshed plan.now classes.now standing.now queues.old.items i }
+    ensures { queues.new.items ≡ refreshed plan.now classes.now state.now queues.old.items i }
 {
     if let Some(r) = plan.requests.as_slice().get(i) {
-        refresh_request(queues, plan, classes, standing, r);
+        refresh_request(queues, plan, classes, state, r);
     }
 }
 
@@ -63,12 +63,12 @@ pub(crate) fn refresh_span(
     queues: &mut Vec<Queue>,
     plan: &Plan,
     classes: &Classes,
-    standing: &Standing,
+    state: &State,
     span: Span,
 )
-    ensures { queues.new.items ≡ refreshed_all plan.now classes.now standing.now (span.to - span.from) span.from queues.old.items }
+    ensures { queues.new.items ≡ refreshed_all plan.now classes.now state.now (span.to - span.from) span.from queues.old.items }
 {
     for i in span.from..span.to {
-        refresh(queues, plan, classes, standing, i);
+        refresh(queues, plan, classes, state, i);
     }
 }

@@ -8,20 +8,20 @@ use conc_law_decisions::{facts_at, is_live};
 use conc_machine_classes::Classes;
 use conc_machine_queue::Queue;
 use conc_machine_reach::{Span, Spans};
-use conc_types::{Facts, Plan, Seq, Standing};
+use conc_types::{Facts, Plan, Seq, State};
 
 fn renew_within(
     queues: &mut Vec<Queue>,
     plan: &Plan,
     classes: &Classes,
-    standing: &Standing,
+    state: &State,
     span: Span,
     same: bool,
 )
-    ensures { queues.new.items ≡ renewed_within plan.now classes.now standing.now span same queues.old.items }
+    ensures { queues.new.items ≡ renewed_within plan.now classes.now state.now span same queues.old.items }
 {
     if !same {
-        refresh_span(queues, plan, classes, standing, span);
+        refresh_span(queues, plan, classes, state, span);
     }
 }
 
@@ -32,17 +32,17 @@ pub(crate) fn renew(
     plan: &Plan,
     classes: &Classes,
     spans: &Spans,
-    standing: &Standing,
+    state: &State,
     i: usize,
     old: Facts,
 )
-    ensures { queues.new.items ≡ renewed plan.now classes.now spans.now standing.now old queues.old.items (slice_get plan.now.requests i) }
+    ensures { queues.new.items ≡ renewed plan.now classes.now spans.now state.now old queues.old.items (slice_get plan.now.requests i) }
 {
     if let Some(r) = plan.requests.as_slice().get(i) {
-        refresh_request(queues, plan, classes, standing, r);
+        refresh_request(queues, plan, classes, state, r);
         let span = spans.span_of_members(r.number);
-        let same = facts_at(standing, r).begun.bits == old.begun.bits;
-        renew_within(queues, plan, classes, standing, span, same);
+        let same = facts_at(state, r).begun.bits == old.begun.bits;
+        renew_within(queues, plan, classes, state, span, same);
     }
 }
 
@@ -59,14 +59,14 @@ pub(crate) fn recount(
     counts: &mut Seq<u32>,
     plan: &Plan,
     classes: &Classes,
-    standing: &Standing,
+    state: &State,
     i: usize,
     old: Facts,
 )
-    ensures { counts.new ≡ recounted classes.now standing.now old counts.old (slice_get plan.now.requests i) }
+    ensures { counts.new ≡ recounted classes.now state.now old counts.old (slice_get plan.now.requests i) }
 {
     if let Some(r) = plan.requests.as_slice().get(i) {
         let rivals = classes.rivals(classes.class(r));
-        recount_by(counts, rivals, is_live(facts_at(standing, r)), is_live(old));
+        recount_by(counts, rivals, is_live(facts_at(state, r)), is_live(old));
     }
 }

@@ -4,26 +4,26 @@ use Rattle.std.specs.Prelude.{unwrap_or}
 use Rattle.std.specs.Bool.{then_some}
 use Rattle.std.specs.List.{filter}
 use Rattle.conc_types.specs.declared.facts.Facts.{Facts}
-use Rattle.conc_types.specs.declared.facts.Standing.{Standing}
+use Rattle.conc_types.specs.declared.facts.State.{State}
 use Rattle.conc_types.specs.declared.plan.Plan.{Plan}
 use Rattle.conc_types.specs.declared.plan.Req.{Req}
 use Rattle.conc_types.specs.Words.{numbered, some_and}
 use Rattle.conc_law.specs.Managers.{admits}
 use Rattle.conc_law.specs.Next.{runs_at}
 use Rattle.conc_law.specs.Places.{all_places, is_usable}
-use Rattle.conc_law.specs.Standing.{facts_at, is_running, no_facts}
+use Rattle.conc_law.specs.State.{facts_at, is_running, no_facts}
 use Rattle.conc_machine_queue.specs.Turns.{turn, turns_of}
 use Rattle.conc_machine_queue.specs.Written.{IsAlike}
 use Rattle.conc_machine_starts.specs.declared.starts.Starts.{Starts}
 use Rattle.conc_machine_starts.specs.Starts.{AreStarts, is_usable_now, may_start_under, running_at}
 
 -- the facts of each request are the same
-same-facts_at : (before after : Standing) → after.facts ≡ before.facts → facts_at after ≡ facts_at before
+same-facts_at : (before after : State) → after.facts ≡ before.facts → facts_at after ≡ facts_at before
 unfolding facts_at
 same-facts_at before after e = ap (λ facts. λ (r : Req). unwrap_or (numbered facts r.number.number) no_facts) e
 
 -- at another moment, where the flags of the places are those of this one
-pub starts-tick : (plan : Plan) (before after : Standing) (starts next : Starts) → after.facts ≡ before.facts
+pub starts-tick : (plan : Plan) (before after : State) (starts next : Starts) → after.facts ≡ before.facts
     → next.queues.items ≡ starts.queues.items → next.owners ≡ starts.owners → next.running ≡ starts.running
     → next.usable ≡ map (is_usable_now plan after) (all_places plan) → AreStarts plan before starts → AreStarts plan after next
 unfolding turns_of may_start_under running_at runs_at
@@ -41,7 +41,7 @@ starts-tick plan before after starts next e q o n u are =
     }
 
 -- where the same facts and the same moment stand, the same is kept
-pub AreStarts-alike : (plan : Plan) (before after : Standing) (starts : Starts) → IsAlike before after → AreStarts plan before starts → AreStarts plan after starts
+pub AreStarts-alike : (plan : Plan) (before after : State) (starts : Starts) → IsAlike before after → AreStarts plan before starts → AreStarts plan after starts
 unfolding is_usable_now
 AreStarts-alike plan before after starts alike are =
     starts-tick plan before after starts starts alike.facts refl refl refl

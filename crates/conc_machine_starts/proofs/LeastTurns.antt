@@ -5,7 +5,7 @@ use Rattle.std.specs.List.{list_any, range_with_len}
 use Rattle.std.specs.Option.{option_and_then, option_map}
 use Rattle.std.proofs.lemmas.Bool.Decides.{nat_tests}
 use Rattle.conc_types.specs.declared.event.PlaceId.{PlaceId}
-use Rattle.conc_types.specs.declared.facts.Standing.{Standing}
+use Rattle.conc_types.specs.declared.facts.State.{State}
 use Rattle.conc_types.specs.declared.manager.Manager.{Manager}
 use Rattle.conc_types.specs.declared.plan.Plan.{Plan}
 use Rattle.conc_types.specs.declared.plan.Req.{Req}
@@ -14,7 +14,7 @@ use Rattle.conc_law.specs.Managers.{admits}
 use Rattle.conc_law.specs.Next.{may_start, may_start_somewhere}
 use Rattle.conc_law.specs.Places.{all_places, count_of_places}
 use Rattle.conc_law.specs.Plans.{precedes}
-use Rattle.conc_law.specs.Standing.{facts_at, is_running}
+use Rattle.conc_law.specs.State.{facts_at, is_running}
 use Rattle.conc_law.specs.Words.{first_by}
 use Rattle.conc_machine_queue.specs.Least.{least, lesser}
 use Rattle.conc_machine_queue.specs.Turns.{request_at_turn, turn, turns_of}
@@ -34,7 +34,7 @@ turns-agree f g rs h = map-agree (λ r. then_some (f r) (turn r)) (λ r. then_so
 -- ---- at a place
 
 -- at a place that is not open none may start
-pub least-closed : (plan : Plan) (s : Standing) (starts : Starts) (place : PlaceId) → AreStarts plan s starts → is_open starts place ≡ false
+pub least-closed : (plan : Plan) (s : State) (starts : Starts) (place : PlaceId) → AreStarts plan s starts → is_open starts place ≡ false
     → least (turns_of (λ r. may_start plan s r place) plan.requests) ≡ None
 least-closed plan s starts place are closed =
     least_of-none (λ r. may_start plan s r place) plan.requests
@@ -46,10 +46,10 @@ least-closed plan s starts place are closed =
       off false b = refl
 
 -- r is let and does not run, and the manager that there is admits it
-abbrev under : Standing → Option Manager → Req → Bool
+abbrev under : State → Option Manager → Req → Bool
 under s o r = (facts_at s r).let_out && (not (is_running (facts_at s r)) && some_and (λ manager. admits manager r) o)
 
-least-under : (s : Standing) (rs : List Req) (o : Option Manager) → least (turns_of (under s o) rs)
+least-under : (s : State) (rs : List Req) (o : Option Manager) → least (turns_of (under s o) rs)
     ≡ option_and_then least (option_map (λ manager. turns_of (may_start_under s manager) rs) o)
 unfolding may_start_under
 least-under s rs None = least_of-none (under s None) rs (λ r has. off (facts_at s r).let_out (not (is_running (facts_at s r)))) where
@@ -60,7 +60,7 @@ least-under s rs None = least_of-none (under s None) rs (λ r has. off (facts_at
 least-under s rs (Some manager) = refl
 
 -- at an open place those may start that its manager admits
-pub least-open : (plan : Plan) (s : Standing) (starts : Starts) (place : PlaceId) → AreStarts plan s starts → is_open starts place ≡ true
+pub least-open : (plan : Plan) (s : State) (starts : Starts) (place : PlaceId) → AreStarts plan s starts → is_open starts place ≡ true
     → least (turns_of (λ r. may_start plan s r place) plan.requests) ≡ option_and_then least (queue_at starts place)
 least-open plan s starts place are opened =
     ap least (turns-agree (under s (manager_at plan starts place)) (λ r. may_start plan s r place) plan.requests
@@ -72,7 +72,7 @@ least-open plan s starts place are opened =
 -- ---- at some place
 
 -- at one of some places: at the first of them or at a later one
-pub least-more : (plan : Plan) (s : Standing) (from count rest : ℕ) → count ≡ suc rest
+pub least-more : (plan : Plan) (s : State) (from count rest : ℕ) → count ≡ suc rest
     → least (turns_of (λ r. list_any (may_start plan s r) (map (λ index. record { index = index }) (range_with_len from count))) plan.requests)
     ≡ lesser (least (turns_of (λ r. may_start plan s r (record { index = from })) plan.requests))
     (least (turns_of (λ r. list_any (may_start plan s r) (map (λ index. record { index = index }) (range_with_len (from + 1) rest))) plan.requests))
@@ -82,12 +82,12 @@ least-more plan s from count rest e =
     (λ r. list_any (may_start plan s r) (map (λ index. record { index = index }) (range_with_len (from + 1) rest))) plan.requests)
 
 -- at no place none may start
-pub least-nowhere : (plan : Plan) (s : Standing) (from count : ℕ) → count ≡ 0
+pub least-nowhere : (plan : Plan) (s : State) (from count : ℕ) → count ≡ 0
     → least (turns_of (λ r. list_any (may_start plan s r) (map (λ index. record { index = index }) (range_with_len from count))) plan.requests) ≡ None
 least-nowhere plan s from count e = rw e (least_of-none (λ r. false) plan.requests (λ r has. refl))
 
 -- the first request in precedence that may start somewhere has the least turn of those
-pub first-somewhere : (plan : Plan) (s : Standing) (count : ℕ) → count ≡ count_of_places plan → first_by precedes (may_start_somewhere plan s) plan.requests
+pub first-somewhere : (plan : Plan) (s : State) (count : ℕ) → count ≡ count_of_places plan → first_by precedes (may_start_somewhere plan s) plan.requests
     ≡ option_and_then (request_at_turn plan)
     (least (turns_of (λ r. list_any (may_start plan s r) (map (λ index. record { index = index }) (range_with_len 0 count))) plan.requests))
 unfolding may_start_somewhere all_places

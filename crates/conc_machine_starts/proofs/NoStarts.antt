@@ -10,10 +10,10 @@ use Rattle.conc_types.specs.declared.script.Order.{Order}
 use Rattle.conc_types.specs.Words.{numbered}
 use Rattle.conc_law.specs.Next.{runs_at}
 use Rattle.conc_law.specs.Places.{all_places}
-use Rattle.conc_law.specs.Standing.{facts_at, no_facts, now, standing}
+use Rattle.conc_law.specs.State.{facts_at, no_facts, now, state}
 use Rattle.conc_law.proofs.FactsAt.{numbered-map}
 use Rattle.conc_law.proofs.FirstEvent.{facts_at-none}
-use Rattle.conc_law_effects.proofs.NoEvents.{standing-none}
+use Rattle.conc_law_effects.proofs.NoEvents.{state-none}
 use Rattle.conc_machine_queue.specs.Least.{vacant}
 use Rattle.conc_machine_queue.specs.Turns.{turns_of}
 use Rattle.conc_machine_starts.specs.declared.starts.Starts.{Starts}
@@ -33,15 +33,15 @@ pub starts-none : (plan : Plan) (starts : Starts)
     → starts.owners ≡ map (owner_of plan) (all_places plan)
     → starts.running ≡ map (λ (place : PlaceId). 0) (all_places plan)
     → starts.usable ≡ map (λ (place : PlaceId). false) (all_places plan)
-    → AreStarts plan (standing plan []) starts
-unfolding may_start_under running_at runs_at is_usable_now standing now
+    → AreStarts plan (state plan []) starts
+unfolding may_start_under running_at runs_at is_usable_now state now
 starts-none plan starts q o n u = record {
   queues =
-      q ∙ map-agree (λ manager. turns_of (may_start_under (standing plan []) manager) plan.requests) (λ (manager : Manager). vacant (length plan.requests)) plan.setup.managers
-      (λ manager. vacant-turns (may_start_under (standing plan []) manager) plan.requests (λ r. rw (facts_at-none plan r) refl));
+      q ∙ map-agree (λ manager. turns_of (may_start_under (state plan []) manager) plan.requests) (λ (manager : Manager). vacant (length plan.requests)) plan.setup.managers
+      (λ manager. vacant-turns (may_start_under (state plan []) manager) plan.requests (λ r. rw (facts_at-none plan r) refl));
   owners = o;
   running =
-      n ∙ map-agree (running_at plan (standing plan [])) (λ (place : PlaceId). 0) (all_places plan)
-      (λ place. sym (filter-none (runs_at (standing plan []) place) plan.requests (λ r. rw (facts_at-none plan r) refl)));
+      n ∙ map-agree (running_at plan (state plan [])) (λ (place : PlaceId). 0) (all_places plan)
+      (λ place. sym (filter-none (runs_at (state plan []) place) plan.requests (λ r. rw (facts_at-none plan r) refl)));
   usable = u;
 }

@@ -5,14 +5,14 @@ use Rattle.std.specs.Option.{option_and_then, option_map, option_map_or}
 use Rattle.std.proofs.lemmas.Option.{slice_get-map}
 use Rattle.conc_types.specs.declared.event.Moment.{Moment}
 use Rattle.conc_types.specs.declared.event.PlaceId.{PlaceId}
-use Rattle.conc_types.specs.declared.facts.Standing.{Standing}
+use Rattle.conc_types.specs.declared.facts.State.{State}
 use Rattle.conc_types.specs.declared.plan.Plan.{Plan}
 use Rattle.conc_types.specs.declared.plan.Req.{Req}
 use Rattle.conc_types.specs.Words.{some_and}
 use Rattle.conc_law.specs.Managers.{admits}
 use Rattle.conc_law.specs.Next.{is_vacant, may_start, runs_at}
 use Rattle.conc_law.specs.Places.{all_places, count_of_places, is_usable, Place, place_of}
-use Rattle.conc_law.specs.Standing.{facts_at, is_running}
+use Rattle.conc_law.specs.State.{facts_at, is_running}
 use Rattle.conc_machine_queue.specs.Turns.{turns_of}
 use Rattle.conc_machine_starts.specs.declared.starts.Starts.{Starts}
 use Rattle.conc_machine_starts.specs.Starts.{AreStarts, is_usable_now, may_start_under, owner_of, running_at}
@@ -22,7 +22,7 @@ use Rattle.conc_machine_starts.proofs.Owners.{place_of-none, place_of-some}
 use Rattle.conc_machine_starts.proofs.Ranges.{place-at, place-past}
 
 -- the manager that has the place
-pub manager_at-is : (plan : Plan) (s : Standing) (starts : Starts) (place : PlaceId) → AreStarts plan s starts
+pub manager_at-is : (plan : Plan) (s : State) (starts : Starts) (place : PlaceId) → AreStarts plan s starts
     → manager_at plan starts place ≡ option_map (λ p. p.manager) (place_of plan place)
 unfolding manager_at owner_of
 manager_at-is plan s starts place are = by (place_of plan place) refl where
@@ -39,7 +39,7 @@ manager_at-is plan s starts place are = by (place_of plan place) refl where
       ∙ at.0
 
 -- its queue
-pub queue_at-is : (plan : Plan) (s : Standing) (starts : Starts) (place : PlaceId) → AreStarts plan s starts
+pub queue_at-is : (plan : Plan) (s : State) (starts : Starts) (place : PlaceId) → AreStarts plan s starts
     → queue_at starts place ≡ option_map (λ manager. turns_of (may_start_under s manager) plan.requests) (manager_at plan starts place)
 unfolding queue_at manager_at
 queue_at-is plan s starts place are =
@@ -51,7 +51,7 @@ queue_at-is plan s starts place are =
       by (Some owner) = slice_get-map (λ manager. turns_of (may_start_under s manager) plan.requests) plan.setup.managers owner
 
 -- no place beyond the list may be used
-unusable : (plan : Plan) (s : Standing) (place : PlaceId) → place_of plan place ≡ None → is_usable_now plan s place ≡ false
+unusable : (plan : Plan) (s : State) (place : PlaceId) → place_of plan place ≡ None → is_usable_now plan s place ≡ false
 unfolding is_usable_now is_usable
 unusable plan s place none = by s.time where
   by : (o : Option Moment) → some_and (λ t. is_usable plan t place) o ≡ false
@@ -59,7 +59,7 @@ unusable plan s place none = by s.time where
   by (Some t) = rw none refl
 
 -- the place may be used, and none runs there
-pub is_open-is : (plan : Plan) (s : Standing) (starts : Starts) (place : PlaceId) → AreStarts plan s starts
+pub is_open-is : (plan : Plan) (s : State) (starts : Starts) (place : PlaceId) → AreStarts plan s starts
     → is_open starts place ≡ (is_usable_now plan s place && is_vacant plan s place)
 unfolding is_open is_vacant running_at
 is_open-is plan s starts place are = by (place_of plan place) refl where
@@ -81,7 +81,7 @@ is_open-is plan s starts place are = by (place_of plan place) refl where
       ∙ ap (λ b. is_usable_now plan s place && b) (none-kept (runs_at s place) plan.requests)
 
 -- a request may start at the place: it is let and does not run, the place is open, and its manager admits it
-pub may_start_is : (plan : Plan) (s : Standing) (starts : Starts) (r : Req) (place : PlaceId) → AreStarts plan s starts
+pub may_start_is : (plan : Plan) (s : State) (starts : Starts) (r : Req) (place : PlaceId) → AreStarts plan s starts
     → may_start plan s r place
     ≡ ((facts_at s r).let_out && (not (is_running (facts_at s r)) && (is_open starts place && some_and (λ manager. admits manager r) (manager_at plan starts place))))
 unfolding may_start is_usable_now

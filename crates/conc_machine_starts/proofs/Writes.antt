@@ -9,14 +9,14 @@ use Rattle.std.proofs.lemmas.Bool.{eq-eqb, ne_eqb}
 use Rattle.std.proofs.lemmas.Option.{slice_get-map}
 use Rattle.conc_types.specs.declared.event.PlaceId.{PlaceId}
 use Rattle.conc_types.specs.declared.facts.Facts.{Facts}
-use Rattle.conc_types.specs.declared.facts.Standing.{Standing}
+use Rattle.conc_types.specs.declared.facts.State.{State}
 use Rattle.conc_types.specs.declared.manager.Manager.{Manager}
 use Rattle.conc_types.specs.declared.plan.Plan.{Plan}
 use Rattle.conc_types.specs.declared.plan.Req.{Req}
 use Rattle.conc_types.specs.Words.{some_and}
 use Rattle.conc_law.specs.Next.{runs_at}
 use Rattle.conc_law.specs.Places.{all_places, is_usable}
-use Rattle.conc_law.specs.Standing.{facts_at}
+use Rattle.conc_law.specs.State.{facts_at}
 use Rattle.conc_law.proofs.Sums.{filter-within}
 use Rattle.conc_machine_queue.specs.Turns.{turn, turns_of}
 use Rattle.conc_machine_queue.specs.Written.{IsWritten}
@@ -30,7 +30,7 @@ use Rattle.conc_machine_starts.proofs.Ranges.{map-agree, place-set}
 -- ---- queues
 
 -- the turns under one manager
-turns-written : (plan : Plan) (before after : Standing) (i : ℕ) (old : Facts) (r : Req) (manager : Manager) → IsWritten plan before after i old
+turns-written : (plan : Plan) (before after : State) (i : ℕ) (old : Facts) (r : Req) (manager : Manager) → IsWritten plan before after i old
     → slice_get plan.requests i ≡ Some r
     → turns_of (may_start_under after manager) plan.requests
     ≡ set (turns_of (may_start_under before manager) plan.requests) i (key_of (facts_at after r) manager r)
@@ -46,10 +46,10 @@ runs_by : Facts → PlaceId → Bool
 runs_by facts place = some_and (λ p. p.index == place.index) facts.place
 
 -- how many requests run at a place, but for the one at an index
-others_at : Plan → Standing → ℕ → PlaceId → ℕ
+others_at : Plan → State → ℕ → PlaceId → ℕ
 others_at plan s i place = trues (set (map (runs_at s place) plan.requests) i false)
 
-running-before : (plan : Plan) (before after : Standing) (i : ℕ) (old : Facts) (r : Req) (place : PlaceId) → IsWritten plan before after i old
+running-before : (plan : Plan) (before after : State) (i : ℕ) (old : Facts) (r : Req) (place : PlaceId) → IsWritten plan before after i old
     → slice_get plan.requests i ≡ Some r
     → running_at plan before place ≡ others_at plan before i place + one_if (runs_by old place)
 unfolding running_at others_at runs_by runs_at
@@ -61,7 +61,7 @@ running-before plan before after i old r place w at =
     trues-set (map (runs_at before place) plan.requests) i (runs_by old place) false own in
     length-filter_trues (runs_at before place) plan.requests ∙ omega arith
 
-running-after : (plan : Plan) (before after : Standing) (i : ℕ) (old : Facts) (r : Req) (place : PlaceId) → IsWritten plan before after i old
+running-after : (plan : Plan) (before after : State) (i : ℕ) (old : Facts) (r : Req) (place : PlaceId) → IsWritten plan before after i old
     → slice_get plan.requests i ≡ Some r
     → running_at plan after place ≡ others_at plan before i place + one_if (runs_by (facts_at after r) place)
 unfolding running_at others_at runs_by runs_at
@@ -101,21 +101,21 @@ running-with plan f g facts h few = by facts.place h where
       (let on : one_if (place.index == place.index) ≡ 1 = ap one_if (eq-eqb place.index place.index refl) in omega (arith, k place, few place))
 
 -- few run at a place
-running-few : (plan : Plan) (s : Standing) (place : PlaceId) → running_at plan s place ≤ 16384
+running-few : (plan : Plan) (s : State) (place : PlaceId) → running_at plan s place ≤ 16384
 unfolding running_at
 running-few plan s place = omega (arith, filter-within (runs_at s place) plan.requests, plan.few)
 
 -- ---- all that is kept
 
 -- what one write makes of what is kept
-pub record AreWritten (plan : Plan) (after : Standing) (i : ℕ) (old : Facts) (r : Req) (starts next : Starts) : Type 0 where
+pub record AreWritten (plan : Plan) (after : State) (i : ℕ) (old : Facts) (r : Req) (starts next : Starts) : Type 0 where
   pub queues : (seats : Manager → List (Option ℕ)) → starts.queues.items ≡ map seats plan.setup.managers
       → next.queues.items ≡ map (λ manager. set (seats manager) i (key_of (facts_at after r) manager r)) plan.setup.managers
   pub owners : next.owners ≡ starts.owners
   pub running : next.running ≡ with_one (without_one starts.running old.place) (facts_at after r).place
   pub usable : next.usable ≡ starts.usable
 
-pub starts-written : (plan : Plan) (before after : Standing) (i : ℕ) (old : Facts) (r : Req) (starts next : Starts) → slice_get plan.requests i ≡ Some r
+pub starts-written : (plan : Plan) (before after : State) (i : ℕ) (old : Facts) (r : Req) (starts next : Starts) → slice_get plan.requests i ≡ Some r
     → AreWritten plan after i old r starts next → IsWritten plan before after i old → AreStarts plan before starts → AreStarts plan after next
 unfolding is_usable_now
 starts-written plan before after i old r starts next at made w are = record {

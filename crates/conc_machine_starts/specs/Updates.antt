@@ -9,7 +9,7 @@ use Rattle.conc_types.specs.declared.plan.Plan.{Plan}
 use Rattle.conc_types.specs.declared.plan.Req.{Req}
 use Rattle.conc_types.specs.Words.{some_and}
 use Rattle.conc_law.specs.Managers.{admits}
-use Rattle.conc_law.specs.Standing.{is_running}
+use Rattle.conc_law.specs.State.{is_running}
 use Rattle.conc_machine_queue.specs.Turns.{turn}
 use Rattle.conc_machine_starts.specs.declared.starts.Starts.{Starts}
 

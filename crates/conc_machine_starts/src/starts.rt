@@ -2,14 +2,14 @@ ghost use Rattle.std.specs.Prelude.{◌≡◌, ◌&&◌, not, ◌+◌, ◌<◌, 
 ghost use Rattle.std.specs.List.{find, list_any, range_with_len};
 ghost use Rattle.std.specs.Option.{option_copied, option_map};
 ghost use Rattle.conc_types.specs.declared.event.Event.TheVariants as event;
-ghost use Rattle.conc_types.specs.declared.facts.Standing.{Standing};
+ghost use Rattle.conc_types.specs.declared.facts.State.{State};
 ghost use Rattle.conc_types.specs.declared.plan.Plan.{Plan};
 ghost use Rattle.conc_types.specs.Words.{some_and};
 ghost use Rattle.conc_law.specs.Alone.{first_start as first_start_of};
 ghost use Rattle.conc_law.specs.Managers.{admits as admits_of};
 ghost use Rattle.conc_law.specs.Next.{may_start as may_start_of, may_start_somewhere};
 ghost use Rattle.conc_law.specs.Plans.{precedes};
-ghost use Rattle.conc_law.specs.Standing.{is_running, standing};
+ghost use Rattle.conc_law.specs.State.{is_running, state};
 ghost use Rattle.conc_law.specs.Words.{first_by};
 ghost use Rattle.conc_machine_queue.specs.Least.{least as least_of};
 ghost use Rattle.conc_machine_queue.specs.Turns.{turns_of};
@@ -22,7 +22,7 @@ use conc_law_decisions::facts_at;
 use conc_machine_queue::{Queue, lesser, request_at_turn};
 use conc_rules::admits;
 use conc_time::{place_count, place_of};
-use conc_types::{Facts, Manager, NoMemory, PlaceId, Plan, Req, RequestId, Seq, Standing};
+use conc_types::{Facts, Manager, NoMemory, PlaceId, Plan, Req, RequestId, Seq, State};
 use std::alloc::Global;
 
 /// What is kept of the requests that may start, and of the places.
@@ -52,7 +52,7 @@ impl Starts {
     /// What is kept before the first event. It takes all the memory that the other calls need.
     #[tactic(auto, using(crate::proofs::Ranges::one_place_more))]
     pub fn new(alloc: Global, plan: &Plan) -> Result<Starts, NoMemory>
-        ensures { IfOk result (λ starts. AreStarts plan.now (standing plan.now []) starts) }
+        ensures { IfOk result (λ starts. AreStarts plan.now (state plan.now []) starts) }
     {
         let mut queues = Vec::with_capacity(alloc, plan.setup.managers.len())?;
         for manager in plan.setup.managers.as_slice() {
@@ -77,8 +77,8 @@ impl Starts {
     }
 
     /// Takes in that the facts of the request at an index were written, which were these before.
-    pub fn write(&mut self, plan: &Plan, after: &Standing, i: usize, old: Facts)
-        ensures { (before : Standing) → IsWritten plan.now before after.now i old → AreStarts plan.now before self.old → AreStarts plan.now after.now self.new }
+    pub fn write(&mut self, plan: &Plan, after: &State, i: usize, old: Facts)
+        ensures { (before : State) → IsWritten plan.now before after.now i old → AreStarts plan.now before self.old → AreStarts plan.now after.now self.new }
     {
         let Some(r) = plan.requests.as_slice().get(i) else {
             return;
@@ -96,8 +96,8 @@ impl Starts {
     }
 
     /// Takes in another moment of the last tick.
-    pub fn tick(&mut self, plan: &Plan, after: &Standing)
-        ensures { (before : Standing) → after.now.facts ≡ before.facts → AreStarts plan.now before self.old → AreStarts plan.now after.now self.new }
+    pub fn tick(&mut self, plan: &Plan, after: &State)
+        ensures { (before : State) → after.now.facts ≡ before.facts → AreStarts plan.now before self.old → AreStarts plan.now after.now self.new }
     {
         renew(&mut self.usable, plan, after);
     }
@@ -154,16 +154,16 @@ impl Starts {
     }
 
     /// Whether a request may start at a place.
-    pub fn may_start(&self, plan: &Plan, standing: &Standing, r: &Req, place: PlaceId) -> bool
-        requires { AreStarts plan.now standing.now self.now }
-        ensures { result ≡ may_start_of plan.now standing.now r.now place }
+    pub fn may_start(&self, plan: &Plan, state: &State, r: &Req, place: PlaceId) -> bool
+        requires { AreStarts plan.now state.now self.now }
+        ensures { result ≡ may_start_of plan.now state.now r.now place }
     {
-        self.may_start_by(plan, facts_at(standing, r), r, place)
+        self.may_start_by(plan, facts_at(state, r), r, place)
     }
 
     // The least turn of the requests that may start at the place.
     fn least_turn_at(&self, place: PlaceId) -> Option<u64>
-        ensures { (plan : Plan) (s : Standing) → AreStarts plan s self.now → result ≡ least_of (turns_of (λ r. may_start_of plan s r place) plan.requests) }
+        ensures { (plan : Plan) (s : State) → AreStarts plan s self.now → result ≡ least_of (turns_of (λ r. may_start_of plan s r place) plan.requests) }
     {
         if self.is_open(place) {
             self.queue_at(place)?.least()
@@ -175,7 +175,7 @@ impl Starts {
     // The least turn of the requests that may start at one of so many places from an index on.
     fn least_turn(&self, from: u32, count: u32) -> Option<u64>
         requires { from + count < 2 ^ 32 }
-        ensures { (plan : Plan) (s : Standing) → AreStarts plan s self.now → result ≡ least_of (turns_of (λ r. list_any (may_start_of plan s r) (map (λ index. record { index = index }) (range_with_len from count))) plan.requests) }
+        ensures { (plan : Plan) (s : State) → AreStarts plan s self.now → result ≡ least_of (turns_of (λ r. list_any (may_start_of plan s r) (map (λ index. record { index = index }) (range_with_len from count))) plan.requests) }
     {
         if count == 0 {
             return None;
@@ -190,27 +190,27 @@ impl Starts {
     fn first_place(
         &self,
         plan: &Plan,
-        standing: &Standing,
+        state: &State,
         r: &Req,
         from: u32,
         count: u32,
     ) -> Option<PlaceId>
-        requires stands { AreStarts plan.now standing.now self.now }
+        requires stands { AreStarts plan.now state.now self.now }
         requires few { from + count < 2 ^ 32 }
-        ensures { result ≡ find (may_start_of plan.now standing.now r.now) (map (λ index. record { index = index }) (range_with_len from count)) }
+        ensures { result ≡ find (may_start_of plan.now state.now r.now) (map (λ index. record { index = index }) (range_with_len from count)) }
     {
         if count == 0 {
             return None;
         }
-        if self.may_start(plan, standing, r, PlaceId { index: from }) {
+        if self.may_start(plan, state, r, PlaceId { index: from }) {
             return Some(PlaceId { index: from });
         }
-        self.first_place(plan, standing, r, from + 1, count - 1)
+        self.first_place(plan, state, r, from + 1, count - 1)
     }
 
     // The first request in precedence that may start at some place.
     fn first_request<'a>(&self, plan: &'a Plan) -> Option<&'a Req>
-        ensures { (s : Standing) → AreStarts plan.now s self.now → option_copied result ≡ first_by precedes (may_start_somewhere plan.now s) plan.now.requests }
+        ensures { (s : State) → AreStarts plan.now s self.now → option_copied result ≡ first_by precedes (may_start_somewhere plan.now s) plan.now.requests }
     {
         let turn = self.least_turn(0, place_count(plan))?;
         request_at_turn(plan, turn)
@@ -218,12 +218,12 @@ impl Starts {
 
     /// The first let request in precedence that may start at some place, with the first such place.
     #[tactic(auto, unfolding(conc_law::specs::Alone::first_start, conc_law::specs::Places::all_places))]
-    pub fn first_start(&self, plan: &Plan, standing: &Standing) -> Option<(RequestId, PlaceId)>
-        requires { AreStarts plan.now standing.now self.now }
-        ensures { option_map (λ start. event.Started start.0 start.1) result ≡ first_start_of plan.now standing.now }
+    pub fn first_start(&self, plan: &Plan, state: &State) -> Option<(RequestId, PlaceId)>
+        requires { AreStarts plan.now state.now self.now }
+        ensures { option_map (λ start. event.Started start.0 start.1) result ≡ first_start_of plan.now state.now }
     {
         let r = self.first_request(plan)?;
-        let place = self.first_place(plan, standing, r, 0, place_count(plan))?;
+        let place = self.first_place(plan, state, r, 0, place_count(plan))?;
         Some((r.number, place))
     }
 }

@@ -7,7 +7,7 @@ ghost use Rattle.conc_machine_starts.specs.Updates.{key_of as key_of_of, with_on
 use conc_machine_queue::{Queue, turn};
 use conc_rules::admits;
 use conc_time::{is_usable, place_count};
-use conc_types::{Facts, Manager, PlaceId, Plan, Req, Seq, Standing};
+use conc_types::{Facts, Manager, PlaceId, Plan, Req, Seq, State};
 
 // ---- queues
 
@@ -80,24 +80,24 @@ pub(crate) fn enter(running: &mut Seq<u32>, place: Option<PlaceId>)
 // ---- flags
 
 #[tactic(auto, unfolding(crate::specs::Starts::is_usable_now))]
-fn is_usable_now(plan: &Plan, standing: &Standing, place: PlaceId) -> bool
-    ensures { result ≡ is_usable_now_of plan.now standing.now place }
+fn is_usable_now(plan: &Plan, state: &State, place: PlaceId) -> bool
+    ensures { result ≡ is_usable_now_of plan.now state.now place }
 {
-    match standing.time {
+    match state.time {
         Some(t) => is_usable(plan, t, place),
         None => false,
     }
 }
 
 /// Marks each place as usable at the last tick or not.
-pub(crate) fn renew(usable: &mut Seq<bool>, plan: &Plan, standing: &Standing)
-    ensures { length usable.old ≡ count_of_places plan.now → usable.new ≡ map (is_usable_now_of plan.now standing.now) (all_places plan.now) }
+pub(crate) fn renew(usable: &mut Seq<bool>, plan: &Plan, state: &State)
+    ensures { length usable.old ≡ count_of_places plan.now → usable.new ≡ map (is_usable_now_of plan.now state.now) (all_places plan.now) }
 {
     for index in 0..place_count(plan) {
         if (index as usize) < usable.len() {
             usable.set(
                 index as usize,
-                is_usable_now(plan, standing, PlaceId { index }),
+                is_usable_now(plan, state, PlaceId { index }),
             );
         }
     }

@@ -1,6 +1,6 @@
 -- Where the same facts stand, the same is kept.
 use Rattle.std.proofs.Common.{sym, ◌∙◌}
-use Rattle.conc_types.specs.declared.facts.Standing.{Standing}
+use Rattle.conc_types.specs.declared.facts.State.{State}
 use Rattle.conc_types.specs.declared.plan.Plan.{Plan}
 use Rattle.conc_law.specs.Next.{has_step, is_left_running, runs_somewhere}
 use Rattle.conc_machine_queue.specs.Written.{IsAlike}
@@ -10,14 +10,14 @@ use Rattle.conc_machine_steps.specs.declared.steps.Steps.{Steps}
 use Rattle.conc_machine_steps.specs.Steps.{AreRunning, AreSteps}
 use Rattle.conc_machine_steps.proofs.Same.{has_step-same, is_left-same, runs-same}
 
-pub AreRunning-alike : (plan : Plan) (before after : Standing) → IsAlike before after → (running : Running)
+pub AreRunning-alike : (plan : Plan) (before after : State) → IsAlike before after → (running : Running)
     → AreRunning plan before running → AreRunning plan after running
 AreRunning-alike plan before after alike running are = record {
   all = are.all ∙ sym (numbers_of-alike plan (runs_somewhere before) (runs_somewhere after) (λ q has. runs-same before after q (facts_at-alike before after alike q)));
   left = are.left ∙ sym (numbers_of-alike plan (is_left_running before) (is_left_running after) (λ q has. is_left-same before after q (facts_at-alike before after alike q)));
 }
 
-pub AreSteps-alike : (plan : Plan) (before after : Standing) → IsAlike before after → (steps : Steps)
+pub AreSteps-alike : (plan : Plan) (before after : State) → IsAlike before after → (steps : Steps)
     → AreSteps plan before steps → AreSteps plan after steps
 AreSteps-alike plan before after alike steps are = record {
   due = are.due ∙ sym (numbers_of-alike plan (has_step plan before) (has_step plan after)

@@ -2,7 +2,7 @@
 use Rattle.std.proofs.Common.{◌≡◌, sym, ◌∙◌, ap}
 use Rattle.std.specs.List.{find}
 use Rattle.std.specs.Option.{option_and_then}
-use Rattle.conc_types.specs.declared.facts.Standing.{Standing}
+use Rattle.conc_types.specs.declared.facts.State.{State}
 use Rattle.conc_types.specs.declared.plan.Plan.{Plan}
 use Rattle.conc_law.specs.Next.{has_step, is_left_running, runs_somewhere}
 use Rattle.conc_machine_queue.specs.Least.{least}
@@ -12,17 +12,17 @@ use Rattle.conc_machine_steps.specs.declared.running.Running.{Running}
 use Rattle.conc_machine_steps.specs.declared.steps.Steps.{Steps}
 use Rattle.conc_machine_steps.specs.Steps.{AreRunning, AreSteps}
 
-pub first_running : (plan : Plan) (s : Standing) (running : Running) → AreRunning plan s running
+pub first_running : (plan : Plan) (s : State) (running : Running) → AreRunning plan s running
     → option_and_then (request_numbered plan) (least running.all) ≡ find (runs_somewhere s) plan.requests
 first_running plan s running are =
     ap (λ seats. option_and_then (request_numbered plan) (least seats)) are.all ∙ sym (find-least plan (runs_somewhere s))
 
-pub first_left : (plan : Plan) (s : Standing) (running : Running) → AreRunning plan s running
+pub first_left : (plan : Plan) (s : State) (running : Running) → AreRunning plan s running
     → option_and_then (request_numbered plan) (least running.left) ≡ find (is_left_running s) plan.requests
 first_left plan s running are =
     ap (λ seats. option_and_then (request_numbered plan) (least seats)) are.left ∙ sym (find-least plan (is_left_running s))
 
-pub first_due : (plan : Plan) (s : Standing) (steps : Steps) → AreSteps plan s steps
+pub first_due : (plan : Plan) (s : State) (steps : Steps) → AreSteps plan s steps
     → option_and_then (request_numbered plan) (least steps.due) ≡ find (has_step plan s) plan.requests
 first_due plan s steps are =
     ap (λ seats. option_and_then (request_numbered plan) (least seats)) are.due ∙ sym (find-least plan (has_step plan s))

@@ -4,13 +4,13 @@ use Rattle.std.specs.Prelude.{is_some}
 use Rattle.std.specs.Bool.{then_some}
 use Rattle.std.specs.List.{filter, list_all}
 use Rattle.std.proofs.lemmas.Bool.{cases_Bool}
-use Rattle.conc_types.specs.declared.facts.Standing.{Standing}
+use Rattle.conc_types.specs.declared.facts.State.{State}
 use Rattle.conc_types.specs.declared.plan.Plan.{Plan}
 use Rattle.conc_types.specs.declared.plan.Req.{Req}
 use Rattle.conc_law.specs.Next.{has_step, is_left_running, runs_somewhere}
 use Rattle.conc_law.specs.Plans.{is_member, members}
 use Rattle.conc_law.specs.Stages.{completed_at, has_ended, set_step, step_from}
-use Rattle.conc_law.specs.Standing.{facts_at, is_completed}
+use Rattle.conc_law.specs.State.{facts_at, is_completed}
 use Rattle.conc_law.specs.Words.{Has}
 
 -- two tests that agree on the elements of a filter
@@ -25,7 +25,7 @@ list_all-filter_same test f g (x ∷ xs) same =
     ]
 
 -- a stage has ended where the facts of its members are the same
-has_ended-same : (plan : Plan) (s t : Standing) (q : Req) (stage : ℕ)
+has_ended-same : (plan : Plan) (s t : State) (q : Req) (stage : ℕ)
     → ((x : Req) → Has plan.requests x → is_member q.number stage x ≡ true → facts_at t x ≡ facts_at s x)
     → has_ended plan t q stage ≡ has_ended plan s q stage
 unfolding has_ended members completed_at
@@ -34,7 +34,7 @@ has_ended-same plan s t q stage same =
     (λ x has member. ap is_completed (same x has member))
 
 -- a step is there before the first stage, and where the last one has ended
-step_from-some : (plan : Plan) (s t : Standing) (q : Req) (o : Option ℕ)
+step_from-some : (plan : Plan) (s t : State) (q : Req) (o : Option ℕ)
     → ((stage : ℕ) → has_ended plan t q stage ≡ has_ended plan s q stage)
     → is_some (step_from plan t q o) ≡ is_some (step_from plan s q o)
 step_from-some plan s t q None same = refl
@@ -43,7 +43,7 @@ step_from-some plan s t q (Some stage) same = there (has_ended plan t q stage) _
   there true x = refl
   there false x = refl
 
-pub has_step-same : (plan : Plan) (s t : Standing) (q : Req) → facts_at t q ≡ facts_at s q
+pub has_step-same : (plan : Plan) (s t : State) (q : Req) → facts_at t q ≡ facts_at s q
     → ((stage : ℕ) (x : Req) → Has plan.requests x → is_member q.number stage x ≡ true → facts_at t x ≡ facts_at s x)
     → has_step plan t q ≡ has_step plan s q
 unfolding has_step set_step
@@ -53,10 +53,10 @@ has_step-same plan s t q own same =
     (step_from-some plan s t q (facts_at s q).stage (λ stage. has_ended-same plan s t q stage (same stage))))
 
 -- whether a request runs depends on its facts alone
-pub runs-same : (s t : Standing) (q : Req) → facts_at t q ≡ facts_at s q → runs_somewhere t q ≡ runs_somewhere s q
+pub runs-same : (s t : State) (q : Req) → facts_at t q ≡ facts_at s q → runs_somewhere t q ≡ runs_somewhere s q
 unfolding runs_somewhere
 runs-same s t q own = rw own refl
 
-pub is_left-same : (s t : Standing) (q : Req) → facts_at t q ≡ facts_at s q → is_left_running t q ≡ is_left_running s q
+pub is_left-same : (s t : State) (q : Req) → facts_at t q ≡ facts_at s q → is_left_running t q ≡ is_left_running s q
 unfolding is_left_running
 is_left-same s t q own = rw own refl

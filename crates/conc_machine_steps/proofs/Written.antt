@@ -5,14 +5,14 @@ use Rattle.std.proofs.lemmas.Bool.{and_parts, eqb-true}
 use Rattle.std.proofs.lemmas.Option.{slice_get_within}
 use Rattle.conc_types.specs.declared.event.RequestId.{RequestId}
 use Rattle.conc_types.specs.declared.facts.Facts.{Facts}
-use Rattle.conc_types.specs.declared.facts.Standing.{Standing}
+use Rattle.conc_types.specs.declared.facts.State.{State}
 use Rattle.conc_types.specs.declared.plan.Plan.{Plan}
 use Rattle.conc_types.specs.declared.plan.Req.{Req}
 use Rattle.conc_types.specs.Plans.{request}
 use Rattle.conc_types.specs.Words.{numbered, some_and}
 use Rattle.conc_law.specs.Next.{has_step, is_left_running, runs_somewhere}
 use Rattle.conc_law.specs.Plans.{is_member, parent}
-use Rattle.conc_law.specs.Standing.{facts_at}
+use Rattle.conc_law.specs.State.{facts_at}
 use Rattle.conc_law.specs.Words.{Has, id_eq}
 use Rattle.conc_law.proofs.Numbering.{found, numbered_plan}
 use Rattle.conc_law.proofs.Options.{and_then-some, some_and-some}
@@ -26,14 +26,14 @@ use Rattle.conc_machine_steps.proofs.Same.{has_step-same, is_left-same, runs-sam
 use Rattle.conc_machine_steps.proofs.Numbers.{numbers_of-one, numbers_of-two}
 
 -- the facts of the other requests stay
-others-same : (plan : Plan) (before after : Standing) (i : ℕ) (old : Facts) → IsWritten plan before after i old
+others-same : (plan : Plan) (before after : State) (i : ℕ) (old : Facts) → IsWritten plan before after i old
     → (r : Req) → slice_get plan.requests i ≡ Some r
     → (q : Req) → (q.number.number ≡ r.number.number → ⊥) → facts_at after q ≡ facts_at before q
 others-same plan before after i old written r at q ne =
     facts_at-written plan before after i old written q (λ (e : q.number.number ≡ i + 1). ne (e ∙ sym (request_at_place plan i r at).0))
 
 -- what is kept of the requests that run
-pub running_written : (plan : Plan) (before after : Standing) (i : ℕ) (old : Facts) → IsWritten plan before after i old
+pub running_written : (plan : Plan) (before after : State) (i : ℕ) (old : Facts) → IsWritten plan before after i old
     → (r : Req) → slice_get plan.requests i ≡ Some r → (was is : Running) → AreRunning plan before was
     → is.all ≡ refreshed was.all r (runs_somewhere after r) → is.left ≡ refreshed was.left r (is_left_running after r)
     → AreRunning plan after is
@@ -64,7 +64,7 @@ parent_of_member plan q r stage has member =
     rw (p.1, ← eqb-true q.number.number p.0.number p.2) (numbered_plan plan q has)
 
 -- a set that is neither the request that is written nor its parent has a step as before
-others_due : (plan : Plan) (before after : Standing) (i : ℕ) (old : Facts) → IsWritten plan before after i old
+others_due : (plan : Plan) (before after : State) (i : ℕ) (old : Facts) → IsWritten plan before after i old
     → (r : Req) → slice_get plan.requests i ≡ Some r
     → (q : Req) → Has plan.requests q → (q.number.number ≡ r.number.number → ⊥) → (parent plan r ≡ Some q → ⊥)
     → has_step plan after q ≡ has_step plan before q
@@ -76,7 +76,7 @@ others_due plan before after i old written r at q has ne no_parent =
     no_parent (parent_of_member plan q r stage has (ap (is_member q.number stage) (sym same) ∙ member))))
 
 -- what is kept of the open sets, where a request of no set is written
-pub steps_written : (plan : Plan) (before after : Standing) (i : ℕ) (old : Facts) → IsWritten plan before after i old
+pub steps_written : (plan : Plan) (before after : State) (i : ℕ) (old : Facts) → IsWritten plan before after i old
     → (r : Req) → slice_get plan.requests i ≡ Some r → parent plan r ≡ None → (was is : Steps) → AreSteps plan before was
     → is.due ≡ refreshed was.due r (has_step plan after r)
     → AreSteps plan after is
@@ -87,7 +87,7 @@ steps_written plan before after i old written r at alone was is are due = record
 }
 
 -- where a member of a set is written
-pub steps_written_member : (plan : Plan) (before after : Standing) (i : ℕ) (old : Facts) → IsWritten plan before after i old
+pub steps_written_member : (plan : Plan) (before after : State) (i : ℕ) (old : Facts) → IsWritten plan before after i old
     → (r t : Req) → slice_get plan.requests i ≡ Some r → parent plan r ≡ Some t → (was is : Steps) → AreSteps plan before was
     → is.due ≡ refreshed (refreshed was.due r (has_step plan after r)) t (has_step plan after t)
     → AreSteps plan after is
@@ -102,7 +102,7 @@ steps_written_member plan before after i old written r t at member was is are du
     }
 
 -- the request that is written is there
-pub written_within : (plan : Plan) (before after : Standing) (i : ℕ) (old : Facts) → IsWritten plan before after i old
+pub written_within : (plan : Plan) (before after : State) (i : ℕ) (old : Facts) → IsWritten plan before after i old
     → slice_get plan.requests i ≡ None → ⊥
 written_within plan before after i old written none =
     let within : i < length before.facts = slice_get_within before.facts i old written.was in

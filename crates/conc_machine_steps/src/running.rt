@@ -1,16 +1,16 @@
 ghost use Rattle.std.specs.Prelude.{◌≡◌, [], IfOk};
 ghost use Rattle.std.specs.List.{find};
 ghost use Rattle.std.specs.Option.{option_copied};
-ghost use Rattle.conc_types.specs.declared.facts.Standing.{Standing};
+ghost use Rattle.conc_types.specs.declared.facts.State.{State};
 ghost use Rattle.conc_law.specs.Next.{forced_interrupt as forced_interrupt_of, is_left_running as is_left_running_of, runs_somewhere as runs_somewhere_of};
-ghost use Rattle.conc_law.specs.Standing.{standing};
+ghost use Rattle.conc_law.specs.State.{state};
 ghost use Rattle.conc_machine_queue.specs.Written.{IsWritten};
 ghost use Rattle.conc_machine_steps.specs.Steps.{AreRunning};
 
 use crate::seats::{least_request, refresh, request_at};
 use conc_law_decisions::{is_left_running, runs_somewhere};
 use conc_machine_queue::Queue;
-use conc_types::{Event, Facts, NoMemory, Plan, Req, Standing};
+use conc_types::{Event, Facts, NoMemory, Plan, Req, State};
 use std::alloc::Global;
 
 /// What is kept of the requests that run.
@@ -25,7 +25,7 @@ pub struct Running {
 impl Running {
     /// What is kept before the first event. It takes all the memory that the other calls need.
     pub fn new(alloc: Global, plan: &Plan) -> Result<Running, NoMemory>
-        ensures { IfOk result (λ running. AreRunning plan.now (standing plan.now []) running) }
+        ensures { IfOk result (λ running. AreRunning plan.now (state plan.now []) running) }
     {
         Ok(Running {
             all: Queue::new(alloc, plan.requests.len())?,
@@ -34,8 +34,8 @@ impl Running {
     }
 
     /// Takes in that the facts of the request at an index were written, which were these before.
-    pub fn write(&mut self, plan: &Plan, after: &Standing, i: usize, _old: Facts)
-        ensures { (before : Standing) → IsWritten plan.now before after.now i _old → AreRunning plan.now before self.old → AreRunning plan.now after.now self.new }
+    pub fn write(&mut self, plan: &Plan, after: &State, i: usize, _old: Facts)
+        ensures { (before : State) → IsWritten plan.now before after.now i _old → AreRunning plan.now before self.old → AreRunning plan.now after.now self.new }
     {
         if let Some(r) = request_at(plan, i) {
             refresh(&mut self.all, r, runs_somewhere(after, r));
@@ -45,28 +45,28 @@ impl Running {
 
     /// The request with the least number of those that run.
     #[tactic(auto, using(crate::proofs::Firsts::first_running))]
-    pub fn first<'a>(&self, plan: &'a Plan, _standing: &Standing) -> Option<&'a Req>
-        requires { AreRunning plan.now _standing.now self.now }
-        ensures { option_copied result ≡ find (runs_somewhere_of _standing.now) plan.now.requests }
+    pub fn first<'a>(&self, plan: &'a Plan, _state: &State) -> Option<&'a Req>
+        requires { AreRunning plan.now _state.now self.now }
+        ensures { option_copied result ≡ find (runs_somewhere_of _state.now) plan.now.requests }
     {
         least_request(&self.all, plan)
     }
 
     #[tactic(auto, using(crate::proofs::Firsts::first_left))]
-    fn first_left<'a>(&self, plan: &'a Plan, _standing: &Standing) -> Option<&'a Req>
-        requires { AreRunning plan.now _standing.now self.now }
-        ensures { option_copied result ≡ find (is_left_running_of _standing.now) plan.now.requests }
+    fn first_left<'a>(&self, plan: &'a Plan, _state: &State) -> Option<&'a Req>
+        requires { AreRunning plan.now _state.now self.now }
+        ensures { option_copied result ≡ find (is_left_running_of _state.now) plan.now.requests }
     {
         least_request(&self.left, plan)
     }
 
     /// The interrupt that is forced, if one is.
     #[tactic(auto, unfolding(conc_law::specs::Next::forced_interrupt))]
-    pub fn forced_interrupt(&self, plan: &Plan, standing: &Standing) -> Option<Event>
-        requires { AreRunning plan.now standing.now self.now }
-        ensures { result ≡ forced_interrupt_of plan.now standing.now }
+    pub fn forced_interrupt(&self, plan: &Plan, state: &State) -> Option<Event>
+        requires { AreRunning plan.now state.now self.now }
+        ensures { result ≡ forced_interrupt_of plan.now state.now }
     {
-        match self.first_left(plan, standing) {
+        match self.first_left(plan, state) {
             Some(r) => Some(Event::Interrupt { request: r.number }),
             None => None,
         }

@@ -1,9 +1,9 @@
 ghost use Rattle.std.specs.Prelude.{◌≡◌, [], IfOk};
 ghost use Rattle.std.specs.List.{find};
 ghost use Rattle.std.specs.Option.{option_copied};
-ghost use Rattle.conc_types.specs.declared.facts.Standing.{Standing};
+ghost use Rattle.conc_types.specs.declared.facts.State.{State};
 ghost use Rattle.conc_law.specs.Next.{forced_step as forced_step_of, has_step as has_step_of};
-ghost use Rattle.conc_law.specs.Standing.{standing};
+ghost use Rattle.conc_law.specs.State.{state};
 ghost use Rattle.conc_machine_queue.specs.Written.{IsWritten};
 ghost use Rattle.conc_machine_reach.specs.Spans.{AreSpans};
 ghost use Rattle.conc_machine_steps.specs.Seats.{refreshed};
@@ -14,7 +14,7 @@ use conc_law_decisions::{has_step, set_step};
 use conc_machine_queue::Queue;
 use conc_machine_reach::Spans;
 use conc_rules::parent;
-use conc_types::{Event, Facts, NoMemory, Plan, Req, Standing};
+use conc_types::{Event, Facts, NoMemory, Plan, Req, State};
 use std::alloc::Global;
 
 /// What is kept of the open sets that have something to do.
@@ -27,7 +27,7 @@ pub struct Steps {
 impl Steps {
     /// What is kept before the first event. It takes all the memory that the other calls need.
     pub fn new(alloc: Global, plan: &Plan) -> Result<Steps, NoMemory>
-        ensures { IfOk result (λ steps. AreSteps plan.now (standing plan.now []) steps) }
+        ensures { IfOk result (λ steps. AreSteps plan.now (state plan.now []) steps) }
     {
         Ok(Steps {
             due: Queue::new(alloc, plan.requests.len())?,
@@ -35,18 +35,18 @@ impl Steps {
     }
 
     // Decides anew whether a request is an open set that has something to do.
-    fn refresh(&mut self, plan: &Plan, spans: &Spans, standing: &Standing, r: &Req)
+    fn refresh(&mut self, plan: &Plan, spans: &Spans, state: &State, r: &Req)
         requires { AreSpans plan.now spans.now }
-        ensures { self.new.due ≡ refreshed self.old.due r.now (has_step_of plan.now standing.now r.now) }
+        ensures { self.new.due ≡ refreshed self.old.due r.now (has_step_of plan.now state.now r.now) }
     {
-        let due = has_step(plan, standing, r, spans.members(plan, r.number));
+        let due = has_step(plan, state, r, spans.members(plan, r.number));
         refresh(&mut self.due, r, due);
     }
 
     /// Takes in that the facts of the request at an index were written, which were these before.
-    pub fn write(&mut self, plan: &Plan, spans: &Spans, after: &Standing, i: usize, _old: Facts)
+    pub fn write(&mut self, plan: &Plan, spans: &Spans, after: &State, i: usize, _old: Facts)
         requires { AreSpans plan.now spans.now }
-        ensures { (before : Standing) → IsWritten plan.now before after.now i _old → AreSteps plan.now before self.old → AreSteps plan.now after.now self.new }
+        ensures { (before : State) → IsWritten plan.now before after.now i _old → AreSteps plan.now before self.old → AreSteps plan.now after.now self.new }
     {
         if let Some(r) = request_at(plan, i) {
             self.refresh(plan, spans, after, r);
@@ -57,22 +57,22 @@ impl Steps {
     }
 
     #[tactic(auto, using(crate::proofs::Firsts::first_due))]
-    fn first_due<'a>(&self, plan: &'a Plan, _standing: &Standing) -> Option<&'a Req>
-        requires { AreSteps plan.now _standing.now self.now }
-        ensures { option_copied result ≡ find (has_step_of plan.now _standing.now) plan.now.requests }
+    fn first_due<'a>(&self, plan: &'a Plan, _state: &State) -> Option<&'a Req>
+        requires { AreSteps plan.now _state.now self.now }
+        ensures { option_copied result ≡ find (has_step_of plan.now _state.now) plan.now.requests }
     {
         least_request(&self.due, plan)
     }
 
     /// The stage or the close that is forced, if one is.
     #[tactic(auto, unfolding(conc_law::specs::Next::forced_step))]
-    pub fn forced_step(&self, plan: &Plan, spans: &Spans, standing: &Standing) -> Option<Event>
+    pub fn forced_step(&self, plan: &Plan, spans: &Spans, state: &State) -> Option<Event>
         requires spans { AreSpans plan.now spans.now }
-        requires stands { AreSteps plan.now standing.now self.now }
-        ensures { result ≡ forced_step_of plan.now standing.now }
+        requires stands { AreSteps plan.now state.now self.now }
+        ensures { result ≡ forced_step_of plan.now state.now }
     {
-        match self.first_due(plan, standing) {
-            Some(set) => set_step(plan, standing, set, spans.members(plan, set.number)),
+        match self.first_due(plan, state) {
+            Some(set) => set_step(plan, state, set, spans.members(plan, set.number)),
             None => None,
         }
     }

@@ -15,8 +15,8 @@ use Rattle.conc_run.specs.Whole.{IsFinished}
 use Rattle.conc_run_state.specs.Causes.{HasCause, IsOther, is_refusal}
 use Rattle.conc_run_state.specs.Handed.{Handed, IsFound}
 use Rattle.conc_run_state.specs.Judging.{IsBadRecord}
-use Rattle.conc_run_state.specs.declared.fail.Stopped.{Stopped}
-use Rattle.conc_run_state.specs.declared.fail.Stopped.TheVariants as stopped
+use Rattle.conc_run_state.specs.declared.fail.HistoryFail.{HistoryFail}
+use Rattle.conc_run_state.specs.declared.fail.HistoryFail.TheVariants as history_fail
 
 not-begun : is_not_begun [] ≡ Bool.true
 unfolding is_not_begun
@@ -65,20 +65,20 @@ fits plan readings =
     let most : length readings.list ≤ 65536 = grind (arith, nat_tests, and_parts (nat_le 1 (length readings.list)) (nat_le (length readings.list) 65536) readings.some) in
     omega (arith, plan.few, plan.script.few, most)
 
-pub not-refused : (h : Handed) (e : Stopped) → h.journal_before.seen ≡ Some [] → h.spool_before.seen ≡ Some [] → need h.plan h.readings ≤ 1048576 → HasCause h e → IsFalse (is_refusal e)
-not-refused h stopped.NotJournal journal spool room cause =
+pub not-refused : (h : Handed) (e : HistoryFail) → h.journal_before.seen ≡ Some [] → h.spool_before.seen ≡ Some [] → need h.plan h.readings ≤ 1048576 → HasCause h e → IsFalse (is_refusal e)
+not-refused h history_fail.NotJournal journal spool room cause =
     let no : may_open [] ≡ Bool.false = at-seen (λ image. IsFalse (may_open image)) h.journal_before.seen [] journal cause in absurd (cc (opens, no))
-not-refused h (stopped.OtherInput found) journal spool room cause =
+not-refused h (history_fail.OtherInput found) journal spool room cause =
     let other : IsOther h.digest found [] = at-seen (IsOther h.digest found) h.journal_before.seen [] journal cause in absurd (cc (no-digest, other.found_is))
-not-refused h (stopped.Unlawful number) journal spool room cause =
+not-refused h (history_fail.Unlawful number) journal spool room cause =
     let bad = λ (image texts : List ℕ). IsBadRecord h.plan (length texts) (events_of image) (broken_of image) number in
     let there : bad [] [] = at-seen (bad []) h.spool_before.seen [] spool (at-seen (λ image. IfSome h.spool_before.seen (bad image)) h.journal_before.seen [] journal cause.bad) in
     absurd (no-bad h.plan 0 number (events_of []) (broken_of []) no-events none-broken there)
-not-refused h (stopped.JournalFull len needed) journal spool room cause =
+not-refused h (history_fail.JournalFull len needed) journal spool room cause =
     let none = found-none h cause.found journal cause.is_found in
     absurd (omega (arith, ap length none, cause.len_is, cause.needed_is, cause.full, room))
-not-refused h (stopped.DiskFault which) journal spool room cause = refl
-not-refused h stopped.NoMemory journal spool room cause = refl
+not-refused h (history_fail.DiskFault which) journal spool room cause = refl
+not-refused h history_fail.NoMemory journal spool room cause = refl
 
 pub ends-alone : (h : Handed) (list : List Event) → h.journal_before.seen ≡ Some [] → IsFinished h list → Alone h.plan h.readings [] list
 ends-alone h list journal is = subst (λ (found : List Event). Alone h.plan h.readings found list) (found-none h is.found journal is.taken.is_found) is.alone

@@ -2,7 +2,7 @@ ghost use Rattle.std.specs.Prelude.{◌≡◌, ◌++◌, OnOk};
 ghost use Rattle.std.specs.List.{concat};
 ghost use Rattle.conc_make_run.specs.Summary.{count_completed as count_completed_of, is_completed_with as is_completed_with_of, line, outcome_lines};
 
-use conc_types::{Facts, NoMemory, Outcome, Standing, put_decimal};
+use conc_types::{Facts, NoMemory, Outcome, State, put_decimal};
 
 fn is_completed_with(outcome: Outcome, facts: &Facts) -> bool
     ensures { result ≡ is_completed_with_of outcome facts.now }
@@ -11,10 +11,10 @@ fn is_completed_with(outcome: Outcome, facts: &Facts) -> bool
 }
 
 // How many requests are completed with an outcome, sets among them.
-fn count_completed(outcome: Outcome, standing: &Standing) -> u64
-    ensures { result ≡ count_completed_of outcome standing.now }
+fn count_completed(outcome: Outcome, state: &State) -> u64
+    ensures { result ≡ count_completed_of outcome state.now }
 {
-    let facts = standing.facts.as_slice();
+    let facts = state.facts.as_slice();
     facts
         .iter()
         .filter(|own| is_completed_with(outcome, own))
@@ -38,21 +38,21 @@ fn put_outcome(
     out: &mut Vec<u8>,
     word: &[u8],
     outcome: Outcome,
-    standing: &Standing,
+    state: &State,
 ) -> Result<(), NoMemory>
-    ensures { OnOk result (out.new.items ≡ out.old.items ++ line word.now (count_completed_of outcome standing.now)) }
+    ensures { OnOk result (out.new.items ≡ out.old.items ++ line word.now (count_completed_of outcome state.now)) }
 {
-    put_line(out, word, count_completed(outcome, standing))
+    put_line(out, word, count_completed(outcome, state))
 }
 
 /// Appends a line for each outcome: how many requests are completed with it.
-pub(crate) fn put_outcomes(out: &mut Vec<u8>, standing: &Standing) -> Result<(), NoMemory>
-    ensures { OnOk result (out.new.items ≡ out.old.items ++ concat (outcome_lines standing.now)) }
+pub(crate) fn put_outcomes(out: &mut Vec<u8>, state: &State) -> Result<(), NoMemory>
+    ensures { OnOk result (out.new.items ≡ out.old.items ++ concat (outcome_lines state.now)) }
 {
-    put_outcome(out, b"normal", Outcome::Normal, standing)?;
-    put_outcome(out, b"warning", Outcome::Warning, standing)?;
-    put_outcome(out, b"error", Outcome::Error, standing)?;
-    put_outcome(out, b"cancelled", Outcome::Cancelled, standing)?;
-    put_outcome(out, b"terminated", Outcome::Terminated, standing)?;
+    put_outcome(out, b"normal", Outcome::Normal, state)?;
+    put_outcome(out, b"warning", Outcome::Warning, state)?;
+    put_outcome(out, b"error", Outcome::Error, state)?;
+    put_outcome(out, b"cancelled", Outcome::Cancelled, state)?;
+    put_outcome(out, b"terminated", Outcome::Terminated, state)?;
     Ok(())
 }

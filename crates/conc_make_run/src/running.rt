@@ -6,17 +6,17 @@ ghost use Rattle.conc_run_state.specs.Works.{list_in};
 use crate::generating::Generated;
 use conc_disk_devices::MemDisk;
 use conc_run::run_plan;
-use conc_run_state::{Stopped, Work};
+use conc_run_state::{HistoryFail, Work};
 use conc_types::NoMemory;
 use std::alloc::Global;
 
 // The want of memory that a run in memory was stopped by: its disks are to fail in no call, so they fail
 // where there is no memory.
-fn want_of_memory(stopped: Stopped) -> NoMemory
-    requires { IsFalse (is_refusal stopped) }
+fn want_of_memory(fail: HistoryFail) -> NoMemory
+    requires { IsFalse (is_refusal fail) }
 {
-    match stopped {
-        Stopped::DiskFault { .. } | Stopped::NoMemory => NoMemory,
+    match fail {
+        HistoryFail::DiskFault { .. } | HistoryFail::NoMemory => NoMemory,
         _ => unreachable!(),
     }
 }
@@ -35,6 +35,6 @@ pub(crate) fn run_in_memory(alloc: Global, generated: &Generated) -> Result<Work
     let mut spool = MemDisk::new(alloc, Vec::new(alloc), Vec::new(alloc));
     match run_plan(alloc, plan, readings, digest, &mut journal, &mut spool) {
         Ok(work) => Ok(work),
-        Err(stopped) => Err(want_of_memory(stopped)),
+        Err(fail) => Err(want_of_memory(fail)),
     }
 }

@@ -4,7 +4,7 @@ ghost use Rattle.conc_make_run.specs.Summary.{IsSummary, summary_text};
 use crate::counting::{put_line, put_outcomes};
 use crate::generating::generate;
 use crate::running::run_in_memory;
-use conc_history_replay::standing_after;
+use conc_history_replay::state_after;
 use conc_types::{Event, NoMemory, Plan};
 use std::alloc::Global;
 
@@ -19,13 +19,13 @@ fn text_of(
 ) -> Result<Vec<u8>, NoMemory>
     ensures { IfOk result (λ text. text.items ≡ summary_text seed size plan.now history.now) }
 {
-    let standing = standing_after(alloc, plan, history)?;
+    let state = state_after(alloc, plan, history)?;
     let mut text = Vec::new(alloc);
     put_line(&mut text, b"seed", seed)?;
     put_line(&mut text, b"size", u64::from(size))?;
     put_line(&mut text, b"requests", plan.requests.len() as u64)?;
     put_line(&mut text, b"events", history.len() as u64)?;
-    put_outcomes(&mut text, &standing)?;
+    put_outcomes(&mut text, &state)?;
     Ok(text)
 }
 

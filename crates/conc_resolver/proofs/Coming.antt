@@ -20,19 +20,19 @@ use Rattle.conc_types.specs.Tables.{table_named}
 use Rattle.conc_law.specs.Alone.{next_alone, report_of}
 use Rattle.conc_law.specs.Ends.{IsReported}
 use Rattle.conc_law.specs.Kinds.{extent_length, is_resume}
-use Rattle.conc_law.specs.Law.{is_lawful, Lawful, Past}
+use Rattle.conc_law.specs.Law.{is_lawful, Lawful, LawfulSoFar}
 use Rattle.conc_law.specs.Next.{is_report_outcome, is_terminated}
 use Rattle.conc_law.specs.Plans.{program_of}
 use Rattle.conc_law.specs.Report.{Report, report}
-use Rattle.conc_law.specs.Standing.{used}
+use Rattle.conc_law.specs.State.{used}
 use Rattle.conc_law.proofs.AloneLawful.{IsGood, next_alone-follows, report-good}
-use Rattle.conc_law.proofs.LawfulIsPast.{lawful_is_past}
+use Rattle.conc_law.proofs.LawfulSoFar.{lawful_is_lawful_so_far}
 use Rattle.conc_law.proofs.Options.{and_then-some, map-some}
 use Rattle.conc_law.proofs.Positions.{reverse-push}
 use Rattle.conc_machine_readings.specs.declared.life.Life.{Life}
 use Rattle.conc_history_lines.specs.Lines.{has_line, is_small}
-use Rattle.conc_history_lines.proofs.PastLines.{history_lines}
-use Rattle.conc_machine.specs.Stands.{readings_of}
+use Rattle.conc_history_lines.proofs.LawfulLines.{history_lines}
+use Rattle.conc_machine.specs.StandsFor.{readings_of}
 use Rattle.conc_machine.specs.declared.machine.Machine.{Machine}
 use Rattle.conc_resolver_choice.specs.Choices.{HasItsText}
 use Rattle.conc_resolver_choice.proofs.Pushes.{is_lawful-more}
@@ -58,10 +58,10 @@ taken machine readings known =
     let life = map-some (λ (l : Life). l.readings.list) machine.life readings known in
     (life.0.readings, life.2)
 
-pub lawful-past : (plan : Plan) (machine : Machine) (readings : List Reading) (list : List Event) → readings_of machine ≡ Some readings → Lawful plan readings list → Past plan list
+pub lawful-past : (plan : Plan) (machine : Machine) (readings : List Reading) (list : List Event) → readings_of machine ≡ Some readings → Lawful plan readings list → LawfulSoFar plan list
 lawful-past plan machine readings list known lawful =
     let r = taken machine readings known in
-    lawful_is_past plan readings (reverse list) (subst (λ l. are_in_order l ≡ true) r.1 r.0.in_order) lawful
+    lawful_is_lawful_so_far plan readings (reverse list) (subst (λ l. are_in_order l ≡ true) r.1 r.0.in_order) lawful
 
 next-lawful : (plan : Plan) (readings : List Reading) (list : List Event) (e : Event) → Lawful plan readings list → next_alone plan readings (reverse list) ≡ Some e → Lawful plan readings (list ++ e ∷ [])
 next-lawful plan readings list e lawful next =
@@ -122,7 +122,7 @@ line-record plan (event.Ended id o (Some x)) text line told =
     reported-record id o x (ap is_report_outcome told.0.same_outcome ∙ good.outcome) (omega (arith, told.0.same_length, good.some))
 line-record plan e text line told = refl
 
-last-line : (plan : Plan) (list : List Event) (e : Event) → Past plan (list ++ e ∷ []) → has_line plan e ≡ true
+last-line : (plan : Plan) (list : List Event) (e : Event) → LawfulSoFar plan (list ++ e ∷ []) → has_line plan e ≡ true
 last-line plan list e past =
     let all : (list_all (has_line plan) list && (has_line plan e && true)) ≡ true = sym (list_all-append (has_line plan) list (e ∷ [])) ∙ history_lines plan (list ++ e ∷ []) past in
     (and_parts (has_line plan e) true (and_parts (list_all (has_line plan) list) (has_line plan e && true) all).1).0
@@ -182,7 +182,7 @@ pub record Fits (used : ℕ) (text : List ℕ) : Type 0 where
   pub few : length text ≤ 1048576
   pub below : used + length text < 18446744073709551616
 
-pub text-fits : (plan : Plan) (list : List Event) (e : Event) (text : List ℕ) → HasItsText plan e (Some text) → Past plan (list ++ e ∷ []) → Fits (used (reverse list)) text
+pub text-fits : (plan : Plan) (list : List Event) (e : Event) (text : List ℕ) → HasItsText plan e (Some text) → LawfulSoFar plan (list ++ e ∷ []) → Fits (used (reverse list)) text
 text-fits plan list e text told past =
     let end = end-with plan e text told in
     let good = made-good plan end.told.ended end.told.made end.told.report in

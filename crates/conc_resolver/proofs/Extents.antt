@@ -11,16 +11,16 @@ use Rattle.conc_types.specs.declared.event.Event.TheVariants as event
 use Rattle.conc_types.specs.declared.event.Extent.{Extent}
 use Rattle.conc_types.specs.declared.event.Outcome.{Outcome}
 use Rattle.conc_types.specs.declared.event.RequestId.{RequestId}
-use Rattle.conc_types.specs.declared.facts.Standing.{Standing}
+use Rattle.conc_types.specs.declared.facts.State.{State}
 use Rattle.conc_types.specs.declared.plan.Plan.{Plan}
 use Rattle.conc_types.specs.declared.plan.Req.{Req}
 use Rattle.conc_types.specs.Words.{some_and}
 use Rattle.conc_law.specs.Kinds.{extent_length}
-use Rattle.conc_law.specs.Law.{is_past, may_follow, Past}
+use Rattle.conc_law.specs.Law.{is_lawful_so_far, may_follow, LawfulSoFar}
 use Rattle.conc_law.specs.Next.{is_next_extent, is_report_outcome, is_terminated, may_end}
-use Rattle.conc_law.specs.Standing.{facts_at, is_running, is_stopping, standing, used}
+use Rattle.conc_law.specs.State.{facts_at, is_running, is_stopping, state, used}
 use Rattle.conc_law.proofs.EqualEvents.{id_same}
-use Rattle.conc_law.proofs.LawfulIsPast.{all-get}
+use Rattle.conc_law.proofs.LawfulSoFar.{all-get}
 use Rattle.conc_law.proofs.Options.{some_and-some, then_some-some}
 use Rattle.conc_law.proofs.Positions.{reverse-push}
 use Rattle.conc_law.proofs.Remaining.{end_about, IsAboutOne}
@@ -41,23 +41,23 @@ used-more list added =
     omega (arith, all)
 
 -- 64 bits hold them
-pub used-below : (plan : Plan) (list : List Event) → Past plan list → used (reverse list) < 18446744073709551616
-unfolding standing
+pub used-below : (plan : Plan) (list : List Event) → LawfulSoFar plan list → used (reverse list) < 18446744073709551616
+unfolding state
 used-below plan list past =
     let fits = used_fits plan (reverse list) past in
     ltb-true (used (reverse list)) 18446744073709551616 (then_some-some (nat_lt (used (reverse list)) 18446744073709551616) (used (reverse list)) fits.0 fits.1).0
 
 -- ---- where an extent that comes next begins
 
-next-offset : (plan : Plan) (past : List Event) (x : Extent) → is_next_extent (standing plan past) x ≡ true → x.offset ≡ used past
-unfolding is_next_extent standing
+next-offset : (plan : Plan) (past : List Event) (x : Extent) → is_next_extent (state plan past) x ≡ true → x.offset ≡ used past
+unfolding is_next_extent state
 next-offset plan past x h =
-    let s = standing plan past in
+    let s = state plan past in
     let here = some_and-some (λ n. x.offset == n) s.used (and_parts (some_and (λ n. x.offset == n) s.used) _ h).0 in
     let all = then_some-some (nat_lt (used past) 18446744073709551616) (used past) here.0 here.1 in
     eqb-true x.offset here.0 here.2 ∙ sym all.1
 
-may_end-next : (s : Standing) (r : Req) (o : Outcome) (x : Extent) → may_end s r o (Some x) ≡ true → is_next_extent s x ≡ true
+may_end-next : (s : State) (r : Req) (o : Outcome) (x : Extent) → may_end s r o (Some x) ≡ true → is_next_extent s x ≡ true
 unfolding may_end
 may_end-next s r o x h = by (is_stopping (facts_at s r)) (and_parts (is_running (facts_at s r)) _ h).1 where
   by : (stop : Bool) → (if stop then is_terminated o && is_none (Some x) else is_report_outcome o && some_and (is_next_extent s) (Some x)) ≡ true → is_next_extent s x ≡ true
@@ -68,14 +68,14 @@ comes-at : (plan : Plan) (past : List Event) (id : RequestId) (o : Outcome) (x :
 comes-at plan past id o x m =
     let p : IsAboutOne plan (event.Ended id o (Some x)) = end_about plan None past id o (Some x) m in
     let n : may_follow plan None past (event.Ended p.0.number o (Some x)) ≡ true = subst (λ z. may_follow plan None past (event.Ended z o (Some x)) ≡ true) (id_same id p.0.number p.2) m in
-    next-offset plan past x (may_end-next (standing plan past) p.0 o x (end_comes plan None past p.0 o (Some x) p.1 n))
+    next-offset plan past x (may_end-next (state plan past) p.0 o x (end_comes plan None past p.0 o (Some x) p.1 n))
 
 -- the extent of the last event of a lawful list begins where those before it end
-pub last-at : (plan : Plan) (list : List Event) (id : RequestId) (o : Outcome) (x : Extent) → Past plan (list ++ event.Ended id o (Some x) ∷ []) → x.offset ≡ used (reverse list)
-unfolding is_past
+pub last-at : (plan : Plan) (list : List Event) (id : RequestId) (o : Outcome) (x : Extent) → LawfulSoFar plan (list ++ event.Ended id o (Some x) ∷ []) → x.offset ≡ used (reverse list)
+unfolding is_lawful_so_far
 last-at plan list id o x past =
-    let turned : is_past plan (event.Ended id o (Some x) ∷ reverse list) ≡ true = sym (ap (is_past plan) (reverse-push list (event.Ended id o (Some x)))) ∙ past in
-    comes-at plan (reverse list) id o x (and_parts (is_past plan (reverse list)) _ turned).1
+    let turned : is_lawful_so_far plan (event.Ended id o (Some x) ∷ reverse list) ≡ true = sym (ap (is_lawful_so_far plan) (reverse-push list (event.Ended id o (Some x)))) ∙ past in
+    comes-at plan (reverse list) id o x (and_parts (is_lawful_so_far plan (reverse list)) _ turned).1
 
 -- ---- where each ends
 
@@ -100,11 +100,11 @@ unfolding ends_by
 last-ends plan past (event.Ended id o (Some x)) m = le-leb (x.offset + x.length) (x.length + used past) (omega (arith, comes-at plan past id o x m))
 last-ends plan past e m = refl
 
-past-ends : (plan : Plan) (past : List Event) → is_past plan past ≡ true → list_all (ends_by (used past)) past ≡ true
-unfolding is_past used
+past-ends : (plan : Plan) (past : List Event) → is_lawful_so_far plan past ≡ true → list_all (ends_by (used past)) past ≡ true
+unfolding is_lawful_so_far used
 past-ends plan [] h = refl
 past-ends plan (e ∷ past) h =
-    let p = and_parts (is_past plan past) (may_follow plan None past e) h in
+    let p = and_parts (is_lawful_so_far plan past) (may_follow plan None past e) h in
     let all : used (e ∷ past) ≡ extent_length e + used past = sum_by-cons extent_length e past in
     and_from (ends_by (used (e ∷ past)) e) (list_all (ends_by (used (e ∷ past))) past)
     (ap (λ n. ends_by n e) all ∙ last-ends plan past e p.1)
@@ -118,7 +118,7 @@ all-turned test (e ∷ list) h =
     and_from (test e) (list_all test list) (and_parts (test e) true p.1).0 (all-turned test list p.0)
 
 -- each extent of a lawful list ends within the bytes that they take
-pub within-used : (plan : Plan) (list : List Event) (i : ℕ) (id : RequestId) (o : Outcome) (x : Extent) → Past plan list
+pub within-used : (plan : Plan) (list : List Event) (i : ℕ) (id : RequestId) (o : Outcome) (x : Extent) → LawfulSoFar plan list
     → slice_get list i ≡ Some (event.Ended id o (Some x)) → x.offset + x.length ≤ used (reverse list)
 unfolding ends_by
 within-used plan list i id o x past here =

@@ -11,7 +11,7 @@ use Rattle.conc_types.specs.declared.script.Reading.{Reading}
 use Rattle.conc_law.specs.Alone.{Follows, next_alone}
 use Rattle.conc_law.specs.Kinds.{is_resume}
 use Rattle.conc_law.specs.Law.{Lawful}
-use Rattle.conc_law.specs.Standing.{used}
+use Rattle.conc_law.specs.State.{used}
 use Rattle.conc_law.proofs.AloneLawful.{next_alone-follows}
 use Rattle.conc_disk.specs.Disk.{DiskState, SeenFollows}
 use Rattle.conc_disk.specs.Left.{EachImage, LeavesOnly}

@@ -15,7 +15,7 @@ use Rattle.conc_journal.specs.Journals.{list_of, room_of, stage_of}
 use Rattle.conc_journal.specs.Journals.{IsOn as JournalIsOn}
 use Rattle.conc_journal.specs.Stages.{after_fault, has_faulted, stage_digest}
 use Rattle.conc_journal.specs.declared.journal.Journal.{Journal}
-use Rattle.conc_machine.specs.Stands.{plan_of, readings_of}
+use Rattle.conc_machine.specs.StandsFor.{plan_of, readings_of}
 use Rattle.conc_machine.specs.declared.machine.Machine.{Machine}
 use Rattle.conc_spool.specs.Spools.{used_of}
 use Rattle.conc_spool.specs.Spools.{IsOn as SpoolIsOn}

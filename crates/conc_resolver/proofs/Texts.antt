@@ -5,8 +5,8 @@ use Rattle.std.proofs.lemmas.Option.{IfSome_then, same_Some}
 use Rattle.conc_types.specs.declared.event.Event.{Event}
 use Rattle.conc_types.specs.declared.event.Event.TheVariants as event
 use Rattle.conc_types.specs.declared.plan.Plan.{Plan}
-use Rattle.conc_law.specs.Law.{Past}
-use Rattle.conc_law.specs.Standing.{used}
+use Rattle.conc_law.specs.Law.{LawfulSoFar}
+use Rattle.conc_law.specs.State.{used}
 use Rattle.conc_disk.specs.Disk.{DiskState, SeenFollows}
 use Rattle.conc_disk.specs.Left.{EachImage, LeavesOnly}
 use Rattle.conc_disk.proofs.Leaving.{if_some-any, leaves-none}
@@ -41,7 +41,7 @@ same-part n at len bytes image within agrees =
 
 module _ (plan : Plan) where
   -- ends within the bytes that agree are told alike
-  told-alike : (n from : ℕ) (list : List Event) (bytes image : List ℕ) → Past plan list → used (reverse list) ≤ n → Agrees n bytes image → AreTold plan from list bytes → AreTold plan from list image
+  told-alike : (n from : ℕ) (list : List Event) (bytes image : List ℕ) → LawfulSoFar plan list → used (reverse list) ≤ n → Agrees n bytes image → AreTold plan from list bytes → AreTold plan from list image
   told-alike n from list bytes image past le agrees told = λ i id o x at here.
       let was = told i id o x at here in
       let within = within-used plan list i id o x past here in
@@ -71,7 +71,7 @@ module _ (plan : Plan) where
   without-told e bytes told = tt
 
   -- the text of an end stands behind those of the earlier ends
-  text-told : (list : List Event) (e : Event) (text bytes : List ℕ) → HasItsText plan e (Some text) → Past plan (list ++ e ∷ []) → text ≡ take (length text) (drop (used (reverse list)) bytes) → EventTold bytes e
+  text-told : (list : List Event) (e : Event) (text bytes : List ℕ) → HasItsText plan e (Some text) → LawfulSoFar plan (list ++ e ∷ []) → text ≡ take (length text) (drop (used (reverse list)) bytes) → EventTold bytes e
   unfolding EventTold
   text-told list (event.Ended id o (Some x)) text bytes told past here =
       let same : text ≡ told.0.made.text = same_Some text told.0.made.text told.1 in
@@ -88,7 +88,7 @@ module _ (plan : Plan) where
   -- ---- from one state of the disk to the next
 
   -- the ends that it told it tells still, and those that were added
-  module _ (n m from : ℕ) (first second : List Event) (old new : DiskState) (past : Past plan first) (later : Past plan second) (before : used (reverse first) ≤ n) (after : used (reverse second) ≤ m) where
+  module _ (n m from : ℕ) (first second : List Event) (old new : DiskState) (past : LawfulSoFar plan first) (later : LawfulSoFar plan second) (before : used (reverse first) ≤ n) (after : used (reverse second) ≤ m) where
     go : (o s : Option (List ℕ)) → IfSome o old.may_leave → MatchOption o (s ≡ None) (λ a. IsSomeAnd s (λ b. Agrees n a b)) → IfSome s (λ bytes. (image : List ℕ) → new.may_leave image → Agrees m bytes image)
         → IfSome s (λ bytes. AreTold plan from first bytes → AreTold plan from second bytes) → IfSome o (λ bytes. (image : List ℕ) → old.may_leave image → AreTold plan from first image)
         → IfSome s (λ bytes. (image : List ℕ) → new.may_leave image → AreTold plan from second image)
@@ -119,14 +119,14 @@ module _ (plan : Plan) where
   -- a text was added, or a fault met
   module _ (n m : ℕ) (list : List Event) (old new : DiskState) (left : IfSome old.seen old.may_leave) (run : LeavesOnly (KeepsBelow n old) old new) (follows : SeenFollows (Agrees n) old new)
       (on : IfSome new.seen (λ bytes. (image : List ℕ) → new.may_leave image → Agrees m bytes image)) (before : used (reverse list) ≡ n) where
-    pub tells-fault : Past plan list → m ≡ n → TellsOn plan n list list old new
+    pub tells-fault : LawfulSoFar plan list → m ≡ n → TellsOn plan n list list old new
     tells-fault past same = record {
       told = λ from each. told-after n m from list list old new past past (omega (arith, before)) (omega (arith, before, same)) left follows on (if_some-any new.seen (λ bytes told. told)) each;
       left = run;
       now = follows;
     }
 
-    pub tells-text : (e : Event) (text : List ℕ) → HasItsText plan e (Some text) → Past plan list → Past plan (list ++ e ∷ []) → used (reverse (list ++ e ∷ [])) ≡ m
+    pub tells-text : (e : Event) (text : List ℕ) → HasItsText plan e (Some text) → LawfulSoFar plan list → LawfulSoFar plan (list ++ e ∷ []) → used (reverse (list ++ e ∷ [])) ≡ m
         → IfSome new.seen (λ bytes. text ≡ take (length text) (drop n bytes)) → TellsOn plan n list (list ++ e ∷ []) old new
     tells-text e text told past later after here = record {
       told = λ from each.

@@ -6,7 +6,7 @@ use Rattle.conc_types.specs.declared.script.Reading.{Reading}
 use Rattle.conc_disk.specs.Disk.{DiskState}
 use Rattle.conc_journal.specs.Journals.{stage_of}
 use Rattle.conc_journal.specs.declared.journal.Stage.TheVariants.{Begun}
-use Rattle.conc_machine.specs.Stands.{readings_of}
+use Rattle.conc_machine.specs.StandsFor.{readings_of}
 use Rattle.conc_run_state.specs.Works.{AreReady}
 use Rattle.conc_run_state.specs.declared.work.Work.{Work}
 use Rattle.conc_run_state.specs.Disks.{Disks, disks}

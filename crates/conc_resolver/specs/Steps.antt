@@ -13,7 +13,7 @@ use Rattle.conc_journal.specs.Journals.{room_of, stage_of}
 use Rattle.conc_journal.specs.Stages.{has_faulted}
 use Rattle.conc_journal.specs.declared.journal.Journal.{Journal}
 use Rattle.conc_journal.specs.declared.journal.Stage.TheVariants.{Begun}
-use Rattle.conc_machine.specs.Stands.{plan_of, readings_of}
+use Rattle.conc_machine.specs.StandsFor.{plan_of, readings_of}
 use Rattle.conc_spool.specs.Spools.{Agrees, KeepsBelow}
 use Rattle.conc_run_state.specs.Survival.{Survives}
 use Rattle.conc_run_state.specs.Told.{AreTold}

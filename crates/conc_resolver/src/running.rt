@@ -6,7 +6,7 @@ ghost use Rattle.conc_resolver_choice.specs.Choices.{event_of, HasItsText};
 ghost use Rattle.conc_outside.specs.Counts.{Rose};
 ghost use Rattle.conc_journal.specs.Journals.{stage_of};
 ghost use Rattle.conc_journal.specs.Receipts.{IsNextOf};
-ghost use Rattle.conc_machine.specs.Stands.{readings_of};
+ghost use Rattle.conc_machine.specs.StandsFor.{readings_of};
 ghost use Rattle.conc_run_state.specs.Disks.{disks};
 ghost use Rattle.conc_resolver.specs.Runs.{WentOn};
 ghost use Rattle.conc_resolver.specs.Steps.{any_disk, IsFinished, IsReady, IsTied, left_in, next_in, plan_in, readings_in};

@@ -7,7 +7,7 @@ use Rattle.std.specs.Option.{option_and_then, option_map}
 use Rattle.conc_types.specs.declared.event.Event.{Event}
 use Rattle.conc_types.specs.declared.event.Event.TheVariants as event
 use Rattle.conc_types.specs.declared.event.Outcome.TheVariants as outcome
-use Rattle.conc_types.specs.declared.facts.Standing.{Standing}
+use Rattle.conc_types.specs.declared.facts.State.{State}
 use Rattle.conc_types.specs.declared.plan.Plan.{Plan}
 use Rattle.conc_types.specs.declared.plan.Req.{Req}
 use Rattle.conc_types.specs.declared.script.Reading.{Reading}
@@ -17,11 +17,11 @@ use Rattle.conc_law.specs.Alone.{end_with, first_end, next_tick, report_of}
 use Rattle.conc_law.specs.Next.{forced, may_take, runs_somewhere}
 use Rattle.conc_law.specs.Readings.{next_reading}
 use Rattle.conc_law.specs.Report.{Report}
-use Rattle.conc_law.specs.Standing.{facts_at, is_stopping, standing}
+use Rattle.conc_law.specs.State.{facts_at, is_stopping, state}
 use Rattle.conc_law.specs.Words.{Has}
 use Rattle.conc_law.proofs.ForcedKinds.{forced_kind, is_forced_kind}
 use Rattle.conc_law.proofs.Numbering.{numbered_plan}
-use Rattle.conc_machine.specs.Stands.{plan_of, readings_of}
+use Rattle.conc_machine.specs.StandsFor.{plan_of, readings_of}
 use Rattle.conc_machine.specs.declared.machine.Machine.{Machine}
 use Rattle.conc_reports.specs.declared.making.Made.{Made}
 use Rattle.conc_resolver_choice.specs.Choices.{HasItsText}
@@ -56,7 +56,7 @@ forced_kind-no_text plan (event.Ended id o x) kind = cc
 forced_kind-no_text plan e kind = refl
 
 -- so a forced event has none
-pub forced-no_text : (plan : Plan) (s : Standing) (e : Event) → forced plan s ≡ Some e → HasItsText plan e None
+pub forced-no_text : (plan : Plan) (s : State) (e : Event) → forced plan s ≡ Some e → HasItsText plan e None
 forced-no_text plan s e is = forced_kind-no_text plan e (ap (none_or is_forced_kind) (sym is) ∙ forced_kind plan s)
 
 -- ---- the request that runs, and its end
@@ -68,7 +68,7 @@ found-again plan None has = refl
 found-again plan (Some r) has = numbered_plan plan r (has r refl)
 
 -- the end of the request that runs
-pub first_end-is : (plan : Plan) (s : Standing) (r : Req) (stopping : Bool) (used : Option ℕ) → find (runs_somewhere s) plan.requests ≡ Some r
+pub first_end-is : (plan : Plan) (s : State) (r : Req) (stopping : Bool) (used : Option ℕ) → find (runs_somewhere s) plan.requests ≡ Some r
     → stopping ≡ is_stopping (facts_at s r) → used ≡ s.used
     → (if stopping then Some (event.Ended r.number outcome.Terminated None) else option_and_then (λ made. option_map (end_with r made) used) (report_of plan r))
     ≡ first_end plan s
@@ -76,20 +76,20 @@ unfolding first_end
 first_end-is plan s r stopping used found stop all = rw (stop, all, found) refl
 
 -- none where none runs
-pub first_end-none : (plan : Plan) (s : Standing) → find (runs_somewhere s) plan.requests ≡ None → None ≡ first_end plan s
+pub first_end-none : (plan : Plan) (s : State) → find (runs_somewhere s) plan.requests ≡ None → None ≡ first_end plan s
 unfolding first_end
 first_end-none plan s found = rw found refl
 
 -- ---- the tick of the next reading
 
 -- the tick of the reading that may be taken
-pub next_tick-is : (plan : Plan) (s : Standing) (next : Option Reading) (q : Reading) (may : Bool) → next ≡ Some q → may ≡ some_and (may_take plan s) next
+pub next_tick-is : (plan : Plan) (s : State) (next : Option Reading) (q : Reading) (may : Bool) → next ≡ Some q → may ≡ some_and (may_take plan s) next
     → then_some may (event.Tick q.moment) ≡ next_tick plan s next
 unfolding next_tick
 next_tick-is plan s next q may is so = rw (so, is) refl
 
 -- none where no reading is left
-pub next_tick-none : (plan : Plan) (s : Standing) (next : Option Reading) → next ≡ None → None ≡ next_tick plan s next
+pub next_tick-none : (plan : Plan) (s : State) (next : Option Reading) → next ≡ None → None ≡ next_tick plan s next
 unfolding next_tick
 next_tick-none plan s next is = rw is refl
 
@@ -100,9 +100,9 @@ reading-of machine readings past o known is = is ∙ ap (option_and_then (λ k. 
 
 -- whether it may be taken
 pub may-of : (plan : Plan) (machine : Machine) (readings : List Reading) (past : List Event) (may : Bool) → plan_of machine ≡ plan → readings_of machine ≡ Some readings
-    → may ≡ some_and (may_take (plan_of machine) (standing (plan_of machine) past)) (option_and_then (λ known. next_reading known past) (readings_of machine))
-    → may ≡ some_and (may_take plan (standing plan past)) (next_reading readings past)
+    → may ≡ some_and (may_take (plan_of machine) (state (plan_of machine) past)) (option_and_then (λ known. next_reading known past) (readings_of machine))
+    → may ≡ some_and (may_take plan (state plan past)) (next_reading readings past)
 may-of plan machine readings past may same known is =
     is
-    ∙ ap (λ k. some_and (may_take (plan_of machine) (standing (plan_of machine) past)) (option_and_then (λ l. next_reading l past) k)) known
-    ∙ ap (λ p. some_and (may_take p (standing p past)) (next_reading readings past)) same
+    ∙ ap (λ k. some_and (may_take (plan_of machine) (state (plan_of machine) past)) (option_and_then (λ l. next_reading l past) k)) known
+    ∙ ap (λ p. some_and (may_take p (state p past)) (next_reading readings past)) same

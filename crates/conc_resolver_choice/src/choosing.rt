@@ -8,8 +8,8 @@ ghost use Rattle.conc_types.specs.declared.script.Reading.{Reading};
 ghost use Rattle.conc_law.specs.Alone.{end_with, first_end as first_end_of, first_start as first_start_of, next_alone, next_tick as next_tick_of, report_of as report_of_of};
 ghost use Rattle.conc_law.specs.Next.{forced as forced_of, runs_somewhere};
 ghost use Rattle.conc_law.specs.Readings.{next_reading as next_reading_of};
-ghost use Rattle.conc_law.specs.Standing.{standing};
-ghost use Rattle.conc_machine.specs.Stands.{plan_of, readings_of, Stands};
+ghost use Rattle.conc_law.specs.State.{state};
+ghost use Rattle.conc_machine.specs.StandsFor.{plan_of, readings_of, StandsFor};
 ghost use Rattle.conc_types.specs.Plans.{request};
 ghost use Rattle.conc_resolver_choice.specs.Choices.{event_of, HasItsText};
 ghost use Rattle.conc_resolver_choice.specs.Made.{as_report};
@@ -102,7 +102,7 @@ fn end_by(
 // The request that runs, if one does.
 fn running<'a>(plan: &'a Plan, machine: &Machine) -> Option<&'a Req>
     requires { plan_of machine.now ≡ plan.now }
-    ensures { (past : List Event) → Stands machine.now past → option_copied result ≡ find (runs_somewhere (standing plan.now past)) plan.now.requests }
+    ensures { (past : List Event) → StandsFor machine.now past → option_copied result ≡ find (runs_somewhere (state plan.now past)) plan.now.requests }
 {
     match machine.first_running() {
         Some(id) => plan.request(id),
@@ -113,8 +113,8 @@ fn running<'a>(plan: &'a Plan, machine: &Machine) -> Option<&'a Req>
 // The end of the request that runs.
 fn first_end(alloc: Global, plan: &Plan, machine: &Machine) -> Result<Option<Next>, NoMemory>
     requires { plan_of machine.now ≡ plan.now }
-    ensures event { IfOk result (λ next. (past : List Event) → Stands machine.now past → option_map event_of next ≡ first_end_of plan.now (standing plan.now past)) }
-    ensures text { IfOk result (λ next. (past : List Event) → Stands machine.now past → ForSome next (λ n. HasItsText plan.now n.event n.text)) }
+    ensures event { IfOk result (λ next. (past : List Event) → StandsFor machine.now past → option_map event_of next ≡ first_end_of plan.now (state plan.now past)) }
+    ensures text { IfOk result (λ next. (past : List Event) → StandsFor machine.now past → ForSome next (λ n. HasItsText plan.now n.event n.text)) }
 {
     match running(plan, machine) {
         Some(r) => {
@@ -128,7 +128,7 @@ fn first_end(alloc: Global, plan: &Plan, machine: &Machine) -> Result<Option<Nex
 // The event that is forced, if one is due.
 fn forced(plan: &Plan, machine: &Machine) -> Option<Event>
     requires { plan_of machine.now ≡ plan.now }
-    ensures { (past : List Event) → Stands machine.now past → result ≡ forced_of plan.now (standing plan.now past) }
+    ensures { (past : List Event) → StandsFor machine.now past → result ≡ forced_of plan.now (state plan.now past) }
 {
     machine.forced()
 }
@@ -136,7 +136,7 @@ fn forced(plan: &Plan, machine: &Machine) -> Option<Event>
 // The start that comes first, if one may come.
 fn first_start(plan: &Plan, machine: &Machine) -> Option<Event>
     requires { plan_of machine.now ≡ plan.now }
-    ensures event { (past : List Event) → Stands machine.now past → result ≡ first_start_of plan.now (standing plan.now past) }
+    ensures event { (past : List Event) → StandsFor machine.now past → result ≡ first_start_of plan.now (state plan.now past) }
     ensures text { ForSome result (λ e. HasItsText plan.now e None) }
 {
     match machine.first_start() {
@@ -148,8 +148,8 @@ fn first_start(plan: &Plan, machine: &Machine) -> Option<Event>
 // The tick of the next reading, if one is left and may be taken.
 fn next_tick(plan: &Plan, machine: &Machine) -> Option<Event>
     requires { plan_of machine.now ≡ plan.now }
-    ensures event { (readings : List Reading) (past : List Event) → readings_of machine.now ≡ Some readings → Stands machine.now past →
-        result ≡ next_tick_of plan.now (standing plan.now past) (next_reading_of readings past) }
+    ensures event { (readings : List Reading) (past : List Event) → readings_of machine.now ≡ Some readings → StandsFor machine.now past →
+        result ≡ next_tick_of plan.now (state plan.now past) (next_reading_of readings past) }
     ensures text { ForSome result (λ e. HasItsText plan.now e None) }
 {
     match machine.next_reading() {
@@ -163,8 +163,8 @@ fn next_tick(plan: &Plan, machine: &Machine) -> Option<Event>
 // The start or the tick that comes next where nothing is forced and nothing runs.
 fn start_or_tick(plan: &Plan, machine: &Machine) -> Option<Event>
     requires { plan_of machine.now ≡ plan.now }
-    ensures event { (readings : List Reading) (past : List Event) → readings_of machine.now ≡ Some readings → Stands machine.now past →
-        result ≡ option_or (first_start_of plan.now (standing plan.now past)) (next_tick_of plan.now (standing plan.now past) (next_reading_of readings past)) }
+    ensures event { (readings : List Reading) (past : List Event) → readings_of machine.now ≡ Some readings → StandsFor machine.now past →
+        result ≡ option_or (first_start_of plan.now (state plan.now past)) (next_tick_of plan.now (state plan.now past) (next_reading_of readings past)) }
     ensures text { ForSome result (λ e. HasItsText plan.now e None) }
 {
     match first_start(plan, machine) {
@@ -188,9 +188,9 @@ fn without_text(event: Event) -> Next
 #[tactic(auto, unfolding(conc_law::specs::Alone::choice, conc_law::specs::Alone::next_alone))]
 pub fn next_event(alloc: Global, plan: &Plan, machine: &Machine) -> Result<Option<Next>, NoMemory>
     requires { plan_of machine.now ≡ plan.now }
-    ensures event { IfOk result (λ next. (readings : List Reading) (past : List Event) → readings_of machine.now ≡ Some readings → Stands machine.now past →
+    ensures event { IfOk result (λ next. (readings : List Reading) (past : List Event) → readings_of machine.now ≡ Some readings → StandsFor machine.now past →
         option_map event_of next ≡ next_alone plan.now readings past) }
-    ensures text { IfOk result (λ next. (past : List Event) → Stands machine.now past → ForSome next (λ n. HasItsText plan.now n.event n.text)) }
+    ensures text { IfOk result (λ next. (past : List Event) → StandsFor machine.now past → ForSome next (λ n. HasItsText plan.now n.event n.text)) }
 {
     if let Some(e) = forced(plan, machine) {
         return Ok(Some(without_text(e)));

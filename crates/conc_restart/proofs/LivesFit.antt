@@ -11,9 +11,9 @@ use Rattle.conc_types.specs.declared.script.Reading.{Reading}
 use Rattle.conc_types.specs.declared.script.Readings.{Readings}
 use Rattle.conc_types.specs.Scripts.{are_in_order}
 use Rattle.conc_law.specs.Kinds.{is_resume}
-use Rattle.conc_law.specs.Law.{is_lawful, is_past, may_follow}
+use Rattle.conc_law.specs.Law.{is_lawful, is_lawful_so_far, may_follow}
 use Rattle.conc_law.specs.Remaining.{commands_left}
-use Rattle.conc_law.proofs.LawfulIsPast.{lawful_is_past}
+use Rattle.conc_law.proofs.LawfulSoFar.{lawful_is_lawful_so_far}
 use Rattle.conc_law.proofs.Positions.{reverse-push}
 use Rattle.conc_law.proofs.Remaining.{about_one, commands_left-kept, commands_left-less, readings_left, readings_left-kept, readings_left-less}
 use Rattle.conc_restart.proofs.RequestsLeft.{all_below, all_grow, all_left, all_left-most, all_less}
@@ -27,7 +27,7 @@ abbrev life_left : Plan → List Reading → List Event → ℕ
 life_left plan readings past = all_left plan past + 2 * commands_left plan past + readings_left readings past
 
 -- each event but a resume lowers it
-life_less : (plan : Plan) (readings : List Reading) (past : List Event) (e : Event) → is_past plan past ≡ true
+life_less : (plan : Plan) (readings : List Reading) (past : List Event) (e : Event) → is_lawful_so_far plan past ≡ true
     → may_follow plan (Some readings) past e ≡ true → is_resume e ≡ false → life_left plan readings (e ∷ past) < life_left plan readings past
 life_less plan readings past (event.Tick t) lawful m n =
     omega (
@@ -61,11 +61,11 @@ unfolding is_lawful
 many_less plan readings [] past order lawful none = omega arith
 many_less plan readings (e ∷ later) past order lawful none =
     let before = later ++ past in
-    let p : ((if is_resume e then is_past plan before else is_lawful plan readings before) ≡ true) × (may_follow plan (Some readings) before e ≡ true) = and_parts _ _ lawful in
+    let p : ((if is_resume e then is_lawful_so_far plan before else is_lawful plan readings before) ≡ true) × (may_follow plan (Some readings) before e ≡ true) = and_parts _ _ lawful in
     let n : (is_resume e ≡ false) × (list_any is_resume later ≡ false) = or_parts _ _ none in
-    let known : is_lawful plan readings before ≡ true = sym (cond-false (is_resume e) (is_past plan before) (is_lawful plan readings before) n.0) ∙ p.0 in
+    let known : is_lawful plan readings before ≡ true = sym (cond-false (is_resume e) (is_lawful_so_far plan before) (is_lawful plan readings before) n.0) ∙ p.0 in
     let less : life_left plan readings (e ∷ before) < life_left plan readings before =
-    life_less plan readings before e (lawful_is_past plan readings before order known) p.1 n.0 in
+    life_less plan readings before e (lawful_is_lawful_so_far plan readings before order known) p.1 n.0 in
     omega (arith, less, many_less plan readings later past order known n.1)
 
 -- no life has more than this left

@@ -10,18 +10,18 @@ use Rattle.conc_types.specs.declared.plan.Plan.{Plan}
 use Rattle.conc_types.specs.declared.plan.Req.{Req}
 use Rattle.conc_types.specs.declared.script.Reading.{Reading}
 use Rattle.conc_law.specs.Facts.{current_stage, facts_of, is_let, is_open, runs}
-use Rattle.conc_law.specs.Law.{is_past, may_follow}
+use Rattle.conc_law.specs.Law.{is_lawful_so_far, may_follow}
 use Rattle.conc_law.specs.Next.{may_let}
 use Rattle.conc_law.specs.Plans.{stages_of}
 use Rattle.conc_law.specs.Remaining.{events_left}
 use Rattle.conc_law.specs.Stages.{set_step}
-use Rattle.conc_law.specs.Standing.{facts_at, is_completed, is_running, standing}
+use Rattle.conc_law.specs.State.{facts_at, is_completed, is_running, state}
 use Rattle.conc_law.specs.Words.{Has, is_set}
 use Rattle.conc_law.proofs.Comes.{close_comes, same_request, stage_comes}
 use Rattle.conc_law.proofs.Completed.{closed_set, let_no_set, opened_open}
 use Rattle.conc_law.proofs.Due.{IsStepped, stage_stepped}
 use Rattle.conc_law.proofs.EqualEvents.{eqb-refl, id_same}
-use Rattle.conc_law.proofs.FactsAt.{facts_at-standing}
+use Rattle.conc_law.proofs.FactsAt.{facts_at-state}
 use Rattle.conc_law.proofs.Links.{set_step-later}
 use Rattle.conc_law.proofs.LiveApart.{let_could, open_could}
 use Rattle.conc_law.proofs.OpenSets.{open_not_completed, open_set}
@@ -68,7 +68,7 @@ own_left-most plan past r = elim (cases_Bool (is_set r.item)) [
 -- ---- sets
 
 -- what an open set has left
-open_left : (plan : Plan) (past : List Event) (r : Req) → Has plan.requests r → is_past plan past ≡ true → is_open past r ≡ true
+open_left : (plan : Plan) (past : List Event) (r : Req) → Has plan.requests r → is_lawful_so_far plan past ≡ true → is_open past r ≡ true
     → own_left plan past r ≡ 1 + (1 + length (stages_of plan r) - unwrap_or (facts_of plan past r).stage 0)
 open_left plan past r hr lawful h =
     own_left-set plan past r (open_set past r h)
@@ -90,10 +90,10 @@ unfolding is_open
 open-open past r set = and_from _ _ set (or_left _ _ (eqb-refl r.number.number))
 
 -- an opening lowers what is left of its set
-open_less : (plan : Plan) (readings : Option (List Reading)) (past : List Event) (r : Req) → Has plan.requests r → is_past plan past ≡ true
+open_less : (plan : Plan) (readings : Option (List Reading)) (past : List Event) (r : Req) → Has plan.requests r → is_lawful_so_far plan past ≡ true
     → may_follow plan readings past (event.OpenSet r.number) ≡ true → own_left plan (event.OpenSet r.number ∷ past) r < own_left plan past r
 open_less plan readings past r hr lawful m =
-    let could : (may_let plan (standing plan past) r ≡ true) × (is_set r.item ≡ true) = open_could plan readings past r hr m in
+    let could : (may_let plan (state plan past) r ≡ true) × (is_set r.item ≡ true) = open_could plan readings past r hr m in
     let dead : (is_let plan past r ≡ false) × (is_open past r ≡ false) = could_not_live plan past r hr could.0 in
     omega (
       arith,
@@ -114,23 +114,23 @@ unfolding facts_of current_stage
 stage-current plan past r k = rw (eqb-refl r.number.number) refl
 
 -- a stage lowers what is left of its set
-stage_less : (plan : Plan) (readings : Option (List Reading)) (past : List Event) (r : Req) (k : ℕ) → Has plan.requests r → is_past plan past ≡ true
+stage_less : (plan : Plan) (readings : Option (List Reading)) (past : List Event) (r : Req) (k : ℕ) → Has plan.requests r → is_lawful_so_far plan past ≡ true
     → may_follow plan readings past (event.Stage r.number k) ≡ true → own_left plan (event.Stage r.number k ∷ past) r < own_left plan past r
 stage_less plan readings past r k hr lawful m =
-    let s = standing plan past in
+    let s = state plan past in
     let h : is_open past r ≡ true = opened_open plan past r hr (stage_comes plan readings past r.number k m) in
     let p : IsStepped plan s r.number k = stage_stepped plan readings past r.number k m in
     let same : p.req ≡ r = same_request plan p.req r p.element hr p.number in
     let step : set_step plan s r ≡ Some (event.Stage r.number k) = subst (λ z. set_step plan s z ≡ Some (event.Stage r.number k)) same p.step in
     let later : (unwrap_or (facts_at s r).stage 0 < k) × (k ≤ 64) = set_step-later plan s r r.number k step in
     let within : k ≤ 1 + length (stages_of plan r) = set_step-within plan s r r.number k step in
-    let current : unwrap_or (facts_at s r).stage 0 ≡ unwrap_or (facts_of plan past r).stage 0 = ap (λ f. unwrap_or f.stage 0) (facts_at-standing plan past r hr) in
+    let current : unwrap_or (facts_at s r).stage 0 ≡ unwrap_or (facts_of plan past r).stage 0 = ap (λ f. unwrap_or f.stage 0) (facts_at-state plan past r hr) in
     let next = event.Stage r.number k ∷ past in
     let now : unwrap_or (facts_of plan next r).stage 0 ≡ k = ap (λ o. unwrap_or o 0) (stage-current plan past r k) in
     omega (arith, later.0, within, current, now, open_left plan past r hr lawful h, open_left-le plan next r (stage-open past r k ∙ h))
 
 -- a close lowers what is left of its set
-close_less : (plan : Plan) (readings : Option (List Reading)) (past : List Event) (r : Req) (o : Outcome) → Has plan.requests r → is_past plan past ≡ true
+close_less : (plan : Plan) (readings : Option (List Reading)) (past : List Event) (r : Req) (o : Outcome) → Has plan.requests r → is_lawful_so_far plan past ≡ true
     → may_follow plan readings past (event.CloseSet r.number o) ≡ true → own_left plan (event.CloseSet r.number o ∷ past) r < own_left plan past r
 close_less plan readings past r o hr lawful m =
     let h : is_open past r ≡ true = opened_open plan past r hr (close_comes plan readings past r.number o m) in
@@ -150,13 +150,13 @@ program_less : (plan : Plan) (past next : List Event) (r : Req) → is_set r.ite
 program_less plan past next r set less = omega (arith, own_left-program plan past r set, own_left-program plan next r set, less)
 
 -- a request that runs is of a program
-runs_program : (plan : Plan) (past : List Event) (r : Req) → Has plan.requests r → is_past plan past ≡ true → runs past r.number ≡ true → is_set r.item ≡ false
+runs_program : (plan : Plan) (past : List Event) (r : Req) → Has plan.requests r → is_lawful_so_far plan past ≡ true → runs past r.number ≡ true → is_set r.item ≡ false
 runs_program plan past r hr lawful h = let_no_set plan past r hr lawful (runs_let plan past r hr lawful h)
 
 -- ---- the request that an event is about
 
 -- it has fewer events left
-pub about_less : (plan : Plan) (readings : Option (List Reading)) (past : List Event) (r : Req) (e : Event) → Has plan.requests r → is_past plan past ≡ true
+pub about_less : (plan : Plan) (readings : Option (List Reading)) (past : List Event) (r : Req) (e : Event) → Has plan.requests r → is_lawful_so_far plan past ≡ true
     → may_follow plan readings past e ≡ true → is_about r.number e ≡ true → own_left plan (e ∷ past) r < own_left plan past r
 about_less plan readings past r (event.OpenSet s) hr lawful m h =
     subst (λ z. may_follow plan readings past (event.OpenSet z) ≡ true → own_left plan (event.OpenSet z ∷ past) r < own_left plan past r) (sym (id_same s r.number h)) (open_less plan readings past r hr lawful) m

@@ -13,7 +13,7 @@ use Rattle.conc_types.specs.declared.script.Reading.{Reading}
 use Rattle.conc_types.specs.Words.{some_and}
 use Rattle.conc_law.specs.Facts.{cancels, facts_of, holds, is_let, unlets}
 use Rattle.conc_law.specs.Kinds.{act_of, is_cancel, is_hold, is_resume}
-use Rattle.conc_law.specs.Law.{is_past, may_follow}
+use Rattle.conc_law.specs.Law.{is_lawful_so_far, may_follow}
 use Rattle.conc_law.specs.Plans.{stages_of}
 use Rattle.conc_law.specs.Words.{Has, is_set}
 use Rattle.conc_law.proofs.Others.{command_lets_not, does, is_about, others_kept, others_let}
@@ -49,7 +49,7 @@ kept_below plan past r e kept l = elim (cases_Bool (is_set r.item)) [
 ]
 
 -- an event keeps or lowers what is left of each request, unless it does a command
-each_below : (plan : Plan) (readings : Option (List Reading)) (past : List Event) (r : Req) (e : Event) → Has plan.requests r → is_past plan past ≡ true
+each_below : (plan : Plan) (readings : Option (List Reading)) (past : List Event) (r : Req) (e : Event) → Has plan.requests r → is_lawful_so_far plan past ≡ true
     → may_follow plan readings past e ≡ true → is_resume e ≡ false → does e ≡ false → own_left plan (e ∷ past) r ≤ own_left plan past r
 each_below plan readings past r e hr lawful m n d = elim (cases_Bool (is_about r.number e)) [
   | inl h ↦ omega (arith, about_less plan readings past r e hr lawful m h)
@@ -122,13 +122,13 @@ abbrev pub all_left : Plan → List Event → ℕ
 all_left plan past = sum_by (own_left plan past) plan.requests
 
 -- no event raises it, unless it does a command
-pub all_below : (plan : Plan) (readings : Option (List Reading)) (past : List Event) (e : Event) → is_past plan past ≡ true
+pub all_below : (plan : Plan) (readings : Option (List Reading)) (past : List Event) (e : Event) → is_lawful_so_far plan past ≡ true
     → may_follow plan readings past e ≡ true → is_resume e ≡ false → does e ≡ false → all_left plan (e ∷ past) ≤ all_left plan past
 all_below plan readings past e lawful m n d =
     sum_by-below (own_left plan (e ∷ past)) (own_left plan past) plan.requests (λ r hr. each_below plan readings past r e hr lawful m n d)
 
 -- an event about a request lowers it
-pub all_less : (plan : Plan) (readings : Option (List Reading)) (past : List Event) (e : Event) → is_past plan past ≡ true
+pub all_less : (plan : Plan) (readings : Option (List Reading)) (past : List Event) (e : Event) → is_lawful_so_far plan past ≡ true
     → may_follow plan readings past e ≡ true → is_resume e ≡ false → does e ≡ false → IsAboutOne plan e → all_left plan (e ∷ past) < all_left plan past
 all_less plan readings past e lawful m n d p =
     sum_by-less (own_left plan (e ∷ past)) (own_left plan past) plan.requests p.0 p.1 (about_less plan readings past p.0 e p.1 lawful m p.2)

@@ -4,10 +4,10 @@ use Rattle.std.specs.List.{enumerate_from}
 use Rattle.conc_types.specs.declared.event.Event.{Event}
 use Rattle.conc_types.specs.declared.plan.Plan.{Plan}
 use Rattle.conc_types.specs.declared.script.Reading.{Reading}
-use Rattle.conc_law.specs.Past.{earlier_lives}
+use Rattle.conc_law.specs.Before.{earlier_lives}
 use Rattle.conc_law.specs.Readings.{life_readings}
 use Rattle.conc_law.specs.Remaining.{commands_left}
-use Rattle.conc_law.specs.Standing.{is_done, is_not_earlier, now}
+use Rattle.conc_law.specs.State.{is_done, is_not_earlier, now}
 use Rattle.conc_law.proofs.Remaining.{readings_left}
 use Rattle.conc_law.proofs.Sums.{filter-within}
 

@@ -3,7 +3,7 @@ use Rattle.std.specs.Prelude.{◌≡◌, ℕ, ◌-◌, List, None, Some, IsFalse
 use Rattle.conc_types.specs.declared.event.Event.{Event}
 use Rattle.conc_types.specs.declared.plan.Plan.{Plan}
 use Rattle.conc_types.specs.Words.{numbered}
-use Rattle.conc_law.specs.Law.{may_follow, Past}
+use Rattle.conc_law.specs.Law.{may_follow, LawfulSoFar}
 use Rattle.conc_types.specs.declared.error.CheckFail.{CheckFail}
 use Rattle.conc_types.specs.declared.error.CheckFail.TheVariants as fail
 
@@ -12,7 +12,7 @@ use Rattle.conc_types.specs.declared.error.CheckFail.TheVariants as fail
 pub record IsFirstUnlawful (plan : Plan) (events : List Event) (position : ℕ) : Type 0 where
   pub bad : Event
   pub there : numbered events position ≡ Some bad
-  pub before : Past plan (take (position - 1) events)
+  pub before : LawfulSoFar plan (take (position - 1) events)
   pub refused : IsFalse (may_follow plan None (reverse (take (position - 1) events)) bad)
 
 -- the failure names that position, or there is no memory

@@ -1,6 +1,6 @@
 ghost use Rattle.std.specs.Prelude.{◌≡◌, IfErr, IfOk, None, reverse};
-ghost use Rattle.conc_law.specs.Law.{Past};
-ghost use Rattle.conc_machine.specs.Stands.{plan_of, readings_of, Stands};
+ghost use Rattle.conc_law.specs.Law.{LawfulSoFar};
+ghost use Rattle.conc_machine.specs.StandsFor.{plan_of, readings_of, StandsFor};
 ghost use Rattle.conc_types.specs.declared.error.CheckFail.TheVariants as fail;
 ghost use Rattle.conc_restart.specs.FirstBad.{IsListRefused};
 
@@ -14,12 +14,12 @@ use std::alloc::Global;
 pub fn resume<'p>(alloc: Global, plan: &'p Plan, events: &[Event]) -> Result<Machine<'p>, CheckFail>
     ensures plan { IfOk result (λ machine. plan_of machine ≡ plan.now) }
     ensures unknown { IfOk result (λ machine. readings_of machine ≡ None) }
-    ensures stands { IfOk result (λ machine. Stands machine (reverse events.now)) }
-    ensures past { IfOk result (λ machine. Past plan.now events.now) }
+    ensures stands { IfOk result (λ machine. StandsFor machine (reverse events.now)) }
+    ensures lawful_so_far { IfOk result (λ machine. LawfulSoFar plan.now events.now) }
 
     ensures unlawful { IfErr result (IsListRefused plan.now events.now) }
     // A list whose events may all follow is refused only for want of memory.
-    ensures lawful { Past plan.now events.now → IfErr result (λ e. e ≡ fail.NoMemory) }
+    ensures lawful { LawfulSoFar plan.now events.now → IfErr result (λ e. e ≡ fail.NoMemory) }
 {
     let mut machine = Machine::new(alloc, plan)?;
     for (place, event) in events.iter().enumerate() {

@@ -11,7 +11,7 @@ use Rattle.conc_types.specs.declared.event.RequestId.{RequestId}
 use Rattle.conc_types.specs.declared.plan.Plan.{Plan}
 use Rattle.conc_law.specs.Alone.{opening}
 use Rattle.conc_law.specs.Kinds.{extent_length}
-use Rattle.conc_law.specs.Standing.{used}
+use Rattle.conc_law.specs.State.{used}
 use Rattle.conc_law.proofs.Positions.{reverse-push}
 use Rattle.conc_run_state.specs.Lists.{IsPrefix}
 use Rattle.conc_run_state.specs.Told.{AreTold}

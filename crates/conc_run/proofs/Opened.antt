@@ -7,15 +7,15 @@ use Rattle.conc_disk.specs.Left.{LeavesOnly}
 use Rattle.conc_disk.proofs.Leaving.{if_some-any, leaves-wider}
 use Rattle.conc_journal.specs.Opens.{events_of}
 use Rattle.conc_law.specs.Alone.{opening}
-use Rattle.conc_law.specs.Law.{Lawful, Past}
+use Rattle.conc_law.specs.Law.{Lawful, LawfulSoFar}
 use Rattle.conc_law.proofs.AloneHistory.{opening-lawful}
-use Rattle.conc_run_open.specs.Opening.{IsStopped}
+use Rattle.conc_run_open.specs.Opening.{IsGivenUp}
 use Rattle.conc_run_state.specs.Causes.{HasCause, is_journal_fault, is_refusal}
 use Rattle.conc_run_state.specs.Handed.{Handed, IsUntouched}
 use Rattle.conc_run_state.specs.Lists.{GoesOn}
-use Rattle.conc_run_state.specs.declared.fail.Stopped.{Stopped}
-use Rattle.conc_run_state.specs.declared.fail.Stopped.TheVariants as stopped
-use Rattle.conc_run_state.specs.declared.fail.Which.TheVariants as which
+use Rattle.conc_run_state.specs.declared.fail.HistoryFail.{HistoryFail}
+use Rattle.conc_run_state.specs.declared.fail.HistoryFail.TheVariants as history_fail
+use Rattle.conc_run_state.specs.declared.fail.DiskName.TheVariants as which
 use Rattle.conc_run.specs.Whole.{HasBetween, HasLeft, IsCutShort, KeepsTexts}
 use Rattle.conc_run_state.proofs.Prefixes.{prefix-self}
 use Rattle.conc_run.proofs.Lists.{opening-adds, told-opening}
@@ -52,9 +52,9 @@ stands-still h list = record {
 }
 
 -- the journal may have been written
-left-opening : (h : Handed) (s : IsStopped h) → ((list : List Event) → Lawful h.plan h.readings list → Past h.plan list) → LeavesOnly h.spool_before.may_leave h.spool_before h.spool_after
+left-opening : (h : Handed) (s : IsGivenUp h) → ((list : List Event) → Lawful h.plan h.readings list → LawfulSoFar h.plan list) → LeavesOnly h.spool_before.may_leave h.spool_before h.spool_after
     → HasLeft h s.found s.found (opening s.found)
-left-opening h s to_past survives = record {
+left-opening h s to_so_far survives = record {
   events = s.taken.is_found.events;
   begins = prefix-self s.found;
   goes_on = inr (stands-still h (opening s.found));
@@ -63,7 +63,7 @@ left-opening h s to_past survives = record {
   spool = leaves-wider h.spool_before.may_leave (KeepsTexts h s.found) h.spool_before h.spool_after survives (if_some-any h.spool_before.seen (λ bytes image left. inl left));
   now = inr (record {
     taken = s.taken;
-    past = to_past (opening s.found) (opening-lawful h.plan h.readings s.found s.taken.is_found.past);
+    so_far = to_so_far (opening s.found) (opening-lawful h.plan h.readings s.found s.taken.is_found.so_far);
     journal = s.journal;
     spool = s.spool;
     told = λ from told. IfSome_then h.spool_after.seen (s.told from told) (λ bytes each image left. told-opening h.plan from s.found image (each image left));
@@ -71,17 +71,17 @@ left-opening h s to_past survives = record {
 }
 
 -- no refusal comes while the journal is written
-refused-before : (e : Stopped) → IsTrue (is_refusal e) → IsFalse (is_journal_fault e)
-refused-before stopped.NotJournal is = refl
-refused-before (stopped.OtherInput found) is = refl
-refused-before (stopped.Unlawful number) is = refl
-refused-before (stopped.JournalFull len needed) is = refl
-refused-before (stopped.DiskFault which.Spool) is = refl
-refused-before (stopped.DiskFault which.Journal) is = cc is
-refused-before stopped.NoMemory is = refl
+refused-before : (e : HistoryFail) → IsTrue (is_refusal e) → IsFalse (is_journal_fault e)
+refused-before history_fail.NotJournal is = refl
+refused-before (history_fail.OtherInput found) is = refl
+refused-before (history_fail.Unlawful number) is = refl
+refused-before (history_fail.JournalFull len needed) is = refl
+refused-before (history_fail.DiskFault which.Spool) is = refl
+refused-before (history_fail.DiskFault which.Journal) is = cc is
+refused-before history_fail.NoMemory is = refl
 
 -- where nothing was written
-pub cut-untouched : (h : Handed) (e : Stopped) → HasCause h e → IsUntouched h → IsCutShort h e
+pub cut-untouched : (h : Handed) (e : HistoryFail) → HasCause h e → IsUntouched h → IsCutShort h e
 cut-untouched h e cause is =
     let found : List Event = found-in h.journal_before.seen in
     record {
@@ -95,23 +95,23 @@ cut-untouched h e cause is =
     }
 
 -- the journal's disk failed while the life was begun
-cut-stopped : (h : Handed) (e : Stopped) → HasCause h e → is_journal_fault e ≡ true → (IsFalse (is_journal_fault e) → IsUntouched h) → IsStopped h → ((list : List Event) → Lawful h.plan h.readings list → Past h.plan list)
+cut-stopped : (h : Handed) (e : HistoryFail) → HasCause h e → is_journal_fault e ≡ true → (IsFalse (is_journal_fault e) → IsUntouched h) → IsGivenUp h → ((list : List Event) → Lawful h.plan h.readings list → LawfulSoFar h.plan list)
     → LeavesOnly h.spool_before.may_leave h.spool_before h.spool_after → IsCutShort h e
-cut-stopped h e cause fault quiet s to_past survives = record {
+cut-stopped h e cause fault quiet s to_so_far survives = record {
   cause = cause;
   untouched = λ refusal. quiet (refused-before e refusal);
   found = s.found;
   kept = s.found;
   last = opening s.found;
-  left = left-opening h s to_past survives;
+  left = left-opening h s to_so_far survives;
   whole = λ none. let two : true ≡ false = sym fault ∙ none in absurd (cc);
 }
 
 -- the beginning of a life was stopped
-pub cut-opening : (h : Handed) (e : Stopped) → HasCause h e → (IsFalse (is_journal_fault e) → IsUntouched h) → IsUntouched h ⊎ IsStopped h → ((list : List Event) → Lawful h.plan h.readings list → Past h.plan list)
+pub cut-opening : (h : Handed) (e : HistoryFail) → HasCause h e → (IsFalse (is_journal_fault e) → IsUntouched h) → IsUntouched h ⊎ IsGivenUp h → ((list : List Event) → Lawful h.plan h.readings list → LawfulSoFar h.plan list)
     → LeavesOnly h.spool_before.may_leave h.spool_before h.spool_after → IsCutShort h e
-cut-opening h e cause quiet (inl is) to_past survives = cut-untouched h e cause is
-cut-opening h e cause quiet (inr s) to_past survives = elim (cases_Bool (is_journal_fault e)) [
-  | inl fault ↦ cut-stopped h e cause fault quiet s to_past survives
+cut-opening h e cause quiet (inl is) to_so_far survives = cut-untouched h e cause is
+cut-opening h e cause quiet (inr s) to_so_far survives = elim (cases_Bool (is_journal_fault e)) [
+  | inl fault ↦ cut-stopped h e cause fault quiet s to_so_far survives
   | inr none ↦ cut-untouched h e cause (quiet none)
 ]

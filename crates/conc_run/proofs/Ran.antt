@@ -8,8 +8,8 @@ use Rattle.conc_journal.specs.Journals.{FitsStage, stage_of}
 use Rattle.conc_journal.specs.Stages.{stage_digest}
 use Rattle.conc_journal.specs.declared.journal.Stage.{Stage}
 use Rattle.conc_law.specs.Alone.{Alone, opening}
-use Rattle.conc_law.specs.Law.{Finished, Lawful, Past}
-use Rattle.conc_law.specs.Standing.{used}
+use Rattle.conc_law.specs.Law.{Finished, Lawful, LawfulSoFar}
+use Rattle.conc_law.specs.State.{used}
 use Rattle.conc_run_open.specs.Opening.{IsBegun}
 use Rattle.conc_run_state.specs.Causes.{HasCause, is_journal_fault, is_refusal}
 use Rattle.conc_run_state.specs.Disks.{disks}
@@ -20,7 +20,7 @@ use Rattle.conc_run_state.specs.Lists.{GoesOn, IsPrefix}
 use Rattle.conc_run_state.specs.Survival.{Survives}
 use Rattle.conc_run_state.specs.Told.{AreTold}
 use Rattle.conc_run_state.specs.Works.{list_in, longest_in, with_kept}
-use Rattle.conc_run_state.specs.declared.fail.Stopped.{Stopped}
+use Rattle.conc_run_state.specs.declared.fail.HistoryFail.{HistoryFail}
 use Rattle.conc_run_state.specs.declared.work.Work.{Work}
 use Rattle.conc_run.specs.Whole.{HasLeft, HasNow, IsCutShort, IsFinished}
 use Rattle.conc_run_state.proofs.Prefixes.{prefix-twice}
@@ -63,20 +63,20 @@ module _ (h : Handed) (journal spool : DiskState) (old new : Work) (begun : IsBe
   still-taken : IsTaken h begun.found
   still-taken =
       let is = begun.taken.is_found in
-      record { is_found = record { past = is.past; own = is.own; whole = is.whole; events = is.events; within = is.within }; room = begun.taken.room }
+      record { is_found = record { so_far = is.so_far; own = is.own; whole = is.whole; events = is.events; within = is.within }; room = begun.taken.room }
 
-  has-now : ((list : List Event) → Lawful h.plan h.readings list → Past h.plan list) → Stays h.spool_before spool → HasNow h begun.found (list_in new) (longest_in new)
-  has-now to_past stays = record {
+  has-now : ((list : List Event) → Lawful h.plan h.readings list → LawfulSoFar h.plan list) → Stays h.spool_before spool → HasNow h begun.found (list_in new) (longest_in new)
+  has-now to_so_far stays = record {
     taken = still-taken;
-    past = to_past (longest_in new) went.lawful;
+    so_far = to_so_far (longest_in new) went.lawful;
     journal = IfSome_then h.journal_after.seen went.tied.journal_on (λ bytes each image left. fits-survives (stage_of new.journal) h.digest (list_in new) image went.tied.takes own-digest (each image left));
     spool = spool-now (used (reverse begun.found)) (used_of new.spool) h.spool_before spool h.spool_after (omega (arith, used-found, used-grows)) stays (subst (λ (n : ℕ). SeenFollows (Agrees n) spool h.spool_after) used-found went.spool_now) went.tied.spool_on;
     told = told-longest;
   }
 
-  pub left-run : ((list : List Event) → Lawful h.plan h.readings list → Past h.plan list) → Stays h.spool_before spool → LeavesOnly h.spool_before.may_leave h.spool_before spool
+  pub left-run : ((list : List Event) → Lawful h.plan h.readings list → LawfulSoFar h.plan list) → Stays h.spool_before spool → LeavesOnly h.spool_before.may_leave h.spool_before spool
       → HasLeft h begun.found (list_in new) (longest_in new)
-  left-run to_past stays survives = record {
+  left-run to_so_far stays survives = record {
     events = begun.taken.is_found.events;
     begins = prefix-kept begun.found (list_in new) (longest_in new) begins went.acknowledged;
     goes_on = inr goes-on;
@@ -84,7 +84,7 @@ module _ (h : Handed) (journal spool : DiskState) (old new : Work) (begun : IsBe
     journal = journal-left h.digest begun.found (longest_in new) h.journal_before journal h.journal_after begins begun.left
         (subst (λ (l : List Event). LeavesOnly (Survives h.digest l (longest_in new)) journal h.journal_after) begun.list (went.journal h.digest begun.stage));
     spool = subst (λ (n : ℕ). LeavesOnly (Keeps h.spool_before n) h.spool_before h.spool_after) used-found (spool-left (used_of old.spool) h.spool_before spool h.spool_after stays survives went.spool);
-    now = inr (has-now to_past stays);
+    now = inr (has-now to_so_far stays);
   }
 
   -- no append met a fault
@@ -96,26 +96,26 @@ module _ (h : Handed) (journal spool : DiskState) (old new : Work) (begun : IsBe
       let going = subst (λ (l : List Event). GoesOn h.plan h.readings (opening begun.found) l) (longest-kept same) goes-on in
       record { begins = (going.added, going.all); each = going.each; finished = finished }
 
-  pub finished-run : ((list : List Event) → Lawful h.plan h.readings list → Past h.plan list) → Stays h.spool_before spool → LeavesOnly h.spool_before.may_leave h.spool_before spool → stage_of new.journal ≡ stage_of old.journal
+  pub finished-run : ((list : List Event) → Lawful h.plan h.readings list → LawfulSoFar h.plan list) → Stays h.spool_before spool → LeavesOnly h.spool_before.may_leave h.spool_before spool → stage_of new.journal ≡ stage_of old.journal
       → Finished h.plan h.readings (list_in new) → IsFinished h (list_in new)
-  finished-run to_past stays survives same finished = record {
+  finished-run to_so_far stays survives same finished = record {
     found = begun.found;
     taken = still-taken;
     alone = alone same finished;
     journal = subst (λ (s : Stage). EachImage (FitsStage s (list_in new)) h.journal_after) (same ∙ begun.stage) went.tied.journal_on;
     told = λ from told. subst (λ (l : List Event). EachImage (AreTold h.plan from l) h.spool_after) (longest-kept same) (told-longest from told);
-    left = subst (λ (l : List Event). HasLeft h begun.found (list_in new) l) (longest-kept same) (left-run to_past stays survives);
+    left = subst (λ (l : List Event). HasLeft h begun.found (list_in new) l) (longest-kept same) (left-run to_so_far stays survives);
   }
 
   -- the run ended before its history was finished
-  pub cut-run : (e : Stopped) → HasCause h e → (IsTrue (is_refusal e) → IsUntouched h) → (IsFalse (is_journal_fault e) → stage_of new.journal ≡ stage_of old.journal)
-      → ((list : List Event) → Lawful h.plan h.readings list → Past h.plan list) → Stays h.spool_before spool → LeavesOnly h.spool_before.may_leave h.spool_before spool → IsCutShort h e
-  cut-run e cause untouched sound to_past stays survives = record {
+  pub cut-run : (e : HistoryFail) → HasCause h e → (IsTrue (is_refusal e) → IsUntouched h) → (IsFalse (is_journal_fault e) → stage_of new.journal ≡ stage_of old.journal)
+      → ((list : List Event) → Lawful h.plan h.readings list → LawfulSoFar h.plan list) → Stays h.spool_before spool → LeavesOnly h.spool_before.may_leave h.spool_before spool → IsCutShort h e
+  cut-run e cause untouched sound to_so_far stays survives = record {
     cause = cause;
     untouched = untouched;
     found = begun.found;
     kept = list_in new;
     last = longest_in new;
-    left = left-run to_past stays survives;
+    left = left-run to_so_far stays survives;
     whole = λ quiet. longest-kept (sound quiet);
   }

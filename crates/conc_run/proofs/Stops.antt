@@ -5,9 +5,9 @@ use Rattle.conc_run_state.specs.Causes.{Faulted, HasCause, is_refusal}
 use Rattle.conc_run_state.specs.Handed.{Handed, IsUntouched}
 use Rattle.conc_run_state.specs.declared.fail.RunFail.{RunFail}
 use Rattle.conc_run_state.specs.declared.fail.RunFail.TheVariants as run_fail
-use Rattle.conc_run_state.specs.declared.fail.Stopped.{Stopped}
-use Rattle.conc_run_state.specs.declared.fail.Stopped.TheVariants as stopped
-use Rattle.conc_run_state.specs.declared.fail.Which.TheVariants as which
+use Rattle.conc_run_state.specs.declared.fail.HistoryFail.{HistoryFail}
+use Rattle.conc_run_state.specs.declared.fail.HistoryFail.TheVariants as history_fail
+use Rattle.conc_run_state.specs.declared.fail.DiskName.TheVariants as which
 
 -- a count that rose after it did not fall rose
 pub rose-since : (before mid after : ℕ) → before ≤ mid → Rose mid after → Rose before after
@@ -15,17 +15,17 @@ rose-since before mid after le (inl less) = inl (omega arith)
 rose-since before mid after le (inr most) = inr most
 
 -- each failure of a run has its cause
-pub stop-cause : (h : Handed) (fail : RunFail) (stop : Stopped)
-    → (fail ≡ run_fail.JournalFault → stop ≡ stopped.DiskFault which.Journal) → (fail ≡ run_fail.SpoolFault → stop ≡ stopped.DiskFault which.Spool) → (fail ≡ run_fail.NoMemory → stop ≡ stopped.NoMemory)
+pub stop-cause : (h : Handed) (fail : RunFail) (stop : HistoryFail)
+    → (fail ≡ run_fail.JournalFault → stop ≡ history_fail.DiskFault which.Journal) → (fail ≡ run_fail.SpoolFault → stop ≡ history_fail.DiskFault which.Spool) → (fail ≡ run_fail.NoMemory → stop ≡ history_fail.NoMemory)
     → (fail ≡ run_fail.JournalFault → Faulted h which.Journal) → (fail ≡ run_fail.SpoolFault → Faulted h which.Spool) → HasCause h stop
-stop-cause h run_fail.JournalFault stop journal spool memory at_journal at_spool = subst (λ (s : Stopped). HasCause h s) (sym (journal refl)) (at_journal refl)
-stop-cause h run_fail.SpoolFault stop journal spool memory at_journal at_spool = subst (λ (s : Stopped). HasCause h s) (sym (spool refl)) (at_spool refl)
-stop-cause h run_fail.NoMemory stop journal spool memory at_journal at_spool = subst (λ (s : Stopped). HasCause h s) (sym (memory refl)) tt
+stop-cause h run_fail.JournalFault stop journal spool memory at_journal at_spool = subst (λ (s : HistoryFail). HasCause h s) (sym (journal refl)) (at_journal refl)
+stop-cause h run_fail.SpoolFault stop journal spool memory at_journal at_spool = subst (λ (s : HistoryFail). HasCause h s) (sym (spool refl)) (at_spool refl)
+stop-cause h run_fail.NoMemory stop journal spool memory at_journal at_spool = subst (λ (s : HistoryFail). HasCause h s) (sym (memory refl)) tt
 
 -- and is no refusal
-pub stop-late : (h : Handed) (fail : RunFail) (stop : Stopped)
-    → (fail ≡ run_fail.JournalFault → stop ≡ stopped.DiskFault which.Journal) → (fail ≡ run_fail.SpoolFault → stop ≡ stopped.DiskFault which.Spool) → (fail ≡ run_fail.NoMemory → stop ≡ stopped.NoMemory)
+pub stop-late : (h : Handed) (fail : RunFail) (stop : HistoryFail)
+    → (fail ≡ run_fail.JournalFault → stop ≡ history_fail.DiskFault which.Journal) → (fail ≡ run_fail.SpoolFault → stop ≡ history_fail.DiskFault which.Spool) → (fail ≡ run_fail.NoMemory → stop ≡ history_fail.NoMemory)
     → IsTrue (is_refusal stop) → IsUntouched h
-stop-late h run_fail.JournalFault stop journal spool memory refusal = let two : false ≡ true = sym (ap (λ (s : Stopped). is_refusal s) (journal refl)) ∙ refusal in absurd (cc)
-stop-late h run_fail.SpoolFault stop journal spool memory refusal = let two : false ≡ true = sym (ap (λ (s : Stopped). is_refusal s) (spool refl)) ∙ refusal in absurd (cc)
-stop-late h run_fail.NoMemory stop journal spool memory refusal = let two : false ≡ true = sym (ap (λ (s : Stopped). is_refusal s) (memory refl)) ∙ refusal in absurd (cc)
+stop-late h run_fail.JournalFault stop journal spool memory refusal = let two : false ≡ true = sym (ap (λ (s : HistoryFail). is_refusal s) (journal refl)) ∙ refusal in absurd (cc)
+stop-late h run_fail.SpoolFault stop journal spool memory refusal = let two : false ≡ true = sym (ap (λ (s : HistoryFail). is_refusal s) (spool refl)) ∙ refusal in absurd (cc)
+stop-late h run_fail.NoMemory stop journal spool memory refusal = let two : false ≡ true = sym (ap (λ (s : HistoryFail). is_refusal s) (memory refl)) ∙ refusal in absurd (cc)

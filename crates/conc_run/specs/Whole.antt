@@ -2,8 +2,8 @@
 use Rattle.std.specs.Prelude.{◌≡◌, ◌⊎◌, ℕ, ◌∷◌, [], ◌++◌, List, reverse, IfSome, IsFalse, IsTrue}
 use Rattle.conc_types.specs.declared.event.Event.{Event}
 use Rattle.conc_law.specs.Alone.{Alone, opening}
-use Rattle.conc_law.specs.Law.{Past}
-use Rattle.conc_law.specs.Standing.{used}
+use Rattle.conc_law.specs.Law.{LawfulSoFar}
+use Rattle.conc_law.specs.State.{used}
 use Rattle.conc_disk.specs.Left.{EachImage, LeavesOnly}
 use Rattle.conc_journal_image.specs.Image.{IsJournal}
 use Rattle.conc_journal.specs.Opens.{events_of}
@@ -13,7 +13,7 @@ use Rattle.conc_run_state.specs.Handed.{Handed, IsTaken, IsUntouched}
 use Rattle.conc_run_state.specs.Lists.{GoesOn, IsPrefix}
 use Rattle.conc_run_state.specs.Survival.{Survives}
 use Rattle.conc_run_state.specs.Told.{AreTold}
-use Rattle.conc_run_state.specs.declared.fail.Stopped.{Stopped}
+use Rattle.conc_run_state.specs.declared.fail.HistoryFail.{HistoryFail}
 
 -- ---- what is left
 
@@ -30,7 +30,7 @@ KeepsTexts h found image = h.spool_before.may_leave image ⊎ KeepsBelow (used (
 -- if the spool told those found.
 pub record HasNow (h : Handed) (found kept last : List Event) : Type 0 where
   pub taken : IsTaken h found
-  pub past : Past h.plan last
+  pub so_far : LawfulSoFar h.plan last
   pub journal : EachImage (Survives h.digest kept last) h.journal_after
   pub spool : EachImage (KeepsBelow (used (reverse found)) h.spool_before) h.spool_after
   pub told : (from : ℕ) → IfSome h.spool_before.seen (AreTold h.plan from found) → EachImage (AreTold h.plan from last) h.spool_after
@@ -62,7 +62,7 @@ pub record IsFinished (h : Handed) (list : List Event) : Type 0 where
 
 -- The run did not begin, or ended before its history was finished. Where it was refused nothing was written; and but for a fault of
 -- the journal's disk that disk has the list that was acknowledged.
-pub record IsCutShort (h : Handed) (s : Stopped) : Type 0 where
+pub record IsCutShort (h : Handed) (s : HistoryFail) : Type 0 where
   pub cause : HasCause h s
   pub untouched : IsTrue (is_refusal s) → IsUntouched h
   pub found : List Event

@@ -3,7 +3,7 @@ ghost use Rattle.std.specs.Prelude.{ℕ, IsFalse, List};
 ghost use Rattle.conc_types.specs.declared.event.Event.{Event};
 ghost use Rattle.conc_types.specs.declared.plan.Plan.{Plan};
 ghost use Rattle.conc_journal.specs.Opens.{broken_of, events_of, may_open};
-ghost use Rattle.conc_law.specs.Law.{Past};
+ghost use Rattle.conc_law.specs.Law.{LawfulSoFar};
 ghost use Rattle.conc_run_state.specs.Causes.{IsOther};
 ghost use Rattle.conc_run_state.specs.Handed.{IsOwnJournal};
 ghost use Rattle.conc_run_state.specs.Judging.{AreGood, EndWithin, IsBadRecord};
@@ -13,7 +13,7 @@ ghost use Rattle.conc_run_state.specs.Survival.{Survives};
 /// the extents: it is theirs, no record of it is broken, and its list is lawful.
 pub fn what_a_stop_leaves_is_good()
     ensures { (plan : Plan) (digest : List ℕ) (first last : List Event) (image : List ℕ) (len : ℕ) →
-        Past plan last → Survives digest first last image → EndWithin len (events_of image) →
+        LawfulSoFar plan last → Survives digest first last image → EndWithin len (events_of image) →
         IsOwnJournal digest image × AreGood plan len (events_of image) (broken_of image) }
 {}
 

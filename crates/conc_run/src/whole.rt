@@ -3,31 +3,31 @@ ghost use Rattle.conc_run_state.specs.Handed.{handed};
 ghost use Rattle.conc_run_state.specs.Works.{list_in};
 ghost use Rattle.conc_run.specs.Whole.{IsCutShort, IsFinished};
 ghost use Rattle.conc_run_state.specs.declared.fail.RunFail.TheVariants as run_fail;
-ghost use Rattle.conc_run_state.specs.declared.fail.Stopped.TheVariants as stopped;
-ghost use Rattle.conc_run_state.specs.declared.fail.Which.TheVariants as which;
+ghost use Rattle.conc_run_state.specs.declared.fail.HistoryFail.TheVariants as history_fail;
+ghost use Rattle.conc_run_state.specs.declared.fail.DiskName.TheVariants as which;
 
 use conc_disk::Disk;
-use conc_law::lawful_is_past;
+use conc_law::lawful_is_lawful_so_far;
 use conc_resolver::run_alone;
 use conc_run_open::open;
-use conc_run_state::{RunFail, Stopped, Which, Work};
+use conc_run_state::{RunFail, HistoryFail, DiskName, Work};
 use conc_types::{Plan, Readings};
 use std::alloc::Global;
 
 // The stop that tells why a run ended.
-fn stopped_by(fail: RunFail) -> Stopped
-    ensures journal { fail ≡ run_fail.JournalFault → result ≡ stopped.DiskFault which.Journal }
-    ensures spool { fail ≡ run_fail.SpoolFault → result ≡ stopped.DiskFault which.Spool }
-    ensures memory { fail ≡ run_fail.NoMemory → result ≡ stopped.NoMemory }
+fn history_fail_of(fail: RunFail) -> HistoryFail
+    ensures journal { fail ≡ run_fail.JournalFault → result ≡ history_fail.DiskFault which.Journal }
+    ensures spool { fail ≡ run_fail.SpoolFault → result ≡ history_fail.DiskFault which.Spool }
+    ensures memory { fail ≡ run_fail.NoMemory → result ≡ history_fail.NoMemory }
 {
     match fail {
-        RunFail::JournalFault => Stopped::DiskFault {
-            which: Which::Journal,
+        RunFail::JournalFault => HistoryFail::DiskFault {
+            which: DiskName::Journal,
         },
-        RunFail::SpoolFault => Stopped::DiskFault {
-            which: Which::Spool,
+        RunFail::SpoolFault => HistoryFail::DiskFault {
+            which: DiskName::Spool,
         },
-        RunFail::NoMemory => Stopped::NoMemory,
+        RunFail::NoMemory => HistoryFail::NoMemory,
     }
 }
 
@@ -42,14 +42,14 @@ pub fn run_plan<'p, D: Disk, E: Disk>(
     digest: &[u8; 32],
     journal: &mut D,
     spool: &mut E,
-) -> Result<Work<'p>, Stopped>
+) -> Result<Work<'p>, HistoryFail>
     ensures finished { IfOk result (λ work. IsFinished (handed plan.now readings.now digest.now (D.state journal.old) (D.state journal.new) (E.state spool.old) (E.state spool.new)) (list_in work)) }
     ensures cut_short { IfErr result (IsCutShort (handed plan.now readings.now digest.now (D.state journal.old) (D.state journal.new) (E.state spool.old) (E.state spool.new))) }
 {
-    lawful_is_past();
+    lawful_is_lawful_so_far();
     let mut work = open(alloc, plan, readings, digest, journal, spool)?;
     match run_alone(alloc, plan, &mut work, journal, spool) {
         Ok(()) => Ok(work),
-        Err(fail) => Err(stopped_by(fail)),
+        Err(fail) => Err(history_fail_of(fail)),
     }
 }

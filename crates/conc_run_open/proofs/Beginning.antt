@@ -7,8 +7,8 @@ use Rattle.conc_disk.specs.Disk.{DiskState, Stays}
 use Rattle.conc_disk.specs.Left.{EachImage}
 use Rattle.conc_law.specs.Alone.{opening}
 use Rattle.conc_law.specs.Law.{Lawful}
-use Rattle.conc_law.specs.Standing.{used}
-use Rattle.conc_machine.specs.Stands.{Stands}
+use Rattle.conc_law.specs.State.{used}
+use Rattle.conc_machine.specs.StandsFor.{StandsFor}
 use Rattle.conc_journal.specs.Journals.{list_of, room_of, stage_of}
 use Rattle.conc_journal.specs.Journals.{IsOn as JournalIsOn}
 use Rattle.conc_journal.specs.Stages.{has_faulted, takes_events}
@@ -18,7 +18,7 @@ use Rattle.conc_spool.specs.Spools.{KeepsBelow}
 use Rattle.conc_run_state.specs.Handed.{handed, IsTaken}
 use Rattle.conc_run_open.specs.declared.examining.Examined.{Examined}
 use Rattle.conc_run_open.specs.Examined.{IsExamined}
-use Rattle.conc_run_open.specs.Opening.{HasOpening, IsBegun, IsStopped, LeavesOpening, StillTold}
+use Rattle.conc_run_open.specs.Opening.{HasOpening, IsBegun, IsGivenUp, LeavesOpening, StillTold}
 use Rattle.conc_run_open.proofs.Counting.{end-within}
 use Rattle.conc_run_open.proofs.Lives.{disk-told, opening-lawful, opening-lives, opening-used}
 use Rattle.conc_run_open.proofs.Surviving.{texts-stay}
@@ -27,7 +27,7 @@ use Rattle.conc_run_open.proofs.Surviving.{texts-stay}
 taken : (plan : Plan) (readings : Readings) (digest : List ℕ) (journal mid new spool spool' : DiskState) (examined : Examined)
     → IsExamined (handed plan readings digest journal mid spool spool') examined → IsTaken (handed plan readings digest journal new spool spool') (list_of examined.journal)
 taken plan readings digest journal mid new spool spool' examined is = record {
-  is_found = record { past = is.found.past; own = is.found.own; whole = is.found.whole; events = is.found.events; within = is.found.within };
+  is_found = record { so_far = is.found.so_far; own = is.found.own; whole = is.found.whole; events = is.found.events; within = is.found.within };
   room = omega (arith, is.ready.room, examined.journal.few);
 }
 
@@ -35,12 +35,12 @@ taken plan readings digest journal mid new spool spool' examined is = record {
 told-still : (plan : Plan) (readings : Readings) (digest : List ℕ) (journal mid new spool spool' : DiskState) (examined : Examined)
     → IsExamined (handed plan readings digest journal mid spool spool') examined → Stays spool spool' → StillTold (handed plan readings digest journal new spool spool') (list_of examined.journal)
 told-still plan readings digest journal mid new spool spool' examined is stays = λ from told.
-    disk-told plan from examined.spool.used (list_of examined.journal) spool spool' stays (end-within plan examined.spool.used (list_of examined.journal) is.ready.past (omega (arith, is.ready.used_is))) is.spool_on told
+    disk-told plan from examined.spool.used (list_of examined.journal) spool spool' stays (end-within plan examined.spool.used (list_of examined.journal) is.ready.so_far (omega (arith, is.ready.used_is))) is.spool_on told
 
 -- the journal's disk failed
 pub stops : (plan : Plan) (readings : Readings) (digest : List ℕ) (journal mid new spool spool' : DiskState) (examined : Examined)
     → IsExamined (handed plan readings digest journal mid spool spool') examined → Stays spool spool' → LeavesOpening (handed plan readings digest journal new spool spool') (list_of examined.journal)
-    → EachImage (HasOpening (handed plan readings digest journal new spool spool') (list_of examined.journal)) new → IsStopped (handed plan readings digest journal new spool spool')
+    → EachImage (HasOpening (handed plan readings digest journal new spool spool') (list_of examined.journal)) new → IsGivenUp (handed plan readings digest journal new spool spool')
 stops plan readings digest journal mid new spool spool' examined is stays left now = record {
   found = list_of examined.journal;
   taken = taken plan readings digest journal mid new spool spool' examined is;
@@ -67,8 +67,8 @@ begins plan readings digest journal mid new spool spool' examined list is stays 
         tied = record {
           plan_is = is.ready.plan_is;
           readings_are = is.ready.readings_are;
-          stands = subst (λ (l : List Event). Stands examined.machine (reverse l)) (sym all) is.ready.stands;
-          lawful = subst (Lawful plan readings.list) (sym all) (opening-lawful plan readings.list found is.ready.past);
+          stands = subst (λ (l : List Event). StandsFor examined.machine (reverse l)) (sym all) is.ready.stands;
+          lawful = subst (Lawful plan readings.list) (sym all) (opening-lawful plan readings.list found is.ready.so_far);
           takes = ap takes_events stage;
           used_is = is.ready.used_is ∙ sym (opening-used found) ∙ ap (λ (l : List Event). used (reverse l)) (sym all);
           journal_on = on;

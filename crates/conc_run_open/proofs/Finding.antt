@@ -4,17 +4,17 @@ use Rattle.std.proofs.lemmas.Option.{IfSome_then}
 use Rattle.conc_types.specs.declared.event.Event.{Event}
 use Rattle.conc_disk.specs.Disk.{DiskState, HasLength, Reaches}
 use Rattle.conc_types.specs.declared.plan.Plan.{Plan}
-use Rattle.conc_law.specs.Law.{Past}
+use Rattle.conc_law.specs.Law.{LawfulSoFar}
 use Rattle.conc_journal.specs.Opens.{broken_of, IsFoundIn}
 use Rattle.conc_journal.specs.declared.opened.Opened.{Opened}
 use Rattle.conc_run_state.specs.Causes.{HasCause, IsUnlawful}
 use Rattle.conc_run_state.specs.Handed.{Handed, IsFound, IsOwnJournal}
 use Rattle.conc_run_state.specs.Judging.{IsBadRecord}
-use Rattle.conc_run_state.specs.declared.fail.Stopped.{Stopped}
-use Rattle.conc_run_state.specs.declared.fail.Stopped.TheVariants as stopped
-use Rattle.conc_run_state.specs.declared.fail.Which.TheVariants as which
+use Rattle.conc_run_state.specs.declared.fail.HistoryFail.{HistoryFail}
+use Rattle.conc_run_state.specs.declared.fail.HistoryFail.TheVariants as history_fail
+use Rattle.conc_run_state.specs.declared.fail.DiskName.TheVariants as which
 use Rattle.conc_run_open.specs.Extents.{counted}
-use Rattle.conc_run_open.specs.Hindered.{IsCrowded, IsHindered, IsRefused, IsUntold}
+use Rattle.conc_run_open.specs.Refusals.{LacksRoom, CannotBegin, IsRefused, IsUntold}
 use Rattle.conc_run_open.proofs.Counting.{counted-is, end-within}
 
 -- what was found in the journal of this input
@@ -23,13 +23,13 @@ pub record HasFound (h : Handed) (opened : Opened) : Type 0 where
   pub found : IfSome h.journal_before.seen (λ image. IsFoundIn image opened)
 
 -- the events are good
-pub found-good : (h : Handed) (opened : Opened) → HasFound h opened → Past h.plan opened.events.items → opened.broken ≡ None → Reaches h.spool_before (counted opened.events.items) → IsFound h opened.events.items
-found-good h opened has past whole long = record {
-  past = past;
+pub found-good : (h : Handed) (opened : Opened) → HasFound h opened → LawfulSoFar h.plan opened.events.items → opened.broken ≡ None → Reaches h.spool_before (counted opened.events.items) → IsFound h opened.events.items
+found-good h opened has so_far whole long = record {
+  so_far = so_far;
   own = has.own;
   whole = IfSome_then h.journal_before.seen has.found (λ image is. sym is.broken ∙ whole);
   events = IfSome_then h.journal_before.seen has.found (λ image is. is.events);
-  within = IfSome_then h.spool_before.seen long (λ texts far. end-within h.plan (length texts) opened.events.items past (omega (arith, far, counted-is h.plan opened.events.items past)));
+  within = IfSome_then h.spool_before.seen long (λ texts far. end-within h.plan (length texts) opened.events.items so_far (omega (arith, far, counted-is h.plan opened.events.items so_far)));
 }
 
 -- the first bad record
@@ -41,47 +41,47 @@ found-bad h opened number has bad = record {
       (subst (λ (b : Option ℕ). IsBadRecord h.plan (length texts) opened.events.items b number) is.broken here)));
 }
 
-found-refused : (h : Handed) (opened : Opened) (len : ℕ) (e : Stopped) → HasFound h opened → IsRefused h.plan len opened.events.items opened.broken e
+found-refused : (h : Handed) (opened : Opened) (len : ℕ) (e : HistoryFail) → HasFound h opened → IsRefused h.plan len opened.events.items opened.broken e
     → IfSome h.spool_before.seen (λ texts. IsRefused h.plan (length texts) opened.events.items opened.broken e) → HasCause h e
-found-refused h opened len (stopped.Unlawful number) has is bad = found-bad h opened number has bad
-found-refused h opened len stopped.NoMemory has is bad = tt
-found-refused h opened len stopped.NotJournal has is bad = absurd is
-found-refused h opened len (stopped.OtherInput found) has is bad = absurd is
-found-refused h opened len (stopped.JournalFull n needed) has is bad = absurd is
-found-refused h opened len (stopped.DiskFault which) has is bad = absurd is
+found-refused h opened len (history_fail.Unlawful number) has is bad = found-bad h opened number has bad
+found-refused h opened len history_fail.NoMemory has is bad = tt
+found-refused h opened len history_fail.NotJournal has is bad = absurd is
+found-refused h opened len (history_fail.OtherInput found) has is bad = absurd is
+found-refused h opened len (history_fail.JournalFull n needed) has is bad = absurd is
+found-refused h opened len (history_fail.DiskFault which) has is bad = absurd is
 
 -- a record is bad, where the spool is too short
-pub short-untold : (plan : Plan) (events : List Event) (broken : Option ℕ) (old new : DiskState) (len : ℕ) (e : Stopped) → HasLength old len → IsRefused plan len events broken e → IsUntold plan events broken old new e
-short-untold plan events broken old new len (stopped.Unlawful number) long is =
+pub short-untold : (plan : Plan) (events : List Event) (broken : Option ℕ) (old new : DiskState) (len : ℕ) (e : HistoryFail) → HasLength old len → IsRefused plan len events broken e → IsUntold plan events broken old new e
+short-untold plan events broken old new len (history_fail.Unlawful number) long is =
     IfSome_then old.seen long (λ texts same. subst (λ (n : ℕ). IsBadRecord plan n events broken number) same is)
-short-untold plan events broken old new len stopped.NoMemory long is = tt
-short-untold plan events broken old new len stopped.NotJournal long is = absurd is
-short-untold plan events broken old new len (stopped.OtherInput found) long is = absurd is
-short-untold plan events broken old new len (stopped.JournalFull n needed) long is = absurd is
-short-untold plan events broken old new len (stopped.DiskFault which) long is = absurd is
+short-untold plan events broken old new len history_fail.NoMemory long is = tt
+short-untold plan events broken old new len history_fail.NotJournal long is = absurd is
+short-untold plan events broken old new len (history_fail.OtherInput found) long is = absurd is
+short-untold plan events broken old new len (history_fail.JournalFull n needed) long is = absurd is
+short-untold plan events broken old new len (history_fail.DiskFault which) long is = absurd is
 
 -- or it could not be read
-pub found-untold : (h : Handed) (opened : Opened) (events : List Event) (e : Stopped) → HasFound h opened → events ≡ opened.events.items → IsUntold h.plan events opened.broken h.spool_before h.spool_after e → HasCause h e
-found-untold h opened events (stopped.Unlawful number) has same is =
+pub found-untold : (h : Handed) (opened : Opened) (events : List Event) (e : HistoryFail) → HasFound h opened → events ≡ opened.events.items → IsUntold h.plan events opened.broken h.spool_before h.spool_after e → HasCause h e
+found-untold h opened events (history_fail.Unlawful number) has same is =
     found-bad h opened number has (subst (λ (l : List Event). IfSome h.spool_before.seen (λ texts. IsBadRecord h.plan (length texts) l opened.broken number)) same is)
-found-untold h opened events (stopped.DiskFault which.Spool) has same is = (has.own, is)
-found-untold h opened events stopped.NoMemory has same is = tt
-found-untold h opened events stopped.NotJournal has same is = absurd is
-found-untold h opened events (stopped.OtherInput found) has same is = absurd is
-found-untold h opened events (stopped.JournalFull n needed) has same is = absurd is
-found-untold h opened events (stopped.DiskFault which.Journal) has same is = absurd is
+found-untold h opened events (history_fail.DiskFault which.Spool) has same is = (has.own, is)
+found-untold h opened events history_fail.NoMemory has same is = tt
+found-untold h opened events history_fail.NotJournal has same is = absurd is
+found-untold h opened events (history_fail.OtherInput found) has same is = absurd is
+found-untold h opened events (history_fail.JournalFull n needed) has same is = absurd is
+found-untold h opened events (history_fail.DiskFault which.Journal) has same is = absurd is
 
-found-crowded : (h : Handed) (opened : Opened) (e : Stopped) → IsFound h opened.events.items → IsCrowded h.plan h.readings opened.events.items e → HasCause h e
-found-crowded h opened (stopped.JournalFull len needed) found is = record { found = opened.events.items; is_found = found; len_is = is.0; needed_is = is.1; full = is.2 }
-found-crowded h opened stopped.NoMemory found is = tt
-found-crowded h opened stopped.NotJournal found is = absurd is
-found-crowded h opened (stopped.OtherInput digest) found is = absurd is
-found-crowded h opened (stopped.Unlawful number) found is = absurd is
-found-crowded h opened (stopped.DiskFault which) found is = absurd is
+found-lacks_room : (h : Handed) (opened : Opened) (e : HistoryFail) → IsFound h opened.events.items → LacksRoom h.plan h.readings opened.events.items e → HasCause h e
+found-lacks_room h opened (history_fail.JournalFull len needed) found is = record { found = opened.events.items; is_found = found; len_is = is.0; needed_is = is.1; full = is.2 }
+found-lacks_room h opened history_fail.NoMemory found is = tt
+found-lacks_room h opened history_fail.NotJournal found is = absurd is
+found-lacks_room h opened (history_fail.OtherInput digest) found is = absurd is
+found-lacks_room h opened (history_fail.Unlawful number) found is = absurd is
+found-lacks_room h opened (history_fail.DiskFault which) found is = absurd is
 
 -- a record is bad, or there is no room, where the spool is as long as all extents
-pub found-hindered : (h : Handed) (opened : Opened) (e : Stopped) → HasFound h opened → Reaches h.spool_before (counted opened.events.items) → IsHindered h.plan h.readings opened.events.items opened.broken e → HasCause h e
-found-hindered h opened e has long (inl refused) =
+pub found-cannot_begin : (h : Handed) (opened : Opened) (e : HistoryFail) → HasFound h opened → Reaches h.spool_before (counted opened.events.items) → CannotBegin h.plan h.readings opened.events.items opened.broken e → HasCause h e
+found-cannot_begin h opened e has long (inl refused) =
     found-refused h opened (counted opened.events.items) e has (refused (counted opened.events.items) (le_refl (counted opened.events.items)))
     (IfSome_then h.spool_before.seen long (λ texts far. refused (length texts) far))
-found-hindered h opened e has long (inr good) = found-crowded h opened e (found-good h opened has good.past good.whole long) good.crowded
+found-cannot_begin h opened e has long (inr good) = found-lacks_room h opened e (found-good h opened has good.so_far good.whole long) good.lacks_room

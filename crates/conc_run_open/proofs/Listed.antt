@@ -4,45 +4,45 @@ use Rattle.std.proofs.lemmas.Option.{IfSome_then}
 use Rattle.conc_types.specs.declared.event.Event.{Event}
 use Rattle.conc_types.specs.declared.plan.Plan.{Plan}
 use Rattle.conc_disk.specs.Disk.{DiskState}
-use Rattle.conc_law.specs.Law.{Past}
+use Rattle.conc_law.specs.Law.{LawfulSoFar}
 use Rattle.conc_journal.specs.Opens.{broken_of, IsFoundIn}
 use Rattle.conc_journal.specs.declared.opened.Opened.{Opened}
 use Rattle.conc_run_state.specs.Handed.{IsOwnJournal}
-use Rattle.conc_run_state.specs.declared.fail.Stopped.{Stopped}
-use Rattle.conc_run_state.specs.declared.fail.Stopped.TheVariants as stopped
-use Rattle.conc_run_state.specs.declared.fail.Which.TheVariants as which
-use Rattle.conc_run_open.specs.Hindered.{IsUnopened}
+use Rattle.conc_run_state.specs.declared.fail.HistoryFail.{HistoryFail}
+use Rattle.conc_run_state.specs.declared.fail.HistoryFail.TheVariants as history_fail
+use Rattle.conc_run_state.specs.declared.fail.DiskName.TheVariants as which
+use Rattle.conc_run_open.specs.Refusals.{IsUnopened}
 use Rattle.conc_run_open.specs.Listing.{HasListCause, IsBadEvent, IsListed, IsUnlisted}
 
 -- the journal was not opened
-pub unopened-listed : (plan : Plan) (digest : List ℕ) (old new : DiskState) (e : Stopped) → IsUnopened digest old new e → HasListCause plan digest old new e
-unopened-listed plan digest old new stopped.NotJournal is = is
-unopened-listed plan digest old new (stopped.OtherInput found) is = is
-unopened-listed plan digest old new (stopped.DiskFault which.Journal) is = is
-unopened-listed plan digest old new stopped.NoMemory is = tt
-unopened-listed plan digest old new (stopped.Unlawful number) is = absurd is
-unopened-listed plan digest old new (stopped.JournalFull len needed) is = absurd is
-unopened-listed plan digest old new (stopped.DiskFault which.Spool) is = absurd is
+pub unopened-listed : (plan : Plan) (digest : List ℕ) (old new : DiskState) (e : HistoryFail) → IsUnopened digest old new e → HasListCause plan digest old new e
+unopened-listed plan digest old new history_fail.NotJournal is = is
+unopened-listed plan digest old new (history_fail.OtherInput found) is = is
+unopened-listed plan digest old new (history_fail.DiskFault which.Journal) is = is
+unopened-listed plan digest old new history_fail.NoMemory is = tt
+unopened-listed plan digest old new (history_fail.Unlawful number) is = absurd is
+unopened-listed plan digest old new (history_fail.JournalFull len needed) is = absurd is
+unopened-listed plan digest old new (history_fail.DiskFault which.Spool) is = absurd is
 
 -- an event is bad
-pub unlisted-cause : (plan : Plan) (digest : List ℕ) (old new : DiskState) (opened : Opened) (events : List Event) (e : Stopped) → IfSome old.seen (IsOwnJournal digest) → IfSome old.seen (λ image. IsFoundIn image opened)
+pub unlisted-cause : (plan : Plan) (digest : List ℕ) (old new : DiskState) (opened : Opened) (events : List Event) (e : HistoryFail) → IfSome old.seen (IsOwnJournal digest) → IfSome old.seen (λ image. IsFoundIn image opened)
     → events ≡ opened.events.items → IsUnlisted plan events opened.broken e → HasListCause plan digest old new e
-unlisted-cause plan digest old new opened events (stopped.Unlawful number) own found same bad = record {
+unlisted-cause plan digest old new opened events (history_fail.Unlawful number) own found same bad = record {
   own = own;
   bad = IfSome_then old.seen found (λ image is.
       subst (λ (l : List Event). IsBadEvent plan l (broken_of image) number) (same ∙ is.events) (subst (λ (b : Option ℕ). IsBadEvent plan events b number) is.broken bad));
 }
-unlisted-cause plan digest old new opened events stopped.NoMemory own found same bad = tt
-unlisted-cause plan digest old new opened events stopped.NotJournal own found same bad = absurd bad
-unlisted-cause plan digest old new opened events (stopped.OtherInput other) own found same bad = absurd bad
-unlisted-cause plan digest old new opened events (stopped.JournalFull len needed) own found same bad = absurd bad
-unlisted-cause plan digest old new opened events (stopped.DiskFault which) own found same bad = absurd bad
+unlisted-cause plan digest old new opened events history_fail.NoMemory own found same bad = tt
+unlisted-cause plan digest old new opened events history_fail.NotJournal own found same bad = absurd bad
+unlisted-cause plan digest old new opened events (history_fail.OtherInput other) own found same bad = absurd bad
+unlisted-cause plan digest old new opened events (history_fail.JournalFull len needed) own found same bad = absurd bad
+unlisted-cause plan digest old new opened events (history_fail.DiskFault which) own found same bad = absurd bad
 
 -- the events are good
 pub listed : (plan : Plan) (digest : List ℕ) (disk : DiskState) (opened : Opened) → IfSome disk.seen (IsOwnJournal digest) → IfSome disk.seen (λ image. IsFoundIn image opened)
-    → Past plan opened.events.items → opened.broken ≡ None → IsListed plan digest disk opened.events.items
-listed plan digest disk opened own found past whole = record {
-  past = past;
+    → LawfulSoFar plan opened.events.items → opened.broken ≡ None → IsListed plan digest disk opened.events.items
+listed plan digest disk opened own found so_far whole = record {
+  so_far = so_far;
   own = own;
   whole = IfSome_then disk.seen found (λ image is. sym is.broken ∙ whole);
   events_are = IfSome_then disk.seen found (λ image is. is.events);

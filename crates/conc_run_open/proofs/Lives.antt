@@ -8,12 +8,12 @@ use Rattle.conc_types.specs.declared.plan.Plan.{Plan}
 use Rattle.conc_types.specs.declared.script.Reading.{Reading}
 use Rattle.conc_types.specs.Words.{is_empty}
 use Rattle.conc_law.specs.Alone.{opening}
-use Rattle.conc_law.specs.Law.{is_lawful, Lawful, may_follow, Past}
+use Rattle.conc_law.specs.Law.{is_lawful, Lawful, may_follow, LawfulSoFar}
 use Rattle.conc_law.specs.Next.{may_come}
-use Rattle.conc_law.specs.Past.{last_life}
-use Rattle.conc_law.specs.Standing.{standing, used}
+use Rattle.conc_law.specs.Before.{last_life}
+use Rattle.conc_law.specs.State.{state, used}
 use Rattle.conc_law.proofs.Positions.{is_empty-long, reverse-push}
-use Rattle.conc_machine.specs.Stands.{Stands}
+use Rattle.conc_machine.specs.StandsFor.{StandsFor}
 use Rattle.conc_machine.specs.declared.machine.Machine.{Machine}
 use Rattle.conc_disk.specs.Disk.{DiskState, Stays}
 use Rattle.conc_disk.specs.Left.{EachImage}
@@ -36,12 +36,12 @@ life-empty [] = refl
 life-empty (e ∷ es) = ap last_life (opening-past e es)
 
 -- a resume may follow events that are lawful
-pub opening-lawful : (plan : Plan) (readings : List Reading) (found : List Event) → Past plan found → Lawful plan readings (opening found)
-unfolding is_lawful may_follow may_come standing
-opening-lawful plan readings [] past = refl
-opening-lawful plan readings (e ∷ es) past =
+pub opening-lawful : (plan : Plan) (readings : List Reading) (found : List Event) → LawfulSoFar plan found → Lawful plan readings (opening found)
+unfolding is_lawful may_follow may_come state
+opening-lawful plan readings [] so_far = refl
+opening-lawful plan readings (e ∷ es) so_far =
     let some : is_empty (reverse (e ∷ es)) ≡ false = is_empty-long (reverse (e ∷ es)) (omega (arith, length-reverse (e ∷ es))) in
-    ap (is_lawful plan readings) (opening-past e es) ∙ and_from _ _ past (ap not some)
+    ap (is_lawful plan readings) (opening-past e es) ∙ and_from _ _ so_far (ap not some)
 
 -- a resume has no extent
 pub opening-used : (found : List Event) → used (reverse (opening found)) ≡ used (reverse found)
@@ -81,11 +81,11 @@ disk-told plan n used events old new stays within on told =
 -- ---- the machine
 
 -- it stands for the events with the resume, where there are any
-pub stands-resumed : (found : List Event) (machine : Machine) → (length found == 0) ≡ false → Stands machine (event.Resume ∷ reverse found) → Stands machine (reverse (opening found))
+pub stands-resumed : (found : List Event) (machine : Machine) → (length found == 0) ≡ false → StandsFor machine (event.Resume ∷ reverse found) → StandsFor machine (reverse (opening found))
 stands-resumed [] machine some stands = absurd (cc)
-stands-resumed (e ∷ es) machine some stands = subst (Stands machine) (sym (opening-past e es)) stands
+stands-resumed (e ∷ es) machine some stands = subst (StandsFor machine) (sym (opening-past e es)) stands
 
-pub stands-alone : (found : List Event) (machine : Machine) → (length found == 0) ≡ true → Stands machine (reverse found) → Stands machine (reverse (opening found))
+pub stands-alone : (found : List Event) (machine : Machine) → (length found == 0) ≡ true → StandsFor machine (reverse found) → StandsFor machine (reverse (opening found))
 stands-alone [] machine none stands = stands
 stands-alone (e ∷ es) machine none stands = absurd (omega (arith, eqb-true (length (e ∷ es)) 0 none))
 

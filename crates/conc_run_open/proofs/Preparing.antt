@@ -3,7 +3,7 @@ use Rattle.std.proofs.Common.{◌≡◌, inl, inr, ℕ, ◌≤◌, List, Option,
 use Rattle.conc_types.specs.declared.event.Event.{Event}
 use Rattle.conc_types.specs.declared.plan.Plan.{Plan}
 use Rattle.conc_types.specs.declared.script.Reading.{Reading}
-use Rattle.conc_law.specs.Law.{Past}
+use Rattle.conc_law.specs.Law.{LawfulSoFar}
 use Rattle.conc_disk.specs.Disk.{Reaches}
 use Rattle.conc_disk.specs.Left.{EachImage}
 use Rattle.conc_journal.specs.Journals.{FitsStage, list_of, stage_of}
@@ -14,44 +14,44 @@ use Rattle.conc_spool.specs.Spools.{IsOn as SpoolIsOn}
 use Rattle.conc_spool.specs.declared.spool.Spool.{Spool}
 use Rattle.conc_run_state.specs.Causes.{HasCause}
 use Rattle.conc_run_state.specs.Handed.{Handed, IsFound}
-use Rattle.conc_run_state.specs.declared.fail.Stopped.{Stopped}
+use Rattle.conc_run_state.specs.declared.fail.HistoryFail.{HistoryFail}
 use Rattle.conc_run_open.specs.declared.examining.Examined.{Examined}
 use Rattle.conc_run_open.specs.Examined.{IsExamined, IsReady, MayStart}
 use Rattle.conc_run_open.specs.Extents.{counted}
-use Rattle.conc_run_open.specs.Hindered.{IsCrowded, IsHindered, IsRefused}
-use Rattle.conc_run_open.proofs.Finding.{found-good, found-hindered, HasFound}
+use Rattle.conc_run_open.specs.Refusals.{LacksRoom, CannotBegin, IsRefused}
+use Rattle.conc_run_open.proofs.Finding.{found-good, found-cannot_begin, HasFound}
 
 -- a record is bad, of the same events
-pub hindered-bad : (plan : Plan) (readings : List Reading) (events read : List Event) (broken : Option ℕ) (e : Stopped) → read ≡ events → ((len : ℕ) → counted read ≤ len → IsRefused plan len read broken e)
-    → IsHindered plan readings events broken e
-hindered-bad plan readings events read broken e same refused =
-    subst (λ (l : List Event). IsHindered plan readings l broken e) same (inl refused)
+pub cannot_begin-bad : (plan : Plan) (readings : List Reading) (events read : List Event) (broken : Option ℕ) (e : HistoryFail) → read ≡ events → ((len : ℕ) → counted read ≤ len → IsRefused plan len read broken e)
+    → CannotBegin plan readings events broken e
+cannot_begin-bad plan readings events read broken e same refused =
+    subst (λ (l : List Event). CannotBegin plan readings l broken e) same (inl refused)
 
 -- there is no room, behind the same events
-pub hindered-full : (plan : Plan) (readings : List Reading) (events read list : List Event) (broken : Option ℕ) (e : Stopped) → read ≡ events → list ≡ events → Past plan read → broken ≡ None → IsCrowded plan readings list e
-    → IsHindered plan readings events broken e
-hindered-full plan readings events read list broken e same all past whole crowded = inr (record {
-  past = subst (Past plan) same past;
+pub cannot_begin-full : (plan : Plan) (readings : List Reading) (events read list : List Event) (broken : Option ℕ) (e : HistoryFail) → read ≡ events → list ≡ events → LawfulSoFar plan read → broken ≡ None → LacksRoom plan readings list e
+    → CannotBegin plan readings events broken e
+cannot_begin-full plan readings events read list broken e same all so_far whole lacks_room = inr (record {
+  so_far = subst (LawfulSoFar plan) same so_far;
   whole = whole;
-  crowded = subst (λ (l : List Event). IsCrowded plan readings l e) all crowded;
+  lacks_room = subst (λ (l : List Event). LacksRoom plan readings l e) all lacks_room;
 })
 
 -- why nothing is in hand
-pub prepared-cause : (h : Handed) (opened : Opened) (r : Result Examined Stopped) → HasFound h opened → Reaches h.spool_before (counted opened.events.items)
-    → IfErr r (IsHindered h.plan h.readings opened.events.items opened.broken) → IfErr r (HasCause h)
-prepared-cause h opened (Ok examined) has long hindered = tt
-prepared-cause h opened (Err e) has long hindered = found-hindered h opened e has long hindered
+pub prepared-cause : (h : Handed) (opened : Opened) (r : Result Examined HistoryFail) → HasFound h opened → Reaches h.spool_before (counted opened.events.items)
+    → IfErr r (CannotBegin h.plan h.readings opened.events.items opened.broken) → IfErr r (HasCause h)
+prepared-cause h opened (Ok examined) has long cannot_begin = tt
+prepared-cause h opened (Err e) has long cannot_begin = found-cannot_begin h opened e has long cannot_begin
 
 -- what is in hand is what was found
-pub prepared : (h : Handed) (opened : Opened) (spool : Spool) (r : Result Examined Stopped) → HasFound h opened → Reaches h.spool_before (counted opened.events.items) → list_of opened.journal ≡ opened.events.items
+pub prepared : (h : Handed) (opened : Opened) (spool : Spool) (r : Result Examined HistoryFail) → HasFound h opened → Reaches h.spool_before (counted opened.events.items) → list_of opened.journal ≡ opened.events.items
     → (opened.broken ≡ None → JournalIsOn opened.journal h.journal_after) → (opened.broken ≡ None → MayStart h.digest (stage_of opened.journal)) → SpoolIsOn spool h.spool_after
     → IfOk r (IsReady h.plan h.readings) → IfOk r (λ examined. list_of examined.journal ≡ list_of opened.journal) → IfOk r (λ examined. stage_of examined.journal ≡ stage_of opened.journal)
     → IfOk r (λ examined. examined.spool ≡ spool) → OnOk r (opened.broken ≡ None) → IfOk r (IsExamined h)
 prepared h opened spool (Err e) has long same on stage spool_on ready list_is stage_is spool_is whole = tt
 prepared h opened spool (Ok examined) has long same on stage spool_on ready list_is stage_is spool_is whole =
-    let past : Past h.plan opened.events.items = subst (Past h.plan) (list_is ∙ same) ready.past in
+    let so_far : LawfulSoFar h.plan opened.events.items = subst (LawfulSoFar h.plan) (list_is ∙ same) ready.so_far in
     record {
-      found = subst (IsFound h) (sym (list_is ∙ same)) (found-good h opened has past whole long);
+      found = subst (IsFound h) (sym (list_is ∙ same)) (found-good h opened has so_far whole long);
       ready = ready;
       stage = subst (MayStart h.digest) (sym stage_is) (stage whole);
       journal_on =

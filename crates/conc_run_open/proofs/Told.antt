@@ -9,17 +9,17 @@ use Rattle.conc_outside.specs.Counts.{Rose}
 use Rattle.conc_disk.specs.Disk.{DiskState, HasAt, Reaches, Stays}
 use Rattle.conc_disk.specs.Left.{LeavesOnly}
 use Rattle.conc_disk.proofs.Leaving.{leaves-twice}
-use Rattle.conc_law.specs.Law.{Past}
+use Rattle.conc_law.specs.Law.{LawfulSoFar}
 use Rattle.conc_journal.specs.Opens.{broken_of, IsFoundIn}
 use Rattle.conc_journal.specs.declared.opened.Opened.{Opened}
 use Rattle.conc_run_state.specs.Disks.{Disks}
 use Rattle.conc_run_state.specs.Handed.{IsOwnJournal}
 use Rattle.conc_run_state.specs.Judging.{IsBadRecord}
-use Rattle.conc_run_state.specs.declared.fail.Stopped.{Stopped}
-use Rattle.conc_run_state.specs.declared.fail.Stopped.TheVariants as stopped
-use Rattle.conc_run_state.specs.declared.fail.Which.TheVariants as which
+use Rattle.conc_run_state.specs.declared.fail.HistoryFail.{HistoryFail}
+use Rattle.conc_run_state.specs.declared.fail.HistoryFail.TheVariants as history_fail
+use Rattle.conc_run_state.specs.declared.fail.DiskName.TheVariants as which
 use Rattle.conc_run_open.specs.Extents.{counted}
-use Rattle.conc_run_open.specs.Hindered.{IsRefused, IsUnopened, IsUntold}
+use Rattle.conc_run_open.specs.Refusals.{IsRefused, IsUnopened, IsUntold}
 use Rattle.conc_run_open.specs.Texts.{AreWhole, HasEnd, HasReadCause}
 use Rattle.conc_run_open.proofs.Counting.{counted-is, end-within}
 use Rattle.conc_run_open.proofs.Listed.{listed}
@@ -28,56 +28,56 @@ use Rattle.conc_run_open.proofs.Surviving.{left-wider}
 -- ---- why none is read
 
 -- the journal was not opened
-pub unopened-read : (plan : Plan) (digest : List ℕ) (d : Disks) (e : Stopped) → IsUnopened digest d.journal_before d.journal_after e → HasReadCause plan digest d e
-unopened-read plan digest d stopped.NotJournal is = is
-unopened-read plan digest d (stopped.OtherInput found) is = is
-unopened-read plan digest d (stopped.DiskFault which.Journal) is = is
-unopened-read plan digest d stopped.NoMemory is = tt
-unopened-read plan digest d (stopped.Unlawful number) is = absurd is
-unopened-read plan digest d (stopped.JournalFull len needed) is = absurd is
-unopened-read plan digest d (stopped.DiskFault which.Spool) is = absurd is
+pub unopened-read : (plan : Plan) (digest : List ℕ) (d : Disks) (e : HistoryFail) → IsUnopened digest d.journal_before d.journal_after e → HasReadCause plan digest d e
+unopened-read plan digest d history_fail.NotJournal is = is
+unopened-read plan digest d (history_fail.OtherInput found) is = is
+unopened-read plan digest d (history_fail.DiskFault which.Journal) is = is
+unopened-read plan digest d history_fail.NoMemory is = tt
+unopened-read plan digest d (history_fail.Unlawful number) is = absurd is
+unopened-read plan digest d (history_fail.JournalFull len needed) is = absurd is
+unopened-read plan digest d (history_fail.DiskFault which.Spool) is = absurd is
 
 -- a record is bad, or the spool could not be read
-pub untold-read : (plan : Plan) (digest : List ℕ) (d : Disks) (opened : Opened) (events : List Event) (e : Stopped) → IfSome d.journal_before.seen (IsOwnJournal digest)
+pub untold-read : (plan : Plan) (digest : List ℕ) (d : Disks) (opened : Opened) (events : List Event) (e : HistoryFail) → IfSome d.journal_before.seen (IsOwnJournal digest)
     → IfSome d.journal_before.seen (λ image. IsFoundIn image opened) → events ≡ opened.events.items → IsUntold plan events opened.broken d.spool_before d.spool_after e → HasReadCause plan digest d e
-untold-read plan digest d opened events (stopped.Unlawful number) own found same bad = record {
+untold-read plan digest d opened events (history_fail.Unlawful number) own found same bad = record {
   own = own;
   bad = IfSome_then d.journal_before.seen found (λ image is. IfSome_then d.spool_before.seen bad (λ texts here.
       subst (λ (l : List Event). IsBadRecord plan (length texts) l (broken_of image) number) (same ∙ is.events)
       (subst (λ (b : Option ℕ). IsBadRecord plan (length texts) events b number) is.broken here)));
 }
-untold-read plan digest d opened events (stopped.DiskFault which.Spool) own found same bad = (own, bad)
-untold-read plan digest d opened events stopped.NoMemory own found same bad = tt
-untold-read plan digest d opened events stopped.NotJournal own found same bad = absurd bad
-untold-read plan digest d opened events (stopped.OtherInput other) own found same bad = absurd bad
-untold-read plan digest d opened events (stopped.JournalFull len needed) own found same bad = absurd bad
-untold-read plan digest d opened events (stopped.DiskFault which.Journal) own found same bad = absurd bad
+untold-read plan digest d opened events (history_fail.DiskFault which.Spool) own found same bad = (own, bad)
+untold-read plan digest d opened events history_fail.NoMemory own found same bad = tt
+untold-read plan digest d opened events history_fail.NotJournal own found same bad = absurd bad
+untold-read plan digest d opened events (history_fail.OtherInput other) own found same bad = absurd bad
+untold-read plan digest d opened events (history_fail.JournalFull len needed) own found same bad = absurd bad
+untold-read plan digest d opened events (history_fail.DiskFault which.Journal) own found same bad = absurd bad
 
 -- a record is bad, where the spool has all extents
-pub refused-untold : (plan : Plan) (events : List Event) (broken : Option ℕ) (old new : DiskState) (e : Stopped) → Reaches old (counted events) → ((len : ℕ) → counted events ≤ len → IsRefused plan len events broken e)
+pub refused-untold : (plan : Plan) (events : List Event) (broken : Option ℕ) (old new : DiskState) (e : HistoryFail) → Reaches old (counted events) → ((len : ℕ) → counted events ≤ len → IsRefused plan len events broken e)
     → IsUntold plan events broken old new e
-refused-untold plan events broken old new (stopped.Unlawful number) long refused = IfSome_then old.seen long (λ texts far. refused (length texts) far)
-refused-untold plan events broken old new stopped.NoMemory long refused = tt
-refused-untold plan events broken old new stopped.NotJournal long refused = absurd (refused (counted events) (le_refl (counted events)))
-refused-untold plan events broken old new (stopped.OtherInput other) long refused = absurd (refused (counted events) (le_refl (counted events)))
-refused-untold plan events broken old new (stopped.JournalFull len needed) long refused = absurd (refused (counted events) (le_refl (counted events)))
-refused-untold plan events broken old new (stopped.DiskFault which) long refused = absurd (refused (counted events) (le_refl (counted events)))
+refused-untold plan events broken old new (history_fail.Unlawful number) long refused = IfSome_then old.seen long (λ texts far. refused (length texts) far)
+refused-untold plan events broken old new history_fail.NoMemory long refused = tt
+refused-untold plan events broken old new history_fail.NotJournal long refused = absurd (refused (counted events) (le_refl (counted events)))
+refused-untold plan events broken old new (history_fail.OtherInput other) long refused = absurd (refused (counted events) (le_refl (counted events)))
+refused-untold plan events broken old new (history_fail.JournalFull len needed) long refused = absurd (refused (counted events) (le_refl (counted events)))
+refused-untold plan events broken old new (history_fail.DiskFault which) long refused = absurd (refused (counted events) (le_refl (counted events)))
 
 -- ---- what is found
 
 -- the events are good, and the spool has their extents
 pub whole-read : (plan : Plan) (digest : List ℕ) (journal spool : DiskState) (opened : Opened) → IfSome journal.seen (IsOwnJournal digest) → IfSome journal.seen (λ image. IsFoundIn image opened)
-    → Reaches spool (counted opened.events.items) → Past plan opened.events.items → opened.broken ≡ None → AreWhole plan digest journal spool opened.events.items
-whole-read plan digest journal spool opened own found long past whole = record {
-  listed = listed plan digest journal opened own found past whole;
-  within = IfSome_then spool.seen long (λ texts far. end-within plan (length texts) opened.events.items past (omega (arith, far, counted-is plan opened.events.items past)));
+    → Reaches spool (counted opened.events.items) → LawfulSoFar plan opened.events.items → opened.broken ≡ None → AreWhole plan digest journal spool opened.events.items
+whole-read plan digest journal spool opened own found long so_far whole = record {
+  listed = listed plan digest journal opened own found so_far whole;
+  within = IfSome_then spool.seen long (λ texts far. end-within plan (length texts) opened.events.items so_far (omega (arith, far, counted-is plan opened.events.items so_far)));
 }
 
 -- an end's extent lies within the texts
-pub read-within : (plan : Plan) (events : List Event) (id : RequestId) (x : Extent) (used : ℕ) → Past plan events → used ≡ counted events → HasEnd events id x → x.offset + x.length ≤ used
-read-within plan events id x used past is ended =
-    let all = counted-is plan events past in
-    let ends = end-within plan (counted events) events past (omega (arith, all)) ended.position id ended.outcome x ended.there in
+pub read-within : (plan : Plan) (events : List Event) (id : RequestId) (x : Extent) (used : ℕ) → LawfulSoFar plan events → used ≡ counted events → HasEnd events id x → x.offset + x.length ≤ used
+read-within plan events id x used so_far is ended =
+    let all = counted-is plan events so_far in
+    let ends = end-within plan (counted events) events so_far (omega (arith, all)) ended.position id ended.outcome x ended.there in
     omega (arith, ends, is)
 
 -- ---- the spool's disk, where it is opened and then read

@@ -3,9 +3,9 @@ use Rattle.std.specs.Prelude.{◌≡◌, ◌⊎◌, List, ℕ, reverse, Some}
 use Rattle.conc_types.specs.declared.plan.Plan.{Plan}
 use Rattle.conc_types.specs.declared.script.Reading.{Reading}
 use Rattle.conc_law.specs.Alone.{opening}
-use Rattle.conc_law.specs.Law.{Past}
-use Rattle.conc_law.specs.Standing.{used}
-use Rattle.conc_machine.specs.Stands.{plan_of, readings_of, Stands}
+use Rattle.conc_law.specs.Law.{LawfulSoFar}
+use Rattle.conc_law.specs.State.{used}
+use Rattle.conc_machine.specs.StandsFor.{plan_of, readings_of, StandsFor}
 use Rattle.conc_journal.specs.Journals.{list_of, room_of, stage_of}
 use Rattle.conc_journal.specs.Journals.{IsOn as JournalIsOn}
 use Rattle.conc_journal.specs.declared.journal.Stage.{Stage}
@@ -25,8 +25,8 @@ MayStart digest stage = (stage ≡ NotBegun) ⊎ (stage ≡ Begun digest)
 pub record IsReady (plan : Plan) (readings : List Reading) (examined : Examined) : Type 0 where
   pub plan_is : plan_of examined.machine ≡ plan
   pub readings_are : readings_of examined.machine ≡ Some readings
-  pub stands : Stands examined.machine (reverse (opening (list_of examined.journal)))
-  pub past : Past plan (list_of examined.journal)
+  pub stands : StandsFor examined.machine (reverse (opening (list_of examined.journal)))
+  pub so_far : LawfulSoFar plan (list_of examined.journal)
   pub room : room_of examined.journal ≡ need plan readings
   pub used_is : used_of examined.spool ≡ used (reverse (list_of examined.journal))
 

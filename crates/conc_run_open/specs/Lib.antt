@@ -1,5 +1,5 @@
 pub mod Extents
-pub mod Hindered
+pub mod Refusals
 pub mod Examined
 pub mod Opening
 pub mod Listing

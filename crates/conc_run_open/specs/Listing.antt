@@ -4,18 +4,18 @@ use Rattle.conc_types.specs.declared.event.Event.{Event}
 use Rattle.conc_types.specs.declared.plan.Plan.{Plan}
 use Rattle.conc_outside.specs.Counts.{Rose}
 use Rattle.conc_disk.specs.Disk.{DiskState}
-use Rattle.conc_law.specs.Law.{Past}
+use Rattle.conc_law.specs.Law.{LawfulSoFar}
 use Rattle.conc_journal.specs.Opens.{broken_of, events_of, may_open}
 use Rattle.conc_restart.specs.FirstBad.{IsFirstUnlawful}
 use Rattle.conc_run_state.specs.Causes.{IsOther}
 use Rattle.conc_run_state.specs.Handed.{IsOwnJournal}
-use Rattle.conc_run_state.specs.declared.fail.Stopped.{Stopped}
-use Rattle.conc_run_state.specs.declared.fail.Stopped.TheVariants as stopped
-use Rattle.conc_run_state.specs.declared.fail.Which.TheVariants as which
+use Rattle.conc_run_state.specs.declared.fail.HistoryFail.{HistoryFail}
+use Rattle.conc_run_state.specs.declared.fail.HistoryFail.TheVariants as history_fail
+use Rattle.conc_run_state.specs.declared.fail.DiskName.TheVariants as which
 
 -- the journal is this input's and good, and these are its events
 pub record IsListed (plan : Plan) (digest : List ℕ) (disk : DiskState) (events : List Event) : Type 0 where
-  pub past : Past plan events
+  pub so_far : LawfulSoFar plan events
   pub own : IfSome disk.seen (IsOwnJournal digest)
   pub whole : IfSome disk.seen (λ image. broken_of image ≡ None)
   pub events_are : IfSome disk.seen (λ image. events ≡ events_of image)
@@ -23,12 +23,12 @@ pub record IsListed (plan : Plan) (digest : List ℕ) (disk : DiskState) (events
 -- the record with this number, from 1, is broken, or its event may not follow; and each event before it may
 pub record IsBadEvent (plan : Plan) (events : List Event) (broken : Option ℕ) (number : ℕ) : Type 0 where
   pub bad : (broken ≡ Some number) ⊎ IsFirstUnlawful plan events number
-  pub past : Past plan (take (number - 1) events)
+  pub so_far : LawfulSoFar plan (take (number - 1) events)
 
 -- an event is bad, or there is no memory
-abbrev pub IsUnlisted : Plan → List Event → Option ℕ → Stopped → Type 0
-IsUnlisted plan events broken (stopped.Unlawful number) = IsBadEvent plan events broken number
-IsUnlisted plan events broken stopped.NoMemory = ⊤
+abbrev pub IsUnlisted : Plan → List Event → Option ℕ → HistoryFail → Type 0
+IsUnlisted plan events broken (history_fail.Unlawful number) = IsBadEvent plan events broken number
+IsUnlisted plan events broken history_fail.NoMemory = ⊤
 IsUnlisted plan events broken _ = ⊥
 
 -- the journal is this input's, and its record with this number is the first that is bad
@@ -37,10 +37,10 @@ pub record HasBadEvent (plan : Plan) (digest : List ℕ) (disk : DiskState) (num
   pub bad : IfSome disk.seen (λ image. IsBadEvent plan (events_of image) (broken_of image) number)
 
 -- the cause of each answer where no events are given; want of memory needs none
-abbrev pub HasListCause : Plan → List ℕ → DiskState → DiskState → Stopped → Type 0
-HasListCause plan digest old new stopped.NotJournal = IfSome old.seen (λ image. IsFalse (may_open image))
-HasListCause plan digest old new (stopped.OtherInput found) = IfSome old.seen (IsOther digest found)
-HasListCause plan digest old new (stopped.Unlawful number) = HasBadEvent plan digest old number
-HasListCause plan digest old new (stopped.DiskFault which.Journal) = Rose old.faults new.faults
-HasListCause plan digest old new stopped.NoMemory = ⊤
+abbrev pub HasListCause : Plan → List ℕ → DiskState → DiskState → HistoryFail → Type 0
+HasListCause plan digest old new history_fail.NotJournal = IfSome old.seen (λ image. IsFalse (may_open image))
+HasListCause plan digest old new (history_fail.OtherInput found) = IfSome old.seen (IsOther digest found)
+HasListCause plan digest old new (history_fail.Unlawful number) = HasBadEvent plan digest old number
+HasListCause plan digest old new (history_fail.DiskFault which.Journal) = Rose old.faults new.faults
+HasListCause plan digest old new history_fail.NoMemory = ⊤
 HasListCause plan digest old new _ = ⊥

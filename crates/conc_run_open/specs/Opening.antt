@@ -2,7 +2,7 @@
 use Rattle.std.specs.Prelude.{◌≡◌, ◌⊎◌, ℕ, List, reverse, IfSome}
 use Rattle.conc_types.specs.declared.event.Event.{Event}
 use Rattle.conc_law.specs.Alone.{opening}
-use Rattle.conc_law.specs.Standing.{used}
+use Rattle.conc_law.specs.State.{used}
 use Rattle.conc_disk.specs.Left.{EachImage, LeavesOnly}
 use Rattle.conc_journal.specs.Journals.{stage_of}
 use Rattle.conc_journal.specs.declared.journal.Stage.TheVariants.{Begun}
@@ -37,7 +37,7 @@ pub record IsBegun (h : Handed) (work : Work) : Type 0 where
 
 -- the journal's disk failed while a life was begun: each image now of the journal has the events found, with the resume or
 -- without, and each of the spool the bytes of their texts
-pub record IsStopped (h : Handed) : Type 0 where
+pub record IsGivenUp (h : Handed) : Type 0 where
   pub found : List Event
   pub taken : IsTaken h found
   pub left : LeavesOpening h found

@@ -14,9 +14,9 @@ use Rattle.conc_run_state.specs.Causes.{IsOther}
 use Rattle.conc_run_state.specs.Disks.{Disks}
 use Rattle.conc_run_state.specs.Handed.{IsOwnJournal}
 use Rattle.conc_run_state.specs.Judging.{EndWithin, IsBadRecord}
-use Rattle.conc_run_state.specs.declared.fail.Stopped.{Stopped}
-use Rattle.conc_run_state.specs.declared.fail.Stopped.TheVariants as stopped
-use Rattle.conc_run_state.specs.declared.fail.Which.TheVariants as which
+use Rattle.conc_run_state.specs.declared.fail.HistoryFail.{HistoryFail}
+use Rattle.conc_run_state.specs.declared.fail.HistoryFail.TheVariants as history_fail
+use Rattle.conc_run_state.specs.declared.fail.DiskName.TheVariants as which
 use Rattle.conc_run_open.specs.Listing.{IsListed}
 use Rattle.conc_run_open.specs.declared.text.TextFail.{TextFail}
 use Rattle.conc_run_open.specs.declared.text.TextFail.TheVariants as text_fail
@@ -68,16 +68,16 @@ pub record HasBadRecord (plan : Plan) (digest : List ℕ) (journal spool : DiskS
   pub bad : IfSome journal.seen (λ image. IfSome spool.seen (λ texts. IsBadRecord plan (length texts) (events_of image) (broken_of image) number))
 
 -- the cause of each answer before an end is sought, and of a fault; want of memory needs none
-abbrev pub HasReadCause : Plan → List ℕ → Disks → Stopped → Type 0
-HasReadCause plan digest d stopped.NotJournal = IfSome d.journal_before.seen (λ image. IsFalse (may_open image))
-HasReadCause plan digest d (stopped.OtherInput found) = IfSome d.journal_before.seen (IsOther digest found)
-HasReadCause plan digest d (stopped.Unlawful number) = HasBadRecord plan digest d.journal_before d.spool_before number
-HasReadCause plan digest d (stopped.DiskFault which.Journal) = Rose d.journal_before.faults d.journal_after.faults
-HasReadCause plan digest d (stopped.DiskFault which.Spool) =
+abbrev pub HasReadCause : Plan → List ℕ → Disks → HistoryFail → Type 0
+HasReadCause plan digest d history_fail.NotJournal = IfSome d.journal_before.seen (λ image. IsFalse (may_open image))
+HasReadCause plan digest d (history_fail.OtherInput found) = IfSome d.journal_before.seen (IsOther digest found)
+HasReadCause plan digest d (history_fail.Unlawful number) = HasBadRecord plan digest d.journal_before d.spool_before number
+HasReadCause plan digest d (history_fail.DiskFault which.Journal) = Rose d.journal_before.faults d.journal_after.faults
+HasReadCause plan digest d (history_fail.DiskFault which.Spool) =
     IfSome d.journal_before.seen (IsOwnJournal digest) × Rose d.spool_before.faults d.spool_after.faults
-HasReadCause plan digest d stopped.NoMemory = ⊤
-HasReadCause plan digest d (stopped.JournalFull len needed) = ⊥
+HasReadCause plan digest d history_fail.NoMemory = ⊤
+HasReadCause plan digest d (history_fail.JournalFull len needed) = ⊥
 
 abbrev pub HasTextCause : Plan → List ℕ → RequestId → Disks → TextFail → Type 0
 HasTextCause plan digest id d text_fail.NotEnded = HasNotEnded plan digest id d.journal_before d.spool_before
-HasTextCause plan digest id d (text_fail.Stopped e) = HasReadCause plan digest d e
+HasTextCause plan digest id d (text_fail.HistoryFail e) = HasReadCause plan digest d e

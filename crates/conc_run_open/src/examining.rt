@@ -1,14 +1,14 @@
 ghost use Rattle.std.specs.Prelude.{◌≡◌, IfErr, IfOk, IfSome, None, OnOk, reverse, Some};
 ghost use Rattle.conc_journal.specs.Journals.{list_of, room_of, stage_of};
 ghost use Rattle.conc_law.specs.Alone.{opening};
-ghost use Rattle.conc_machine.specs.Stands.{plan_of, readings_of, Stands};
+ghost use Rattle.conc_machine.specs.StandsFor.{plan_of, readings_of, StandsFor};
 ghost use Rattle.conc_restart.specs.Need.{need as need_of};
 ghost use Rattle.conc_spool.specs.Spools.{used_of};
 ghost use Rattle.conc_run_state.specs.Causes.{HasCause};
 ghost use Rattle.conc_run_state.specs.Handed.{handed, IsUntouched};
 ghost use Rattle.conc_run_open.specs.Examined.{IsExamined, IsReady};
 ghost use Rattle.conc_run_open.specs.Extents.{counted};
-ghost use Rattle.conc_run_open.specs.Hindered.{IsCrowded, IsHindered};
+ghost use Rattle.conc_run_open.specs.Refusals.{LacksRoom, CannotBegin};
 
 use crate::judging::resume_whole;
 use crate::reading::{open_own, open_texts};
@@ -17,7 +17,7 @@ use conc_journal::{Journal, Opened};
 use conc_journal_image::MOST_RECORDS;
 use conc_machine::Machine;
 use conc_restart::need;
-use conc_run_state::Stopped;
+use conc_run_state::HistoryFail;
 use conc_spool::Spool;
 use conc_types::{Event, NoMemory, Plan, Readings};
 use std::alloc::Global;
@@ -32,21 +32,21 @@ pub(crate) struct Examined<'p> {
 }
 
 // Takes room for one more life, where the journal can have as much.
-fn make_room(plan: &Plan, readings: &Readings, journal: &mut Journal) -> Result<(), Stopped>
+fn make_room(plan: &Plan, readings: &Readings, journal: &mut Journal) -> Result<(), HistoryFail>
     requires { room_of journal.old ≡ 0 }
     ensures room { OnOk result (room_of journal.new ≡ need_of plan.now readings.now.list) }
     ensures list { list_of journal.new ≡ list_of journal.old }
     ensures stage { stage_of journal.new ≡ stage_of journal.old }
-    ensures crowded { IfErr result (IsCrowded plan.now readings.now.list (list_of journal.old)) }
+    ensures lacks_room { IfErr result (LacksRoom plan.now readings.now.list (list_of journal.old)) }
 {
     let len = journal.events().len() as u64;
     let need = need(plan, readings);
     if need > MOST_RECORDS - len {
-        return Err(Stopped::JournalFull { len, need });
+        return Err(HistoryFail::JournalFull { len, need });
     }
     match journal.reserve(need) {
         Ok(()) => Ok(()),
-        Err(NoMemory) => Err(Stopped::NoMemory),
+        Err(NoMemory) => Err(HistoryFail::NoMemory),
     }
 }
 
@@ -57,10 +57,10 @@ fn begin_life(
     readings: &Readings,
     events: &[Event],
 ) -> Result<(), NoMemory>
-    requires { Stands machine.old (reverse events.now) }
+    requires { StandsFor machine.old (reverse events.now) }
     ensures plan { plan_of machine.new ≡ plan_of machine.old }
     ensures readings { OnOk result (readings_of machine.new ≡ Some readings.now.list) }
-    ensures stands { OnOk result (Stands machine.new (reverse (opening events.now))) }
+    ensures stands { OnOk result (StandsFor machine.new (reverse (opening events.now))) }
 {
     if !events.is_empty() {
         machine.apply(Event::Resume);
@@ -75,7 +75,7 @@ fn prepare<'p>(
     readings: &Readings,
     opened: Opened,
     spool: Spool,
-) -> Result<Examined<'p>, Stopped>
+) -> Result<Examined<'p>, HistoryFail>
     requires list { list_of opened.journal ≡ opened.events.items }
     requires room { room_of opened.journal ≡ 0 }
     requires spool { used_of spool ≡ counted opened.events.items }
@@ -84,7 +84,7 @@ fn prepare<'p>(
     ensures stage { IfOk result (λ examined. stage_of examined.journal ≡ stage_of opened.journal) }
     ensures spool { IfOk result (λ examined. examined.spool ≡ spool) }
     ensures whole { OnOk result (opened.broken ≡ None) }
-    ensures hindered { IfErr result (IsHindered plan.now readings.now.list opened.events.items opened.broken) }
+    ensures cannot_begin { IfErr result (CannotBegin plan.now readings.now.list opened.events.items opened.broken) }
 {
     let Opened {
         mut journal,
@@ -100,7 +100,7 @@ fn prepare<'p>(
             journal,
             spool,
         }),
-        Err(NoMemory) => Err(Stopped::NoMemory),
+        Err(NoMemory) => Err(HistoryFail::NoMemory),
     }
 }
 
@@ -113,7 +113,7 @@ pub(crate) fn examine<'p, D: Disk, E: Disk>(
     digest: &[u8; 32],
     journal: &mut D,
     spool: &mut E,
-) -> Result<Examined<'p>, Stopped>
+) -> Result<Examined<'p>, HistoryFail>
     ensures examined { IfOk result (IsExamined (handed plan.now readings.now digest.now (D.state journal.old) (D.state journal.new) (E.state spool.old) (E.state spool.new))) }
     ensures cause { IfErr result (HasCause (handed plan.now readings.now digest.now (D.state journal.old) (D.state journal.new) (E.state spool.old) (E.state spool.new))) }
     ensures untouched { IsUntouched (handed plan.now readings.now digest.now (D.state journal.old) (D.state journal.new) (E.state spool.old) (E.state spool.new)) }

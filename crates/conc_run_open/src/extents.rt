@@ -1,7 +1,7 @@
 ghost use Rattle.std.specs.Prelude.{◌≡◌, ◌<◌, reverse};
 ghost use Rattle.conc_law.specs.Kinds.{extent_length};
-ghost use Rattle.conc_law.specs.Standing.{used};
-ghost use Rattle.conc_run_open.specs.Extents.{counted, IsFirstPast};
+ghost use Rattle.conc_law.specs.State.{used};
+ghost use Rattle.conc_run_open.specs.Extents.{counted, IsFirstBeyond};
 
 use conc_types::Event;
 
@@ -30,9 +30,9 @@ pub(crate) fn count_bytes(events: &[Event]) -> u64
 }
 
 /// The number of the first event, from 1, up to which the extents have more than so many bytes.
-pub(crate) fn first_past(events: &[Event], len: u64) -> u64
+pub(crate) fn first_beyond(events: &[Event], len: u64) -> u64
     requires { len < used (reverse events.now) }
-    ensures { IsFirstPast len events.now result }
+    ensures { IsFirstBeyond len events.now result }
 {
     let mut left = len;
     for (place, event) in events.iter().enumerate() {

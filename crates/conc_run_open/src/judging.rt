@@ -1,31 +1,31 @@
 ghost use Rattle.std.specs.Prelude.{◌≡◌, ℕ, ◌<◌, ◌≤◌, IfErr, IfOk, None, OnOk, Option, reverse};
-ghost use Rattle.conc_law.specs.Law.{Past};
-ghost use Rattle.conc_law.specs.Standing.{used};
-ghost use Rattle.conc_machine.specs.Stands.{plan_of, Stands};
+ghost use Rattle.conc_law.specs.Law.{LawfulSoFar};
+ghost use Rattle.conc_law.specs.State.{used};
+ghost use Rattle.conc_machine.specs.StandsFor.{plan_of, StandsFor};
 ghost use Rattle.conc_run_open.specs.Extents.{counted};
-ghost use Rattle.conc_run_open.specs.Hindered.{IsRefused};
+ghost use Rattle.conc_run_open.specs.Refusals.{IsRefused};
 ghost use Rattle.conc_run_open.specs.Listing.{IsUnlisted};
 
-use crate::extents::first_past;
+use crate::extents::first_beyond;
 use conc_machine::Machine;
 use conc_restart::resume;
-use conc_run_state::Stopped;
+use conc_run_state::HistoryFail;
 use conc_types::{CheckFail, Event, Plan};
 use std::alloc::Global;
 
 /// Why these events are refused where the spool has only so many bytes, which are too few for all
 /// extents: the number of the first that may not follow, or whose extent ends past the spool.
-pub(crate) fn refuse_short(alloc: Global, plan: &Plan, events: &[Event], len: u64) -> Stopped
+pub(crate) fn refuse_short(alloc: Global, plan: &Plan, events: &[Event], len: u64) -> HistoryFail
     requires { len < used (reverse events.now) }
     ensures { (broken : Option ℕ) → IsRefused plan.now len events.now broken result }
 {
-    let past = first_past(events, len);
+    let beyond = first_beyond(events, len);
     match resume(alloc, plan, events) {
-        Ok(_) => Stopped::Unlawful { number: past },
-        Err(CheckFail::Unlawful { position }) => Stopped::Unlawful {
-            number: position.min(past),
+        Ok(_) => HistoryFail::Unlawful { number: beyond },
+        Err(CheckFail::Unlawful { position }) => HistoryFail::Unlawful {
+            number: position.min(beyond),
         },
-        Err(CheckFail::NoMemory) => Stopped::NoMemory,
+        Err(CheckFail::NoMemory) => HistoryFail::NoMemory,
     }
 }
 
@@ -36,10 +36,10 @@ pub(crate) fn resume_whole<'p>(
     plan: &'p Plan,
     events: &[Event],
     broken: Option<u64>,
-) -> Result<Machine<'p>, Stopped>
+) -> Result<Machine<'p>, HistoryFail>
     ensures plan { IfOk result (λ machine. plan_of machine ≡ plan.now) }
-    ensures stands { IfOk result (λ machine. Stands machine (reverse events.now)) }
-    ensures past { OnOk result (Past plan.now events.now) }
+    ensures stands { IfOk result (λ machine. StandsFor machine (reverse events.now)) }
+    ensures lawful_so_far { OnOk result (LawfulSoFar plan.now events.now) }
     ensures whole { OnOk result (broken ≡ None) }
     ensures unlisted { IfErr result (IsUnlisted plan.now events.now broken) }
     ensures refused { (len : ℕ) → counted events.now ≤ len → IfErr result (IsRefused plan.now len events.now broken) }
@@ -47,12 +47,12 @@ pub(crate) fn resume_whole<'p>(
     let machine = match resume(alloc, plan, events) {
         Ok(machine) => machine,
         Err(CheckFail::Unlawful { position }) => {
-            return Err(Stopped::Unlawful { number: position });
+            return Err(HistoryFail::Unlawful { number: position });
         }
-        Err(CheckFail::NoMemory) => return Err(Stopped::NoMemory),
+        Err(CheckFail::NoMemory) => return Err(HistoryFail::NoMemory),
     };
     match broken {
-        Some(number) => Err(Stopped::Unlawful { number }),
+        Some(number) => Err(HistoryFail::Unlawful { number }),
         None => Ok(machine),
     }
 }

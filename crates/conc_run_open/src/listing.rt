@@ -6,7 +6,7 @@ ghost use Rattle.conc_run_open.specs.Listing.{HasListCause, IsListed};
 use crate::judging::resume_whole;
 use crate::reading::open_own;
 use conc_disk::Disk;
-use conc_run_state::Stopped;
+use conc_run_state::HistoryFail;
 use conc_types::{Event, Plan};
 use std::alloc::Global;
 
@@ -19,7 +19,7 @@ pub fn read_list<D: Disk>(
     plan: &Plan,
     digest: &[u8; 32],
     journal: &mut D,
-) -> Result<Vec<Event>, Stopped>
+) -> Result<Vec<Event>, HistoryFail>
     ensures listed { IfOk result (λ events. IsListed plan.now digest.now (D.state journal.old) events.items) }
     ensures cause { IfErr result (HasListCause plan.now digest.now (D.state journal.old) (D.state journal.new)) }
     ensures stays { Stays (D.state journal.old) (D.state journal.new) }

@@ -3,13 +3,13 @@ ghost use Rattle.conc_disk.specs.Disk.{Stays};
 ghost use Rattle.conc_disk.specs.Left.{LeavesOnly};
 ghost use Rattle.conc_run_state.specs.Causes.{HasCause, is_journal_fault};
 ghost use Rattle.conc_run_state.specs.Handed.{handed, IsUntouched};
-ghost use Rattle.conc_run_open.specs.Opening.{IsBegun, IsStopped};
+ghost use Rattle.conc_run_open.specs.Opening.{IsBegun, IsGivenUp};
 
 use crate::examining::{Examined, examine};
 use crate::starting::start;
 use conc_disk::Disk;
 use conc_outside::Failed;
-use conc_run_state::{Stopped, Which, Work};
+use conc_run_state::{HistoryFail, DiskName, Work};
 use conc_types::{Plan, Readings};
 use std::alloc::Global;
 
@@ -26,7 +26,7 @@ pub fn open<'p, D: Disk, E: Disk>(
     digest: &[u8; 32],
     journal: &mut D,
     spool: &mut E,
-) -> Result<Work<'p>, Stopped>
+) -> Result<Work<'p>, HistoryFail>
     ensures begun { IfOk result (IsBegun (handed plan.now readings.now digest.now (D.state journal.old) (D.state journal.new) (E.state spool.old) (E.state spool.new))) }
 
     // Each cause, and what is written then.
@@ -34,8 +34,8 @@ pub fn open<'p, D: Disk, E: Disk>(
     ensures untouched { IfErr result (λ e. IsFalse (is_journal_fault e) → IsUntouched (handed plan.now readings.now digest.now (D.state journal.old) (D.state journal.new) (E.state spool.old) (E.state spool.new))) }
 
     // A stop at any moment. What it leaves where a life is begun stands above.
-    ensures stopped { OnErr result (IsUntouched (handed plan.now readings.now digest.now (D.state journal.old) (D.state journal.new) (E.state spool.old) (E.state spool.new))
-        ⊎ IsStopped (handed plan.now readings.now digest.now (D.state journal.old) (D.state journal.new) (E.state spool.old) (E.state spool.new))) }
+    ensures given_up { OnErr result (IsUntouched (handed plan.now readings.now digest.now (D.state journal.old) (D.state journal.new) (E.state spool.old) (E.state spool.new))
+        ⊎ IsGivenUp (handed plan.now readings.now digest.now (D.state journal.old) (D.state journal.new) (E.state spool.old) (E.state spool.new))) }
     ensures spool { Stays (E.state spool.old) (E.state spool.new) }
     ensures spool_survives { LeavesOnly (E.state spool.old).may_leave (E.state spool.old) (E.state spool.new) }
 {
@@ -50,8 +50,8 @@ pub fn open<'p, D: Disk, E: Disk>(
             journal: list,
             spool: texts,
         }),
-        Err(Failed) => Err(Stopped::DiskFault {
-            which: Which::Journal,
+        Err(Failed) => Err(HistoryFail::DiskFault {
+            which: DiskName::Journal,
         }),
     }
 }

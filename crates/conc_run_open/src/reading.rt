@@ -9,13 +9,13 @@ ghost use Rattle.conc_spool.specs.Spools.{IsOn as SpoolIsOn};
 ghost use Rattle.conc_run_state.specs.Handed.{IsOwnJournal};
 ghost use Rattle.conc_run_open.specs.Examined.{MayStart};
 ghost use Rattle.conc_run_open.specs.Extents.{counted};
-ghost use Rattle.conc_run_open.specs.Hindered.{IsUnopened, IsUntold};
+ghost use Rattle.conc_run_open.specs.Refusals.{IsUnopened, IsUntold};
 
 use crate::extents::count_bytes;
 use crate::judging::refuse_short;
 use conc_disk::Disk;
 use conc_journal::{Journal, JournalFail, Opened};
-use conc_run_state::{Stopped, Which};
+use conc_run_state::{HistoryFail, DiskName};
 use conc_spool::{Spool, SpoolFail};
 use conc_types::{Event, Plan};
 use std::alloc::Global;
@@ -25,7 +25,7 @@ pub(crate) fn open_own<D: Disk>(
     alloc: Global,
     digest: &[u8; 32],
     disk: &mut D,
-) -> Result<Opened, Stopped>
+) -> Result<Opened, HistoryFail>
     ensures found { IfOk result (λ opened. IfSome (D.state disk.old).seen (λ image. IsFoundIn image opened)) }
     ensures own { OnOk result (IfSome (D.state disk.old).seen (IsOwnJournal digest.now)) }
     ensures on { IfOk result (λ opened. opened.broken ≡ None → JournalIsOn opened.journal (D.state disk.new)) }
@@ -38,16 +38,16 @@ pub(crate) fn open_own<D: Disk>(
 {
     let opened = match Journal::open_on(alloc, disk) {
         Ok(opened) => opened,
-        Err(JournalFail::NotJournal) => return Err(Stopped::NotJournal),
+        Err(JournalFail::NotJournal) => return Err(HistoryFail::NotJournal),
         Err(JournalFail::DiskFault) => {
-            return Err(Stopped::DiskFault {
-                which: Which::Journal,
+            return Err(HistoryFail::DiskFault {
+                which: DiskName::Journal,
             });
         }
-        Err(JournalFail::NoMemory) => return Err(Stopped::NoMemory),
+        Err(JournalFail::NoMemory) => return Err(HistoryFail::NoMemory),
     };
     match opened.digest {
-        Some(found) if found != *digest => Err(Stopped::OtherInput { found }),
+        Some(found) if found != *digest => Err(HistoryFail::OtherInput { found }),
         _ => Ok(opened),
     }
 }
@@ -58,7 +58,7 @@ pub(crate) fn open_texts<E: Disk>(
     plan: &Plan,
     events: &[Event],
     disk: &mut E,
-) -> Result<Spool, Stopped>
+) -> Result<Spool, HistoryFail>
     ensures on { IfOk result (λ spool. SpoolIsOn spool (E.state disk.new)) }
     ensures used { IfOk result (λ spool. used_of spool ≡ counted events.now) }
     ensures long { OnOk result (Reaches (E.state disk.old) (counted events.now)) }
@@ -69,8 +69,8 @@ pub(crate) fn open_texts<E: Disk>(
     match Spool::open_on(disk, count_bytes(events)) {
         Ok(spool) => Ok(spool),
         Err(SpoolFail::Short { len }) => Err(refuse_short(alloc, plan, events, len)),
-        Err(SpoolFail::DiskFault) => Err(Stopped::DiskFault {
-            which: Which::Spool,
+        Err(SpoolFail::DiskFault) => Err(HistoryFail::DiskFault {
+            which: DiskName::Spool,
         }),
     }
 }

@@ -8,7 +8,7 @@ ghost use Rattle.conc_run_open.specs.declared.text.TextFail.TheVariants as text_
 use crate::judging::resume_whole;
 use crate::reading::{open_own, open_texts};
 use conc_disk::Disk;
-use conc_run_state::{Stopped, Which};
+use conc_run_state::{HistoryFail, DiskName};
 use conc_spool::ReadBack;
 use conc_types::{Event, Extent, Plan, RequestId};
 use std::alloc::Global;
@@ -19,17 +19,17 @@ use thiserror::Error;
 pub enum TextFail {
     /// What stands on the disks is refused, or could not be read.
     #[error(transparent)]
-    Stopped(Stopped),
+    HistoryFail(HistoryFail),
     /// The journal has no end of the request that has a report.
     #[error("the request has not ended with a report")]
     NotEnded,
 }
 
-impl From<Stopped> for TextFail {
-    ghost from_gives = { λ stopped e. e ≡ text_fail.Stopped stopped };
+impl From<HistoryFail> for TextFail {
+    ghost from_gives = { λ fail e. e ≡ text_fail.HistoryFail fail };
 
-    fn from(stopped: Stopped) -> Self {
-        TextFail::Stopped(stopped)
+    fn from(fail: HistoryFail) -> Self {
+        TextFail::HistoryFail(fail)
     }
 }
 
@@ -88,9 +88,9 @@ pub fn read_text<D: Disk, E: Disk>(
     };
     match texts.read(alloc, spool, extent) {
         Ok(text) => Ok(text),
-        Err(ReadBack::DiskFault) => Err(TextFail::Stopped(Stopped::DiskFault {
-            which: Which::Spool,
+        Err(ReadBack::DiskFault) => Err(TextFail::HistoryFail(HistoryFail::DiskFault {
+            which: DiskName::Spool,
         })),
-        Err(ReadBack::NoMemory) => Err(TextFail::Stopped(Stopped::NoMemory)),
+        Err(ReadBack::NoMemory) => Err(TextFail::HistoryFail(HistoryFail::NoMemory)),
     }
 }

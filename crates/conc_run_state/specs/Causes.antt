@@ -6,10 +6,10 @@ use Rattle.conc_journal.specs.Opens.{broken_of, digest_of, events_of, may_open}
 use Rattle.conc_restart.specs.Need.{need}
 use Rattle.conc_run_state.specs.Handed.{Finds, Handed, IsFound, IsOwnJournal}
 use Rattle.conc_run_state.specs.Judging.{IsBadRecord}
-use Rattle.conc_run_state.specs.declared.fail.Stopped.{Stopped}
-use Rattle.conc_run_state.specs.declared.fail.Stopped.TheVariants as stopped
-use Rattle.conc_run_state.specs.declared.fail.Which.{Which}
-use Rattle.conc_run_state.specs.declared.fail.Which.TheVariants as which
+use Rattle.conc_run_state.specs.declared.fail.HistoryFail.{HistoryFail}
+use Rattle.conc_run_state.specs.declared.fail.HistoryFail.TheVariants as history_fail
+use Rattle.conc_run_state.specs.declared.fail.DiskName.{DiskName}
+use Rattle.conc_run_state.specs.declared.fail.DiskName.TheVariants as which
 
 -- the journal of another input, with this digest
 pub record IsOther (digest found image : List ℕ) : Type 0 where
@@ -31,26 +31,26 @@ pub record IsUnlawful (h : Handed) (number : ℕ) : Type 0 where
   pub bad : Finds (λ image len. IsBadRecord h.plan len (events_of image) (broken_of image) number) h
 
 -- the count of faults of this disk rose; the spool is not opened before the journal was found to be this input's
-abbrev pub Faulted : Handed → Which → Type 0
+abbrev pub Faulted : Handed → DiskName → Type 0
 Faulted h which.Journal = Rose h.journal_before.faults h.journal_after.faults
 Faulted h which.Spool = IfSome h.journal_before.seen (IsOwnJournal h.digest) × Rose h.spool_before.faults h.spool_after.faults
 
 -- the cause of each answer; want of memory needs none
-abbrev pub HasCause : Handed → Stopped → Type 0
-HasCause h stopped.NotJournal = IfSome h.journal_before.seen (λ image. IsFalse (may_open image))
-HasCause h (stopped.OtherInput found) = IfSome h.journal_before.seen (IsOther h.digest found)
-HasCause h (stopped.Unlawful number) = IsUnlawful h number
-HasCause h (stopped.JournalFull len needed) = IsFull h len needed
-HasCause h (stopped.DiskFault which) = Faulted h which
-HasCause h stopped.NoMemory = ⊤
+abbrev pub HasCause : Handed → HistoryFail → Type 0
+HasCause h history_fail.NotJournal = IfSome h.journal_before.seen (λ image. IsFalse (may_open image))
+HasCause h (history_fail.OtherInput found) = IfSome h.journal_before.seen (IsOther h.digest found)
+HasCause h (history_fail.Unlawful number) = IsUnlawful h number
+HasCause h (history_fail.JournalFull len needed) = IsFull h len needed
+HasCause h (history_fail.DiskFault which) = Faulted h which
+HasCause h history_fail.NoMemory = ⊤
 
 -- a refusal, which is told before anything is written
-abbrev pub is_refusal : Stopped → Bool
-is_refusal (stopped.DiskFault which) = false
-is_refusal stopped.NoMemory = false
+abbrev pub is_refusal : HistoryFail → Bool
+is_refusal (history_fail.DiskFault which) = false
+is_refusal history_fail.NoMemory = false
 is_refusal _ = true
 
 -- the answer that may come while the journal is written
-abbrev pub is_journal_fault : Stopped → Bool
-is_journal_fault (stopped.DiskFault which.Journal) = true
+abbrev pub is_journal_fault : HistoryFail → Bool
+is_journal_fault (history_fail.DiskFault which.Journal) = true
 is_journal_fault _ = false

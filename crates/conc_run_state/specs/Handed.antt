@@ -5,7 +5,7 @@ use Rattle.conc_types.specs.declared.plan.Plan.{Plan}
 use Rattle.conc_types.specs.declared.script.Reading.{Reading}
 use Rattle.conc_types.specs.declared.script.Readings.{Readings}
 use Rattle.conc_disk.specs.Disk.{DiskState}
-use Rattle.conc_law.specs.Law.{Past}
+use Rattle.conc_law.specs.Law.{LawfulSoFar}
 use Rattle.conc_journal.specs.Opens.{broken_of, events_of, may_open}
 use Rattle.conc_restart.specs.Need.{need}
 use Rattle.conc_run_state.specs.Disks.{AreUntouched, disks}
@@ -49,7 +49,7 @@ Finds kind h = IfSome h.journal_before.seen (λ image. IfSome h.spool_before.see
 -- These are the events found. They are lawful, every life judged as an earlier one. Where the journal's disk tells, they are
 -- those of a journal of this input of which no record is broken; and where the spool's tells, each extent ends within it.
 pub record IsFound (h : Handed) (found : List Event) : Type 0 where
-  pub past : Past h.plan found
+  pub so_far : LawfulSoFar h.plan found
   pub own : IfSome h.journal_before.seen (IsOwnJournal h.digest)
   pub whole : IfSome h.journal_before.seen (λ image. broken_of image ≡ None)
   pub events : IfSome h.journal_before.seen (λ image. found ≡ events_of image)

@@ -7,7 +7,7 @@ use Rattle.conc_types.specs.declared.event.Outcome.{Outcome}
 use Rattle.conc_types.specs.declared.event.RequestId.{RequestId}
 use Rattle.conc_types.specs.declared.plan.Plan.{Plan}
 use Rattle.conc_types.specs.Words.{numbered}
-use Rattle.conc_law.specs.Law.{Past}
+use Rattle.conc_law.specs.Law.{LawfulSoFar}
 use Rattle.conc_restart.specs.FirstBad.{IsFirstUnlawful}
 
 -- each extent of these events ends within so many bytes
@@ -16,24 +16,24 @@ EndWithin len events =
     (i : ℕ) (id : RequestId) (o : Outcome) (x : Extent)
     → slice_get events i ≡ Some (event.Ended id o (Some x)) → x.offset + x.length ≤ len
 
--- the extent of the event with this number, from 1, ends past so many bytes
-pub record EndsPast (len : ℕ) (events : List Event) (number : ℕ) : Type 0 where
+-- the extent of the event with this number, from 1, ends beyond so many bytes
+pub record EndsBeyond (len : ℕ) (events : List Event) (number : ℕ) : Type 0 where
   pub id : RequestId
   pub outcome : Outcome
   pub extent : Extent
   pub there : numbered events number ≡ Some (event.Ended id outcome (Some extent))
-  pub past : len < extent.offset + extent.length
+  pub beyond : len < extent.offset + extent.length
 
 -- no record is broken, each event may follow those before it with every life judged as an earlier one, and each extent
 -- ends within the spool
 pub record AreGood (plan : Plan) (len : ℕ) (events : List Event) (broken : Option ℕ) : Type 0 where
   pub whole : broken ≡ None
-  pub past : Past plan events
+  pub so_far : LawfulSoFar plan events
   pub within : EndWithin len events
 
--- the record with this number, from 1, is broken, or its event may not follow, or its extent ends past the spool; and
+-- the record with this number, from 1, is broken, or its event may not follow, or its extent ends beyond the spool; and
 -- none before it is so
 pub record IsBadRecord (plan : Plan) (len : ℕ) (events : List Event) (broken : Option ℕ) (number : ℕ) : Type 0 where
-  pub bad : (broken ≡ Some number) ⊎ (IsFirstUnlawful plan events number ⊎ EndsPast len events number)
-  pub past : Past plan (take (number - 1) events)
+  pub bad : (broken ≡ Some number) ⊎ (IsFirstUnlawful plan events number ⊎ EndsBeyond len events number)
+  pub so_far : LawfulSoFar plan (take (number - 1) events)
   pub within : EndWithin len (take (number - 1) events)

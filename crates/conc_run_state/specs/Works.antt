@@ -4,9 +4,9 @@ use Rattle.conc_types.specs.declared.event.Event.{Event}
 use Rattle.conc_types.specs.declared.plan.Plan.{Plan}
 use Rattle.conc_types.specs.declared.script.Reading.{Reading}
 use Rattle.conc_law.specs.Law.{Lawful}
-use Rattle.conc_law.specs.Standing.{used}
+use Rattle.conc_law.specs.State.{used}
 use Rattle.conc_disk.specs.Disk.{DiskState}
-use Rattle.conc_machine.specs.Stands.{plan_of, readings_of, Stands}
+use Rattle.conc_machine.specs.StandsFor.{plan_of, readings_of, StandsFor}
 use Rattle.conc_journal.specs.Journals.{list_of, room_of, stage_of}
 use Rattle.conc_journal.specs.Journals.{IsOn as JournalIsOn}
 use Rattle.conc_journal.specs.Stages.{has_faulted, takes_events}
@@ -34,7 +34,7 @@ with_kept (Some e) list = list ++ e ∷ []
 pub record AreTied (plan : Plan) (readings : List Reading) (kept : Option Event) (work : Work) (journal spool : DiskState) : Type 0 where
   pub plan_is : plan_of work.machine ≡ plan
   pub readings_are : readings_of work.machine ≡ Some readings
-  pub stands : Stands work.machine (reverse (list_in work))
+  pub stands : StandsFor work.machine (reverse (list_in work))
   pub lawful : Lawful plan readings (list_in work)
   pub takes : IsTrue (takes_events (stage_of work.journal))
   pub used_is : used_of work.spool ≡ used (reverse (with_kept kept (list_in work)))

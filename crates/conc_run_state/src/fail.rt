@@ -2,7 +2,7 @@ use thiserror::Error;
 
 /// One of the two disks of a run.
 #[derive(Clone, Copy, Debug, PartialEq, Eq)]
-pub enum Which {
+pub enum DiskName {
     Journal,
     Spool,
 }
@@ -21,7 +21,7 @@ pub enum RunFail {
 
 /// Why a run does not begin, or ends before its history is finished.
 #[derive(Clone, Copy, Debug, PartialEq, Eq, Error)]
-pub enum Stopped {
+pub enum HistoryFail {
     #[error("this is no journal")]
     NotJournal,
     /// The journal is that of another input, with this digest.
@@ -34,7 +34,7 @@ pub enum Stopped {
     #[error("the journal has {len} records and needs {need} more")]
     JournalFull { len: u64, need: u64 },
     #[error("a disk failed")]
-    DiskFault { which: Which },
+    DiskFault { which: DiskName },
     #[error("no memory")]
     NoMemory,
 }

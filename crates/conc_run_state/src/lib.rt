@@ -5,5 +5,5 @@
 mod fail;
 mod work;
 
-pub use fail::{RunFail, Stopped, Which};
+pub use fail::{RunFail, HistoryFail, DiskName};
 pub use work::Work;

@@ -4,7 +4,7 @@ pub mod ReadLines
 pub mod ClockFaults
 pub mod EightFields
 pub mod Forms
-pub mod DeedRules
+pub mod ActionRules
 pub mod ReadRecords
 pub mod HeaderRecord
 pub mod ScriptFaults

@@ -15,7 +15,7 @@ use Rattle.conc_types.specs.Scripts.{are_commands_from, entered_by, is_act}
 use Rattle.conc_law.specs.Calendar.{civil_of, is_civil, is_spelling, moment_of}
 use Rattle.conc_records.specs.Records.{Record}
 use Rattle.conc_script.specs.Orders.{fault_behind, ReadsRecords}
-use Rattle.conc_script.specs.Rules.{deed_rules, record_rules}
+use Rattle.conc_script.specs.Rules.{action_rules, record_rules}
 use Rattle.conc_script.specs.Script.{at_field, entered_before, entered_by_record, header, is_earlier, is_record, order_of, record_kind}
 use Rattle.conc_script.proofs.Faults.{fault_here, fault_later, fault_none}
 
@@ -86,7 +86,7 @@ pub reads_more : (setup : Setup) (records after : List Record) (r : Record) (com
 reads_more setup records after r commands more entered entered' number before at a reads n passes said moment later fit enters total few m =
     let order : Order = record { at = at; act = a } in
     let passes' = rw n at passes in
-    let rest_of = (is_none (moment_of (at_field r)), 22) ∷ (is_earlier (moment_of (at_field r)) before, 25) ∷ deed_rules setup entered r in
+    let rest_of = (is_none (moment_of (at_field r)), 22) ∷ (is_earlier (moment_of (at_field r)) before, 25) ∷ action_rules setup entered r in
     let under : length commands + 2 ≤ 4097 = ltb-false 4097 (length commands + 2) (few_broken (not (is_record r)) (nat_lt 4097 (length commands + 2)) rest_of passes') in
     let many : length more ≡ length commands + 1 = rw m (length_push commands order) in
     let behind : length (reads.done ++ r ∷ []) ≡ length reads.done + 1 = length_push reads.done r in

@@ -1,5 +1,5 @@
 pub mod Clock
-pub mod Deeds
+pub mod Actions
 pub mod Fields
 pub mod Lines
 pub mod Orders

@@ -46,11 +46,11 @@ request_rules entered r =
     ∷ (not (bare_form r), 22) ∷ []
 
 -- the rules of what a command does, from its word on
-abbrev pub deed_rules : Setup → ℕ → Record → List (Bool × ℕ)
-deed_rules setup entered r = (not (is_word (word_field r)), 21) ∷ what_rules setup entered r ++ (not (has_form r), 22) ∷ []
+abbrev pub action_rules : Setup → ℕ → Record → List (Bool × ℕ)
+action_rules setup entered r = (not (is_word (word_field r)), 21) ∷ what_rules setup entered r ++ (not (has_form r), 22) ∷ []
 
 -- all rules of the record with a number, after so many requests, and after a record of this moment
 abbrev pub record_rules : Setup → ℕ → ℕ → Option Moment → Record → List (Bool × ℕ)
 record_rules setup number entered before r =
     (not (is_record r), 20) ∷ (nat_lt 4097 number, 26) ∷ (is_none (moment_of (at_field r)), 22)
-    ∷ (is_earlier (moment_of (at_field r)) before, 25) ∷ deed_rules setup entered r
+    ∷ (is_earlier (moment_of (at_field r)) before, 25) ∷ action_rules setup entered r

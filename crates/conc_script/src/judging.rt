@@ -7,12 +7,12 @@ ghost use Rattle.conc_types.specs.Scripts.{entered_by, is_act};
 ghost use Rattle.conc_types.specs.Texts.{is_text};
 ghost use Rattle.conc_types.specs.Words.{is_between};
 ghost use Rattle.conc_law.specs.Calendar.{moment_of};
-ghost use Rattle.conc_script.specs.Deeds.{act_by, submit_by, verb_of as verb_of_word};
+ghost use Rattle.conc_script.specs.Actions.{act_by, submit_by, verb_of as verb_of_word};
 ghost use Rattle.conc_script.specs.Fields.{list_of};
-ghost use Rattle.conc_script.specs.Rules.{bare_form, deed_rules, record_rules, request_rules, submission_by, submit_form, submit_rules};
+ghost use Rattle.conc_script.specs.Rules.{bare_form, action_rules, record_rules, request_rules, submission_by, submit_form, submit_rules};
 ghost use Rattle.conc_script.specs.Script.{act_of, at_field, entered_by_record, is_earlier as is_earlier_of, is_submit as is_submit_of, item_named as item_named_of, order_of, submission_of};
 
-use crate::deeds::{Deed, Submission, Verb};
+use crate::actions::{Action, Submission, Verb};
 use crate::fields::{Fields, fields_in};
 use crate::rule;
 use crate::words::{domain_of, item_named, priority_of, start_of};
@@ -114,20 +114,20 @@ fn is_submit(fields: &Fields) -> bool
 
 // What the fields say to do at a moment, after so many requests that were entered, or the rule that
 // they break.
-fn deed<'a>(setup: &Setup, at: Moment, entered: u64, fields: &Fields<'a>) -> Result<Deed<'a>, u8>
+fn action<'a>(setup: &Setup, at: Moment, entered: u64, fields: &Fields<'a>) -> Result<Action<'a>, u8>
     requires { entered < 2 ^ 32 }
-    ensures rules { first_broken (deed_rules setup.now entered (list_of fields.now)) ≡ result_err result }
-    ensures said { IfOk result (λ deed. act_of setup.now at (list_of fields.now) ≡ Some (act_by deed)) }
-    ensures fits { IfOk result (λ deed. IsTrue (is_act setup.now (entered + 1) (act_by deed))) }
-    ensures enters { IfOk result (λ deed. entered_by_record setup.now (list_of fields.now) ≡ entered_by setup.now (act_by deed)) }
+    ensures rules { first_broken (action_rules setup.now entered (list_of fields.now)) ≡ result_err result }
+    ensures said { IfOk result (λ action. act_of setup.now at (list_of fields.now) ≡ Some (act_by action)) }
+    ensures fits { IfOk result (λ action. IsTrue (is_act setup.now (entered + 1) (act_by action))) }
+    ensures enters { IfOk result (λ action. entered_by_record setup.now (list_of fields.now) ≡ entered_by setup.now (act_by action)) }
 {
     if is_submit(fields) {
         let submission = submission(setup, at, fields)?;
-        return Ok(Deed::Submit(submission));
+        return Ok(Action::Submit(submission));
     }
     let verb = verb_of(fields.word).ok_or(rule::WORD)?;
     let request = request(entered, fields)?;
-    Ok(Deed::On(verb, request))
+    Ok(Action::On(verb, request))
 }
 
 fn is_earlier(at: Moment, before: Option<Moment>) -> bool
@@ -144,7 +144,7 @@ pub(crate) fn judge<'a>(
     entered: u64,
     before: Option<Moment>,
     row: &'a ByteRecord,
-) -> Result<(Moment, Deed<'a>), u8>
+) -> Result<(Moment, Action<'a>), u8>
     requires { entered < 2 ^ 32 }
     ensures rules { first_broken (record_rules setup.now number entered before (fields_of row.now)) ≡ result_err result }
     ensures said { IfOk result (λ p. order_of setup.now (fields_of row.now) ≡ Some (record { at = p.0; act = act_by p.1 })) }
@@ -161,6 +161,6 @@ pub(crate) fn judge<'a>(
     if is_earlier(at, before) {
         return Err(rule::MOMENT);
     }
-    let deed = deed(setup, at, entered, &fields)?;
-    Ok((at, deed))
+    let action = action(setup, at, entered, &fields)?;
+    Ok((at, action))
 }

@@ -2,7 +2,7 @@
 #![tactic(auto)]
 
 mod clock;
-mod deeds;
+mod actions;
 mod fields;
 mod judging;
 mod lines;

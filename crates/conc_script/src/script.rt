@@ -53,9 +53,9 @@ fn read_commands(
         let number = commands.len() + 2;
         match judge(setup, number, entered, before, &row) {
             Err(kind) => return Err(ReadFail::refused(FileKind::Script, number as u64, kind)),
-            Ok((at, deed)) => {
-                let act = own(alloc, &deed)?;
-                entered += u64::from(entered_with(setup, &deed));
+            Ok((at, action)) => {
+                let act = own(alloc, &action)?;
+                entered += u64::from(entered_with(setup, &action));
                 before = Some(at);
                 commands.push(Order { at, act })?;
             }

@@ -4,8 +4,8 @@ use Rattle.std.specs.Prelude.{IfSome}
 use Rattle.conc_types.specs.declared.event.Event.{Event}
 use Rattle.conc_law.specs.Text.{text_of}
 use Rattle.conc_run_state.specs.Handed.{Handed}
-use Rattle.conc_run_state.specs.declared.fail.Stopped.{Stopped}
-use Rattle.conc_run_state.specs.declared.fail.Stopped.TheVariants as stopped
+use Rattle.conc_run_state.specs.declared.fail.HistoryFail.{HistoryFail}
+use Rattle.conc_run_state.specs.declared.fail.HistoryFail.TheVariants as history_fail
 use Rattle.conc_top.specs.declared.exit.Exit.{Exit}
 use Rattle.conc_top.specs.declared.exit.Exit.TheVariants as exit
 use Rattle.conc_top.specs.Printing.{Sunk, TookNothing, Wrote}
@@ -20,13 +20,13 @@ read-of kind None may_leave each left = tt
 read-of kind (Some bytes) may_leave each left = each bytes left
 
 -- a run that was cut short, and wrote nothing
-pub cut-ends : (h : Handed) (sink : Sunk) (s : Stopped) → IsCutShort h s → TookNothing sink → RunEnds h sink (exit_for h.digest s)
-cut-ends h sink stopped.NotJournal cut nothing = (cut, nothing)
-cut-ends h sink (stopped.OtherInput found) cut nothing = (cut, refl, nothing)
-cut-ends h sink (stopped.Unlawful number) cut nothing = (cut, nothing)
-cut-ends h sink (stopped.JournalFull len needed) cut nothing = (cut, nothing)
-cut-ends h sink (stopped.DiskFault which) cut nothing = (cut, nothing)
-cut-ends h sink stopped.NoMemory cut nothing = (cut, nothing)
+pub cut-ends : (h : Handed) (sink : Sunk) (s : HistoryFail) → IsCutShort h s → TookNothing sink → RunEnds h sink (exit_for h.digest s)
+cut-ends h sink history_fail.NotJournal cut nothing = (cut, nothing)
+cut-ends h sink (history_fail.OtherInput found) cut nothing = (cut, refl, nothing)
+cut-ends h sink (history_fail.Unlawful number) cut nothing = (cut, nothing)
+cut-ends h sink (history_fail.JournalFull len needed) cut nothing = (cut, nothing)
+cut-ends h sink (history_fail.DiskFault which) cut nothing = (cut, nothing)
+cut-ends h sink history_fail.NoMemory cut nothing = (cut, nothing)
 
 written : (h : Handed) (sink : Sunk) (history : List Event) (end : Exit) → IsHistory h history → Wrote (text_of h.plan history) sink end → RunEnds h sink end
 written h sink history exit.Done was took = (history, was, took)

@@ -11,7 +11,7 @@ use Rattle.conc_outside.specs.Counts.{Rose}
 use Rattle.conc_outside.specs.Taken.{Took, TookPrefix}
 use Rattle.conc_run.specs.Whole.{IsCutShort, IsFinished}
 use Rattle.conc_run_state.specs.Handed.{Handed}
-use Rattle.conc_run_state.specs.declared.fail.Stopped.TheVariants as stopped
+use Rattle.conc_run_state.specs.declared.fail.HistoryFail.TheVariants as history_fail
 use Rattle.conc_top.specs.declared.exit.Exit.{Exit}
 use Rattle.conc_top.specs.declared.exit.Exit.TheVariants as exit
 use Rattle.conc_top.specs.Printing.{Sunk, TookNothing}
@@ -33,10 +33,10 @@ RunEnds h sink exit.Done = (history : List Event) × IsHistory h history × Took
 RunEnds h sink exit.WriteFault =
     (history : List Event) × IsHistory h history × TookPrefix sink.taken_before sink.taken_after (text_of h.plan history)
     × Rose sink.faults_before sink.faults_after
-RunEnds h sink exit.NoMemory = IsCutShort h stopped.NoMemory × TookNothing sink
-RunEnds h sink (exit.DiskFault which) = IsCutShort h (stopped.DiskFault which) × TookNothing sink
-RunEnds h sink exit.NotJournal = IsCutShort h stopped.NotJournal × TookNothing sink
-RunEnds h sink (exit.OtherInput found given) = IsCutShort h (stopped.OtherInput found) × (given ≡ h.digest) × TookNothing sink
-RunEnds h sink (exit.JournalFull len needed) = IsCutShort h (stopped.JournalFull len needed) × TookNothing sink
-RunEnds h sink (exit.Unlawful number) = IsCutShort h (stopped.Unlawful number) × TookNothing sink
+RunEnds h sink exit.NoMemory = IsCutShort h history_fail.NoMemory × TookNothing sink
+RunEnds h sink (exit.DiskFault which) = IsCutShort h (history_fail.DiskFault which) × TookNothing sink
+RunEnds h sink exit.NotJournal = IsCutShort h history_fail.NotJournal × TookNothing sink
+RunEnds h sink (exit.OtherInput found given) = IsCutShort h (history_fail.OtherInput found) × (given ≡ h.digest) × TookNothing sink
+RunEnds h sink (exit.JournalFull len needed) = IsCutShort h (history_fail.JournalFull len needed) × TookNothing sink
+RunEnds h sink (exit.Unlawful number) = IsCutShort h (history_fail.Unlawful number) × TookNothing sink
 RunEnds h sink _ = ⊥

@@ -10,7 +10,7 @@ use Rattle.conc_run_open.specs.Listing.{HasListCause, IsListed}
 use Rattle.conc_run_open.specs.Texts.{HasReadCause, HasText, HasTextCause}
 use Rattle.conc_run_open.specs.declared.text.TextFail.TheVariants as text_fail
 use Rattle.conc_run_state.specs.Disks.{Disks}
-use Rattle.conc_run_state.specs.declared.fail.Stopped.TheVariants as stopped
+use Rattle.conc_run_state.specs.declared.fail.HistoryFail.TheVariants as history_fail
 use Rattle.conc_top.specs.declared.exit.Exit.{Exit}
 use Rattle.conc_top.specs.declared.exit.Exit.TheVariants as exit
 use Rattle.conc_top.specs.Printing.{Prints, Sunk, TookNothing}
@@ -29,21 +29,21 @@ pub record IsStatusText (plan : Plan) (digest : List ℕ) (journal : DiskState) 
   pub text_is : text ≡ table_text plan (reverse events)
 
 abbrev pub StatusEnds : Plan → List ℕ → DiskState → DiskState → Sunk → Exit → Type 0
-StatusEnds plan digest old new sink exit.NotJournal = HasListCause plan digest old new stopped.NotJournal × TookNothing sink
+StatusEnds plan digest old new sink exit.NotJournal = HasListCause plan digest old new history_fail.NotJournal × TookNothing sink
 StatusEnds plan digest old new sink (exit.OtherInput found given) =
-    HasListCause plan digest old new (stopped.OtherInput found) × (given ≡ digest) × TookNothing sink
-StatusEnds plan digest old new sink (exit.Unlawful number) = HasListCause plan digest old new (stopped.Unlawful number) × TookNothing sink
-StatusEnds plan digest old new sink (exit.DiskFault which) = HasListCause plan digest old new (stopped.DiskFault which) × TookNothing sink
+    HasListCause plan digest old new (history_fail.OtherInput found) × (given ≡ digest) × TookNothing sink
+StatusEnds plan digest old new sink (exit.Unlawful number) = HasListCause plan digest old new (history_fail.Unlawful number) × TookNothing sink
+StatusEnds plan digest old new sink (exit.DiskFault which) = HasListCause plan digest old new (history_fail.DiskFault which) × TookNothing sink
 StatusEnds plan digest old new sink end = Prints (IsStatusText plan digest old) sink end
 
 -- ---- a report
 
 abbrev pub OutputEnds : Plan → List ℕ → RequestId → Disks → Sunk → Exit → Type 0
-OutputEnds plan digest id d sink exit.NotJournal = HasReadCause plan digest d stopped.NotJournal × TookNothing sink
+OutputEnds plan digest id d sink exit.NotJournal = HasReadCause plan digest d history_fail.NotJournal × TookNothing sink
 OutputEnds plan digest id d sink (exit.OtherInput found given) =
-    HasReadCause plan digest d (stopped.OtherInput found) × (given ≡ digest) × TookNothing sink
-OutputEnds plan digest id d sink (exit.Unlawful number) = HasReadCause plan digest d (stopped.Unlawful number) × TookNothing sink
-OutputEnds plan digest id d sink (exit.DiskFault which) = HasReadCause plan digest d (stopped.DiskFault which) × TookNothing sink
+    HasReadCause plan digest d (history_fail.OtherInput found) × (given ≡ digest) × TookNothing sink
+OutputEnds plan digest id d sink (exit.Unlawful number) = HasReadCause plan digest d (history_fail.Unlawful number) × TookNothing sink
+OutputEnds plan digest id d sink (exit.DiskFault which) = HasReadCause plan digest d (history_fail.DiskFault which) × TookNothing sink
 OutputEnds plan digest id d sink (exit.NotEnded number) =
     HasTextCause plan digest id d text_fail.NotEnded × (number ≡ id.number) × TookNothing sink
 OutputEnds plan digest id d sink end = Prints (HasText plan digest id d.journal_before d.spool_before) sink end

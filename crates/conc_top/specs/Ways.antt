@@ -5,8 +5,8 @@ use Rattle.conc_top_inputs.specs.declared.fail.InputFail.TheVariants as input
 use Rattle.conc_run_open.specs.declared.text.TextFail.{TextFail}
 use Rattle.conc_run_open.specs.declared.text.TextFail.TheVariants as text
 use Rattle.conc_types.specs.declared.event.RequestId.{RequestId}
-use Rattle.conc_run_state.specs.declared.fail.Stopped.{Stopped}
-use Rattle.conc_run_state.specs.declared.fail.Stopped.TheVariants as stopped
+use Rattle.conc_run_state.specs.declared.fail.HistoryFail.{HistoryFail}
+use Rattle.conc_run_state.specs.declared.fail.HistoryFail.TheVariants as history_fail
 use Rattle.conc_top.specs.declared.exit.Exit.{Exit}
 use Rattle.conc_top.specs.declared.exit.Exit.TheVariants as exit
 
@@ -19,15 +19,15 @@ exit_for_input input.ClockFault = exit.ClockFault
 exit_for_input input.NoMemory = exit.NoMemory
 
 -- where a run does not come to its end, or nothing is read of its disks, for files with this digest
-abbrev pub exit_for : List ℕ → Stopped → Exit
-exit_for digest stopped.NotJournal = exit.NotJournal
-exit_for digest (stopped.OtherInput found) = exit.OtherInput found digest
-exit_for digest (stopped.Unlawful number) = exit.Unlawful number
-exit_for digest (stopped.JournalFull len needed) = exit.JournalFull len needed
-exit_for digest (stopped.DiskFault which) = exit.DiskFault which
-exit_for digest stopped.NoMemory = exit.NoMemory
+abbrev pub exit_for : List ℕ → HistoryFail → Exit
+exit_for digest history_fail.NotJournal = exit.NotJournal
+exit_for digest (history_fail.OtherInput found) = exit.OtherInput found digest
+exit_for digest (history_fail.Unlawful number) = exit.Unlawful number
+exit_for digest (history_fail.JournalFull len needed) = exit.JournalFull len needed
+exit_for digest (history_fail.DiskFault which) = exit.DiskFault which
+exit_for digest history_fail.NoMemory = exit.NoMemory
 
 -- where no text of this request's report is given
 abbrev pub exit_for_text : List ℕ → RequestId → TextFail → Exit
-exit_for_text digest id (text.Stopped e) = exit_for digest e
+exit_for_text digest id (text.HistoryFail e) = exit_for digest e
 exit_for_text digest id text.NotEnded = exit.NotEnded id.number

@@ -1,4 +1,4 @@
-use conc_run_state::Which;
+use conc_run_state::DiskName;
 use conc_top_inputs::InputFail;
 use conc_types::{Name, Refusal};
 
@@ -18,7 +18,7 @@ pub enum Exit {
     /// The output could not be written.
     WriteFault,
     /// One of the two disks failed.
-    DiskFault { which: Which },
+    DiskFault { which: DiskName },
     /// The clock of the system gave no moment.
     ClockFault,
     /// What stands on the journal's disk is no journal.

@@ -4,7 +4,7 @@ ghost use Rattle.hex.specs.Hex.{encode_lower};
 ghost use Rattle.conc_top.specs.Lines.{line_of};
 
 use crate::Exit;
-use conc_run_state::Which;
+use conc_run_state::DiskName;
 use conc_types::{Name, NoMemory, Refusal, put_decimal};
 use std::alloc::Global;
 
@@ -82,10 +82,10 @@ fn put_line(alloc: Global, out: &mut Vec<u8>, exit: &Exit) -> Result<(), NoMemor
         Exit::ReadFault { name } => put_name(out, b"read fault: ", name),
         Exit::WriteFault => put(out, b"write fault\n"),
         Exit::DiskFault {
-            which: Which::Journal,
+            which: DiskName::Journal,
         } => put(out, b"disk fault: journal\n"),
         Exit::DiskFault {
-            which: Which::Spool,
+            which: DiskName::Spool,
         } => put(out, b"disk fault: spool\n"),
         Exit::ClockFault => put(out, b"clock fault\n"),
         Exit::NotJournal => put(out, b"not a journal\n"),

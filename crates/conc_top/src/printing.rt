@@ -6,7 +6,7 @@ ghost use Rattle.conc_top.specs.Ways.{exit_for as exit_for_of};
 use crate::Exit;
 use conc_make_run::summarize;
 use conc_outside::{Sink, write_all};
-use conc_run_state::Stopped;
+use conc_run_state::HistoryFail;
 use conc_types::NoMemory;
 use std::alloc::Global;
 
@@ -22,19 +22,19 @@ pub(crate) fn write_text<O: Sink>(text: &[u8], out: &mut O) -> Exit
 
 /// The exit of a run that did not come to its end, or where nothing is read of its disks, whose files
 /// have this digest.
-pub(crate) fn exit_for(stopped: Stopped, digest: &[u8; 32]) -> Exit
-    ensures { result ≡ exit_for_of digest.now stopped }
+pub(crate) fn exit_for(fail: HistoryFail, digest: &[u8; 32]) -> Exit
+    ensures { result ≡ exit_for_of digest.now fail }
 {
-    match stopped {
-        Stopped::NotJournal => Exit::NotJournal,
-        Stopped::OtherInput { found } => Exit::OtherInput {
+    match fail {
+        HistoryFail::NotJournal => Exit::NotJournal,
+        HistoryFail::OtherInput { found } => Exit::OtherInput {
             found,
             given: *digest,
         },
-        Stopped::Unlawful { number } => Exit::Unlawful { number },
-        Stopped::JournalFull { len, need } => Exit::JournalFull { len, need },
-        Stopped::DiskFault { which } => Exit::DiskFault { which },
-        Stopped::NoMemory => Exit::NoMemory,
+        HistoryFail::Unlawful { number } => Exit::Unlawful { number },
+        HistoryFail::JournalFull { len, need } => Exit::JournalFull { len, need },
+        HistoryFail::DiskFault { which } => Exit::DiskFault { which },
+        HistoryFail::NoMemory => Exit::NoMemory,
     }
 }
 

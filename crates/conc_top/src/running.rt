@@ -11,7 +11,7 @@ use crate::Exit;
 use crate::printing::{exit_for, write_text};
 use conc_disk::Disk;
 use conc_history::put_history;
-use conc_law::{alone_is_lawful, alone_reports, lawful_is_past, no_overlap};
+use conc_law::{alone_is_lawful, alone_reports, lawful_is_lawful_so_far, no_overlap};
 use conc_outside::{Shelf, Sink};
 use conc_outside_clock::Clock;
 use conc_run::run_plan;
@@ -34,11 +34,11 @@ fn run_and_print<O: Sink, D: Disk, E: Disk>(
 {
     alone_is_lawful();
     alone_reports();
-    lawful_is_past();
+    lawful_is_lawful_so_far();
     no_overlap();
     let work = match run_plan(alloc, plan, readings, digest, journal, spool) {
         Ok(work) => work,
-        Err(stopped) => return exit_for(stopped, digest),
+        Err(fail) => return exit_for(fail, digest),
     };
     match put_history(alloc, plan, work.journal.events()) {
         Ok(text) => write_text(&text, out),

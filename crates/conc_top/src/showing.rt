@@ -65,7 +65,7 @@ fn print_table<O: Sink, D: Disk>(
 {
     let events = match read_list(alloc, plan, digest, journal) {
         Ok(events) => events,
-        Err(stopped) => return exit_for(stopped, digest),
+        Err(fail) => return exit_for(fail, digest),
     };
     match put_status_table(alloc, plan, &events) {
         Ok(text) => write_text(&text, out),
@@ -102,7 +102,7 @@ fn exit_for_text(fail: TextFail, digest: &[u8; 32], id: RequestId) -> Exit
     ensures { result ≡ exit_for_text_of digest.now id fail }
 {
     match fail {
-        TextFail::Stopped(stopped) => exit_for(stopped, digest),
+        TextFail::HistoryFail(history) => exit_for(history, digest),
         TextFail::NotEnded => Exit::NotEnded { number: id.number },
     }
 }

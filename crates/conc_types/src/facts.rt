@@ -43,7 +43,7 @@ impl Facts {
 
 /// What stands after some events: all that the rules read of a history, but for its readings.
 #[derive(Drop)]
-pub struct Standing {
+pub struct State {
     /// There is no event.
     pub empty: bool,
     /// The moment of the last tick.

@@ -25,7 +25,7 @@ pub use cells::Cells;
 pub use decimal::{put_decimal, read_decimal};
 pub use error::{CheckFail, NoMemory};
 pub use event::{Event, Extent, Moment, Outcome, Phase, PlaceId, RequestId, Status};
-pub use facts::{Facts, Standing};
+pub use facts::{Facts, State};
 pub use item::{Entry, Item, Reach, Scope};
 pub use manager::{Manager, Rule, Shift};
 pub use name::{Name, is_name};

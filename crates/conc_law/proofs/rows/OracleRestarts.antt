@@ -14,7 +14,7 @@ use Rattle.conc_types.specs.declared.script.Order.{Order}
 use Rattle.conc_types.specs.declared.script.Reading.{Reading}
 use Rattle.conc_types.specs.declared.setup.Setup.{Setup}
 use Rattle.conc_types.specs.Expansion.{expansion}
-use Rattle.conc_law.specs.Law.{is_lawful, is_past}
+use Rattle.conc_law.specs.Law.{is_lawful, is_lawful_so_far}
 use Rattle.conc_law.specs.Readings.{next_reading}
 use Rattle.conc_law.specs.Text.{text_of}
 use Rattle.conc_law.proofs.rows.Computed.{the_law, made}
@@ -66,7 +66,7 @@ r94_runs : made r94 r94_readings 17 (event.Resume ∷ (event.Stage (id 1) 1 ∷ 
 unfolding the_law
 r94_runs = refl
 
-r94_lawful : (is_lawful r94 r94_readings (event.Tick (moment 63876604200) ∷ ended 6 outcome.Warning 18 18 ∷ start 6 0 ∷ event.LetOut (id 6) ∷ event.Command 8 ∷ event.Command 7 ∷ event.Command 6 ∷ event.Command 5 ∷ event.Tick (moment 63876602400) ∷ event.Tick (moment 63876600600) ∷ event.Command 4 ∷ event.Tick (moment 63876600600) ∷ event.Tick (moment 63876600000) ∷ event.Tick (moment 63876600000) ∷ ended 5 outcome.Warning 0 18 ∷ start 5 0 ∷ event.Resume ∷ event.Stage (id 1) 1 ∷ event.OpenSet (id 1) ∷ event.LetOut (id 5) ∷ event.Command 3 ∷ event.Command 2 ∷ event.Command 1 ∷ event.Tick (moment 63876600000) ∷ []) ∷ is_past r94 (event.Tick (moment 63876604200) ∷ ended 6 outcome.Warning 18 18 ∷ start 6 0 ∷ event.LetOut (id 6) ∷ event.Command 8 ∷ event.Command 7 ∷ event.Command 6 ∷ event.Command 5 ∷ event.Tick (moment 63876602400) ∷ event.Tick (moment 63876600600) ∷ event.Command 4 ∷ event.Tick (moment 63876600600) ∷ event.Tick (moment 63876600000) ∷ event.Tick (moment 63876600000) ∷ ended 5 outcome.Warning 0 18 ∷ start 5 0 ∷ event.Resume ∷ event.Stage (id 1) 1 ∷ event.OpenSet (id 1) ∷ event.LetOut (id 5) ∷ event.Command 3 ∷ event.Command 2 ∷ event.Command 1 ∷ event.Tick (moment 63876600000) ∷ []) ∷ is_past r94 (event.Stage (id 1) 1 ∷ event.OpenSet (id 1) ∷ event.LetOut (id 5) ∷ event.Command 3 ∷ event.Command 2 ∷ event.Command 1 ∷ event.Tick (moment 63876600000) ∷ []) ∷ []) ≡ (true ∷ true ∷ true ∷ [])
+r94_lawful : (is_lawful r94 r94_readings (event.Tick (moment 63876604200) ∷ ended 6 outcome.Warning 18 18 ∷ start 6 0 ∷ event.LetOut (id 6) ∷ event.Command 8 ∷ event.Command 7 ∷ event.Command 6 ∷ event.Command 5 ∷ event.Tick (moment 63876602400) ∷ event.Tick (moment 63876600600) ∷ event.Command 4 ∷ event.Tick (moment 63876600600) ∷ event.Tick (moment 63876600000) ∷ event.Tick (moment 63876600000) ∷ ended 5 outcome.Warning 0 18 ∷ start 5 0 ∷ event.Resume ∷ event.Stage (id 1) 1 ∷ event.OpenSet (id 1) ∷ event.LetOut (id 5) ∷ event.Command 3 ∷ event.Command 2 ∷ event.Command 1 ∷ event.Tick (moment 63876600000) ∷ []) ∷ is_lawful_so_far r94 (event.Tick (moment 63876604200) ∷ ended 6 outcome.Warning 18 18 ∷ start 6 0 ∷ event.LetOut (id 6) ∷ event.Command 8 ∷ event.Command 7 ∷ event.Command 6 ∷ event.Command 5 ∷ event.Tick (moment 63876602400) ∷ event.Tick (moment 63876600600) ∷ event.Command 4 ∷ event.Tick (moment 63876600600) ∷ event.Tick (moment 63876600000) ∷ event.Tick (moment 63876600000) ∷ ended 5 outcome.Warning 0 18 ∷ start 5 0 ∷ event.Resume ∷ event.Stage (id 1) 1 ∷ event.OpenSet (id 1) ∷ event.LetOut (id 5) ∷ event.Command 3 ∷ event.Command 2 ∷ event.Command 1 ∷ event.Tick (moment 63876600000) ∷ []) ∷ is_lawful_so_far r94 (event.Stage (id 1) 1 ∷ event.OpenSet (id 1) ∷ event.LetOut (id 5) ∷ event.Command 3 ∷ event.Command 2 ∷ event.Command 1 ∷ event.Tick (moment 63876600000) ∷ []) ∷ []) ≡ (true ∷ true ∷ true ∷ [])
 unfolding the_law
 r94_lawful = refl
 
@@ -90,11 +90,11 @@ r94_group_3 : map (is_lawful r94 r94_readings) ((event.Command 8 ∷ []) ∷ (ev
 unfolding the_law
 r94_group_3 = refl
 
-r94_group_4 : map (is_past r94) ([] ∷ (event.Command 3 ∷ event.Command 2 ∷ event.Command 1 ∷ event.Tick (moment 63876600000) ∷ []) ∷ (event.OpenSet (id 1) ∷ event.LetOut (id 5) ∷ event.Command 3 ∷ event.Command 2 ∷ event.Command 1 ∷ event.Tick (moment 63876600000) ∷ []) ∷ (event.Tick (moment 63876600600) ∷ event.Command 4 ∷ event.Tick (moment 63876600600) ∷ event.Tick (moment 63876600000) ∷ event.Tick (moment 63876600000) ∷ ended 5 outcome.Warning 0 18 ∷ start 5 0 ∷ event.Resume ∷ event.Stage (id 1) 1 ∷ event.OpenSet (id 1) ∷ event.LetOut (id 5) ∷ event.Command 3 ∷ event.Command 2 ∷ event.Command 1 ∷ event.Tick (moment 63876600000) ∷ []) ∷ (event.Tick (moment 63876606000) ∷ event.Tick (moment 63876600600) ∷ event.Command 4 ∷ event.Tick (moment 63876600600) ∷ event.Tick (moment 63876600000) ∷ event.Tick (moment 63876600000) ∷ ended 5 outcome.Warning 0 18 ∷ start 5 0 ∷ event.Resume ∷ event.Stage (id 1) 1 ∷ event.OpenSet (id 1) ∷ event.LetOut (id 5) ∷ event.Command 3 ∷ event.Command 2 ∷ event.Command 1 ∷ event.Tick (moment 63876600000) ∷ []) ∷ (ended 5 outcome.Warning 0 18 ∷ start 5 0 ∷ event.Resume ∷ event.Stage (id 1) 1 ∷ event.OpenSet (id 1) ∷ event.LetOut (id 5) ∷ event.Command 3 ∷ event.Command 2 ∷ event.Command 1 ∷ event.Tick (moment 63876600000) ∷ []) ∷ (event.Tick (moment 63876603600) ∷ ended 5 outcome.Warning 0 18 ∷ start 5 0 ∷ event.Resume ∷ event.Stage (id 1) 1 ∷ event.OpenSet (id 1) ∷ event.LetOut (id 5) ∷ event.Command 3 ∷ event.Command 2 ∷ event.Command 1 ∷ event.Tick (moment 63876600000) ∷ []) ∷ []) ≡ (true ∷ true ∷ true ∷ true ∷ true ∷ true ∷ true ∷ [])
+r94_group_4 : map (is_lawful_so_far r94) ([] ∷ (event.Command 3 ∷ event.Command 2 ∷ event.Command 1 ∷ event.Tick (moment 63876600000) ∷ []) ∷ (event.OpenSet (id 1) ∷ event.LetOut (id 5) ∷ event.Command 3 ∷ event.Command 2 ∷ event.Command 1 ∷ event.Tick (moment 63876600000) ∷ []) ∷ (event.Tick (moment 63876600600) ∷ event.Command 4 ∷ event.Tick (moment 63876600600) ∷ event.Tick (moment 63876600000) ∷ event.Tick (moment 63876600000) ∷ ended 5 outcome.Warning 0 18 ∷ start 5 0 ∷ event.Resume ∷ event.Stage (id 1) 1 ∷ event.OpenSet (id 1) ∷ event.LetOut (id 5) ∷ event.Command 3 ∷ event.Command 2 ∷ event.Command 1 ∷ event.Tick (moment 63876600000) ∷ []) ∷ (event.Tick (moment 63876606000) ∷ event.Tick (moment 63876600600) ∷ event.Command 4 ∷ event.Tick (moment 63876600600) ∷ event.Tick (moment 63876600000) ∷ event.Tick (moment 63876600000) ∷ ended 5 outcome.Warning 0 18 ∷ start 5 0 ∷ event.Resume ∷ event.Stage (id 1) 1 ∷ event.OpenSet (id 1) ∷ event.LetOut (id 5) ∷ event.Command 3 ∷ event.Command 2 ∷ event.Command 1 ∷ event.Tick (moment 63876600000) ∷ []) ∷ (ended 5 outcome.Warning 0 18 ∷ start 5 0 ∷ event.Resume ∷ event.Stage (id 1) 1 ∷ event.OpenSet (id 1) ∷ event.LetOut (id 5) ∷ event.Command 3 ∷ event.Command 2 ∷ event.Command 1 ∷ event.Tick (moment 63876600000) ∷ []) ∷ (event.Tick (moment 63876603600) ∷ ended 5 outcome.Warning 0 18 ∷ start 5 0 ∷ event.Resume ∷ event.Stage (id 1) 1 ∷ event.OpenSet (id 1) ∷ event.LetOut (id 5) ∷ event.Command 3 ∷ event.Command 2 ∷ event.Command 1 ∷ event.Tick (moment 63876600000) ∷ []) ∷ []) ≡ (true ∷ true ∷ true ∷ true ∷ true ∷ true ∷ true ∷ [])
 unfolding the_law
 r94_group_4 = refl
 
-r94_group_5 : map (is_past r94) ((event.Command 8 ∷ []) ∷ (event.OpenSet (id 6) ∷ event.Command 3 ∷ event.Command 2 ∷ event.Command 1 ∷ event.Tick (moment 63876600000) ∷ []) ∷ (event.Stage (id 2) 1 ∷ event.OpenSet (id 1) ∷ event.LetOut (id 5) ∷ event.Command 3 ∷ event.Command 2 ∷ event.Command 1 ∷ event.Tick (moment 63876600000) ∷ []) ∷ []) ≡ (false ∷ false ∷ false ∷ [])
+r94_group_5 : map (is_lawful_so_far r94) ((event.Command 8 ∷ []) ∷ (event.OpenSet (id 6) ∷ event.Command 3 ∷ event.Command 2 ∷ event.Command 1 ∷ event.Tick (moment 63876600000) ∷ []) ∷ (event.Stage (id 2) 1 ∷ event.OpenSet (id 1) ∷ event.LetOut (id 5) ∷ event.Command 3 ∷ event.Command 2 ∷ event.Command 1 ∷ event.Tick (moment 63876600000) ∷ []) ∷ []) ≡ (false ∷ false ∷ false ∷ [])
 unfolding the_law
 r94_group_5 = refl
 
@@ -143,7 +143,7 @@ r107_runs : made r107 r107_readings 8 (event.Resume ∷ (start 7 0 ∷ event.Let
 unfolding the_law
 r107_runs = refl
 
-r107_lawful : (is_lawful r107 r107_readings (event.Tick (moment 63876603600) ∷ event.CloseSet (id 5) outcome.Normal ∷ ended 9 outcome.Normal 36 18 ∷ start 9 0 ∷ event.LetOut (id 9) ∷ event.Stage (id 5) 3 ∷ event.Interrupt (id 7) ∷ event.Resume ∷ start 7 0 ∷ event.LetOut (id 7) ∷ ended 6 outcome.Normal 18 18 ∷ start 6 0 ∷ ended 10 outcome.Normal 0 18 ∷ start 10 0 ∷ event.LetOut (id 6) ∷ event.Resume ∷ event.Stage (id 5) 1 ∷ event.OpenSet (id 5) ∷ event.LetOut (id 10) ∷ event.Command 6 ∷ event.Command 5 ∷ event.Command 4 ∷ event.Command 3 ∷ event.Tick (moment 63876603600) ∷ event.Command 2 ∷ event.Tick (moment 63876600600) ∷ event.Command 1 ∷ event.Tick (moment 63876600000) ∷ []) ∷ is_past r107 (event.Tick (moment 63876603600) ∷ event.CloseSet (id 5) outcome.Normal ∷ ended 9 outcome.Normal 36 18 ∷ start 9 0 ∷ event.LetOut (id 9) ∷ event.Stage (id 5) 3 ∷ event.Interrupt (id 7) ∷ event.Resume ∷ start 7 0 ∷ event.LetOut (id 7) ∷ ended 6 outcome.Normal 18 18 ∷ start 6 0 ∷ ended 10 outcome.Normal 0 18 ∷ start 10 0 ∷ event.LetOut (id 6) ∷ event.Resume ∷ event.Stage (id 5) 1 ∷ event.OpenSet (id 5) ∷ event.LetOut (id 10) ∷ event.Command 6 ∷ event.Command 5 ∷ event.Command 4 ∷ event.Command 3 ∷ event.Tick (moment 63876603600) ∷ event.Command 2 ∷ event.Tick (moment 63876600600) ∷ event.Command 1 ∷ event.Tick (moment 63876600000) ∷ []) ∷ is_past r107 (start 7 0 ∷ event.LetOut (id 7) ∷ ended 6 outcome.Normal 18 18 ∷ start 6 0 ∷ ended 10 outcome.Normal 0 18 ∷ start 10 0 ∷ event.LetOut (id 6) ∷ event.Resume ∷ event.Stage (id 5) 1 ∷ event.OpenSet (id 5) ∷ event.LetOut (id 10) ∷ event.Command 6 ∷ event.Command 5 ∷ event.Command 4 ∷ event.Command 3 ∷ event.Tick (moment 63876603600) ∷ event.Command 2 ∷ event.Tick (moment 63876600600) ∷ event.Command 1 ∷ event.Tick (moment 63876600000) ∷ []) ∷ []) ≡ (true ∷ true ∷ true ∷ [])
+r107_lawful : (is_lawful r107 r107_readings (event.Tick (moment 63876603600) ∷ event.CloseSet (id 5) outcome.Normal ∷ ended 9 outcome.Normal 36 18 ∷ start 9 0 ∷ event.LetOut (id 9) ∷ event.Stage (id 5) 3 ∷ event.Interrupt (id 7) ∷ event.Resume ∷ start 7 0 ∷ event.LetOut (id 7) ∷ ended 6 outcome.Normal 18 18 ∷ start 6 0 ∷ ended 10 outcome.Normal 0 18 ∷ start 10 0 ∷ event.LetOut (id 6) ∷ event.Resume ∷ event.Stage (id 5) 1 ∷ event.OpenSet (id 5) ∷ event.LetOut (id 10) ∷ event.Command 6 ∷ event.Command 5 ∷ event.Command 4 ∷ event.Command 3 ∷ event.Tick (moment 63876603600) ∷ event.Command 2 ∷ event.Tick (moment 63876600600) ∷ event.Command 1 ∷ event.Tick (moment 63876600000) ∷ []) ∷ is_lawful_so_far r107 (event.Tick (moment 63876603600) ∷ event.CloseSet (id 5) outcome.Normal ∷ ended 9 outcome.Normal 36 18 ∷ start 9 0 ∷ event.LetOut (id 9) ∷ event.Stage (id 5) 3 ∷ event.Interrupt (id 7) ∷ event.Resume ∷ start 7 0 ∷ event.LetOut (id 7) ∷ ended 6 outcome.Normal 18 18 ∷ start 6 0 ∷ ended 10 outcome.Normal 0 18 ∷ start 10 0 ∷ event.LetOut (id 6) ∷ event.Resume ∷ event.Stage (id 5) 1 ∷ event.OpenSet (id 5) ∷ event.LetOut (id 10) ∷ event.Command 6 ∷ event.Command 5 ∷ event.Command 4 ∷ event.Command 3 ∷ event.Tick (moment 63876603600) ∷ event.Command 2 ∷ event.Tick (moment 63876600600) ∷ event.Command 1 ∷ event.Tick (moment 63876600000) ∷ []) ∷ is_lawful_so_far r107 (start 7 0 ∷ event.LetOut (id 7) ∷ ended 6 outcome.Normal 18 18 ∷ start 6 0 ∷ ended 10 outcome.Normal 0 18 ∷ start 10 0 ∷ event.LetOut (id 6) ∷ event.Resume ∷ event.Stage (id 5) 1 ∷ event.OpenSet (id 5) ∷ event.LetOut (id 10) ∷ event.Command 6 ∷ event.Command 5 ∷ event.Command 4 ∷ event.Command 3 ∷ event.Tick (moment 63876603600) ∷ event.Command 2 ∷ event.Tick (moment 63876600600) ∷ event.Command 1 ∷ event.Tick (moment 63876600000) ∷ []) ∷ []) ≡ (true ∷ true ∷ true ∷ [])
 unfolding the_law
 r107_lawful = refl
 
@@ -167,11 +167,11 @@ r107_group_3 : map (is_lawful r107 r107_readings) ((start 6 0 ∷ start 10 0 ∷
 unfolding the_law
 r107_group_3 = refl
 
-r107_group_4 : map (is_past r107) ((start 10 0 ∷ event.LetOut (id 6) ∷ event.Resume ∷ event.Stage (id 5) 1 ∷ event.OpenSet (id 5) ∷ event.LetOut (id 10) ∷ event.Command 6 ∷ event.Command 5 ∷ event.Command 4 ∷ event.Command 3 ∷ event.Tick (moment 63876603600) ∷ event.Command 2 ∷ event.Tick (moment 63876600600) ∷ event.Command 1 ∷ event.Tick (moment 63876600000) ∷ []) ∷ (event.Command 2 ∷ event.Tick (moment 63876604200) ∷ event.Command 1 ∷ event.Tick (moment 63876600000) ∷ []) ∷ (event.OpenSet (id 5) ∷ event.LetOut (id 10) ∷ event.Command 6 ∷ event.Command 5 ∷ event.Command 4 ∷ event.Command 3 ∷ event.Tick (moment 63876603600) ∷ event.Command 2 ∷ event.Tick (moment 63876600600) ∷ event.Command 1 ∷ event.Tick (moment 63876600000) ∷ []) ∷ (ended 9 outcome.Normal 36 18 ∷ start 9 0 ∷ event.LetOut (id 9) ∷ event.Stage (id 5) 3 ∷ event.Interrupt (id 7) ∷ event.Resume ∷ start 7 0 ∷ event.LetOut (id 7) ∷ ended 6 outcome.Normal 18 18 ∷ start 6 0 ∷ ended 10 outcome.Normal 0 18 ∷ start 10 0 ∷ event.LetOut (id 6) ∷ event.Resume ∷ event.Stage (id 5) 1 ∷ event.OpenSet (id 5) ∷ event.LetOut (id 10) ∷ event.Command 6 ∷ event.Command 5 ∷ event.Command 4 ∷ event.Command 3 ∷ event.Tick (moment 63876603600) ∷ event.Command 2 ∷ event.Tick (moment 63876600600) ∷ event.Command 1 ∷ event.Tick (moment 63876600000) ∷ []) ∷ (event.Command 3 ∷ event.Tick (moment 63876603600) ∷ event.Command 2 ∷ event.Tick (moment 63876600600) ∷ event.Command 1 ∷ event.Tick (moment 63876600000) ∷ []) ∷ []) ≡ (true ∷ true ∷ true ∷ true ∷ true ∷ [])
+r107_group_4 : map (is_lawful_so_far r107) ((start 10 0 ∷ event.LetOut (id 6) ∷ event.Resume ∷ event.Stage (id 5) 1 ∷ event.OpenSet (id 5) ∷ event.LetOut (id 10) ∷ event.Command 6 ∷ event.Command 5 ∷ event.Command 4 ∷ event.Command 3 ∷ event.Tick (moment 63876603600) ∷ event.Command 2 ∷ event.Tick (moment 63876600600) ∷ event.Command 1 ∷ event.Tick (moment 63876600000) ∷ []) ∷ (event.Command 2 ∷ event.Tick (moment 63876604200) ∷ event.Command 1 ∷ event.Tick (moment 63876600000) ∷ []) ∷ (event.OpenSet (id 5) ∷ event.LetOut (id 10) ∷ event.Command 6 ∷ event.Command 5 ∷ event.Command 4 ∷ event.Command 3 ∷ event.Tick (moment 63876603600) ∷ event.Command 2 ∷ event.Tick (moment 63876600600) ∷ event.Command 1 ∷ event.Tick (moment 63876600000) ∷ []) ∷ (ended 9 outcome.Normal 36 18 ∷ start 9 0 ∷ event.LetOut (id 9) ∷ event.Stage (id 5) 3 ∷ event.Interrupt (id 7) ∷ event.Resume ∷ start 7 0 ∷ event.LetOut (id 7) ∷ ended 6 outcome.Normal 18 18 ∷ start 6 0 ∷ ended 10 outcome.Normal 0 18 ∷ start 10 0 ∷ event.LetOut (id 6) ∷ event.Resume ∷ event.Stage (id 5) 1 ∷ event.OpenSet (id 5) ∷ event.LetOut (id 10) ∷ event.Command 6 ∷ event.Command 5 ∷ event.Command 4 ∷ event.Command 3 ∷ event.Tick (moment 63876603600) ∷ event.Command 2 ∷ event.Tick (moment 63876600600) ∷ event.Command 1 ∷ event.Tick (moment 63876600000) ∷ []) ∷ (event.Command 3 ∷ event.Tick (moment 63876603600) ∷ event.Command 2 ∷ event.Tick (moment 63876600600) ∷ event.Command 1 ∷ event.Tick (moment 63876600000) ∷ []) ∷ []) ≡ (true ∷ true ∷ true ∷ true ∷ true ∷ [])
 unfolding the_law
 r107_group_4 = refl
 
-r107_group_5 : map (is_past r107) ((start 6 0 ∷ start 10 0 ∷ event.LetOut (id 6) ∷ event.Resume ∷ event.Stage (id 5) 1 ∷ event.OpenSet (id 5) ∷ event.LetOut (id 10) ∷ event.Command 6 ∷ event.Command 5 ∷ event.Command 4 ∷ event.Command 3 ∷ event.Tick (moment 63876603600) ∷ event.Command 2 ∷ event.Tick (moment 63876600600) ∷ event.Command 1 ∷ event.Tick (moment 63876600000) ∷ []) ∷ (event.Tick (moment 63876603600) ∷ event.Command 2 ∷ event.Tick (moment 63876604200) ∷ event.Command 1 ∷ event.Tick (moment 63876600000) ∷ []) ∷ (event.Stage (id 5) 2 ∷ event.OpenSet (id 5) ∷ event.LetOut (id 10) ∷ event.Command 6 ∷ event.Command 5 ∷ event.Command 4 ∷ event.Command 3 ∷ event.Tick (moment 63876603600) ∷ event.Command 2 ∷ event.Tick (moment 63876600600) ∷ event.Command 1 ∷ event.Tick (moment 63876600000) ∷ []) ∷ (event.CloseSet (id 5) outcome.Warning ∷ ended 9 outcome.Normal 36 18 ∷ start 9 0 ∷ event.LetOut (id 9) ∷ event.Stage (id 5) 3 ∷ event.Interrupt (id 7) ∷ event.Resume ∷ start 7 0 ∷ event.LetOut (id 7) ∷ ended 6 outcome.Normal 18 18 ∷ start 6 0 ∷ ended 10 outcome.Normal 0 18 ∷ start 10 0 ∷ event.LetOut (id 6) ∷ event.Resume ∷ event.Stage (id 5) 1 ∷ event.OpenSet (id 5) ∷ event.LetOut (id 10) ∷ event.Command 6 ∷ event.Command 5 ∷ event.Command 4 ∷ event.Command 3 ∷ event.Tick (moment 63876603600) ∷ event.Command 2 ∷ event.Tick (moment 63876600600) ∷ event.Command 1 ∷ event.Tick (moment 63876600000) ∷ []) ∷ (event.Command 3 ∷ event.Command 3 ∷ event.Tick (moment 63876603600) ∷ event.Command 2 ∷ event.Tick (moment 63876600600) ∷ event.Command 1 ∷ event.Tick (moment 63876600000) ∷ []) ∷ []) ≡ (false ∷ false ∷ false ∷ false ∷ false ∷ [])
+r107_group_5 : map (is_lawful_so_far r107) ((start 6 0 ∷ start 10 0 ∷ event.LetOut (id 6) ∷ event.Resume ∷ event.Stage (id 5) 1 ∷ event.OpenSet (id 5) ∷ event.LetOut (id 10) ∷ event.Command 6 ∷ event.Command 5 ∷ event.Command 4 ∷ event.Command 3 ∷ event.Tick (moment 63876603600) ∷ event.Command 2 ∷ event.Tick (moment 63876600600) ∷ event.Command 1 ∷ event.Tick (moment 63876600000) ∷ []) ∷ (event.Tick (moment 63876603600) ∷ event.Command 2 ∷ event.Tick (moment 63876604200) ∷ event.Command 1 ∷ event.Tick (moment 63876600000) ∷ []) ∷ (event.Stage (id 5) 2 ∷ event.OpenSet (id 5) ∷ event.LetOut (id 10) ∷ event.Command 6 ∷ event.Command 5 ∷ event.Command 4 ∷ event.Command 3 ∷ event.Tick (moment 63876603600) ∷ event.Command 2 ∷ event.Tick (moment 63876600600) ∷ event.Command 1 ∷ event.Tick (moment 63876600000) ∷ []) ∷ (event.CloseSet (id 5) outcome.Warning ∷ ended 9 outcome.Normal 36 18 ∷ start 9 0 ∷ event.LetOut (id 9) ∷ event.Stage (id 5) 3 ∷ event.Interrupt (id 7) ∷ event.Resume ∷ start 7 0 ∷ event.LetOut (id 7) ∷ ended 6 outcome.Normal 18 18 ∷ start 6 0 ∷ ended 10 outcome.Normal 0 18 ∷ start 10 0 ∷ event.LetOut (id 6) ∷ event.Resume ∷ event.Stage (id 5) 1 ∷ event.OpenSet (id 5) ∷ event.LetOut (id 10) ∷ event.Command 6 ∷ event.Command 5 ∷ event.Command 4 ∷ event.Command 3 ∷ event.Tick (moment 63876603600) ∷ event.Command 2 ∷ event.Tick (moment 63876600600) ∷ event.Command 1 ∷ event.Tick (moment 63876600000) ∷ []) ∷ (event.Command 3 ∷ event.Command 3 ∷ event.Tick (moment 63876603600) ∷ event.Command 2 ∷ event.Tick (moment 63876600600) ∷ event.Command 1 ∷ event.Tick (moment 63876600000) ∷ []) ∷ []) ≡ (false ∷ false ∷ false ∷ false ∷ false ∷ [])
 unfolding the_law
 r107_group_5 = refl
 
@@ -220,7 +220,7 @@ r57_runs : made r57 r57_readings 19 (event.Resume ∷ (event.Command 7 ∷ event
 unfolding the_law
 r57_runs = refl
 
-r57_lawful : (is_lawful r57 r57_readings (event.Tick (moment 63876603000) ∷ event.Tick (moment 63876603000) ∷ event.CloseSet (id 1) outcome.Error ∷ ended 4 outcome.Error 70 24 ∷ start 4 0 ∷ event.LetOut (id 4) ∷ ended 3 outcome.Error 48 22 ∷ start 3 0 ∷ event.LetOut (id 3) ∷ event.Stage (id 1) 2 ∷ ended 2 outcome.Error 24 24 ∷ start 2 0 ∷ event.LetOut (id 2) ∷ event.Stage (id 1) 1 ∷ event.OpenSet (id 1) ∷ ended 5 outcome.Error 0 24 ∷ start 5 0 ∷ event.LetOut (id 5) ∷ event.Resume ∷ event.Command 7 ∷ event.Command 6 ∷ event.Command 5 ∷ event.Command 4 ∷ event.Command 3 ∷ event.Command 2 ∷ event.Command 1 ∷ event.Tick (moment 63876603000) ∷ []) ∷ is_past r57 (event.Tick (moment 63876603000) ∷ event.Tick (moment 63876603000) ∷ event.CloseSet (id 1) outcome.Error ∷ ended 4 outcome.Error 70 24 ∷ start 4 0 ∷ event.LetOut (id 4) ∷ ended 3 outcome.Error 48 22 ∷ start 3 0 ∷ event.LetOut (id 3) ∷ event.Stage (id 1) 2 ∷ ended 2 outcome.Error 24 24 ∷ start 2 0 ∷ event.LetOut (id 2) ∷ event.Stage (id 1) 1 ∷ event.OpenSet (id 1) ∷ ended 5 outcome.Error 0 24 ∷ start 5 0 ∷ event.LetOut (id 5) ∷ event.Resume ∷ event.Command 7 ∷ event.Command 6 ∷ event.Command 5 ∷ event.Command 4 ∷ event.Command 3 ∷ event.Command 2 ∷ event.Command 1 ∷ event.Tick (moment 63876603000) ∷ []) ∷ is_past r57 (event.Command 7 ∷ event.Command 6 ∷ event.Command 5 ∷ event.Command 4 ∷ event.Command 3 ∷ event.Command 2 ∷ event.Command 1 ∷ event.Tick (moment 63876603000) ∷ []) ∷ []) ≡ (true ∷ true ∷ true ∷ [])
+r57_lawful : (is_lawful r57 r57_readings (event.Tick (moment 63876603000) ∷ event.Tick (moment 63876603000) ∷ event.CloseSet (id 1) outcome.Error ∷ ended 4 outcome.Error 70 24 ∷ start 4 0 ∷ event.LetOut (id 4) ∷ ended 3 outcome.Error 48 22 ∷ start 3 0 ∷ event.LetOut (id 3) ∷ event.Stage (id 1) 2 ∷ ended 2 outcome.Error 24 24 ∷ start 2 0 ∷ event.LetOut (id 2) ∷ event.Stage (id 1) 1 ∷ event.OpenSet (id 1) ∷ ended 5 outcome.Error 0 24 ∷ start 5 0 ∷ event.LetOut (id 5) ∷ event.Resume ∷ event.Command 7 ∷ event.Command 6 ∷ event.Command 5 ∷ event.Command 4 ∷ event.Command 3 ∷ event.Command 2 ∷ event.Command 1 ∷ event.Tick (moment 63876603000) ∷ []) ∷ is_lawful_so_far r57 (event.Tick (moment 63876603000) ∷ event.Tick (moment 63876603000) ∷ event.CloseSet (id 1) outcome.Error ∷ ended 4 outcome.Error 70 24 ∷ start 4 0 ∷ event.LetOut (id 4) ∷ ended 3 outcome.Error 48 22 ∷ start 3 0 ∷ event.LetOut (id 3) ∷ event.Stage (id 1) 2 ∷ ended 2 outcome.Error 24 24 ∷ start 2 0 ∷ event.LetOut (id 2) ∷ event.Stage (id 1) 1 ∷ event.OpenSet (id 1) ∷ ended 5 outcome.Error 0 24 ∷ start 5 0 ∷ event.LetOut (id 5) ∷ event.Resume ∷ event.Command 7 ∷ event.Command 6 ∷ event.Command 5 ∷ event.Command 4 ∷ event.Command 3 ∷ event.Command 2 ∷ event.Command 1 ∷ event.Tick (moment 63876603000) ∷ []) ∷ is_lawful_so_far r57 (event.Command 7 ∷ event.Command 6 ∷ event.Command 5 ∷ event.Command 4 ∷ event.Command 3 ∷ event.Command 2 ∷ event.Command 1 ∷ event.Tick (moment 63876603000) ∷ []) ∷ []) ≡ (true ∷ true ∷ true ∷ [])
 unfolding the_law
 r57_lawful = refl
 
@@ -244,11 +244,11 @@ r57_group_3 : map (is_lawful r57 r57_readings) ((event.OpenSet (id 5) ∷ event.
 unfolding the_law
 r57_group_3 = refl
 
-r57_group_4 : map (is_past r57) ((event.LetOut (id 5) ∷ event.Resume ∷ event.Command 7 ∷ event.Command 6 ∷ event.Command 5 ∷ event.Command 4 ∷ event.Command 3 ∷ event.Command 2 ∷ event.Command 1 ∷ event.Tick (moment 63876603000) ∷ []) ∷ (ended 3 outcome.Error 48 22 ∷ start 3 0 ∷ event.LetOut (id 3) ∷ event.Stage (id 1) 2 ∷ ended 2 outcome.Error 24 24 ∷ start 2 0 ∷ event.LetOut (id 2) ∷ event.Stage (id 1) 1 ∷ event.OpenSet (id 1) ∷ ended 5 outcome.Error 0 24 ∷ start 5 0 ∷ event.LetOut (id 5) ∷ event.Resume ∷ event.Command 7 ∷ event.Command 6 ∷ event.Command 5 ∷ event.Command 4 ∷ event.Command 3 ∷ event.Command 2 ∷ event.Command 1 ∷ event.Tick (moment 63876603000) ∷ []) ∷ (event.Command 3 ∷ event.Command 2 ∷ event.Command 1 ∷ event.Tick (moment 63876603000) ∷ []) ∷ [] ∷ (event.Tick (moment 63876603000) ∷ event.Tick (moment 63876603000) ∷ event.CloseSet (id 1) outcome.Error ∷ ended 4 outcome.Error 70 24 ∷ start 4 0 ∷ event.LetOut (id 4) ∷ ended 3 outcome.Error 48 22 ∷ start 3 0 ∷ event.LetOut (id 3) ∷ event.Stage (id 1) 2 ∷ ended 2 outcome.Error 24 24 ∷ start 2 2 ∷ event.LetOut (id 2) ∷ event.Stage (id 1) 1 ∷ event.OpenSet (id 1) ∷ ended 5 outcome.Error 0 24 ∷ start 5 0 ∷ event.LetOut (id 5) ∷ event.Resume ∷ event.Command 7 ∷ event.Command 6 ∷ event.Command 5 ∷ event.Command 4 ∷ event.Command 3 ∷ event.Command 2 ∷ event.Command 1 ∷ event.Tick (moment 63876603000) ∷ []) ∷ []) ≡ (true ∷ true ∷ true ∷ true ∷ true ∷ [])
+r57_group_4 : map (is_lawful_so_far r57) ((event.LetOut (id 5) ∷ event.Resume ∷ event.Command 7 ∷ event.Command 6 ∷ event.Command 5 ∷ event.Command 4 ∷ event.Command 3 ∷ event.Command 2 ∷ event.Command 1 ∷ event.Tick (moment 63876603000) ∷ []) ∷ (ended 3 outcome.Error 48 22 ∷ start 3 0 ∷ event.LetOut (id 3) ∷ event.Stage (id 1) 2 ∷ ended 2 outcome.Error 24 24 ∷ start 2 0 ∷ event.LetOut (id 2) ∷ event.Stage (id 1) 1 ∷ event.OpenSet (id 1) ∷ ended 5 outcome.Error 0 24 ∷ start 5 0 ∷ event.LetOut (id 5) ∷ event.Resume ∷ event.Command 7 ∷ event.Command 6 ∷ event.Command 5 ∷ event.Command 4 ∷ event.Command 3 ∷ event.Command 2 ∷ event.Command 1 ∷ event.Tick (moment 63876603000) ∷ []) ∷ (event.Command 3 ∷ event.Command 2 ∷ event.Command 1 ∷ event.Tick (moment 63876603000) ∷ []) ∷ [] ∷ (event.Tick (moment 63876603000) ∷ event.Tick (moment 63876603000) ∷ event.CloseSet (id 1) outcome.Error ∷ ended 4 outcome.Error 70 24 ∷ start 4 0 ∷ event.LetOut (id 4) ∷ ended 3 outcome.Error 48 22 ∷ start 3 0 ∷ event.LetOut (id 3) ∷ event.Stage (id 1) 2 ∷ ended 2 outcome.Error 24 24 ∷ start 2 2 ∷ event.LetOut (id 2) ∷ event.Stage (id 1) 1 ∷ event.OpenSet (id 1) ∷ ended 5 outcome.Error 0 24 ∷ start 5 0 ∷ event.LetOut (id 5) ∷ event.Resume ∷ event.Command 7 ∷ event.Command 6 ∷ event.Command 5 ∷ event.Command 4 ∷ event.Command 3 ∷ event.Command 2 ∷ event.Command 1 ∷ event.Tick (moment 63876603000) ∷ []) ∷ []) ≡ (true ∷ true ∷ true ∷ true ∷ true ∷ [])
 unfolding the_law
 r57_group_4 = refl
 
-r57_group_5 : map (is_past r57) ((event.OpenSet (id 5) ∷ event.LetOut (id 5) ∷ event.Resume ∷ event.Command 7 ∷ event.Command 6 ∷ event.Command 5 ∷ event.Command 4 ∷ event.Command 3 ∷ event.Command 2 ∷ event.Command 1 ∷ event.Tick (moment 63876603000) ∷ []) ∷ (event.LetOut (id 5) ∷ ended 3 outcome.Error 48 22 ∷ start 3 0 ∷ event.LetOut (id 3) ∷ event.Stage (id 1) 2 ∷ ended 2 outcome.Error 24 24 ∷ start 2 0 ∷ event.LetOut (id 2) ∷ event.Stage (id 1) 1 ∷ event.OpenSet (id 1) ∷ ended 5 outcome.Error 0 24 ∷ start 5 0 ∷ event.LetOut (id 5) ∷ event.Resume ∷ event.Command 7 ∷ event.Command 6 ∷ event.Command 5 ∷ event.Command 4 ∷ event.Command 3 ∷ event.Command 2 ∷ event.Command 1 ∷ event.Tick (moment 63876603000) ∷ []) ∷ (event.Command 3 ∷ event.Command 3 ∷ event.Command 2 ∷ event.Command 1 ∷ event.Tick (moment 63876603000) ∷ []) ∷ (ended 5 outcome.Normal 0 5 ∷ []) ∷ []) ≡ (false ∷ false ∷ false ∷ false ∷ [])
+r57_group_5 : map (is_lawful_so_far r57) ((event.OpenSet (id 5) ∷ event.LetOut (id 5) ∷ event.Resume ∷ event.Command 7 ∷ event.Command 6 ∷ event.Command 5 ∷ event.Command 4 ∷ event.Command 3 ∷ event.Command 2 ∷ event.Command 1 ∷ event.Tick (moment 63876603000) ∷ []) ∷ (event.LetOut (id 5) ∷ ended 3 outcome.Error 48 22 ∷ start 3 0 ∷ event.LetOut (id 3) ∷ event.Stage (id 1) 2 ∷ ended 2 outcome.Error 24 24 ∷ start 2 0 ∷ event.LetOut (id 2) ∷ event.Stage (id 1) 1 ∷ event.OpenSet (id 1) ∷ ended 5 outcome.Error 0 24 ∷ start 5 0 ∷ event.LetOut (id 5) ∷ event.Resume ∷ event.Command 7 ∷ event.Command 6 ∷ event.Command 5 ∷ event.Command 4 ∷ event.Command 3 ∷ event.Command 2 ∷ event.Command 1 ∷ event.Tick (moment 63876603000) ∷ []) ∷ (event.Command 3 ∷ event.Command 3 ∷ event.Command 2 ∷ event.Command 1 ∷ event.Tick (moment 63876603000) ∷ []) ∷ (ended 5 outcome.Normal 0 5 ∷ []) ∷ []) ≡ (false ∷ false ∷ false ∷ false ∷ [])
 unfolding the_law
 r57_group_5 = refl
 
@@ -297,7 +297,7 @@ r89_runs : made r89 r89_readings 11 (event.Resume ∷ (start 3 0 ∷ ended 1 out
 unfolding the_law
 r89_runs = refl
 
-r89_lawful : (is_lawful r89 r89_readings (event.Command 8 ∷ event.Command 7 ∷ event.Command 6 ∷ event.Command 5 ∷ event.Tick (moment 63876603127) ∷ event.CloseSet (id 2) outcome.Warning ∷ ended 3 outcome.Warning 18 18 ∷ start 3 0 ∷ event.LetOut (id 3) ∷ event.Interrupt (id 3) ∷ event.Resume ∷ start 3 0 ∷ ended 1 outcome.Normal 0 18 ∷ start 1 0 ∷ event.LetOut (id 3) ∷ event.Stage (id 2) 1 ∷ event.OpenSet (id 2) ∷ event.LetOut (id 1) ∷ event.Command 4 ∷ event.Command 3 ∷ event.Command 2 ∷ event.Command 1 ∷ event.Tick (moment 63876601800) ∷ []) ∷ is_past r89 (event.Command 8 ∷ event.Command 7 ∷ event.Command 6 ∷ event.Command 5 ∷ event.Tick (moment 63876603127) ∷ event.CloseSet (id 2) outcome.Warning ∷ ended 3 outcome.Warning 18 18 ∷ start 3 0 ∷ event.LetOut (id 3) ∷ event.Interrupt (id 3) ∷ event.Resume ∷ start 3 0 ∷ ended 1 outcome.Normal 0 18 ∷ start 1 0 ∷ event.LetOut (id 3) ∷ event.Stage (id 2) 1 ∷ event.OpenSet (id 2) ∷ event.LetOut (id 1) ∷ event.Command 4 ∷ event.Command 3 ∷ event.Command 2 ∷ event.Command 1 ∷ event.Tick (moment 63876601800) ∷ []) ∷ is_past r89 (start 3 0 ∷ ended 1 outcome.Normal 0 18 ∷ start 1 0 ∷ event.LetOut (id 3) ∷ event.Stage (id 2) 1 ∷ event.OpenSet (id 2) ∷ event.LetOut (id 1) ∷ event.Command 4 ∷ event.Command 3 ∷ event.Command 2 ∷ event.Command 1 ∷ event.Tick (moment 63876601800) ∷ []) ∷ []) ≡ (true ∷ true ∷ true ∷ [])
+r89_lawful : (is_lawful r89 r89_readings (event.Command 8 ∷ event.Command 7 ∷ event.Command 6 ∷ event.Command 5 ∷ event.Tick (moment 63876603127) ∷ event.CloseSet (id 2) outcome.Warning ∷ ended 3 outcome.Warning 18 18 ∷ start 3 0 ∷ event.LetOut (id 3) ∷ event.Interrupt (id 3) ∷ event.Resume ∷ start 3 0 ∷ ended 1 outcome.Normal 0 18 ∷ start 1 0 ∷ event.LetOut (id 3) ∷ event.Stage (id 2) 1 ∷ event.OpenSet (id 2) ∷ event.LetOut (id 1) ∷ event.Command 4 ∷ event.Command 3 ∷ event.Command 2 ∷ event.Command 1 ∷ event.Tick (moment 63876601800) ∷ []) ∷ is_lawful_so_far r89 (event.Command 8 ∷ event.Command 7 ∷ event.Command 6 ∷ event.Command 5 ∷ event.Tick (moment 63876603127) ∷ event.CloseSet (id 2) outcome.Warning ∷ ended 3 outcome.Warning 18 18 ∷ start 3 0 ∷ event.LetOut (id 3) ∷ event.Interrupt (id 3) ∷ event.Resume ∷ start 3 0 ∷ ended 1 outcome.Normal 0 18 ∷ start 1 0 ∷ event.LetOut (id 3) ∷ event.Stage (id 2) 1 ∷ event.OpenSet (id 2) ∷ event.LetOut (id 1) ∷ event.Command 4 ∷ event.Command 3 ∷ event.Command 2 ∷ event.Command 1 ∷ event.Tick (moment 63876601800) ∷ []) ∷ is_lawful_so_far r89 (start 3 0 ∷ ended 1 outcome.Normal 0 18 ∷ start 1 0 ∷ event.LetOut (id 3) ∷ event.Stage (id 2) 1 ∷ event.OpenSet (id 2) ∷ event.LetOut (id 1) ∷ event.Command 4 ∷ event.Command 3 ∷ event.Command 2 ∷ event.Command 1 ∷ event.Tick (moment 63876601800) ∷ []) ∷ []) ≡ (true ∷ true ∷ true ∷ [])
 unfolding the_law
 r89_lawful = refl
 
@@ -317,11 +317,11 @@ r89_group_2 : map (is_lawful r89 r89_readings) ((event.Command 4 ∷ event.Comma
 unfolding the_law
 r89_group_2 = refl
 
-r89_group_3 : map (is_past r89) ((event.Command 4 ∷ event.Command 3 ∷ event.Command 2 ∷ event.Command 1 ∷ event.Tick (moment 63876601800) ∷ []) ∷ (event.LetOut (id 3) ∷ event.Interrupt (id 3) ∷ event.Resume ∷ start 3 0 ∷ ended 1 outcome.Normal 0 18 ∷ start 1 0 ∷ event.LetOut (id 3) ∷ event.Stage (id 2) 1 ∷ event.OpenSet (id 2) ∷ event.LetOut (id 1) ∷ event.Command 4 ∷ event.Command 3 ∷ event.Command 2 ∷ event.Command 1 ∷ event.Tick (moment 63876601800) ∷ []) ∷ (event.Command 8 ∷ event.Command 7 ∷ event.Command 6 ∷ event.Command 5 ∷ event.Tick (moment 63876603127) ∷ event.CloseSet (id 2) outcome.Warning ∷ ended 3 outcome.Warning 18 18 ∷ start 3 0 ∷ event.LetOut (id 3) ∷ event.Interrupt (id 3) ∷ event.Resume ∷ start 3 0 ∷ ended 1 outcome.Normal 0 18 ∷ start 1 0 ∷ event.LetOut (id 3) ∷ event.Stage (id 2) 1 ∷ event.OpenSet (id 2) ∷ event.LetOut (id 1) ∷ event.Command 4 ∷ event.Command 3 ∷ event.Resume ∷ event.Command 2 ∷ event.Command 1 ∷ event.Tick (moment 63876601800) ∷ []) ∷ (event.LetOut (id 3) ∷ event.Stage (id 2) 1 ∷ event.OpenSet (id 2) ∷ event.LetOut (id 1) ∷ event.Command 4 ∷ event.Command 3 ∷ event.Command 2 ∷ event.Command 1 ∷ event.Tick (moment 63876601800) ∷ []) ∷ [] ∷ []) ≡ (true ∷ true ∷ true ∷ true ∷ true ∷ [])
+r89_group_3 : map (is_lawful_so_far r89) ((event.Command 4 ∷ event.Command 3 ∷ event.Command 2 ∷ event.Command 1 ∷ event.Tick (moment 63876601800) ∷ []) ∷ (event.LetOut (id 3) ∷ event.Interrupt (id 3) ∷ event.Resume ∷ start 3 0 ∷ ended 1 outcome.Normal 0 18 ∷ start 1 0 ∷ event.LetOut (id 3) ∷ event.Stage (id 2) 1 ∷ event.OpenSet (id 2) ∷ event.LetOut (id 1) ∷ event.Command 4 ∷ event.Command 3 ∷ event.Command 2 ∷ event.Command 1 ∷ event.Tick (moment 63876601800) ∷ []) ∷ (event.Command 8 ∷ event.Command 7 ∷ event.Command 6 ∷ event.Command 5 ∷ event.Tick (moment 63876603127) ∷ event.CloseSet (id 2) outcome.Warning ∷ ended 3 outcome.Warning 18 18 ∷ start 3 0 ∷ event.LetOut (id 3) ∷ event.Interrupt (id 3) ∷ event.Resume ∷ start 3 0 ∷ ended 1 outcome.Normal 0 18 ∷ start 1 0 ∷ event.LetOut (id 3) ∷ event.Stage (id 2) 1 ∷ event.OpenSet (id 2) ∷ event.LetOut (id 1) ∷ event.Command 4 ∷ event.Command 3 ∷ event.Resume ∷ event.Command 2 ∷ event.Command 1 ∷ event.Tick (moment 63876601800) ∷ []) ∷ (event.LetOut (id 3) ∷ event.Stage (id 2) 1 ∷ event.OpenSet (id 2) ∷ event.LetOut (id 1) ∷ event.Command 4 ∷ event.Command 3 ∷ event.Command 2 ∷ event.Command 1 ∷ event.Tick (moment 63876601800) ∷ []) ∷ [] ∷ []) ≡ (true ∷ true ∷ true ∷ true ∷ true ∷ [])
 unfolding the_law
 r89_group_3 = refl
 
-r89_group_4 : map (is_past r89) ((event.LetOut (id 0) ∷ event.Command 4 ∷ event.Command 3 ∷ event.Command 2 ∷ event.Command 1 ∷ event.Tick (moment 63876601800) ∷ []) ∷ (start 4 0 ∷ event.LetOut (id 3) ∷ event.Interrupt (id 3) ∷ event.Resume ∷ start 3 0 ∷ ended 1 outcome.Normal 0 18 ∷ start 1 0 ∷ event.LetOut (id 3) ∷ event.Stage (id 2) 1 ∷ event.OpenSet (id 2) ∷ event.LetOut (id 1) ∷ event.Command 4 ∷ event.Command 3 ∷ event.Command 2 ∷ event.Command 1 ∷ event.Tick (moment 63876601800) ∷ []) ∷ (event.LetOut (id 3) ∷ event.LetOut (id 3) ∷ event.Stage (id 2) 1 ∷ event.OpenSet (id 2) ∷ event.LetOut (id 1) ∷ event.Command 4 ∷ event.Command 3 ∷ event.Command 2 ∷ event.Command 1 ∷ event.Tick (moment 63876601800) ∷ []) ∷ (event.Command 1 ∷ []) ∷ []) ≡ (false ∷ false ∷ false ∷ false ∷ [])
+r89_group_4 : map (is_lawful_so_far r89) ((event.LetOut (id 0) ∷ event.Command 4 ∷ event.Command 3 ∷ event.Command 2 ∷ event.Command 1 ∷ event.Tick (moment 63876601800) ∷ []) ∷ (start 4 0 ∷ event.LetOut (id 3) ∷ event.Interrupt (id 3) ∷ event.Resume ∷ start 3 0 ∷ ended 1 outcome.Normal 0 18 ∷ start 1 0 ∷ event.LetOut (id 3) ∷ event.Stage (id 2) 1 ∷ event.OpenSet (id 2) ∷ event.LetOut (id 1) ∷ event.Command 4 ∷ event.Command 3 ∷ event.Command 2 ∷ event.Command 1 ∷ event.Tick (moment 63876601800) ∷ []) ∷ (event.LetOut (id 3) ∷ event.LetOut (id 3) ∷ event.Stage (id 2) 1 ∷ event.OpenSet (id 2) ∷ event.LetOut (id 1) ∷ event.Command 4 ∷ event.Command 3 ∷ event.Command 2 ∷ event.Command 1 ∷ event.Tick (moment 63876601800) ∷ []) ∷ (event.Command 1 ∷ []) ∷ []) ≡ (false ∷ false ∷ false ∷ false ∷ [])
 unfolding the_law
 r89_group_4 = refl
 

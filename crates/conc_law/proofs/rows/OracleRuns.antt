@@ -14,7 +14,7 @@ use Rattle.conc_types.specs.declared.script.Order.{Order}
 use Rattle.conc_types.specs.declared.script.Reading.{Reading}
 use Rattle.conc_types.specs.declared.setup.Setup.{Setup}
 use Rattle.conc_types.specs.Expansion.{expansion}
-use Rattle.conc_law.specs.Law.{is_lawful, is_past}
+use Rattle.conc_law.specs.Law.{is_lawful, is_lawful_so_far}
 use Rattle.conc_law.specs.Readings.{next_reading}
 use Rattle.conc_law.specs.Text.{text_of}
 use Rattle.conc_law.proofs.rows.Computed.{the_law, made}
@@ -90,7 +90,7 @@ c83_group_3 : map (is_lawful c83 c83_readings) ((event.Command 1 ∷ []) ∷ (ev
 unfolding the_law
 c83_group_3 = refl
 
-c83_group_4 : map (is_past c83) ((ended 3 outcome.Normal 18 18 ∷ start 3 0 ∷ event.LetOut (id 3) ∷ event.Resume ∷ event.Stage (id 1) 2 ∷ ended 2 outcome.Normal 0 18 ∷ start 2 0 ∷ event.LetOut (id 2) ∷ event.Stage (id 1) 1 ∷ event.OpenSet (id 1) ∷ event.Command 2 ∷ event.Command 1 ∷ event.Tick (moment 63876600000) ∷ []) ∷ (event.Tick (moment 63876600600) ∷ ended 3 outcome.Normal 18 18 ∷ start 3 0 ∷ event.LetOut (id 3) ∷ event.Resume ∷ event.Stage (id 1) 2 ∷ ended 2 outcome.Normal 0 18 ∷ start 2 0 ∷ event.LetOut (id 2) ∷ event.Stage (id 1) 1 ∷ event.OpenSet (id 1) ∷ event.Command 2 ∷ event.Command 1 ∷ event.Tick (moment 63876600000) ∷ []) ∷ []) ≡ (true ∷ true ∷ [])
+c83_group_4 : map (is_lawful_so_far c83) ((ended 3 outcome.Normal 18 18 ∷ start 3 0 ∷ event.LetOut (id 3) ∷ event.Resume ∷ event.Stage (id 1) 2 ∷ ended 2 outcome.Normal 0 18 ∷ start 2 0 ∷ event.LetOut (id 2) ∷ event.Stage (id 1) 1 ∷ event.OpenSet (id 1) ∷ event.Command 2 ∷ event.Command 1 ∷ event.Tick (moment 63876600000) ∷ []) ∷ (event.Tick (moment 63876600600) ∷ ended 3 outcome.Normal 18 18 ∷ start 3 0 ∷ event.LetOut (id 3) ∷ event.Resume ∷ event.Stage (id 1) 2 ∷ ended 2 outcome.Normal 0 18 ∷ start 2 0 ∷ event.LetOut (id 2) ∷ event.Stage (id 1) 1 ∷ event.OpenSet (id 1) ∷ event.Command 2 ∷ event.Command 1 ∷ event.Tick (moment 63876600000) ∷ []) ∷ []) ≡ (true ∷ true ∷ [])
 unfolding the_law
 c83_group_4 = refl
 

@@ -14,7 +14,7 @@ use Rattle.conc_types.specs.declared.script.Order.{Order}
 use Rattle.conc_types.specs.declared.script.Reading.{Reading}
 use Rattle.conc_types.specs.declared.setup.Setup.{Setup}
 use Rattle.conc_types.specs.Expansion.{expansion}
-use Rattle.conc_law.specs.Law.{is_lawful, is_past, may_follow}
+use Rattle.conc_law.specs.Law.{is_lawful, is_lawful_so_far, may_follow}
 use Rattle.conc_law.specs.Readings.{next_reading}
 use Rattle.conc_law.specs.Text.{text_of}
 use Rattle.conc_law.proofs.rows.Computed.{the_law}
@@ -66,7 +66,7 @@ w7_lawful : is_lawful w7 w7_readings (ended 1 outcome.Error 16 37 ∷ ended 5 ou
 unfolding the_law
 w7_lawful = refl
 
-w7_past : is_past w7 (ended 1 outcome.Error 16 37 ∷ ended 5 outcome.Normal 0 16 ∷ start 5 0 ∷ event.Command 11 ∷ event.Tick (moment 63876603600) ∷ event.Tick (moment 63876602400) ∷ start 1 2 ∷ event.Tick (moment 63876602400) ∷ event.CloseSet (id 2) outcome.Error ∷ event.Ended (id 3) outcome.Terminated None ∷ event.LetOut (id 5) ∷ event.LetOut (id 1) ∷ event.Command 10 ∷ event.Command 9 ∷ event.Command 8 ∷ event.Command 7 ∷ event.Command 6 ∷ event.Command 5 ∷ event.Tick (moment 63876602400) ∷ event.Tick (moment 63876600600) ∷ start 3 0 ∷ event.LetOut (id 3) ∷ event.Stage (id 2) 1 ∷ event.OpenSet (id 2) ∷ event.Command 4 ∷ event.Command 3 ∷ event.Tick (moment 63876600600) ∷ event.Command 2 ∷ event.Command 1 ∷ event.Tick (moment 63876600000) ∷ []) ≡ true
+w7_past : is_lawful_so_far w7 (ended 1 outcome.Error 16 37 ∷ ended 5 outcome.Normal 0 16 ∷ start 5 0 ∷ event.Command 11 ∷ event.Tick (moment 63876603600) ∷ event.Tick (moment 63876602400) ∷ start 1 2 ∷ event.Tick (moment 63876602400) ∷ event.CloseSet (id 2) outcome.Error ∷ event.Ended (id 3) outcome.Terminated None ∷ event.LetOut (id 5) ∷ event.LetOut (id 1) ∷ event.Command 10 ∷ event.Command 9 ∷ event.Command 8 ∷ event.Command 7 ∷ event.Command 6 ∷ event.Command 5 ∷ event.Tick (moment 63876602400) ∷ event.Tick (moment 63876600600) ∷ start 3 0 ∷ event.LetOut (id 3) ∷ event.Stage (id 2) 1 ∷ event.OpenSet (id 2) ∷ event.Command 4 ∷ event.Command 3 ∷ event.Tick (moment 63876600600) ∷ event.Command 2 ∷ event.Command 1 ∷ event.Tick (moment 63876600000) ∷ []) ≡ true
 unfolding the_law
 w7_past = refl
 
@@ -171,7 +171,7 @@ w40_lawful : is_lawful w40 w40_readings (ended 4 outcome.Normal 12 24 ∷ event.
 unfolding the_law
 w40_lawful = refl
 
-w40_past : is_past w40 (ended 4 outcome.Normal 12 24 ∷ event.Command 5 ∷ event.Command 4 ∷ event.Command 3 ∷ event.Tick (moment 63876603600) ∷ start 4 0 ∷ event.LetOut (id 4) ∷ event.Stage (id 1) 2 ∷ ended 2 outcome.Normal 0 12 ∷ start 2 0 ∷ event.LetOut (id 2) ∷ event.Stage (id 1) 1 ∷ event.OpenSet (id 1) ∷ event.Command 2 ∷ event.Command 1 ∷ event.Tick (moment 63876601200) ∷ []) ≡ true
+w40_past : is_lawful_so_far w40 (ended 4 outcome.Normal 12 24 ∷ event.Command 5 ∷ event.Command 4 ∷ event.Command 3 ∷ event.Tick (moment 63876603600) ∷ start 4 0 ∷ event.LetOut (id 4) ∷ event.Stage (id 1) 2 ∷ ended 2 outcome.Normal 0 12 ∷ start 2 0 ∷ event.LetOut (id 2) ∷ event.Stage (id 1) 1 ∷ event.OpenSet (id 1) ∷ event.Command 2 ∷ event.Command 1 ∷ event.Tick (moment 63876601200) ∷ []) ≡ true
 unfolding the_law
 w40_past = refl
 
@@ -231,7 +231,7 @@ w40_group_8 : map (is_lawful w40 w40_readings) ((event.Command 5 ∷ event.Comma
 unfolding the_law
 w40_group_8 = refl
 
-w40_group_9 : map (is_past w40) ((start 4 0 ∷ event.LetOut (id 4) ∷ event.Stage (id 1) 2 ∷ ended 2 outcome.Normal 0 12 ∷ start 2 0 ∷ event.LetOut (id 2) ∷ event.Stage (id 1) 1 ∷ event.Resume ∷ event.OpenSet (id 1) ∷ event.Command 2 ∷ event.Command 1 ∷ event.Tick (moment 63876601200) ∷ []) ∷ (event.Tick (moment 63876603600) ∷ start 4 0 ∷ event.LetOut (id 4) ∷ event.Stage (id 1) 2 ∷ ended 2 outcome.Normal 0 12 ∷ start 2 0 ∷ event.LetOut (id 2) ∷ event.Stage (id 1) 1 ∷ event.Resume ∷ event.OpenSet (id 1) ∷ event.Command 2 ∷ event.Command 1 ∷ event.Tick (moment 63876601200) ∷ []) ∷ []) ≡ (true ∷ true ∷ [])
+w40_group_9 : map (is_lawful_so_far w40) ((start 4 0 ∷ event.LetOut (id 4) ∷ event.Stage (id 1) 2 ∷ ended 2 outcome.Normal 0 12 ∷ start 2 0 ∷ event.LetOut (id 2) ∷ event.Stage (id 1) 1 ∷ event.Resume ∷ event.OpenSet (id 1) ∷ event.Command 2 ∷ event.Command 1 ∷ event.Tick (moment 63876601200) ∷ []) ∷ (event.Tick (moment 63876603600) ∷ start 4 0 ∷ event.LetOut (id 4) ∷ event.Stage (id 1) 2 ∷ ended 2 outcome.Normal 0 12 ∷ start 2 0 ∷ event.LetOut (id 2) ∷ event.Stage (id 1) 1 ∷ event.Resume ∷ event.OpenSet (id 1) ∷ event.Command 2 ∷ event.Command 1 ∷ event.Tick (moment 63876601200) ∷ []) ∷ []) ≡ (true ∷ true ∷ [])
 unfolding the_law
 w40_group_9 = refl
 
@@ -280,7 +280,7 @@ w23_lawful : is_lawful w23 w23_readings (event.Ended (id 1) outcome.Terminated N
 unfolding the_law
 w23_lawful = refl
 
-w23_past : is_past w23 (event.Ended (id 1) outcome.Terminated None ∷ start 7 1 ∷ ended 2 outcome.Warning 0 39 ∷ start 4 2 ∷ event.Tick (moment 63876604200) ∷ event.Tick (moment 63876603600) ∷ start 2 1 ∷ event.Tick (moment 63876603000) ∷ event.LetOut (id 7) ∷ event.Stage (id 6) 1 ∷ event.OpenSet (id 6) ∷ event.Command 5 ∷ event.Command 4 ∷ event.Tick (moment 63876603000) ∷ event.LetOut (id 4) ∷ event.Stage (id 3) 1 ∷ event.OpenSet (id 3) ∷ event.LetOut (id 2) ∷ event.Command 3 ∷ event.Command 2 ∷ event.Tick (moment 63876602400) ∷ start 1 0 ∷ event.LetOut (id 1) ∷ event.Command 1 ∷ event.Tick (moment 63876600000) ∷ []) ≡ true
+w23_past : is_lawful_so_far w23 (event.Ended (id 1) outcome.Terminated None ∷ start 7 1 ∷ ended 2 outcome.Warning 0 39 ∷ start 4 2 ∷ event.Tick (moment 63876604200) ∷ event.Tick (moment 63876603600) ∷ start 2 1 ∷ event.Tick (moment 63876603000) ∷ event.LetOut (id 7) ∷ event.Stage (id 6) 1 ∷ event.OpenSet (id 6) ∷ event.Command 5 ∷ event.Command 4 ∷ event.Tick (moment 63876603000) ∷ event.LetOut (id 4) ∷ event.Stage (id 3) 1 ∷ event.OpenSet (id 3) ∷ event.LetOut (id 2) ∷ event.Command 3 ∷ event.Command 2 ∷ event.Tick (moment 63876602400) ∷ start 1 0 ∷ event.LetOut (id 1) ∷ event.Command 1 ∷ event.Tick (moment 63876600000) ∷ []) ≡ true
 unfolding the_law
 w23_past = refl
 
@@ -340,10 +340,10 @@ w23_group_8 : map (is_lawful w23 w23_readings) ((event.Command 4 ∷ event.Comma
 unfolding the_law
 w23_group_8 = refl
 
-w23_group_9 : map (is_past w23) ((event.Resume ∷ event.Command 5 ∷ event.Command 4 ∷ event.Tick (moment 63876603000) ∷ event.LetOut (id 4) ∷ event.Stage (id 3) 1 ∷ event.OpenSet (id 3) ∷ event.LetOut (id 2) ∷ event.Command 3 ∷ event.Command 2 ∷ event.Tick (moment 63876602400) ∷ start 1 0 ∷ event.LetOut (id 1) ∷ event.Command 1 ∷ event.Tick (moment 63876600000) ∷ []) ∷ (event.Resume ∷ start 7 1 ∷ ended 2 outcome.Warning 0 39 ∷ start 4 2 ∷ event.Tick (moment 63876604200) ∷ event.Tick (moment 63876603600) ∷ start 2 1 ∷ event.Tick (moment 63876603000) ∷ event.LetOut (id 7) ∷ event.Stage (id 6) 1 ∷ event.OpenSet (id 6) ∷ event.Command 5 ∷ event.Command 4 ∷ event.Tick (moment 63876603000) ∷ event.LetOut (id 4) ∷ event.Stage (id 3) 1 ∷ event.OpenSet (id 3) ∷ event.LetOut (id 2) ∷ event.Command 3 ∷ event.Command 2 ∷ event.Tick (moment 63876602400) ∷ start 1 0 ∷ event.LetOut (id 1) ∷ event.Command 1 ∷ event.Tick (moment 63876600000) ∷ []) ∷ []) ≡ (true ∷ true ∷ [])
+w23_group_9 : map (is_lawful_so_far w23) ((event.Resume ∷ event.Command 5 ∷ event.Command 4 ∷ event.Tick (moment 63876603000) ∷ event.LetOut (id 4) ∷ event.Stage (id 3) 1 ∷ event.OpenSet (id 3) ∷ event.LetOut (id 2) ∷ event.Command 3 ∷ event.Command 2 ∷ event.Tick (moment 63876602400) ∷ start 1 0 ∷ event.LetOut (id 1) ∷ event.Command 1 ∷ event.Tick (moment 63876600000) ∷ []) ∷ (event.Resume ∷ start 7 1 ∷ ended 2 outcome.Warning 0 39 ∷ start 4 2 ∷ event.Tick (moment 63876604200) ∷ event.Tick (moment 63876603600) ∷ start 2 1 ∷ event.Tick (moment 63876603000) ∷ event.LetOut (id 7) ∷ event.Stage (id 6) 1 ∷ event.OpenSet (id 6) ∷ event.Command 5 ∷ event.Command 4 ∷ event.Tick (moment 63876603000) ∷ event.LetOut (id 4) ∷ event.Stage (id 3) 1 ∷ event.OpenSet (id 3) ∷ event.LetOut (id 2) ∷ event.Command 3 ∷ event.Command 2 ∷ event.Tick (moment 63876602400) ∷ start 1 0 ∷ event.LetOut (id 1) ∷ event.Command 1 ∷ event.Tick (moment 63876600000) ∷ []) ∷ []) ≡ (true ∷ true ∷ [])
 unfolding the_law
 w23_group_9 = refl
 
-w23_group_10 : map (is_past w23) ((event.OpenSet (id 6) ∷ event.Resume ∷ event.Command 5 ∷ event.Command 4 ∷ event.Tick (moment 63876603000) ∷ event.LetOut (id 4) ∷ event.Stage (id 3) 1 ∷ event.OpenSet (id 3) ∷ event.LetOut (id 2) ∷ event.Command 3 ∷ event.Command 2 ∷ event.Tick (moment 63876602400) ∷ start 1 0 ∷ event.LetOut (id 1) ∷ event.Command 1 ∷ event.Tick (moment 63876600000) ∷ []) ∷ (event.Ended (id 1) outcome.Terminated None ∷ event.Resume ∷ start 7 1 ∷ ended 2 outcome.Warning 0 39 ∷ start 4 2 ∷ event.Tick (moment 63876604200) ∷ event.Tick (moment 63876603600) ∷ start 2 1 ∷ event.Tick (moment 63876603000) ∷ event.LetOut (id 7) ∷ event.Stage (id 6) 1 ∷ event.OpenSet (id 6) ∷ event.Command 5 ∷ event.Command 4 ∷ event.Tick (moment 63876603000) ∷ event.LetOut (id 4) ∷ event.Stage (id 3) 1 ∷ event.OpenSet (id 3) ∷ event.LetOut (id 2) ∷ event.Command 3 ∷ event.Command 2 ∷ event.Tick (moment 63876602400) ∷ start 1 0 ∷ event.LetOut (id 1) ∷ event.Command 1 ∷ event.Tick (moment 63876600000) ∷ []) ∷ []) ≡ (false ∷ false ∷ [])
+w23_group_10 : map (is_lawful_so_far w23) ((event.OpenSet (id 6) ∷ event.Resume ∷ event.Command 5 ∷ event.Command 4 ∷ event.Tick (moment 63876603000) ∷ event.LetOut (id 4) ∷ event.Stage (id 3) 1 ∷ event.OpenSet (id 3) ∷ event.LetOut (id 2) ∷ event.Command 3 ∷ event.Command 2 ∷ event.Tick (moment 63876602400) ∷ start 1 0 ∷ event.LetOut (id 1) ∷ event.Command 1 ∷ event.Tick (moment 63876600000) ∷ []) ∷ (event.Ended (id 1) outcome.Terminated None ∷ event.Resume ∷ start 7 1 ∷ ended 2 outcome.Warning 0 39 ∷ start 4 2 ∷ event.Tick (moment 63876604200) ∷ event.Tick (moment 63876603600) ∷ start 2 1 ∷ event.Tick (moment 63876603000) ∷ event.LetOut (id 7) ∷ event.Stage (id 6) 1 ∷ event.OpenSet (id 6) ∷ event.Command 5 ∷ event.Command 4 ∷ event.Tick (moment 63876603000) ∷ event.LetOut (id 4) ∷ event.Stage (id 3) 1 ∷ event.OpenSet (id 3) ∷ event.LetOut (id 2) ∷ event.Command 3 ∷ event.Command 2 ∷ event.Tick (moment 63876602400) ∷ start 1 0 ∷ event.LetOut (id 1) ∷ event.Command 1 ∷ event.Tick (moment 63876600000) ∷ []) ∷ []) ≡ (false ∷ false ∷ [])
 unfolding the_law
 w23_group_10 = refl

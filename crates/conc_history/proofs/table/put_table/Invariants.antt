@@ -5,4 +5,4 @@ use Rattle.conc_history.proofs.table.put_table.Given as goal
 
 abbrev pub invariant-loop-r : goal.invariant-loop-r
 invariant-loop-r l =
-    l.out.items ≡ l.fn.out.items ++ concat (map (line_at l.plan l.standing) (take l.r-index l.r-items))
+    l.out.items ≡ l.fn.out.items ++ concat (map (line_at l.plan l.state) (take l.r-index l.r-items))

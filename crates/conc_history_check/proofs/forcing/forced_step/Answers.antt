@@ -8,14 +8,14 @@ pub returns-in-Some : goal.returns-in-Some
 unfolding forced_step step_among
 returns-in-Some c =
     sym (sym c.loop-r.invariant
-    ∙ step-here c.args.plan.now c.args.standing.now c.args.plan.now.requests c.loop-r.r-index c.r-item.result c.in-Some.e
+    ∙ step-here c.args.plan.now c.args.state.now c.args.plan.now.requests c.loop-r.r-index c.r-item.result c.in-Some.e
     (omega (arith, c.loop-r-test.true, ap length c.as_slice-r-items.ensures))
     (c.r-item.is ∙ ap (λ l. get_or l c.loop-r.r-index c.r-item.result) c.as_slice-r-items.ensures)
     (sym c.own_step.ensures ∙ c.in-Some.is))
 
 pub loop-r-preserved : goal.loop-r-preserved
 loop-r-preserved c =
-    sym (step-later c.args.plan.now c.args.standing.now c.args.plan.now.requests c.loop-r.r-index c.r-item.result
+    sym (step-later c.args.plan.now c.args.state.now c.args.plan.now.requests c.loop-r.r-index c.r-item.result
     (omega (arith, c.loop-r-test.true, ap length c.as_slice-r-items.ensures))
     (c.r-item.is ∙ ap (λ l. get_or l c.loop-r.r-index c.r-item.result) c.as_slice-r-items.ensures)
     (sym c.own_step.ensures ∙ c.in-None.is))
@@ -25,5 +25,5 @@ pub returns : goal.returns
 unfolding forced_step step_among
 returns c =
     sym (sym c.loop-r.invariant
-    ∙ step-none c.args.plan.now c.args.standing.now c.args.plan.now.requests c.loop-r.r-index
+    ∙ step-none c.args.plan.now c.args.state.now c.args.plan.now.requests c.loop-r.r-index
     (omega (arith, c.loop-r-test.false, ap length c.as_slice-r-items.ensures)))

@@ -9,6 +9,6 @@ pub returns : goal.returns
 unfolding all_places
 returns c =
     c.one_may_start_among.ensures
-    ∙ ap (λ n. list_any (λ p. list_any (λ r. may_start c.args.plan.now c.args.standing.now r p) c.args.plan.now.requests) (map (λ index. record { index = index }) (range_with_len 0 n)))
+    ∙ ap (λ n. list_any (λ p. list_any (λ r. may_start c.args.plan.now c.args.state.now r p) c.args.plan.now.requests) (map (λ index. record { index = index }) (range_with_len 0 n)))
     c.place_count.ensures.count
-    ∙ somewhere c.args.plan.now c.args.standing.now
+    ∙ somewhere c.args.plan.now c.args.state.now

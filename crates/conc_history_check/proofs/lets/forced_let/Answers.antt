@@ -10,4 +10,4 @@ unfolding forced_let
 returns c =
     c.event_at.ensures
     ∙ ap (λ o. option_map let_event (option_and_then (request_at_turn c.args.plan.now) o)) c.least_turn.ensures
-    ∙ ap (option_map let_event) (sym (first-least c.args.plan.now (may_let c.args.plan.now c.args.standing.now)))
+    ∙ ap (option_map let_event) (sym (first-least c.args.plan.now (may_let c.args.plan.now c.args.state.now)))

@@ -14,14 +14,14 @@ better-best-requires-clause-own c =
 
 pub loop-r-preserved : goal.loop-r-preserved
 loop-r-preserved c =
-    ap (λ o. lesser o (least (turns_of (may_let c.args.plan.now c.args.standing.now) (drop (c.loop-r.r-index + 1) c.args.plan.now.requests)))) c.better-best.ensures
-    ∙ least-next (may_let c.args.plan.now c.args.standing.now) c.args.plan.now.requests c.loop-r.r-index c.r-item.result c.loop-r.best
+    ap (λ o. lesser o (least (turns_of (may_let c.args.plan.now c.args.state.now) (drop (c.loop-r.r-index + 1) c.args.plan.now.requests)))) c.better-best.ensures
+    ∙ least-next (may_let c.args.plan.now c.args.state.now) c.args.plan.now.requests c.loop-r.r-index c.r-item.result c.loop-r.best
     (omega (arith, c.loop-r-test.true, ap length c.as_slice-r-items.ensures))
     (c.r-item.is ∙ ap (λ l. get_or l c.loop-r.r-index c.r-item.result) c.as_slice-r-items.ensures)
     ∙ c.loop-r.invariant
 
 pub returns : goal.returns
 returns c =
-    sym (least-end (may_let c.args.plan.now c.args.standing.now) c.args.plan.now.requests c.loop-r.r-index c.loop-r.best
+    sym (least-end (may_let c.args.plan.now c.args.state.now) c.args.plan.now.requests c.loop-r.r-index c.loop-r.best
     (omega (arith, c.loop-r-test.false, ap length c.as_slice-r-items.ensures)))
     ∙ c.loop-r.invariant

@@ -1,7 +1,7 @@
 use Rattle.std.proofs.Common.{◌≡◌, ◌<◌, length, Some, true, false, refl, sym, ◌∙◌, ap, arith}
 use Rattle.std.specs.Prelude.{slice_get}
 use Rattle.std.proofs.lemmas.Option.{slice_get_read}
-use Rattle.conc_law.specs.Standing.{facts_at, is_live}
+use Rattle.conc_law.specs.State.{facts_at, is_live}
 use Rattle.conc_machine_classes.specs.Classes.{class_at}
 use Rattle.conc_machine_queue.proofs.Maps.{request_at_place}
 use Rattle.conc_history_check.proofs.Noted.{live-next, live-not}
@@ -19,7 +19,7 @@ returns-then-is_live c =
     slice_get_read c.args.plan.now.requests _ c.args.i _ refl c.requires.within (rw c.as_slice.ensures at c.index-as_slice-i.is) in
     let class : class_at c.args.classes.now c.index-as_slice-i.result < length c.args.live.now =
     omega (arith, c.requires.before.size, c.requires.classes.known c.index-as_slice-i.result (request_at_place c.args.plan.now c.args.i _ here).1) in
-    let lives : is_live (facts_at c.args.standing.now c.index-as_slice-i.result) ≡ true =
+    let lives : is_live (facts_at c.args.state.now c.index-as_slice-i.result) ≡ true =
     ap (λ f. is_live f) (sym c.facts_at.ensures) ∙ sym c.is_live.ensures ∙ c.if-is_live.true in
     rw (c.set.ensures, c.class.ensures) (live-next _ _ _ c.args.i c.index-as_slice-i.result _ here lives class c.requires.before)
 

@@ -1,4 +1,4 @@
-use Rattle.conc_history_lines.proofs.PastLines.{history_lines}
+use Rattle.conc_history_lines.proofs.LawfulLines.{history_lines}
 use Rattle.conc_history_lines.proofs.WholeTexts.{text_back}
 use Rattle.conc_history_lines.proofs.laws.texts_are_read_back.Goals as goal
 

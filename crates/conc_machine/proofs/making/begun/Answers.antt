@@ -2,7 +2,7 @@ use Rattle.std.proofs.Common.{sym, subst}
 use Rattle.conc_machine_release.specs.Lets.{AreLets}
 use Rattle.conc_machine_starts.specs.Starts.{AreStarts}
 use Rattle.conc_machine_steps.specs.Steps.{AreRunning, AreSteps}
-use Rattle.conc_machine.proofs.Standings.{all-facts, all-flags, first-command}
+use Rattle.conc_machine.proofs.States.{all-facts, all-flags, first-command}
 use Rattle.conc_machine.proofs.making.begun.Goals as goal
 
 pub returns-clause-kept : goal.returns-clause-kept

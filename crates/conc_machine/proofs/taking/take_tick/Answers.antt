@@ -4,7 +4,7 @@ use Rattle.conc_machine.proofs.taking.take_tick.Goals as goal
 
 pub returns-in-Tick-clause-parts : goal.returns-in-Tick-clause-parts
 returns-in-Tick-clause-parts c =
-    let old = c.args.kept.now.standing in
+    let old = c.args.kept.now.state in
     record {
       all = c.requires.all;
       spans = c.requires.spans;

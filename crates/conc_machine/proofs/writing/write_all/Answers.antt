@@ -20,4 +20,4 @@ loop-i-preserved c =
 pub returns-clause-facts : goal.returns-clause-facts
 returns-clause-facts c =
     AreFacts-is c.args.kept.now c.loop-i.kept _ _ c.loop-i.invariant.1
-    (all_after-from c.args.plan.now c.args.named c.args.e c.args.span c.args.kept.now.standing.facts c.loop-i.i c.requires.leaves (omega (arith, c.loop-i-test.false)))
+    (all_after-from c.args.plan.now c.args.named c.args.e c.args.span c.args.kept.now.state.facts c.loop-i.i c.requires.leaves (omega (arith, c.loop-i-test.false)))

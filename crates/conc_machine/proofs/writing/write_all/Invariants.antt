@@ -6,4 +6,4 @@ use Rattle.conc_machine.proofs.writing.write_all.Given as goal
 abbrev pub invariant-loop-i : goal.invariant-loop-i
 invariant-loop-i l =
     AreParts l.plan l.kept
-    × AreFacts l.fn.kept l.kept (all_after l.plan l.named l.e (take l.i l.plan.requests) l.fn.kept.standing.facts)
+    × AreFacts l.fn.kept l.kept (all_after l.plan l.named l.e (take l.i l.plan.requests) l.fn.kept.state.facts)

@@ -7,15 +7,15 @@ use Rattle.conc_machine_release.proofs.forced.least_spared.Goals as goal
 
 pub loop-r-preserved : goal.loop-r-preserved
 loop-r-preserved c =
-    ap (λ o. lesser o (least (turns_of (is_spared c.args.plan.now c.args.classes.now c.args.standing.now c.args.class c.args.rivals) (drop (c.loop-r.r-index + 1) c.args.plan.now.requests))))
+    ap (λ o. lesser o (least (turns_of (is_spared c.args.plan.now c.args.classes.now c.args.state.now c.args.class c.args.rivals) (drop (c.loop-r.r-index + 1) c.args.plan.now.requests))))
     (c.lesser-best.ensures ∙ ap (lesser c.loop-r.best) c.turn_if_spared.ensures)
-    ∙ least-next (is_spared c.args.plan.now c.args.classes.now c.args.standing.now c.args.class c.args.rivals) c.args.plan.now.requests c.loop-r.r-index c.r-item.result c.loop-r.best
+    ∙ least-next (is_spared c.args.plan.now c.args.classes.now c.args.state.now c.args.class c.args.rivals) c.args.plan.now.requests c.loop-r.r-index c.r-item.result c.loop-r.best
     (omega (arith, c.loop-r-test.true, ap length c.as_slice-r-items.ensures))
     (c.r-item.is ∙ ap (λ l. get_or l c.loop-r.r-index c.r-item.result) c.as_slice-r-items.ensures)
     ∙ c.loop-r.invariant
 
 pub returns : goal.returns
 returns c =
-    sym (least-end (is_spared c.args.plan.now c.args.classes.now c.args.standing.now c.args.class c.args.rivals) c.args.plan.now.requests c.loop-r.r-index c.loop-r.best
+    sym (least-end (is_spared c.args.plan.now c.args.classes.now c.args.state.now c.args.class c.args.rivals) c.args.plan.now.requests c.loop-r.r-index c.loop-r.best
     (omega (arith, c.loop-r-test.false, ap length c.as_slice-r-items.ensures)))
     ∙ c.loop-r.invariant

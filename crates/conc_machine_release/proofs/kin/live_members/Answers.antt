@@ -9,8 +9,8 @@ use Rattle.conc_machine_release.proofs.kin.live_members.Goals.{then-is_live_memb
 pub loop-i-init : goal.loop-i-init
 loop-i-init c =
     let e : c.span_of_members-span.result.from ≡ (span_of_members c.args.spans.now c.args.r.now.number).from = ap (λ s. s.from) c.span_of_members-span.ensures in (
-      sym (front-none (is_live_member c.args.classes.now c.args.standing.now c.args.class c.args.r.now) c.args.plan.now.requests c.span_of_members-span.result.from
-          (λ k y at before. members-outside c.args.plan.now c.args.spans.now c.requires c.args.classes.now c.args.standing.now c.args.class c.args.r.now k y at (λ from to. omega (arith, before, from, e)))),
+      sym (front-none (is_live_member c.args.classes.now c.args.state.now c.args.class c.args.r.now) c.args.plan.now.requests c.span_of_members-span.result.from
+          (λ k y at before. members-outside c.args.plan.now c.args.spans.now c.requires c.args.classes.now c.args.state.now c.args.class c.args.r.now k y at (λ from to. omega (arith, before, from, e)))),
       omega arith,
     )
 
@@ -19,12 +19,12 @@ loop-i-preserved c =
     let e : c.span_of_members-span.result.to ≡ (span_of_members c.args.spans.now c.args.r.now.number).to = ap (λ s. s.to) c.span_of_members-span.ensures in
     let within : c.loop-i.i < length c.args.plan.now.requests = omega (arith, e, c.loop-i-test.true, c.requires.members_inside c.args.r.now.number) in
     elim c.if-is_live_member.branch [
-      | then-is_live_member w ↦ front-next (is_live_member c.args.classes.now c.args.standing.now c.args.class c.args.r.now) c.args.plan.now.requests c.loop-i.i c.index-requests-i.result
+      | then-is_live_member w ↦ front-next (is_live_member c.args.classes.now c.args.state.now c.args.class c.args.r.now) c.args.plan.now.requests c.loop-i.i c.index-requests-i.result
           c.loop-i.count _ within
           (c.index-requests-i.is ∙ ap (λ l. get_or l c.loop-i.i c.index-requests-i.result) c.as_slice-requests.ensures)
           c.loop-i.invariant.0
           (w.count-is ∙ ap (λ b. c.loop-i.count + cond b 1 0) (sym w.if-is_live_member.true ∙ c.is_live_member.ensures))
-      | else-is_live_member w ↦ front-next (is_live_member c.args.classes.now c.args.standing.now c.args.class c.args.r.now) c.args.plan.now.requests c.loop-i.i c.index-requests-i.result
+      | else-is_live_member w ↦ front-next (is_live_member c.args.classes.now c.args.state.now c.args.class c.args.r.now) c.args.plan.now.requests c.loop-i.i c.index-requests-i.result
           c.loop-i.count _ within
           (c.index-requests-i.is ∙ ap (λ l. get_or l c.loop-i.i c.index-requests-i.result) c.as_slice-requests.ensures)
           c.loop-i.invariant.0
@@ -38,5 +38,5 @@ unfolding live_members
 returns-clause-exact c =
     let e : c.span_of_members-span.result.to ≡ (span_of_members c.args.spans.now c.args.r.now.number).to = ap (λ s. s.to) c.span_of_members-span.ensures in
     c.loop-i.invariant.0
-    ∙ front-all (is_live_member c.args.classes.now c.args.standing.now c.args.class c.args.r.now) c.args.plan.now.requests c.loop-i.i
-    (λ k y at behind. members-outside c.args.plan.now c.args.spans.now c.requires c.args.classes.now c.args.standing.now c.args.class c.args.r.now k y at (λ from to. omega (arith, behind, to, e, c.loop-i-test.false)))
+    ∙ front-all (is_live_member c.args.classes.now c.args.state.now c.args.class c.args.r.now) c.args.plan.now.requests c.loop-i.i
+    (λ k y at behind. members-outside c.args.plan.now c.args.spans.now c.requires c.args.classes.now c.args.state.now c.args.class c.args.r.now k y at (λ from to. omega (arith, behind, to, e, c.loop-i-test.false)))

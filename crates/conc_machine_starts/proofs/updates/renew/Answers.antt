@@ -7,5 +7,5 @@ use Rattle.conc_machine_starts.proofs.updates.renew.Goals as goal
 pub returns : goal.returns
 returns c = λ e.
     let size : length c.loop-index.usable ≡ count_of_places c.args.plan.now = c.loop-index.invariant.same_length ∙ e in
-    places-are c.args.plan.now (is_usable_now c.args.plan.now c.args.standing.now) false c.loop-index.usable size
+    places-are c.args.plan.now (is_usable_now c.args.plan.now c.args.state.now) false c.loop-index.usable size
     (λ k low. c.loop-index.invariant.renewed e k (omega (arith, size, c.place_count-index-end.ensures.count)))

@@ -16,5 +16,5 @@ pub want_of_memory-requires : goal.want_of_memory-requires
 want_of_memory-requires c =
     let generated = c.args.generated.now in
     let h : Handed = handed generated.plan generated.readings generated.digest (state_of c.new-journal.result) (state_of c.run_plan.new.journal) (state_of c.new-spool.result) (state_of c.run_plan.new.spool) in
-    not-refused h c.in-Err.stopped (c.new-journal.ensures.seen ∙ ap (λ (l : List ℕ). Some l) c.new.ensures.items) (c.new-spool.ensures.seen ∙ ap (λ (l : List ℕ). Some l) c.new-3.ensures.items)
+    not-refused h c.in-Err.fail (c.new-journal.ensures.seen ∙ ap (λ (l : List ℕ). Some l) c.new.ensures.items) (c.new-spool.ensures.seen ∙ ap (λ (l : List ℕ). Some l) c.new-3.ensures.items)
     (fits generated.plan generated.readings) c.in-Err.ensures.cut_short.cause

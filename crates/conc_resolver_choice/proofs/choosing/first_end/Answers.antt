@@ -6,10 +6,10 @@ use Rattle.conc_types.specs.Plans.{request}
 use Rattle.conc_types.specs.Words.{some_and}
 use Rattle.conc_law.specs.Alone.{first_end}
 use Rattle.conc_law.specs.Next.{runs_somewhere}
-use Rattle.conc_law.specs.Standing.{facts_at, is_stopping, standing}
+use Rattle.conc_law.specs.State.{facts_at, is_stopping, state}
 use Rattle.conc_law.proofs.FirstBy.{find-some}
 use Rattle.conc_law.proofs.Numbering.{numbered_plan}
-use Rattle.conc_machine.specs.Stands.{Stands}
+use Rattle.conc_machine.specs.StandsFor.{StandsFor}
 use Rattle.conc_resolver_choice.specs.Choices.{event_of, HasItsText}
 use Rattle.conc_resolver_choice.proofs.Parts.{first_end-is, first_end-none, for_each}
 use Rattle.conc_resolver_choice.proofs.choosing.first_end.Goals as goal
@@ -19,23 +19,23 @@ returns-in-Some-clause-event c =
     let plan = c.args.plan.now in
     let machine = c.args.machine.now in
     let r = c.in-Some.r.now in
-    for_each (Stands machine) (λ past next. option_map event_of next ≡ first_end plan (standing plan past)) c.end_by.result (λ past stands.
-    let runs = runs_somewhere (standing plan past) in
+    for_each (StandsFor machine) (λ past next. option_map event_of next ≡ first_end plan (state plan past)) c.end_by.result (λ past stands.
+    let runs = runs_somewhere (state plan past) in
     let found : find runs plan.requests ≡ Some r = sym (c.in-Some.ensures past stands) in
-    let stop : c.must_stop-stopping.result ≡ is_stopping (facts_at (standing plan past) r) =
+    let stop : c.must_stop-stopping.result ≡ is_stopping (facts_at (state plan past) r) =
     c.must_stop-stopping.ensures past stands
-    ∙ ap (λ p. some_and (λ q. is_stopping (facts_at (standing p past) q)) (request p r.number)) c.requires
-    ∙ ap (some_and (λ q. is_stopping (facts_at (standing plan past) q))) (numbered_plan plan r (find-some runs plan.requests r found).1) in
-    let used : c.used.result ≡ (standing plan past).used = c.used.ensures past stands ∙ ap (λ p. (standing p past).used) c.requires in
+    ∙ ap (λ p. some_and (λ q. is_stopping (facts_at (state p past) q)) (request p r.number)) c.requires
+    ∙ ap (some_and (λ q. is_stopping (facts_at (state plan past) q))) (numbered_plan plan r (find-some runs plan.requests r found).1) in
+    let used : c.used.result ≡ (state plan past).used = c.used.ensures past stands ∙ ap (λ p. (state p past).used) c.requires in
     subst (λ z. IfOk c.end_by.result (λ next. option_map event_of next ≡ z))
-    (first_end-is plan (standing plan past) r c.must_stop-stopping.result c.used.result found stop used) c.end_by.ensures.event)
+    (first_end-is plan (state plan past) r c.must_stop-stopping.result c.used.result found stop used) c.end_by.ensures.event)
 
 pub returns-in-Some-clause-text : goal.returns-in-Some-clause-text
 returns-in-Some-clause-text c =
     let plan = c.args.plan.now in
     let r = c.in-Some.r.now in
-    for_each (Stands c.args.machine.now) (λ past next. ForSome next (λ n. HasItsText plan n.event n.text)) c.end_by.result (λ past stands.
-    let runs = runs_somewhere (standing plan past) in
+    for_each (StandsFor c.args.machine.now) (λ past next. ForSome next (λ n. HasItsText plan n.event n.text)) c.end_by.result (λ past stands.
+    let runs = runs_somewhere (state plan past) in
     let found : find runs plan.requests ≡ Some r = sym (c.in-Some.ensures past stands) in
     c.end_by.ensures.text (numbered_plan plan r (find-some runs plan.requests r found).1))
 

@@ -4,7 +4,7 @@ use Rattle.std.specs.Option.{option_and_then, option_map}
 use Rattle.conc_types.specs.declared.plan.Req.{Req}
 use Rattle.conc_types.specs.Plans.{request}
 use Rattle.conc_law.specs.Next.{runs_somewhere}
-use Rattle.conc_law.specs.Standing.{standing}
+use Rattle.conc_law.specs.State.{state}
 use Rattle.conc_law.proofs.FirstBy.{find-some}
 use Rattle.conc_resolver_choice.proofs.Parts.{found-again}
 use Rattle.conc_resolver_choice.proofs.choosing.running.Goals as goal
@@ -12,10 +12,10 @@ use Rattle.conc_resolver_choice.proofs.choosing.running.Goals as goal
 pub returns-in-Some : goal.returns-in-Some
 returns-in-Some c = λ past stands.
     let plan = c.args.plan.now in
-    let runs = runs_somewhere (standing plan past) in
+    let runs = runs_somewhere (state plan past) in
     let found : c.first_running.result ≡ option_map (λ (r : Req). r.number) (find runs plan.requests) =
     c.first_running.ensures past stands
-    ∙ ap (λ p. option_map (λ (r : Req). r.number) (find (runs_somewhere (standing p past)) p.requests)) c.requires in
+    ∙ ap (λ p. option_map (λ (r : Req). r.number) (find (runs_somewhere (state p past)) p.requests)) c.requires in
     c.request.ensures
     ∙ ap (option_and_then (request plan)) (sym c.in-Some.is ∙ found)
     ∙ found-again plan (find runs plan.requests) (λ r is. (find-some runs plan.requests r is).1)

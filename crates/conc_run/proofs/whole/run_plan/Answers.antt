@@ -3,7 +3,7 @@ use Rattle.std.proofs.lemmas.Result.{err_from_is_err_and}
 use Rattle.conc_run_state.specs.Causes.{is_journal_fault}
 use Rattle.conc_run_state.specs.Handed.{handed, Handed}
 use Rattle.conc_run_state.specs.declared.fail.RunFail.TheVariants as run_fail
-use Rattle.conc_run_state.specs.declared.fail.Stopped.{Stopped}
+use Rattle.conc_run_state.specs.declared.fail.HistoryFail.{HistoryFail}
 use Rattle.conc_run.proofs.Opened.{cut-opening}
 use Rattle.conc_run.proofs.Ran.{cut-run, finished-run}
 use Rattle.conc_run.proofs.Stops.{rose-since, stop-cause, stop-late}
@@ -14,7 +14,7 @@ returns-in_err-work-clause-cut_short g c =
     let p = err_from_is_err_and c.from_residual.result c.from_residual.ensures.1 in
     let h : Handed = handed c.args.plan.now c.args.readings.now c.args.digest.now (g.D.Disk.state c.args.journal.now) (g.D.Disk.state c.open.new.journal) (g.E.Disk.state c.args.spool.now) (g.E.Disk.state c.open.new.spool) in
     rw (p.1, p.2)
-    (cut-opening h c.in_err-work.field-0.0 c.in_err-work.ensures.cause c.in_err-work.ensures.untouched c.in_err-work.ensures.stopped (c.lawful_is_past.ensures c.args.plan.now c.args.readings.now)
+    (cut-opening h c.in_err-work.field-0.0 c.in_err-work.ensures.cause c.in_err-work.ensures.untouched c.in_err-work.ensures.given_up (c.lawful_is_lawful_so_far.ensures c.args.plan.now c.args.readings.now)
     c.open.ensures.spool_survives)
 
 pub returns-in-Ok-clause-finished : goal.returns-in-Ok-clause-finished
@@ -22,7 +22,7 @@ returns-in-Ok-clause-finished g c =
     let h : Handed = handed c.args.plan.now c.args.readings.now c.args.digest.now (g.D.Disk.state c.args.journal.now) (g.D.Disk.state c.run_alone.new.journal) (g.E.Disk.state c.args.spool.now) (g.E.Disk.state c.run_alone.new.spool) in
     let begun = c.in_ok-work.ensures.begun in
     finished-run h (g.D.Disk.state c.open.new.journal) (g.E.Disk.state c.open.new.spool) c.in_ok-work.work c.run_alone.new.work begun
-    (c.run_alone.ensures.went_on c.args.readings.now.list begun.ready.tied.readings_are) (c.lawful_is_past.ensures c.args.plan.now c.args.readings.now) c.open.ensures.spool c.open.ensures.spool_survives
+    (c.run_alone.ensures.went_on c.args.readings.now.list begun.ready.tied.readings_are) (c.lawful_is_lawful_so_far.ensures c.args.plan.now c.args.readings.now) c.open.ensures.spool c.open.ensures.spool_survives
     (c.in-Ok.ensures.sound (λ is. cc)) (c.in-Ok.ensures.finished c.args.readings.now.list begun.ready.tied.readings_are)
 
 pub returns-clause-cut_short : goal.returns-clause-cut_short
@@ -35,14 +35,14 @@ returns-clause-cut_short g c =
     let spool-after = g.E.Disk.state c.run_alone.new.spool in
     let h : Handed = handed c.args.plan.now c.args.readings.now c.args.digest.now before after spool-before spool-after in
     let begun = c.in_ok-work.ensures.begun in
-    let made = c.stopped_by.ensures in
-    cut-run h begun-on spool-begun c.in_ok-work.work c.run_alone.new.work begun (c.run_alone.ensures.went_on c.args.readings.now.list begun.ready.tied.readings_are) c.stopped_by.result
-    (stop-cause h c.in-Err.fail c.stopped_by.result made.journal made.spool made.memory
+    let made = c.history_fail_of.ensures in
+    cut-run h begun-on spool-begun c.in_ok-work.work c.run_alone.new.work begun (c.run_alone.ensures.went_on c.args.readings.now.list begun.ready.tied.readings_are) c.history_fail_of.result
+    (stop-cause h c.in-Err.fail c.history_fail_of.result made.journal made.spool made.memory
     (λ is. rose-since before.faults begun-on.faults after.faults begun.left.faults (c.in-Err.ensures.journal_fault (cc)))
     (λ is. (begun.taken.is_found.own, rose-since spool-before.faults spool-begun.faults spool-after.faults c.open.ensures.spool_survives.faults (c.in-Err.ensures.spool_fault (cc)))))
-    (stop-late h c.in-Err.fail c.stopped_by.result made.journal made.spool made.memory)
+    (stop-late h c.in-Err.fail c.history_fail_of.result made.journal made.spool made.memory)
     (λ quiet. c.in-Err.ensures.sound (λ is.
     let fail : c.in-Err.fail ≡ run_fail.JournalFault = cc in
-    let two : true ≡ false = sym (ap (λ (s : Stopped). is_journal_fault s) (made.journal fail)) ∙ quiet in
+    let two : true ≡ false = sym (ap (λ (s : HistoryFail). is_journal_fault s) (made.journal fail)) ∙ quiet in
     absurd (cc)))
-    (c.lawful_is_past.ensures c.args.plan.now c.args.readings.now) c.open.ensures.spool c.open.ensures.spool_survives
+    (c.lawful_is_lawful_so_far.ensures c.args.plan.now c.args.readings.now) c.open.ensures.spool c.open.ensures.spool_survives

@@ -32,4 +32,4 @@ returns-clause-cause g c =
     let h = handed c.args.plan.now c.args.readings.now c.args.digest.now (g.D.Disk.state c.args.journal.now) (g.D.Disk.state c.open_own.new.disk) spool (g.E.Disk.state c.open_texts.new.disk) in
     let found = c.in_ok-opened.ensures in
     prepared-cause h c.in_ok-opened.opened c.prepare.result (record { own = found.own; found = found.found })
-    (subst (λ (l : List Event). Reaches spool (counted l)) c.deref.ensures.value c.in_ok-texts.ensures.long) c.prepare.ensures.hindered
+    (subst (λ (l : List Event). Reaches spool (counted l)) c.deref.ensures.value c.in_ok-texts.ensures.long) c.prepare.ensures.cannot_begin

@@ -12,7 +12,7 @@ returns-in-Err-Unlawful-clause-unlisted c =
     (event-first c.args.plan.now c.args.events.now c.args.broken arm.position (subst (IsListRefused c.args.plan.now c.args.events.now) arm.field-0-is arm.ensures.unlawful))
 
 pub returns-in-Some-clause-unlisted : goal.returns-in-Some-clause-unlisted
-returns-in-Some-clause-unlisted c = event-broken c.args.plan.now c.args.events.now c.args.broken c.in-Some.number c.in-Some.is c.in-Ok.ensures.past
+returns-in-Some-clause-unlisted c = event-broken c.args.plan.now c.args.events.now c.args.broken c.in-Some.number c.in-Some.is c.in-Ok.ensures.lawful_so_far
 
 pub returns-in-Err-Unlawful-clause-refused : goal.returns-in-Err-Unlawful-clause-refused
 returns-in-Err-Unlawful-clause-refused c = λ len far.
@@ -25,4 +25,4 @@ returns-in-Err-Unlawful-clause-refused c = λ len far.
 pub returns-in-Some-clause-refused : goal.returns-in-Some-clause-refused
 returns-in-Some-clause-refused c = λ len far.
     subst (λ (b : Option ℕ). IsBadRecord c.args.plan.now len c.args.events.now b c.in-Some.number) (sym c.in-Some.is)
-    (bad-broken c.args.plan.now len c.args.events.now c.in-Some.number c.in-Ok.ensures.past far)
+    (bad-broken c.args.plan.now len c.args.events.now c.in-Some.number c.in-Ok.ensures.lawful_so_far far)

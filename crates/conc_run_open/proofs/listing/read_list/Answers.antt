@@ -1,6 +1,6 @@
 use Rattle.std.proofs.Common.{subst}
 use Rattle.std.proofs.lemmas.Result.{err_from_is_err_and}
-use Rattle.conc_law.specs.Law.{Past}
+use Rattle.conc_law.specs.Law.{LawfulSoFar}
 use Rattle.conc_run_open.proofs.Listed.{listed, unlisted-cause, unopened-listed}
 use Rattle.conc_run_open.proofs.listing.read_list.Goals as goal
 
@@ -21,4 +21,4 @@ returns-clause-listed g c =
     let found = c.in_ok-opened.ensures in
     let good = c.in_ok-resume_whole.ensures in
     listed c.args.plan.now c.args.digest.now (g.D.Disk.state c.args.journal.now) c.in_ok-opened.opened found.own found.found
-    (subst (Past c.args.plan.now) c.deref.ensures.value good.past) good.whole
+    (subst (LawfulSoFar c.args.plan.now) c.deref.ensures.value good.so_far) good.whole

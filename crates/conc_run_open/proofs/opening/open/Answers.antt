@@ -5,8 +5,8 @@ use Rattle.conc_run_open.proofs.Beginning.{begins, stops}
 use Rattle.conc_run_open.proofs.Surviving.{opening-left}
 use Rattle.conc_run_open.proofs.opening.open.Goals as goal
 
-pub returns-in_err-machine-clause-stopped : goal.returns-in_err-machine-clause-stopped
-returns-in_err-machine-clause-stopped g c = rw (err_from_is_err_and c.from_residual.result c.from_residual.ensures.1).1 (inl c.examine.ensures.untouched)
+pub returns-in_err-machine-clause-given_up : goal.returns-in_err-machine-clause-given_up
+returns-in_err-machine-clause-given_up g c = rw (err_from_is_err_and c.from_residual.result c.from_residual.ensures.1).1 (inl c.examine.ensures.untouched)
 
 pub returns-in-Ok-clause-begun : goal.returns-in-Ok-clause-begun
 returns-in-Ok-clause-begun g c =
@@ -16,8 +16,8 @@ returns-in-Ok-clause-begun g c =
     c.in_ok-machine.field-0 c.start.new.journal c.in_ok-machine.ensures.examined c.examine.ensures.untouched.spool begun.on begun.stage begun.list begun.room
     (opening-left h c.in_ok-machine.field-0.journal.events.items (g.D.Disk.state c.examine.new.journal) c.examine.ensures.untouched.journal_survives c.start.ensures.survives)
 
-pub returns-clause-stopped : goal.returns-clause-stopped
-returns-clause-stopped g c =
+pub returns-clause-given_up : goal.returns-clause-given_up
+returns-clause-given_up g c =
     let h = handed c.args.plan.now c.args.readings.now c.args.digest.now (g.D.Disk.state c.args.journal.now) (g.D.Disk.state c.start.new.disk) (g.E.Disk.state c.args.spool.now) (g.E.Disk.state c.examine.new.spool) in
     inr (stops c.args.plan.now c.args.readings.now c.args.digest.now (g.D.Disk.state c.args.journal.now) (g.D.Disk.state c.examine.new.journal) (g.D.Disk.state c.start.new.disk) (g.E.Disk.state c.args.spool.now) (g.E.Disk.state c.examine.new.spool)
     c.in_ok-machine.field-0 c.in_ok-machine.ensures.examined c.examine.ensures.untouched.spool

@@ -2,7 +2,7 @@ use Rattle.std.proofs.Common.{sym, ◌∙◌, ap, subst, Err, List}
 use Rattle.std.proofs.lemmas.Result.{err_from_is_err_and}
 use Rattle.conc_types.specs.declared.event.Event.{Event}
 use Rattle.conc_disk.specs.Disk.{Reaches}
-use Rattle.conc_law.specs.Law.{Past}
+use Rattle.conc_law.specs.Law.{LawfulSoFar}
 use Rattle.conc_run_state.specs.Disks.{disks}
 use Rattle.conc_run_open.specs.Extents.{counted}
 use Rattle.conc_run_open.specs.Texts.{HasEnd, HasNoEnd}
@@ -45,11 +45,11 @@ returns-in_default-clause-cause g c =
     let opened = c.in_ok-opened.opened in
     let found = c.in_ok-opened.ensures in
     let good = c.in_ok-resume_whole.ensures in
-    let past = subst (Past plan) c.deref-2.ensures.value good.past in
+    let so_far = subst (LawfulSoFar plan) c.deref-2.ensures.value good.so_far in
     let long = subst (λ (l : List Event). Reaches spool (counted l)) c.deref.ensures.value c.in_ok-texts.ensures.long in
     record {
       events = opened.events.items;
-      whole = whole-read plan c.args.digest.now journal spool opened found.own found.found long past good.whole;
+      whole = whole-read plan c.args.digest.now journal spool opened found.own found.found long so_far good.whole;
       none = subst (λ (l : List Event). HasNoEnd l c.args.id) c.deref-3.ensures.value c.in_default.ensures;
     }
 
@@ -57,8 +57,8 @@ pub read-requires-clause-within : goal.read-requires-clause-within
 read-requires-clause-within g c =
     let plan = c.args.plan.now in
     let events = c.in_ok-opened.opened.events.items in
-    let past = subst (Past plan) c.deref-2.ensures.value c.in_ok-resume_whole.ensures.past in
-    read-within plan events c.args.id c.in-Some.extent c.in_ok-texts.texts.used past (c.in_ok-texts.ensures.used ∙ ap counted c.deref.ensures.value)
+    let so_far = subst (LawfulSoFar plan) c.deref-2.ensures.value c.in_ok-resume_whole.ensures.lawful_so_far in
+    read-within plan events c.args.id c.in-Some.extent c.in_ok-texts.texts.used so_far (c.in_ok-texts.ensures.used ∙ ap counted c.deref.ensures.value)
     (subst (λ (l : List Event). HasEnd l c.args.id c.in-Some.extent) c.deref-3.ensures.value c.in-Some.ensures)
 
 pub returns-in-Ok-clause-text : goal.returns-in-Ok-clause-text
@@ -69,11 +69,11 @@ returns-in-Ok-clause-text g c =
     let opened = c.in_ok-opened.opened in
     let found = c.in_ok-opened.ensures in
     let good = c.in_ok-resume_whole.ensures in
-    let past = subst (Past plan) c.deref-2.ensures.value good.past in
+    let so_far = subst (LawfulSoFar plan) c.deref-2.ensures.value good.so_far in
     let long = subst (λ (l : List Event). Reaches spool (counted l)) c.deref.ensures.value c.in_ok-texts.ensures.long in
     record {
       events = opened.events.items;
-      whole = whole-read plan c.args.digest.now journal spool opened found.own found.found long past good.whole;
+      whole = whole-read plan c.args.digest.now journal spool opened found.own found.found long so_far good.whole;
       extent = c.in-Some.extent;
       ended = subst (λ (l : List Event). HasEnd l c.args.id c.in-Some.extent) c.deref-3.ensures.value c.in-Some.ensures;
       long = sym c.in-Ok.text.ok.0 ∙ c.in-Ok.ensures.length;

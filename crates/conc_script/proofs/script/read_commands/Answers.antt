@@ -1,7 +1,7 @@
 use Rattle.std.proofs.Common.{refl, ◌∙◌, ap, ℕ, ◌+◌, ◌≤◌, [], ◌∷◌, ◌++◌, arith}
 use Rattle.conc_types.specs.declared.script.Act.{Act}
 use Rattle.conc_types.specs.Scripts.{entered_by}
-use Rattle.conc_script.specs.Deeds.{act_by}
+use Rattle.conc_script.specs.Actions.{act_by}
 use Rattle.conc_script.proofs.ReadRecords.{reads_all, reads_fault, reads_more, reads_none}
 use Rattle.conc_script.proofs.script.read_commands.Goals as goal
 
@@ -19,9 +19,9 @@ loop-row-preserved c =
     let judged = c.in-Ok.ensures in
     let entered = c.entered_with.ensures in
     let total = ap (λ (n : ℕ). c.loop-row.entered + n) (c.from-entered.ensures ∙ entered.value) in
-    let few : entered_by c.args.setup.now (act_by c.in-Ok.deed) ≤ 4097 = omega (arith, entered.value, entered.few) in
+    let few : entered_by c.args.setup.now (act_by c.in-Ok.action) ≤ 4097 = omega (arith, entered.value, entered.few) in
     let more = c.in_ok-push-in-Ok.ensures.items ∙ ap (λ (a : Act). c.loop-row.commands.items ++ record { at = c.in-Ok.at; act = a } ∷ []) c.in_ok-act-in-Ok.ensures in
-    reads_more c.args.setup.now _ _ _ _ _ _ _ _ _ c.in-Ok.at (act_by c.in-Ok.deed) reads (omega arith) judged.rules judged.said judged.at judged.later judged.fits judged.enters total few more
+    reads_more c.args.setup.now _ _ _ _ _ _ _ _ _ c.in-Ok.at (act_by c.in-Ok.action) reads (omega arith) judged.rules judged.said judged.at judged.later judged.fits judged.enters total few more
 
 pub returns-clause-ok : goal.returns-clause-ok
 returns-clause-ok c =

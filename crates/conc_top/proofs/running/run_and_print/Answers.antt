@@ -15,7 +15,7 @@ returns-in-Err g c =
     let spool = g.E.Disk.state in
     let h = handed c.args.plan.now c.args.readings.now c.args.digest.now (journal c.args.journal.now) (journal c.run_plan.new.journal) (spool c.args.spool.now) (spool c.run_plan.new.spool) in
     let sink = sunk (g.O.Sink.taken c.args.out.now) (g.O.Sink.taken c.args.out.now) (g.O.Sink.faults c.args.out.now) (g.O.Sink.faults c.args.out.now) in
-    subst (RunEnds h sink) (sym c.exit_for.ensures) (cut-ends h sink c.in-Err.stopped c.in-Err.ensures.cut_short refl)
+    subst (RunEnds h sink) (sym c.exit_for.ensures) (cut-ends h sink c.in-Err.fail c.in-Err.ensures.cut_short refl)
 
 pub returns-in-Ok-put_history : goal.returns-in-Ok-put_history
 returns-in-Ok-put_history g c =
@@ -28,14 +28,14 @@ returns-in-Ok-put_history g c =
     let history = list_in c.in-Ok.work in
     let finished = c.in-Ok.ensures.finished in
     let lawful : Lawful plan readings.list history
-    = c.alone_is_lawful.ensures plan readings.list finished.found history finished.taken.is_found.past finished.alone in
+    = c.alone_is_lawful.ensures plan readings.list finished.found history finished.taken.is_found.so_far finished.alone in
     history-ends h sink history c.deref.result.now c.write_text.result
     (c.deref.ensures.value ∙ c.in-Ok-put_history.ensures ∙ ap (text_of plan) c.events.ensures)
     (record {
       finished = finished;
       lawful = lawful;
       complete = finished.alone.finished;
-      apart = c.no_overlap.ensures plan history (c.lawful_is_past.ensures plan readings history lawful);
+      apart = c.no_overlap.ensures plan history (c.lawful_is_lawful_so_far.ensures plan readings history lawful);
       reported = c.alone_reports.ensures plan readings.list finished.found history finished.alone;
       read = read-of (IsJournal c.args.digest.now history) (journal c.run_plan.new.journal).seen (journal c.run_plan.new.journal).may_leave finished.journal
           (g.met.D.Disk.seen_is_left c.run_plan.new.journal);

@@ -1,7 +1,7 @@
 use Rattle.std.proofs.Common.{◌≡◌, ◌≤◌, length, reverse, take, arith}
 use Rattle.std.proofs.lemmas.List.{length-reverse, length-take-le}
 use Rattle.conc_law.specs.Readings.{ticks}
-use Rattle.conc_history_check.proofs.Rooms.{standing_room, ticks-few}
+use Rattle.conc_history_check.proofs.Rooms.{state_room, ticks-few}
 use Rattle.conc_history_check.proofs.findings.Findings.read.Goals as goal
 
 pub take_in-requires-clause-few : goal.take_in-requires-clause-few
@@ -15,4 +15,4 @@ take_in-requires-clause-few c =
     )
 
 pub returns-clause-room : goal.returns-clause-room
-returns-clause-room c = standing_room _ _ _ _ c.loop-e.invariant.0.standing c.note_live.ensures.size
+returns-clause-room c = state_room _ _ _ _ c.loop-e.invariant.0.state c.note_live.ensures.size

@@ -1,6 +1,6 @@
-use Rattle.conc_law_effects.proofs.NextStanding.{standing-next}
-use Rattle.conc_machine.specs.Stands.{readings_of}
-use Rattle.conc_machine.proofs.Standings.{time-of}
+use Rattle.conc_law_effects.proofs.NextState.{state-next}
+use Rattle.conc_machine.specs.StandsFor.{readings_of}
+use Rattle.conc_machine.proofs.States.{time-of}
 use Rattle.conc_machine.proofs.machine.Machine.apply.Goals as goal
 
 pub returns-clause-readings : goal.returns-clause-readings
@@ -9,6 +9,6 @@ returns-clause-readings c = c.live_on.ensures.readings
 
 pub returns-clause-stands : goal.returns-clause-stands
 returns-clause-stands c = λ past stands. record {
-  standing = standing-next _ _ _ _ past c.take_in.ensures.after stands.standing;
+  state = state-next _ _ _ _ past c.take_in.ensures.after stands.state;
   life = c.live_on.ensures.lives past (time-of c.args.self.now past stands) stands.life;
 }

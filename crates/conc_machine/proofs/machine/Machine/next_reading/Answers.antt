@@ -2,7 +2,7 @@ use Rattle.std.proofs.Common.{sym, ◌∙◌, ap}
 use Rattle.std.specs.Option.{option_and_then, option_map}
 use Rattle.conc_law.specs.Readings.{next_reading}
 use Rattle.conc_machine_readings.specs.declared.life.Life.{Life}
-use Rattle.conc_machine.specs.Stands.{readings_of}
+use Rattle.conc_machine.specs.StandsFor.{readings_of}
 use Rattle.conc_machine.proofs.machine.Machine.next_reading.Goals as goal
 
 pub returns-in-Some : goal.returns-in-Some

@@ -1,5 +1,5 @@
 use Rattle.std.proofs.Common.{◌≡◌, ◌<◌, ℕ, List, Option, None, Some, get_or, length, sym, ◌∙◌, ap, refl, arith}
-use Rattle.conc_types.specs.declared.facts.Standing.{Standing}
+use Rattle.conc_types.specs.declared.facts.State.{State}
 use Rattle.conc_types.specs.declared.plan.Plan.{Plan}
 use Rattle.conc_law.specs.Next.{is_ready}
 use Rattle.conc_machine_queue.specs.Least.{least, lesser}
@@ -13,12 +13,12 @@ use Rattle.conc_machine_release.proofs.Choice.{below-end, below-next, below-skip
 use Rattle.conc_machine_release.proofs.lets.Lets.least_turn.Goals as goal
 
 -- a place in the list of the queues is a class
-known : (plan : Plan) (classes : Classes) (s : Standing) (lets : Lets) → AreLets plan classes s lets → (queues : List (List (Option ℕ))) (class : ℕ)
+known : (plan : Plan) (classes : Classes) (s : State) (lets : Lets) → AreLets plan classes s lets → (queues : List (List (Option ℕ))) (class : ℕ)
     → queues ≡ lets.ready.items → class < length queues → class < length classes.sizes
 known plan classes s lets are queues class same within = omega (arith, within, ap length same, ready-count plan classes s lets are)
 
 -- the least key of the queue there is the first of the class that is ready
-first-ready : (plan : Plan) (classes : Classes) (s : Standing) (lets : Lets) → AreLets plan classes s lets → (queues : List (List (Option ℕ))) (class : ℕ) (queue : List (Option ℕ)) (first : Option ℕ)
+first-ready : (plan : Plan) (classes : Classes) (s : State) (lets : Lets) → AreLets plan classes s lets → (queues : List (List (Option ℕ))) (class : ℕ) (queue : List (Option ℕ)) (first : Option ℕ)
     → queues ≡ lets.ready.items → class < length queues → queue ≡ get_or queues class queue → first ≡ least queue
     → least (turns_of (is_ready plan s) (of_class plan classes class)) ≡ first
 first-ready plan classes s lets are queues class queue first same within at is =
@@ -29,13 +29,13 @@ first-ready plan classes s lets are queues class queue first same within at is =
     ∙ sym is
 
 pub loop-class-init : goal.loop-class-init
-loop-class-init c = below-start c.args.plan.now c.args.classes.now c.args.standing.now
+loop-class-init c = below-start c.args.plan.now c.args.classes.now c.args.state.now
 
 pub loop-class-preserved-in_default : goal.loop-class-preserved-in_default
 loop-class-preserved-in_default c =
     c.loop-class.invariant
-    ∙ below-skip c.args.plan.now c.args.classes.now c.args.standing.now c.loop-class.class (
-    first-ready c.args.plan.now c.args.classes.now c.args.standing.now c.args.self.now c.requires.stands c.deref-queue-items.result.now c.loop-class.class c.queue-item.result None
+    ∙ below-skip c.args.plan.now c.args.classes.now c.args.state.now c.loop-class.class (
+    first-ready c.args.plan.now c.args.classes.now c.args.state.now c.args.self.now c.requires.stands c.deref-queue-items.result.now c.loop-class.class c.queue-item.result None
     c.deref-queue-items.ensures.value c.loop-class-test.true c.queue-item.is (none c.least.result c.in_default.not-Some ∙ c.least.ensures)
     )
   where
@@ -45,28 +45,28 @@ loop-class-preserved-in_default c =
 
 pub overflow_cast-class : goal.overflow_cast-class
 overflow_cast-class c =
-    let within = known c.args.plan.now c.args.classes.now c.args.standing.now c.args.self.now c.requires.stands c.deref-queue-items.result.now c.loop-class.class c.deref-queue-items.ensures.value c.loop-class-test.true in
+    let within = known c.args.plan.now c.args.classes.now c.args.state.now c.args.self.now c.requires.stands c.deref-queue-items.result.now c.loop-class.class c.deref-queue-items.ensures.value c.loop-class-test.true in
     omega (arith, c.requires.stands.few)
 
 pub turn_in_class-turn-requires-clause-within : goal.turn_in_class-turn-requires-clause-within
 turn_in_class-turn-requires-clause-within c =
-    known c.args.plan.now c.args.classes.now c.args.standing.now c.args.self.now c.requires.stands c.deref-queue-items.result.now c.loop-class.class c.deref-queue-items.ensures.value c.loop-class-test.true
+    known c.args.plan.now c.args.classes.now c.args.state.now c.args.self.now c.requires.stands c.deref-queue-items.result.now c.loop-class.class c.deref-queue-items.ensures.value c.loop-class-test.true
 
 pub turn_in_class-turn-requires-clause-first : goal.turn_in_class-turn-requires-clause-first
 turn_in_class-turn-requires-clause-first c =
-    first-ready c.args.plan.now c.args.classes.now c.args.standing.now c.args.self.now c.requires.stands c.deref-queue-items.result.now c.loop-class.class c.queue-item.result (Some c.in-Some.first)
+    first-ready c.args.plan.now c.args.classes.now c.args.state.now c.args.self.now c.requires.stands c.deref-queue-items.result.now c.loop-class.class c.queue-item.result (Some c.in-Some.first)
     c.deref-queue-items.ensures.value c.loop-class-test.true c.queue-item.is (sym c.in-Some.is ∙ c.least.ensures)
 
 pub loop-class-preserved : goal.loop-class-preserved
 loop-class-preserved c =
     c.lesser-best.ensures
     ∙ ap (lesser c.loop-class.best) c.turn_in_class-turn.ensures
-    ∙ ap (λ o. lesser o (turn_in_class c.args.plan.now c.args.classes.now c.args.standing.now c.loop-class.class)) c.loop-class.invariant
-    ∙ below-next c.args.plan.now c.args.classes.now c.args.standing.now c.loop-class.class
+    ∙ ap (λ o. lesser o (turn_in_class c.args.plan.now c.args.classes.now c.args.state.now c.loop-class.class)) c.loop-class.invariant
+    ∙ below-next c.args.plan.now c.args.classes.now c.args.state.now c.loop-class.class
 
 pub returns : goal.returns
 returns c =
     c.loop-class.invariant
-    ∙ below-end c.args.plan.now c.args.classes.now c.args.standing.now c.requires.classes c.loop-class.class (
-    omega (arith, c.loop-class-test.false, ap length c.deref-queue-items.ensures.value, ready-count c.args.plan.now c.args.classes.now c.args.standing.now c.args.self.now c.requires.stands)
+    ∙ below-end c.args.plan.now c.args.classes.now c.args.state.now c.requires.classes c.loop-class.class (
+    omega (arith, c.loop-class-test.false, ap length c.deref-queue-items.ensures.value, ready-count c.args.plan.now c.args.classes.now c.args.state.now c.args.self.now c.requires.stands)
     )

@@ -4,23 +4,23 @@ use Rattle.conc_machine_release.proofs.lets.Lets.turn_in_class.Goals as goal
 
 pub returns-then-rivals-eq0 : goal.returns-then-rivals-eq0
 returns-then-rivals-eq0 c =
-    let rivals = sym (rivals-kept c.args.plan.now c.args.classes.now c.args.standing.now c.args.self.now c.requires.stands c.args.class c.requires.within) ∙ sym c.rival_count-rivals.ensures in
-    sym c.requires.first ∙ class-free c.args.plan.now c.args.classes.now c.args.standing.now c.requires.classes c.args.class (rivals ∙ c.if-rivals-eq0.true)
+    let rivals = sym (rivals-kept c.args.plan.now c.args.classes.now c.args.state.now c.args.self.now c.requires.stands c.args.class c.requires.within) ∙ sym c.rival_count-rivals.ensures in
+    sym c.requires.first ∙ class-free c.args.plan.now c.args.classes.now c.args.state.now c.requires.classes c.args.class (rivals ∙ c.if-rivals-eq0.true)
 
 pub returns-then-not-spares : goal.returns-then-not-spares
 returns-then-not-spares c =
-    let rivals = sym (rivals-kept c.args.plan.now c.args.classes.now c.args.standing.now c.args.self.now c.requires.stands c.args.class c.requires.within) ∙ sym c.rival_count-rivals.ensures in
-    class-blocked c.args.plan.now c.args.classes.now c.args.standing.now c.requires.classes c.args.class (λ z. c.if-rivals-eq0.false (sym rivals ∙ z))
+    let rivals = sym (rivals-kept c.args.plan.now c.args.classes.now c.args.state.now c.args.self.now c.requires.stands c.args.class c.requires.within) ∙ sym c.rival_count-rivals.ensures in
+    class-blocked c.args.plan.now c.args.classes.now c.args.state.now c.requires.classes c.args.class (λ z. c.if-rivals-eq0.false (sym rivals ∙ z))
     (sym c.if-not-spares.ensures)
 
 pub returns-then-is_turn_spared : goal.returns-then-is_turn_spared
 returns-then-is_turn_spared c =
-    class-first_spared c.args.plan.now c.args.classes.now c.args.standing.now c.requires.classes c.args.class c.rival_count-rivals.result
-    (c.rival_count-rivals.ensures ∙ rivals-kept c.args.plan.now c.args.classes.now c.args.standing.now c.args.self.now c.requires.stands c.args.class c.requires.within)
+    class-first_spared c.args.plan.now c.args.classes.now c.args.state.now c.requires.classes c.args.class c.rival_count-rivals.result
+    (c.rival_count-rivals.ensures ∙ rivals-kept c.args.plan.now c.args.classes.now c.args.state.now c.args.self.now c.requires.stands c.args.class c.requires.within)
     c.args.first c.requires.first (sym c.if-is_turn_spared.ensures)
 
 pub returns : goal.returns
 returns c =
     c.least_spared.ensures
-    ∙ class-spared c.args.plan.now c.args.classes.now c.args.standing.now c.requires.classes c.args.class c.rival_count-rivals.result
-    (c.rival_count-rivals.ensures ∙ rivals-kept c.args.plan.now c.args.classes.now c.args.standing.now c.args.self.now c.requires.stands c.args.class c.requires.within)
+    ∙ class-spared c.args.plan.now c.args.classes.now c.args.state.now c.requires.classes c.args.class c.rival_count-rivals.result
+    (c.rival_count-rivals.ensures ∙ rivals-kept c.args.plan.now c.args.classes.now c.args.state.now c.args.self.now c.requires.stands c.args.class c.requires.within)

@@ -1,5 +1,5 @@
 use Rattle.std.proofs.Common.{◌∙◌, ap}
-use Rattle.conc_law.specs.Standing.{has_come}
+use Rattle.conc_law.specs.State.{has_come}
 use Rattle.conc_machine_release.specs.Refresh.{queues_of}
 use Rattle.conc_machine_release.proofs.Counts.{recounted-is}
 use Rattle.conc_machine_release.proofs.Written.{renewed-is}

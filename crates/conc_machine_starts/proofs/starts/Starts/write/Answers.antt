@@ -2,7 +2,7 @@ use Rattle.std.proofs.Common.{◌∙◌, ap, length, map, refl, set, sym}
 use Rattle.std.specs.Prelude.{slice_get}
 use Rattle.std.proofs.lemmas.Option.{slice_get_read}
 use Rattle.conc_types.specs.declared.manager.Manager.{Manager}
-use Rattle.conc_law.specs.Standing.{facts_at}
+use Rattle.conc_law.specs.State.{facts_at}
 use Rattle.conc_machine_starts.specs.Updates.{key_of, with_one, without_one}
 use Rattle.conc_machine_starts.proofs.Writes.{all-written, starts-written}
 use Rattle.conc_machine_starts.proofs.starts.Starts.write.Goals as goal

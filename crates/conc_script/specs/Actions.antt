@@ -3,11 +3,11 @@ use Rattle.std.specs.Prelude.{ℕ, if◌then◌else◌, List, codes, Option, Non
 use Rattle.conc_types.specs.declared.event.RequestId.{RequestId}
 use Rattle.conc_types.specs.declared.script.Act.{Act}
 use Rattle.conc_types.specs.declared.script.Act.TheVariants as act
-use Rattle.conc_script.specs.declared.deeds.Deed.{Deed}
-use Rattle.conc_script.specs.declared.deeds.Deed.TheVariants as deed
-use Rattle.conc_script.specs.declared.deeds.Submission.{Submission}
-use Rattle.conc_script.specs.declared.deeds.Verb.{Verb}
-use Rattle.conc_script.specs.declared.deeds.Verb.TheVariants as verb
+use Rattle.conc_script.specs.declared.actions.Action.{Action}
+use Rattle.conc_script.specs.declared.actions.Action.TheVariants as action
+use Rattle.conc_script.specs.declared.actions.Submission.{Submission}
+use Rattle.conc_script.specs.declared.actions.Verb.{Verb}
+use Rattle.conc_script.specs.declared.actions.Verb.TheVariants as verb
 use Rattle.conc_script.specs.Script.{is}
 
 abbrev pub submit_by : Submission → Act
@@ -20,9 +20,9 @@ act_with verb.Cancel r = act.Cancel r
 act_with verb.Terminate r = act.Terminate r
 
 -- the act that it is
-abbrev pub act_by : Deed → Act
-act_by (deed.Submit s) = submit_by s
-act_by (deed.On v r) = act_with v r
+abbrev pub act_by : Action → Act
+act_by (action.Submit s) = submit_by s
+act_by (action.On v r) = act_with v r
 
 abbrev pub verb_of : List ℕ → Option Verb
 verb_of word =

@@ -3,15 +3,15 @@ use Rattle.std.proofs.Common.{◌≡◌, ℕ, suc, ◌+◌, List, [], ◌∷◌,
 use Rattle.std.specs.List.{enumerate_from}
 use Rattle.std.proofs.lemmas.List.{length-map}
 use Rattle.conc_types.specs.declared.event.Event.{Event}
-use Rattle.conc_types.specs.declared.facts.Standing.{Standing}
+use Rattle.conc_types.specs.declared.facts.State.{State}
 use Rattle.conc_types.specs.declared.plan.Plan.{Plan}
 use Rattle.conc_types.specs.declared.script.Order.{Order}
 use Rattle.conc_law.specs.Facts.{facts_of}
-use Rattle.conc_law.specs.Standing.{is_done, now, standing}
+use Rattle.conc_law.specs.State.{is_done, now, state}
 use Rattle.conc_machine_readings.specs.declared.life.Life.{Life}
 use Rattle.conc_machine_readings.specs.Life.{IsLife}
 use Rattle.conc_machine.specs.Kept.{first_undone}
-use Rattle.conc_machine.specs.Stands.{Stands}
+use Rattle.conc_machine.specs.StandsFor.{StandsFor}
 use Rattle.conc_machine.specs.declared.machine.Machine.{Machine}
 
 -- as many as the commands
@@ -26,22 +26,22 @@ none-done n [] = refl
 none-done n (x ∷ xs) = refl
 
 -- the facts of all requests, and the flags of all commands
-pub all-facts : (plan : Plan) (s : Standing) → s ≡ standing plan [] → length s.facts ≡ length plan.requests
-unfolding standing
+pub all-facts : (plan : Plan) (s : State) → s ≡ state plan [] → length s.facts ≡ length plan.requests
+unfolding state
 all-facts plan s is = ap (λ s. length s.facts) is ∙ length-map plan.requests (facts_of plan [])
 
-pub all-flags : (plan : Plan) (s : Standing) → s ≡ standing plan [] → length s.done ≡ length plan.script.commands
-unfolding standing
+pub all-flags : (plan : Plan) (s : State) → s ≡ state plan [] → length s.done ≡ length plan.script.commands
+unfolding state
 all-flags plan s is = ap (λ s. length s.done) is ∙ length-enumerated 1 plan.script.commands
 
-pub first-command : (plan : Plan) (s : Standing) → s ≡ standing plan [] → 0 ≡ first_undone s.done
-unfolding standing
+pub first-command : (plan : Plan) (s : State) → s ≡ state plan [] → 0 ≡ first_undone s.done
+unfolding state
 first-command plan s is = none-done 1 plan.script.commands ∙ sym (ap (λ s. first_undone s.done) is)
 
 -- the moment of the last tick
-pub time-of : (machine : Machine) (past : List Event) → Stands machine past → machine.kept.standing.time ≡ now past
-unfolding standing
-time-of machine past stands = ap (λ s. s.time) stands.standing
+pub time-of : (machine : Machine) (past : List Event) → StandsFor machine past → machine.kept.state.time ≡ now past
+unfolding state
+time-of machine past stands = ap (λ s. s.time) stands.state
 
 -- a life that begins
 pub begun-life : (past : List Event) (new life : Life) → IsLife new past → Some new ≡ Some life → IsLife life past

@@ -15,20 +15,20 @@ use Rattle.conc_types.specs.declared.event.Outcome.{Outcome}
 use Rattle.conc_types.specs.declared.event.Outcome.TheVariants as outcome
 use Rattle.conc_types.specs.declared.event.PlaceId.{PlaceId}
 use Rattle.conc_types.specs.declared.event.RequestId.{RequestId}
-use Rattle.conc_types.specs.declared.facts.Standing.{Standing}
+use Rattle.conc_types.specs.declared.facts.State.{State}
 use Rattle.conc_types.specs.declared.plan.Plan.{Plan}
 use Rattle.conc_types.specs.declared.plan.Req.{Req}
 use Rattle.conc_types.specs.declared.stage.Stage.{Stage}
 use Rattle.conc_types.specs.Plans.{request}
 use Rattle.conc_types.specs.Words.{greatest, is_empty, none_or, numbered, some_and}
-use Rattle.conc_law.specs.Law.{is_past, may_follow}
+use Rattle.conc_law.specs.Law.{is_lawful_so_far, may_follow}
 use Rattle.conc_law.specs.Managers.{admits}
 use Rattle.conc_law.specs.Next.{forced, forced_command, forced_interrupt, forced_let, forced_step, has_step, is_allowed, is_due, is_left_running, is_next_extent, is_report_outcome, is_terminated, let_event, may_end, may_let, may_start}
 use Rattle.conc_law.specs.Places.{place_of}
 use Rattle.conc_law.specs.Plans.{members, precedes, stages_of}
 use Rattle.conc_law.specs.Readings.{next_reading}
 use Rattle.conc_law.specs.Stages.{after_stage, critical_stages, has_ended, link, link_place, next_stage, of_severity, outcome_at, set_outcome, set_step, severity, stage_outcome, step_from, worst}
-use Rattle.conc_law.specs.Standing.{facts_at, is_running, is_stopping, standing, used}
+use Rattle.conc_law.specs.State.{facts_at, is_running, is_stopping, state, used}
 use Rattle.conc_law.specs.Words.{first_by, Has}
 use Rattle.conc_law.proofs.Comes.{came, close_comes, comes_allowed, let_comes, Lettable, open_comes, Opened, stage_comes}
 use Rattle.conc_law.proofs.Due.{command_undone, IsUndone}
@@ -78,7 +78,7 @@ is_step (event.CloseSet s o) = true
 is_step _ = false
 
 -- a forced step is one of a set of the plan
-record IsStepOf (plan : Plan) (s : Standing) (e : Event) : Type 0 where
+record IsStepOf (plan : Plan) (s : State) (e : Event) : Type 0 where
   set : Req
   element : Has plan.requests set
   step : set_step plan s set ≡ Some e
@@ -86,7 +86,7 @@ record IsStepOf (plan : Plan) (s : Standing) (e : Event) : Type 0 where
 not_step : (d e : Event) → is_step d ≡ false → d ≡ e → is_step e ≡ true → ⊥
 not_step d e h same k = both_ways (is_step d) h (ap is_step same ∙ k)
 
-forced_by_step : (plan : Plan) (s : Standing) (e : Event) → is_step e ≡ true → forced plan s ≡ Some e → IsStepOf plan s e
+forced_by_step : (plan : Plan) (s : State) (e : Event) → is_step e ≡ true → forced plan s ≡ Some e → IsStepOf plan s e
 unfolding forced forced_interrupt forced_command forced_step forced_let is_step
 forced_by_step plan s e k h =
     elim (or-some (forced_interrupt plan s) _ e h) [
@@ -112,19 +112,19 @@ forced_by_step plan s e k h =
       ]
     ]
 
-close_forced : (plan : Plan) (past : List Event) (id : RequestId) (o : Outcome) → may_follow plan None past (event.CloseSet id o) ≡ true → IsStepOf plan (standing plan past) (event.CloseSet id o)
+close_forced : (plan : Plan) (past : List Event) (id : RequestId) (o : Outcome) → may_follow plan None past (event.CloseSet id o) ≡ true → IsStepOf plan (state plan past) (event.CloseSet id o)
 unfolding may_follow is_allowed is_step
 close_forced plan past id o h =
-    elim (came plan (standing plan past) (option_map (λ known. next_reading known past) None) (event.CloseSet id o) refl h) [
-      | inl f ↦ forced_by_step plan (standing plan past) (event.CloseSet id o) refl f
+    elim (came plan (state plan past) (option_map (λ known. next_reading known past) None) (event.CloseSet id o) refl h) [
+      | inl f ↦ forced_by_step plan (state plan past) (event.CloseSet id o) refl f
       | inr a ↦ cc
     ]
 
-stage_forced : (plan : Plan) (past : List Event) (id : RequestId) (k : ℕ) → may_follow plan None past (event.Stage id k) ≡ true → IsStepOf plan (standing plan past) (event.Stage id k)
+stage_forced : (plan : Plan) (past : List Event) (id : RequestId) (k : ℕ) → may_follow plan None past (event.Stage id k) ≡ true → IsStepOf plan (state plan past) (event.Stage id k)
 unfolding may_follow is_allowed is_step
 stage_forced plan past id k h =
-    elim (came plan (standing plan past) (option_map (λ known. next_reading known past) None) (event.Stage id k) refl h) [
-      | inl f ↦ forced_by_step plan (standing plan past) (event.Stage id k) refl f
+    elim (came plan (state plan past) (option_map (λ known. next_reading known past) None) (event.Stage id k) refl h) [
+      | inl f ↦ forced_by_step plan (state plan past) (event.Stage id k) refl f
       | inr a ↦ cc
     ]
 
@@ -141,25 +141,25 @@ worst_report : (outcomes : List Outcome) → is_report_outcome (worst outcomes) 
 unfolding worst
 worst_report outcomes = severity_report (greatest (map severity outcomes))
 
-set_report : (plan : Plan) (s : Standing) (set : Req) (last : ℕ) → is_report_outcome (set_outcome plan s set last) ≡ true
+set_report : (plan : Plan) (s : State) (set : Req) (last : ℕ) → is_report_outcome (set_outcome plan s set last) ≡ true
 unfolding set_outcome stage_outcome
 set_report plan s set last = by (is_empty (critical_stages plan s set)) where
   by : (b : Bool) → is_report_outcome (if b then stage_outcome plan s set last else worst (map (λ stage. stage_outcome plan s set stage.0) (critical_stages plan s set))) ≡ true
   by true = worst_report (filter_map (outcome_at s) (members plan set.number last))
   by false = worst_report (map (λ stage. stage_outcome plan s set stage.0) (critical_stages plan s set))
 
-close_after : (plan : Plan) (s : Standing) (set : Req) (last : ℕ) (next : Option ℕ) (id : RequestId) (o : Outcome) → after_stage plan s set last next ≡ event.CloseSet id o → is_report_outcome o ≡ true
+close_after : (plan : Plan) (s : State) (set : Req) (last : ℕ) (next : Option ℕ) (id : RequestId) (o : Outcome) → after_stage plan s set last next ≡ event.CloseSet id o → is_report_outcome o ≡ true
 close_after plan s set last None id o h =
     let same : set_outcome plan s set last ≡ o = cc in
     ap is_report_outcome (sym same) ∙ set_report plan s set last
 close_after plan s set last (Some next) id o h = cc
 
-close_report : (plan : Plan) (s : Standing) (set : Req) (current : Option ℕ) (id : RequestId) (o : Outcome) → step_from plan s set current ≡ Some (event.CloseSet id o) → is_report_outcome o ≡ true
+close_report : (plan : Plan) (s : State) (set : Req) (current : Option ℕ) (id : RequestId) (o : Outcome) → step_from plan s set current ≡ Some (event.CloseSet id o) → is_report_outcome o ≡ true
 close_report plan s set None id o h = cc
 close_report plan s set (Some stage) id o h =
     close_after plan s set stage (next_stage plan s set stage) id o (then_some-some (has_ended plan s set stage) (after_stage plan s set stage (next_stage plan s set stage)) (event.CloseSet id o) h).1
 
-close_step : (plan : Plan) (s : Standing) (set : Req) (id : RequestId) (o : Outcome) → set_step plan s set ≡ Some (event.CloseSet id o) → is_report_outcome o ≡ true
+close_step : (plan : Plan) (s : State) (set : Req) (id : RequestId) (o : Outcome) → set_step plan s set ≡ Some (event.CloseSet id o) → is_report_outcome o ≡ true
 unfolding set_step
 close_step plan s set id o h = close_report plan s set (facts_at s set).stage id o h
 
@@ -183,7 +183,7 @@ link_near stage o place h =
     let near : list_all (none_or (λ place. nat_lt place 64)) stage.links ≡ true = stage.near in
     ltb-true place 64 (all_get (none_or (λ place. nat_lt place 64)) stage.links (link_place o) (Some place) near e)
 
-next_near : (plan : Plan) (s : Standing) (set : Req) (stage k : ℕ) → next_stage plan s set stage ≡ Some k → (1 ≤ k) × (k ≤ 64)
+next_near : (plan : Plan) (s : State) (set : Req) (stage k : ℕ) → next_stage plan s set stage ≡ Some k → (1 ≤ k) × (k ≤ 64)
 unfolding next_stage
 next_near plan s set stage k h =
     let p = map-some (λ place. place + 1) (option_and_then (λ found. link found (stage_outcome plan s set stage)) (numbered (stages_of plan set) stage)) k h in
@@ -192,20 +192,20 @@ next_near plan s set stage k h =
     let next = p.2 in
     (omega arith, omega arith)
 
-stage_after : (plan : Plan) (s : Standing) (set : Req) (last : ℕ) (next : Option ℕ) (id : RequestId) (k : ℕ) → ((n : ℕ) → next ≡ Some n → (1 ≤ n) × (n ≤ 64))
+stage_after : (plan : Plan) (s : State) (set : Req) (last : ℕ) (next : Option ℕ) (id : RequestId) (k : ℕ) → ((n : ℕ) → next ≡ Some n → (1 ≤ n) × (n ≤ 64))
     → after_stage plan s set last next ≡ event.Stage id k → (1 ≤ k) × (k ≤ 64)
 stage_after plan s set last None id k near h = cc
 stage_after plan s set last (Some next) id k near h =
     let same : next ≡ k = cc in
     near k (ap (λ (n : ℕ). Some n) same)
 
-stage_near : (plan : Plan) (s : Standing) (set : Req) (current : Option ℕ) (id : RequestId) (k : ℕ) → step_from plan s set current ≡ Some (event.Stage id k) → (1 ≤ k) × (k ≤ 64)
+stage_near : (plan : Plan) (s : State) (set : Req) (current : Option ℕ) (id : RequestId) (k : ℕ) → step_from plan s set current ≡ Some (event.Stage id k) → (1 ≤ k) × (k ≤ 64)
 stage_near plan s set None id k h = let same : 1 ≡ k = cc in (omega arith, omega arith)
 stage_near plan s set (Some stage) id k h =
     stage_after plan s set stage (next_stage plan s set stage) id k (λ n e. next_near plan s set stage n e)
     (then_some-some (has_ended plan s set stage) (after_stage plan s set stage (next_stage plan s set stage)) (event.Stage id k) h).1
 
-stage_step : (plan : Plan) (s : Standing) (set : Req) (id : RequestId) (k : ℕ) → set_step plan s set ≡ Some (event.Stage id k) → (1 ≤ k) × (k ≤ 64)
+stage_step : (plan : Plan) (s : State) (set : Req) (id : RequestId) (k : ℕ) → set_step plan s set ≡ Some (event.Stage id k) → (1 ≤ k) × (k ≤ 64)
 unfolding set_step
 stage_step plan s set id k h = stage_near plan s set (facts_at s set).stage id k h
 
@@ -214,7 +214,7 @@ stage_step plan s set id k h = stage_near plan s set (facts_at s set).stage id k
 start_line : (plan : Plan) (past : List Event) (id : RequestId) (p : PlaceId) → may_follow plan None past (event.Started id p) ≡ true → (is_small id.number && is_some (place_of plan p)) ≡ true
 unfolding may_follow is_allowed may_start
 start_line plan past id p h =
-    let s = standing plan past in
+    let s = state plan past in
     let allowed : some_and (λ q. may_start plan s q p) (request plan id) ≡ true =
     (comes_allowed plan s (option_map (λ known. next_reading known past) None) (event.Started id p) refl refl h).1 in
     let q = some_and-some (λ q. may_start plan s q p) (request plan id) allowed in
@@ -226,13 +226,13 @@ start_line plan past id p h =
     let there = some_and-some (λ z. admits z.manager q.0) (place_of plan p) c.0 in
     and_from (is_small id.number) (is_some (place_of plan p)) small (ap is_some there.1)
 
-used_small : (plan : Plan) (past : List Event) (n : ℕ) → (standing plan past).used ≡ Some n → nat_lt n (2 ^ 64) ≡ true
-unfolding standing
+used_small : (plan : Plan) (past : List Event) (n : ℕ) → (state plan past).used ≡ Some n → nat_lt n (2 ^ 64) ≡ true
+unfolding state
 used_small plan past n h =
     let p = then_some-some (nat_lt (used past) (2 ^ 64)) (used past) n h in
     ap (λ (m : ℕ). nat_lt m (2 ^ 64)) (sym p.1) ∙ p.0
 
-extent_line : (s : Standing) (x : Extent) → ((n : ℕ) → s.used ≡ Some n → nat_lt n (2 ^ 64) ≡ true) → is_next_extent s x ≡ true → (nat_lt x.offset (2 ^ 64) && is_small x.length) ≡ true
+extent_line : (s : State) (x : Extent) → ((n : ℕ) → s.used ≡ Some n → nat_lt n (2 ^ 64) ≡ true) → is_next_extent s x ≡ true → (nat_lt x.offset (2 ^ 64) && is_small x.length) ≡ true
 unfolding is_next_extent
 extent_line s x few h =
     let p = and_parts (some_and (λ n. x.offset == n) s.used) (nat_lt 0 x.length && nat_lt x.length (2 ^ 32)) h in
@@ -240,7 +240,7 @@ extent_line s x few h =
     let same : x.offset ≡ q.0 = eqb-true x.offset q.0 q.2 in
     and_from (nat_lt x.offset (2 ^ 64)) (is_small x.length) (ap (λ (m : ℕ). nat_lt m (2 ^ 64)) same ∙ few q.0 q.1) (and_parts (nat_lt 0 x.length) (is_small x.length) p.1).1
 
-ended_line : (s : Standing) (stop : Bool) (o : Outcome) (x : Option Extent) → ((n : ℕ) → s.used ≡ Some n → nat_lt n (2 ^ 64) ≡ true)
+ended_line : (s : State) (stop : Bool) (o : Outcome) (x : Option Extent) → ((n : ℕ) → s.used ≡ Some n → nat_lt n (2 ^ 64) ≡ true)
     → (if stop then is_terminated o && is_none x else is_report_outcome o && some_and (is_next_extent s) x) ≡ true → ends_so o x ≡ true
 ended_line s true o None few h = (and_parts (is_terminated o) true h).0
 ended_line s true o (Some x) few h = let never : false ≡ true = (and_parts (is_terminated o) false h).1 in cc
@@ -249,7 +249,7 @@ ended_line s false o (Some x) few h =
     let p = and_parts (is_report_outcome o) (is_next_extent s x) h in
     and_from (is_report_outcome o) _ p.0 (extent_line s x few p.1)
 
-may_end-line : (s : Standing) (r : Req) (o : Outcome) (x : Option Extent) → ((n : ℕ) → s.used ≡ Some n → nat_lt n (2 ^ 64) ≡ true) → may_end s r o x ≡ true → ends_so o x ≡ true
+may_end-line : (s : State) (r : Req) (o : Outcome) (x : Option Extent) → ((n : ℕ) → s.used ≡ Some n → nat_lt n (2 ^ 64) ≡ true) → may_end s r o x ≡ true → ends_so o x ≡ true
 unfolding may_end
 may_end-line s r o x few h = ended_line s (is_stopping (facts_at s r)) o x few (and_parts (is_running (facts_at s r)) _ h).1
 
@@ -259,7 +259,7 @@ end_line plan past id o x m =
     let same : id ≡ p.0.number = id_same id p.0.number p.2 in
     let n : may_follow plan None past (event.Ended p.0.number o x) ≡ true = subst (λ z. may_follow plan None past (event.Ended z o x) ≡ true) same m in
     and_from (is_small id.number) (ends_so o x) (small_id plan p.0 id p.1 (sym same))
-    (may_end-line (standing plan past) p.0 o x (used_small plan past) (end_comes plan None past p.0 o x p.1 n))
+    (may_end-line (state plan past) p.0 o x (used_small plan past) (end_comes plan None past p.0 o x p.1 n))
 
 -- ---- each event
 
@@ -267,28 +267,28 @@ event_line : (plan : Plan) (past : List Event) (e : Event) → may_follow plan N
 unfolding has_line
 event_line plan past (event.Tick t) m = refl
 event_line plan past (event.Command n) m = small_command plan past n (command_undone plan None past n m)
-event_line plan past (event.OpenSet id) m = let l : Lettable plan (standing plan past) id true = open_comes plan None past id m in small_id plan l.req id l.element l.number
+event_line plan past (event.OpenSet id) m = let l : Lettable plan (state plan past) id true = open_comes plan None past id m in small_id plan l.req id l.element l.number
 event_line plan past (event.Stage id k) m =
-    let l : Opened plan (standing plan past) id = stage_comes plan None past id k m in
+    let l : Opened plan (state plan past) id = stage_comes plan None past id k m in
     let f = stage_forced plan past id k m in
-    let near = stage_step plan (standing plan past) f.set id k f.step in
+    let near = stage_step plan (state plan past) f.set id k f.step in
     and_from (is_small id.number) _ (small_id plan l.req id l.element l.number) (and_from (nat_le 1 k) (is_small k) (le-leb 1 k near.0) (lt-ltb k 4294967296 (omega arith)))
 event_line plan past (event.CloseSet id o) m =
-    let l : Opened plan (standing plan past) id = close_comes plan None past id o m in
+    let l : Opened plan (state plan past) id = close_comes plan None past id o m in
     let f = close_forced plan past id o m in
-    and_from (is_small id.number) (is_report_outcome o) (small_id plan l.req id l.element l.number) (close_step plan (standing plan past) f.set id o f.step)
-event_line plan past (event.LetOut id) m = let l : Lettable plan (standing plan past) id false = let_comes plan None past id m in small_id plan l.req id l.element l.number
+    and_from (is_small id.number) (is_report_outcome o) (small_id plan l.req id l.element l.number) (close_step plan (state plan past) f.set id o f.step)
+event_line plan past (event.LetOut id) m = let l : Lettable plan (state plan past) id false = let_comes plan None past id m in small_id plan l.req id l.element l.number
 event_line plan past (event.Started id p) m = start_line plan past id p m
 event_line plan past (event.Ended id o x) m = end_line plan past id o x m
 event_line plan past event.Resume m = refl
-event_line plan past (event.Interrupt id) m = let l : LeftRunning plan (standing plan past) id = interrupt_comes plan None past id m in small_id plan l.req id l.element l.number
+event_line plan past (event.Interrupt id) m = let l : LeftRunning plan (state plan past) id = interrupt_comes plan None past id m in small_id plan l.req id l.element l.number
 
-past_lines : (plan : Plan) (past : List Event) → is_past plan past ≡ true → list_all (has_line plan) past ≡ true
-unfolding is_past
-past_lines plan [] h = refl
-past_lines plan (e ∷ past) h =
-    let p = and_parts (is_past plan past) (may_follow plan None past e) h in
-    and_from (has_line plan e) (list_all (has_line plan) past) (event_line plan past e p.1) (past_lines plan past p.0)
+lines_so_far : (plan : Plan) (past : List Event) → is_lawful_so_far plan past ≡ true → list_all (has_line plan) past ≡ true
+unfolding is_lawful_so_far
+lines_so_far plan [] h = refl
+lines_so_far plan (e ∷ past) h =
+    let p = and_parts (is_lawful_so_far plan past) (may_follow plan None past e) h in
+    and_from (has_line plan e) (list_all (has_line plan) past) (event_line plan past e p.1) (lines_so_far plan past p.0)
 
 all_reverse : {T : Type 0} (test : T → Bool) (xs : List T) → list_all test (reverse xs) ≡ true → list_all test xs ≡ true
 all_reverse test [] h = refl
@@ -298,5 +298,5 @@ all_reverse test (x ∷ xs) h =
     and_from (test x) (list_all test xs) (and_parts (test x) true p.1).0 (all_reverse test xs p.0)
 
 -- each event of a lawful history has a line
-pub history_lines : (plan : Plan) (history : List Event) → is_past plan (reverse history) ≡ true → list_all (has_line plan) history ≡ true
-history_lines plan history h = all_reverse (has_line plan) history (past_lines plan (reverse history) h)
+pub history_lines : (plan : Plan) (history : List Event) → is_lawful_so_far plan (reverse history) ≡ true → list_all (has_line plan) history ≡ true
+history_lines plan history h = all_reverse (has_line plan) history (lines_so_far plan (reverse history) h)

@@ -5,7 +5,7 @@ use Rattle.std.specs.List.{enumerate_from, sum_by}
 use Rattle.conc_types.specs.declared.event.Event.{Event}
 use Rattle.conc_types.specs.declared.event.Moment.{Moment}
 use Rattle.conc_types.specs.declared.facts.Facts.{Facts}
-use Rattle.conc_types.specs.declared.facts.Standing.{Standing}
+use Rattle.conc_types.specs.declared.facts.State.{State}
 use Rattle.conc_types.specs.declared.plan.Plan.{Plan}
 use Rattle.conc_types.specs.declared.plan.Req.{Req}
 use Rattle.conc_types.specs.declared.script.Order.{Order}
@@ -13,7 +13,7 @@ use Rattle.conc_types.specs.Stages.{has_stage}
 use Rattle.conc_types.specs.Words.{is_empty, none_or, numbered, some_and}
 use Rattle.conc_law.specs.Facts.{facts_of}
 use Rattle.conc_law.specs.Kinds.{extent_length, is_command, tick_of}
-use Rattle.conc_law.specs.Past.{latest, stands}
+use Rattle.conc_law.specs.Before.{latest, stands}
 use Rattle.conc_law.specs.Plans.{parent}
 
 -- the moment of the last tick
@@ -32,8 +32,8 @@ abbrev pub fitting : ℕ → Option ℕ
 fitting n = then_some (nat_lt n (2 ^ 64)) n
 
 -- what stands after these events
-unfoldable pub standing : Plan → List Event → Standing
-standing plan past = record {
+unfoldable pub state : Plan → List Event → State
+state plan past = record {
   empty = is_empty past;
   time = now past;
   used = fitting (used past);
@@ -58,7 +58,7 @@ no_facts = record {
 }
 
 -- the facts of r
-unfoldable pub facts_at : Standing → Req → Facts
+unfoldable pub facts_at : State → Req → Facts
 facts_at s r = unwrap_or (numbered s.facts r.number.number) no_facts
 
 abbrev pub is_running : Facts → Bool
@@ -76,7 +76,7 @@ abbrev pub is_completed : Facts → Bool
 is_completed facts = is_some facts.outcome
 
 -- r is a member, and its stage has not begun
-unfoldable pub is_waiting : Plan → Standing → Req → Bool
+unfoldable pub is_waiting : Plan → State → Req → Bool
 is_waiting plan s r = some_and (λ set. not (has_stage (facts_at s set).begun.bits r.stage)) (parent plan r)
 
 -- ---- what it says of moments

@@ -10,16 +10,16 @@ use Rattle.conc_types.specs.Faults.{first_broken}
 use Rattle.conc_types.specs.Scripts.{entered_by}
 use Rattle.conc_law.specs.Calendar.{moment_of}
 use Rattle.conc_records.specs.Records.{Record}
-use Rattle.conc_script.specs.declared.deeds.Submission.{Submission}
-use Rattle.conc_script.specs.declared.deeds.Verb.{Verb}
-use Rattle.conc_script.specs.declared.deeds.Verb.TheVariants as verb
-use Rattle.conc_script.specs.Deeds.{act_with, submit_by, verb_of}
-use Rattle.conc_script.specs.Rules.{deed_rules, request_rules, submit_rules}
+use Rattle.conc_script.specs.declared.actions.Submission.{Submission}
+use Rattle.conc_script.specs.declared.actions.Verb.{Verb}
+use Rattle.conc_script.specs.declared.actions.Verb.TheVariants as verb
+use Rattle.conc_script.specs.Actions.{act_with, submit_by, verb_of}
+use Rattle.conc_script.specs.Rules.{action_rules, request_rules, submit_rules}
 use Rattle.conc_script.specs.Script.{act_of, at_field, entered_by_record, has_form, is, is_submit, is_word, item_named, order_of, submission_of, what_field, what_rules, word_field}
 
 -- ---- submissions
 
-pub rules_of_submit : (setup : Setup) (entered : ℕ) (r : Record) → is_submit r ≡ true → first_broken (deed_rules setup entered r) ≡ first_broken (submit_rules setup r)
+pub rules_of_submit : (setup : Setup) (entered : ℕ) (r : Record) → is_submit r ≡ true → first_broken (action_rules setup entered r) ≡ first_broken (submit_rules setup r)
 unfolding what_rules has_form
 rules_of_submit setup entered r e = rw e refl
 
@@ -49,14 +49,14 @@ word_is_verb word e =
     is_verb (is (codes "submit") word) (is (codes "hold") word) (is (codes "unhold") word) (is (codes "cancel") word) (is (codes "terminate") word) e
 
 pub rules_of_request : (setup : Setup) (entered : ℕ) (r : Record) (v : Verb) → is_submit r ≡ false → verb_of (word_field r) ≡ Some v
-    → first_broken (deed_rules setup entered r) ≡ first_broken (request_rules entered r)
+    → first_broken (action_rules setup entered r) ≡ first_broken (request_rules entered r)
 unfolding what_rules has_form
 rules_of_request setup entered r v e known =
     let word : is_word (word_field r) ≡ true = word_is_verb (word_field r) e ∙ ap (λ (o : Option Verb). is_some o) known in
     rw (word, e) refl
 
 pub rules_of_unknown : (setup : Setup) (entered : ℕ) (r : Record) → is_submit r ≡ false → verb_of (word_field r) ≡ None
-    → first_broken (deed_rules setup entered r) ≡ Some 21
+    → first_broken (action_rules setup entered r) ≡ Some 21
 rules_of_unknown setup entered r e unknown =
     let word : is_word (word_field r) ≡ false = word_is_verb (word_field r) e ∙ ap (λ (o : Option Verb). is_some o) unknown in
     rw word refl

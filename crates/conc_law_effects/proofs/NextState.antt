@@ -5,10 +5,10 @@ use Rattle.std.specs.Option.{option_and_then, option_or}
 use Rattle.std.proofs.lemmas.Bool.{cases_Bool, le-ltb, ltb-false}
 use Rattle.std.proofs.lemmas.List.Sums.{sum_by-cons}
 use Rattle.conc_types.specs.declared.event.Event.{Event}
-use Rattle.conc_types.specs.declared.facts.Standing.{Standing}
+use Rattle.conc_types.specs.declared.facts.State.{State}
 use Rattle.conc_types.specs.declared.plan.Plan.{Plan}
 use Rattle.conc_law.specs.Kinds.{extent_length, tick_of}
-use Rattle.conc_law.specs.Standing.{fitting, now, standing, used}
+use Rattle.conc_law.specs.State.{fitting, now, state, used}
 use Rattle.conc_law_effects.specs.Advance.{IsAfter, all_after, done_after, named_by, named_facts, used_after}
 use Rattle.conc_law_effects.proofs.AllFacts.{all_facts-step}
 use Rattle.conc_law_effects.proofs.Flags.{done-step}
@@ -30,15 +30,15 @@ used-step past e = fitting-add (used past) (extent_length e) (used (e ∷ past))
     (omega (arith, sum_by-cons extent_length e past))
 
 -- two with the same parts are the same
-Standing-alike : (a b : Standing) → a.empty ≡ b.empty → a.time ≡ b.time → a.used ≡ b.used → a.done ≡ b.done → a.facts ≡ b.facts → a ≡ b
-Standing-alike a b e n u d f = grind arith
+State-alike : (a b : State) → a.empty ≡ b.empty → a.time ≡ b.time → a.used ≡ b.used → a.done ≡ b.done → a.facts ≡ b.facts → a ≡ b
+State-alike a b e n u d f = grind arith
 
 -- what is after an event is what stands after it
-pub standing-next : (plan : Plan) (old new : Standing) (e : Event) (past : List Event) → IsAfter plan old new e → old ≡ standing plan past
-    → new ≡ standing plan (e ∷ past)
-unfolding standing now
-standing-next plan old new e past after is =
-    Standing-alike new (standing plan (e ∷ past))
+pub state-next : (plan : Plan) (old new : State) (e : Event) (past : List Event) → IsAfter plan old new e → old ≡ state plan past
+    → new ≡ state plan (e ∷ past)
+unfolding state now
+state-next plan old new e past after is =
+    State-alike new (state plan (e ∷ past))
     after.empty
     (after.time ∙ ap (λ s. option_or (tick_of e) s.time) is)
     (after.used ∙ ap (λ s. used_after s.used e) is ∙ used-step past e)

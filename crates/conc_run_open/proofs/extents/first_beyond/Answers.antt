@@ -2,7 +2,7 @@ use Rattle.std.proofs.Common.{◌≡◌, ◌+◌, ◌-◌, ◌≤◌, ℕ, Some,
 use Rattle.std.specs.Prelude.{slice_get}
 use Rattle.std.proofs.lemmas.Option.{slice_get_read}
 use Rattle.conc_run_open.proofs.Counting.{front, front-more, front-none}
-use Rattle.conc_run_open.proofs.extents.first_past.Goals as goal
+use Rattle.conc_run_open.proofs.extents.first_beyond.Goals as goal
 
 pub loop-place-init : goal.loop-place-init
 loop-place-init c = omega (arith, front-none c.args.events.now)
@@ -23,5 +23,5 @@ returns-in-None c =
     record {
       some = omega arith;
       before = subst (λ (k : ℕ). front k events ≤ c.args.len) (sym at) (omega (arith, c.loop-place.invariant));
-      past = omega (arith, front-more n events c.index-events-place.result there, c.extent_bytes.ensures, c.in-None.ensures, c.loop-place.invariant);
+      beyond = omega (arith, front-more n events c.index-events-place.result there, c.extent_bytes.ensures, c.in-None.ensures, c.loop-place.invariant);
     }

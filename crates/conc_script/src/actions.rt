@@ -27,7 +27,7 @@ pub(crate) enum Verb {
 
 /// What a command does, with the bytes of its record.
 #[derive(Clone, Copy)]
-pub(crate) enum Deed<'a> {
+pub(crate) enum Action<'a> {
     Submit(Submission<'a>),
     On(Verb, RequestId),
 }

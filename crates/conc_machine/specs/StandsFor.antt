@@ -4,7 +4,7 @@ use Rattle.std.specs.Option.{option_map}
 use Rattle.conc_types.specs.declared.event.Event.{Event}
 use Rattle.conc_types.specs.declared.plan.Plan.{Plan}
 use Rattle.conc_types.specs.declared.script.Reading.{Reading}
-use Rattle.conc_law.specs.Standing.{standing}
+use Rattle.conc_law.specs.State.{state}
 use Rattle.conc_machine_readings.specs.Life.{IsLife}
 use Rattle.conc_machine_readings.specs.declared.life.Life.{Life}
 use Rattle.conc_machine.specs.declared.machine.Machine.{Machine}
@@ -23,6 +23,6 @@ AreLived known past = (life : Life) → known ≡ Some life → IsLife life past
 
 -- the machine stands for the list, which is given with the latest event first: what it keeps is what stands
 -- after the list
-pub record Stands (machine : Machine) (past : List Event) : Type 0 where
-  pub standing : machine.kept.standing ≡ standing machine.plan.now past
+pub record StandsFor (machine : Machine) (past : List Event) : Type 0 where
+  pub state : machine.kept.state ≡ state machine.plan.now past
   pub life : AreLived machine.life past

@@ -1,8 +1,8 @@
 use Rattle.std.proofs.Common.{◌∙◌, sym, ◌+◌}
 use Rattle.std.proofs.lemmas.Result.{err_from_is_err_and}
 use Rattle.conc_script.specs.Fields.{list_of}
-use Rattle.conc_script.proofs.DeedRules.{act_of_request, act_of_submit, entered_by_request, entered_by_submit, rules_of_request, rules_of_submit}
-use Rattle.conc_script.proofs.judging.deed.Goals as goal
+use Rattle.conc_script.proofs.ActionRules.{act_of_request, act_of_submit, entered_by_request, entered_by_submit, rules_of_request, rules_of_submit}
+use Rattle.conc_script.proofs.judging.action.Goals as goal
 
 pub returns-in_err-submission-clause-rules : goal.returns-in_err-submission-clause-rules
 returns-in_err-submission-clause-rules c =

@@ -6,18 +6,18 @@ use Rattle.std.proofs.lemmas.Bool.{and_from, and_parts, cases_Bool, cond-true, c
 use Rattle.conc_types.specs.declared.event.Event.{Event}
 use Rattle.conc_types.specs.declared.event.Event.TheVariants as event
 use Rattle.conc_types.specs.declared.event.Moment.{Moment}
-use Rattle.conc_types.specs.declared.facts.Standing.{Standing}
+use Rattle.conc_types.specs.declared.facts.State.{State}
 use Rattle.conc_types.specs.declared.plan.Plan.{Plan}
 use Rattle.conc_types.specs.declared.script.Reading.{Reading}
 use Rattle.conc_types.specs.Scripts.{are_in_order}
 use Rattle.conc_types.specs.Words.{none_or}
 use Rattle.conc_law.specs.Events.{event_eq}
 use Rattle.conc_law.specs.Kinds.{is_resume}
-use Rattle.conc_law.specs.Law.{is_lawful, is_past, may_follow}
+use Rattle.conc_law.specs.Law.{is_lawful, is_lawful_so_far, may_follow}
 use Rattle.conc_law.specs.Next.{forced, is_allowed, may_come, may_take, may_tick, obeys}
-use Rattle.conc_law.specs.Past.{earlier_lives, last_life}
+use Rattle.conc_law.specs.Before.{earlier_lives, last_life}
 use Rattle.conc_law.specs.Readings.{life_readings, next_reading, ticks}
-use Rattle.conc_law.specs.Standing.{is_not_earlier, now, standing}
+use Rattle.conc_law.specs.State.{is_not_earlier, now, state}
 use Rattle.conc_law.proofs.EqualEvents.{moment_same}
 use Rattle.conc_law.proofs.ForcedKinds.{forced_kind, is_forced_kind}
 use Rattle.conc_law.proofs.Options.{some_and-some}
@@ -86,7 +86,7 @@ LastTick readings past =
     ⊎ ((k : ℕ) × (q : Reading) × (ticks past ≡ suc k) × (slice_get (life_readings readings past) k ≡ Some q) × (now past ≡ Some q.moment))
 
 -- a tick that obeys is the next reading, and nothing is due
-tick_by : (plan : Plan) (s : Standing) (next : Option Reading) (t : Moment) → (due : Option Event) → none_or is_forced_kind due ≡ true
+tick_by : (plan : Plan) (s : State) (next : Option Reading) (t : Moment) → (due : Option Event) → none_or is_forced_kind due ≡ true
     → obeys plan s (Some next) (event.Tick t) due ≡ true → (q : Reading) × (next ≡ Some q) × (t ≡ q.moment) × (due ≡ None)
 unfolding is_allowed may_tick event_eq
 tick_by plan s next t None kind h =
@@ -99,14 +99,14 @@ tick_by plan s next t (Some _) kind h = cc
 -- a tick of the last life is its next reading, and nothing is forced
 abbrev pub IsRead : Plan → List Reading → List Event → Moment → Type 0
 IsRead plan readings past t =
-    (q : Reading) × (next_reading readings past ≡ Some q) × (t ≡ q.moment) × (forced plan (standing plan past) ≡ None)
+    (q : Reading) × (next_reading readings past ≡ Some q) × (t ≡ q.moment) × (forced plan (state plan past) ≡ None)
 
 -- a tick that may follow is the next reading, and nothing is forced
 pub tick_read : (plan : Plan) (readings : List Reading) (past : List Event) (t : Moment) → may_follow plan (Some readings) past (event.Tick t) ≡ true
     → IsRead plan readings past t
 unfolding may_follow may_come
 tick_read plan readings past t h =
-    tick_by plan (standing plan past) (next_reading readings past) t (forced plan (standing plan past)) (forced_kind plan (standing plan past)) h
+    tick_by plan (state plan past) (next_reading readings past) t (forced plan (state plan past)) (forced_kind plan (state plan past)) h
 
 -- the last tick of a lawful list is the last reading taken
 last_tick : (plan : Plan) (readings : List Reading) (past : List Event) → is_lawful plan readings past ≡ true → LastTick readings past
@@ -134,9 +134,9 @@ not_earlier readings past q order next (inr some) =
     ∙ in_order-next (life_readings readings past) some.0 some.1 q (in_order-filter (λ r. is_not_earlier (now (earlier_lives past)) r.moment) readings order) some.3 here
 
 -- a tick that is not earlier than the last may follow where no readings are known
-tick_without : (plan : Plan) (past : List Event) (t : Moment) → forced plan (standing plan past) ≡ None → is_not_earlier (now past) t ≡ true → may_follow plan None past (event.Tick t) ≡ true
-unfolding may_follow may_come is_allowed may_tick standing
-tick_without plan past t none h = ap (obeys plan (standing plan past) None (event.Tick t)) none ∙ h
+tick_without : (plan : Plan) (past : List Event) (t : Moment) → forced plan (state plan past) ≡ None → is_not_earlier (now past) t ≡ true → may_follow plan None past (event.Tick t) ≡ true
+unfolding may_follow may_come is_allowed may_tick state
+tick_without plan past t none h = ap (obeys plan (state plan past) None (event.Tick t)) none ∙ h
 
 -- what may follow a lawful list may follow it where no readings are known
 same_but_tick : (plan : Plan) (readings : List Reading) (past : List Event) (e : Event) → is_lawful plan readings past ≡ true → are_in_order readings ≡ true
@@ -146,8 +146,8 @@ same_but_tick plan readings past (event.Tick t) lawful order h =
     let p : IsRead plan readings past t = tick_read plan readings past t h in
     tick_without plan past t p.3 (ap (is_not_earlier (now past)) p.2 ∙ not_earlier readings past p.0 order p.1 (last_tick plan readings past lawful))
 same_but_tick plan readings past event.Resume lawful order h = h
-same_but_tick plan readings past e lawful order h = by (forced plan (standing plan past)) h where
-  by : (due : Option Event) → obeys plan (standing plan past) (Some (next_reading readings past)) e due ≡ true → obeys plan (standing plan past) None e due ≡ true
+same_but_tick plan readings past e lawful order h = by (forced plan (state plan past)) h where
+  by : (due : Option Event) → obeys plan (state plan past) (Some (next_reading readings past)) e due ≡ true → obeys plan (state plan past) None e due ≡ true
   by None k = k
   by (Some d) k = k
 
@@ -158,14 +158,14 @@ resume_follows plan readings past event.Resume r h = h
 resume_follows plan readings past _ r h = cc
 
 -- a lawful list is lawful whatever the readings were
-pub lawful_is_past : (plan : Plan) (readings : List Reading) (past : List Event) → are_in_order readings ≡ true → is_lawful plan readings past ≡ true → is_past plan past ≡ true
-unfolding is_lawful is_past
-lawful_is_past plan readings [] order h = refl
-lawful_is_past plan readings (e ∷ past) order h =
-    let p : ((if is_resume e then is_past plan past else is_lawful plan readings past) ≡ true) × (may_follow plan (Some readings) past e ≡ true) = and_parts _ _ h in
+pub lawful_is_lawful_so_far : (plan : Plan) (readings : List Reading) (past : List Event) → are_in_order readings ≡ true → is_lawful plan readings past ≡ true → is_lawful_so_far plan past ≡ true
+unfolding is_lawful is_lawful_so_far
+lawful_is_lawful_so_far plan readings [] order h = refl
+lawful_is_lawful_so_far plan readings (e ∷ past) order h =
+    let p : ((if is_resume e then is_lawful_so_far plan past else is_lawful plan readings past) ≡ true) × (may_follow plan (Some readings) past e ≡ true) = and_parts _ _ h in
     elim (cases_Bool (is_resume e)) [
-      | inl r ↦ and_from _ _ (sym (cond-true (is_resume e) (is_past plan past) (is_lawful plan readings past) r) ∙ p.0) (resume_follows plan readings past e r p.1)
+      | inl r ↦ and_from _ _ (sym (cond-true (is_resume e) (is_lawful_so_far plan past) (is_lawful plan readings past) r) ∙ p.0) (resume_follows plan readings past e r p.1)
       | inr n ↦
-          let lawful : is_lawful plan readings past ≡ true = sym (cond-false (is_resume e) (is_past plan past) (is_lawful plan readings past) n) ∙ p.0 in
-          and_from _ _ (lawful_is_past plan readings past order lawful) (same_but_tick plan readings past e lawful order p.1)
+          let lawful : is_lawful plan readings past ≡ true = sym (cond-false (is_resume e) (is_lawful_so_far plan past) (is_lawful plan readings past) n) ∙ p.0 in
+          and_from _ _ (lawful_is_lawful_so_far plan readings past order lawful) (same_but_tick plan readings past e lawful order p.1)
     ]

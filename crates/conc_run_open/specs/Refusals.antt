@@ -1,0 +1,55 @@
+-- Why no life begins.
+use Rattle.std.specs.Prelude.{◌≡◌, ◌⊎◌, ℕ, ◌+◌, ◌<◌, ◌≤◌, List, length, Option, None, IfSome, IsFalse, ⊤}
+use Rattle.conc_types.specs.declared.event.Event.{Event}
+use Rattle.conc_types.specs.declared.plan.Plan.{Plan}
+use Rattle.conc_types.specs.declared.script.Reading.{Reading}
+use Rattle.conc_outside.specs.Counts.{Rose}
+use Rattle.conc_disk.specs.Disk.{DiskState}
+use Rattle.conc_law.specs.Law.{LawfulSoFar}
+use Rattle.conc_journal.specs.Opens.{may_open}
+use Rattle.conc_restart.specs.Need.{need}
+use Rattle.conc_run_state.specs.Causes.{IsOther}
+use Rattle.conc_run_state.specs.Judging.{IsBadRecord}
+use Rattle.conc_run_state.specs.declared.fail.HistoryFail.{HistoryFail}
+use Rattle.conc_run_state.specs.declared.fail.HistoryFail.TheVariants as history_fail
+use Rattle.conc_run_state.specs.declared.fail.DiskName.TheVariants as which
+use Rattle.conc_run_open.specs.Extents.{counted}
+
+-- this is no journal, or that of another input, or its disk failed, or there is no memory
+abbrev pub IsUnopened : List ℕ → DiskState → DiskState → HistoryFail → Type 0
+IsUnopened digest old new history_fail.NotJournal = IfSome old.seen (λ image. IsFalse (may_open image))
+IsUnopened digest old new (history_fail.OtherInput found) = IfSome old.seen (IsOther digest found)
+IsUnopened digest old new (history_fail.DiskFault which.Journal) = Rose old.faults new.faults
+IsUnopened digest old new history_fail.NoMemory = ⊤
+IsUnopened digest old new _ = ⊥
+
+-- a record is bad for a spool of so many bytes, or there is no memory
+abbrev pub IsRefused : Plan → ℕ → List Event → Option ℕ → HistoryFail → Type 0
+IsRefused plan len events broken (history_fail.Unlawful number) = IsBadRecord plan len events broken number
+IsRefused plan len events broken history_fail.NoMemory = ⊤
+IsRefused plan len events broken _ = ⊥
+
+-- for this spool a record is bad, or its disk failed, or there is no memory
+abbrev pub IsUntold : Plan → List Event → Option ℕ → DiskState → DiskState → HistoryFail → Type 0
+IsUntold plan events broken old new (history_fail.Unlawful number) = IfSome old.seen (λ texts. IsBadRecord plan (length texts) events broken number)
+IsUntold plan events broken old new (history_fail.DiskFault which.Spool) = Rose old.faults new.faults
+IsUntold plan events broken old new history_fail.NoMemory = ⊤
+IsUntold plan events broken old new _ = ⊥
+
+-- there is no room for one more life, or no memory
+abbrev pub LacksRoom : Plan → List Reading → List Event → HistoryFail → Type 0
+LacksRoom plan readings events (history_fail.JournalFull len needed) =
+    (len ≡ length events) × (needed ≡ need plan readings) × (1048576 < len + needed)
+LacksRoom plan readings events history_fail.NoMemory = ⊤
+LacksRoom plan readings events _ = ⊥
+
+-- the events are good, and there is no room for one more life
+pub record IsGoodButLacksRoom (plan : Plan) (readings : List Reading) (events : List Event) (broken : Option ℕ) (e : HistoryFail) : Type 0 where
+  pub so_far : LawfulSoFar plan events
+  pub whole : broken ≡ None
+  pub lacks_room : LacksRoom plan readings events e
+
+-- where the spool has all extents, a record is bad, or there is no room, or no memory
+abbrev pub CannotBegin : Plan → List Reading → List Event → Option ℕ → HistoryFail → Type 0
+CannotBegin plan readings events broken e =
+    ((len : ℕ) → counted events ≤ len → IsRefused plan len events broken e) ⊎ IsGoodButLacksRoom plan readings events broken e
