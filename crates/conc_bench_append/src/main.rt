@@ -3,9 +3,9 @@
 #![tactic(auto)]
 
 ghost use Rattle.std.specs.Prelude.{◌≡◌, ◌+◌, ◌≤◌, IfErr, IfOk, IfSome, IsFalse, IsTrue, length};
-ghost use Rattle.conc_journal.specs.Journals.{IsOn, list_of, room_of, stage_of};
+ghost use Rattle.conc_journal.specs.Journals.{IsOn, list_of, room_of, state_of};
 ghost use Rattle.conc_journal.specs.Opens.{events_of};
-ghost use Rattle.conc_journal.specs.Stages.{has_faulted, takes_events};
+ghost use Rattle.conc_journal.specs.JournalStates.{has_faulted, takes_events};
 ghost use Rattle.conc_bench_append.specs.Causes.{HasCause};
 
 use conc_disk::Disk;
@@ -40,8 +40,8 @@ enum Fail {
 // The journal of a disk, begun where it was not, with room for so many events.
 fn begun<D: Disk>(alloc: Global, disk: &mut D, count: u64) -> Result<Journal, Fail>
     ensures on { IfOk result (λ journal. IsOn journal (D.state disk.new)) }
-    ensures takes { IfOk result (λ journal. IsTrue (takes_events (stage_of journal))) }
-    ensures sound { IfOk result (λ journal. IsFalse (has_faulted (stage_of journal))) }
+    ensures takes { IfOk result (λ journal. IsTrue (takes_events (state_of journal))) }
+    ensures sound { IfOk result (λ journal. IsFalse (has_faulted (state_of journal))) }
     ensures room { IfOk result (λ journal. count ≤ room_of journal) }
     ensures list { IfOk result (λ journal. IfSome (D.state disk.old).seen (λ image. list_of journal ≡ events_of image)) }
     ensures faults { (D.state disk.old).faults ≤ (D.state disk.new).faults }

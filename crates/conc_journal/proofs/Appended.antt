@@ -3,10 +3,10 @@ use Rattle.std.proofs.Common.{◌≡◌, ◌⊎◌, ℕ, ◌+◌, ◌*◌, ◌<�
 use Rattle.conc_types.specs.declared.event.Event.{Event}
 use Rattle.conc_disk.specs.Disk.{DiskState, Reaches, written}
 use Rattle.conc_journal_image.specs.Image.{IsJournal}
-use Rattle.conc_journal.specs.Journals.{FitsStage, IsOn}
+use Rattle.conc_journal.specs.Journals.{FitsState, IsOn}
 use Rattle.conc_journal.specs.declared.journal.Journal.{Journal}
-use Rattle.conc_journal.specs.declared.journal.Stage.{Stage}
-use Rattle.conc_journal.specs.declared.journal.Stage.TheVariants.{Begun}
+use Rattle.conc_journal.specs.declared.journal.JournalState.{JournalState}
+use Rattle.conc_journal.specs.declared.journal.JournalState.TheVariants.{Begun}
 use Rattle.conc_disk.specs.Left.{EachImage, LeavesOnly}
 use Rattle.conc_journal.specs.Left.{AddedFrom, LeavesAdded}
 use Rattle.conc_journal.specs.Records.{IsSpelled}
@@ -19,8 +19,8 @@ abbrev pub HasOrAdds : List ℕ → List Event → Event → List ℕ → Type 0
 HasOrAdds digest events event image = IsJournal digest events image ⊎ IsJournal digest (events ++ event ∷ []) image
 
 -- the images of a begun journal
-pub begun-images : (journal : Journal) (digest : List ℕ) (disk : DiskState) → journal.stage ≡ Begun digest → IsOn journal disk → EachImage (IsJournal digest journal.events.items) disk
-begun-images journal digest disk is on = subst (λ (s : Stage). EachImage (FitsStage s journal.events.items) disk) is on
+pub begun-images : (journal : Journal) (digest : List ℕ) (disk : DiskState) → journal.state ≡ Begun digest → IsOn journal disk → EachImage (IsJournal digest journal.events.items) disk
+begun-images journal digest disk is on = subst (λ (s : JournalState). EachImage (FitsState s journal.events.items) disk) is on
 
 -- it reaches the gate behind the list
 pub journal-reaches : (digest : List ℕ) (events : List Event) (at : ℕ) (disk : DiskState) → at ≡ 64 + 32 * length events → IfSome disk.seen disk.may_leave → EachImage (IsJournal digest events) disk → Reaches disk (at + 1)

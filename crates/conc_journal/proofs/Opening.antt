@@ -6,12 +6,12 @@ use Rattle.conc_disk.specs.Disk.{DiskState, LeavesWhatWasSeen, Stays}
 use Rattle.conc_journal_image.proofs.Beginning.{header-begun}
 use Rattle.conc_journal_image.proofs.Fronts.{digest_in-front, found_in-front, has_header-front, is_not_begun-front}
 use Rattle.conc_journal_image.specs.Image.{digest_in, Found, found_in, has_header, IsJournal, is_not_begun}
-use Rattle.conc_journal.specs.Journals.{FitsStage, IsOn}
+use Rattle.conc_journal.specs.Journals.{FitsState, IsOn}
 use Rattle.conc_disk.specs.Left.{EachImage}
 use Rattle.conc_journal.specs.Opens.{broken_of, digest_of, events_of, IsFoundIn, may_open}
-use Rattle.conc_journal.specs.Stages.{stage_with}
+use Rattle.conc_journal.specs.JournalStates.{state_with}
 use Rattle.conc_journal.specs.declared.fault.JournalFail.{JournalFail}
-use Rattle.conc_journal.specs.declared.journal.Stage.{Stage}
+use Rattle.conc_journal.specs.declared.journal.JournalState.{JournalState}
 use Rattle.conc_journal.specs.declared.opened.Opened.{Opened}
 
 -- so many of the first bytes, and no more than there are
@@ -41,32 +41,32 @@ front-found k image opened far found =
       broken = found.broken ∙ ap (λ (b : Bool). if b then None else (found_in (take k image)).broken) begun ∙ ap (λ (f : Found). if is_not_begun image then None else f.broken) (found_in-front k image far);
     }
 
--- where no record is broken, the image fits the stage
-pub found-fits : (image : List ℕ) (opened : Opened) → IsFoundIn image opened → opened.broken ≡ None → FitsStage (stage_with opened.digest opened.broken) opened.events.items image
+-- where no record is broken, the image fits the state
+pub found-fits : (image : List ℕ) (opened : Opened) → IsFoundIn image opened → opened.broken ≡ None → FitsState (state_with opened.digest opened.broken) opened.events.items image
 found-fits image opened found sound = go (is_not_begun image) refl opened.digest opened.broken opened.events.items found.may_open found.digest found.broken found.events sound
   where
     go : (b : Bool) → is_not_begun image ≡ b → (digest : Option (List ℕ)) (broken : Option ℕ) (events : List Event) → (b || has_header image) ≡ true
         → digest ≡ (if b then None else Some (digest_in image)) → broken ≡ (if b then None else (found_in image).broken) → events ≡ (if b then [] else (found_in image).events) → broken ≡ None
-        → FitsStage (stage_with digest broken) events image
+        → FitsState (state_with digest broken) events image
     go true is digest broken events opens digest_is broken_is events_are sound =
-        subst (λ (d : Option (List ℕ)). FitsStage (stage_with d broken) events image) (sym digest_is) is
+        subst (λ (d : Option (List ℕ)). FitsState (state_with d broken) events image) (sym digest_is) is
     go false is digest broken events opens digest_is broken_is events_are sound =
         let journal : IsJournal (digest_in image) (found_in image).events image =
         record { header = opens; of_input = refl; found = ap (λ (b : Option ℕ). record { events = (found_in image).events; broken = b }) (sym broken_is ∙ sound) } in
-        subst (λ (d : Option (List ℕ)). FitsStage (stage_with d broken) events image) (sym digest_is)
-        (subst (λ (b : Option ℕ). FitsStage (stage_with (Some (digest_in image)) b) events image) (sym sound)
+        subst (λ (d : Option (List ℕ)). FitsState (state_with d broken) events image) (sym digest_is)
+        (subst (λ (b : Option ℕ). FitsState (state_with (Some (digest_in image)) b) events image) (sym sound)
         (subst (λ (l : List Event). IsJournal (digest_in image) l image) (sym events_are) journal))
 
 -- and so do all images after a sync
 pub opened-on : (k : ℕ) (old new : DiskState) (opened : Opened) (bytes : List ℕ) → 33554497 ≤ k → IfSome old.seen (λ seen. bytes ≡ take k seen) → LeavesWhatWasSeen old new → Stays old new → IsFoundIn bytes opened → opened.broken ≡ None
-    → EachImage (FitsStage (stage_with opened.digest opened.broken) opened.events.items) new
+    → EachImage (FitsState (state_with opened.digest opened.broken) opened.events.items) new
 opened-on k old new opened bytes far is_read settled stays found sound =
-    subst (λ (s : Option (List ℕ)). IfSome s (λ seen. (c : List ℕ) → new.may_leave c → FitsStage (stage_with opened.digest opened.broken) opened.events.items c)) (sym stays.seen) (go old.seen is_read settled)
+    subst (λ (s : Option (List ℕ)). IfSome s (λ seen. (c : List ℕ) → new.may_leave c → FitsState (state_with opened.digest opened.broken) opened.events.items c)) (sym stays.seen) (go old.seen is_read settled)
   where
-    go : (seen : Option (List ℕ)) → IfSome seen (λ seen. bytes ≡ take k seen) → IfSome seen (λ seen. (c : List ℕ) → new.may_leave c → c ≡ seen) → IfSome seen (λ seen. (c : List ℕ) → new.may_leave c → FitsStage (stage_with opened.digest opened.broken) opened.events.items c)
+    go : (seen : Option (List ℕ)) → IfSome seen (λ seen. bytes ≡ take k seen) → IfSome seen (λ seen. (c : List ℕ) → new.may_leave c → c ≡ seen) → IfSome seen (λ seen. (c : List ℕ) → new.may_leave c → FitsState (state_with opened.digest opened.broken) opened.events.items c)
     go None is_read settled = tt
     go (Some seen) is_read settled = λ c left.
-        subst (λ (l : List ℕ). FitsStage (stage_with opened.digest opened.broken) opened.events.items l) (sym (settled c left))
+        subst (λ (l : List ℕ). FitsState (state_with opened.digest opened.broken) opened.events.items l) (sym (settled c left))
         (found-fits seen opened (front-found k seen opened far (subst (λ (l : List ℕ). IsFoundIn l opened) is_read found)) sound)
 
 -- what is found in the bytes that were read is found in what a read gives
@@ -96,16 +96,16 @@ pub if-ok : {T E : Type 0} (r : Result T E) (P Q : T → Type 0) → IfOk r P �
 if-ok (Ok v) P Q p more = more v p
 if-ok (Err e) P Q p more = tt
 
--- a journal that was opened with this stage and this list is on
+-- a journal that was opened with this state and this list is on
 pub answer-on : (k : ℕ) (old new : DiskState) (bytes : List ℕ) (r : Result Opened JournalFail) → 33554497 ≤ k → IfSome old.seen (λ seen. bytes ≡ take k seen) → LeavesWhatWasSeen old new → Stays old new
-    → IfOk r (λ opened. IsFoundIn bytes opened) → IfOk r (λ opened. opened.journal.stage ≡ stage_with opened.digest opened.broken) → IfOk r (λ opened. opened.journal.events.items ≡ opened.events.items)
+    → IfOk r (λ opened. IsFoundIn bytes opened) → IfOk r (λ opened. opened.journal.state ≡ state_with opened.digest opened.broken) → IfOk r (λ opened. opened.journal.events.items ≡ opened.events.items)
     → IfOk r (λ opened. IsNone opened.broken → IsOn opened.journal new)
-answer-on k old new bytes (Ok opened) far is_read settled stays found stage list = λ sound.
+answer-on k old new bytes (Ok opened) far is_read settled stays found state list = λ sound.
     let on = opened-on k old new opened bytes far is_read settled stays found (none opened.broken sound) in
-    subst (λ (s : Stage). EachImage (FitsStage s opened.journal.events.items) new) (sym stage)
-    (subst (λ (l : List Event). EachImage (FitsStage (stage_with opened.digest opened.broken) l) new) (sym list) on)
+    subst (λ (s : JournalState). EachImage (FitsState s opened.journal.events.items) new) (sym state)
+    (subst (λ (l : List Event). EachImage (FitsState (state_with opened.digest opened.broken) l) new) (sym list) on)
   where
     none : (o : Option ℕ) → IsNone o → o ≡ None
     none None is = refl
     none (Some n) is = absurd (cc)
-answer-on k old new bytes (Err e) far is_read settled stays found stage list = tt
+answer-on k old new bytes (Err e) far is_read settled stays found state list = tt

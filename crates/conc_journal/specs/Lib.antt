@@ -3,4 +3,4 @@ pub mod Left
 pub mod Opens
 pub mod Receipts
 pub mod Records
-pub mod Stages
+pub mod JournalStates

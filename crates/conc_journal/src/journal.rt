@@ -1,6 +1,6 @@
 ghost use Rattle.std.specs.Prelude.{◌≡◌, ◌↔◌, ◌+◌, ◌<◌, ◌≤◌, [], ◌∷◌, ◌++◌, length, max, vec_len, IfOk, IsErrOf, IsOk, IsTrue, OnErr, OnOk};
 ghost use Rattle.std.specs.Vec.{vec_capacity};
-ghost use Rattle.conc_journal.specs.Stages.{fits_count};
+ghost use Rattle.conc_journal.specs.JournalStates.{fits_count};
 
 use crate::append::{add_record, record_before_gate};
 use crate::begin::write_header;
@@ -11,7 +11,7 @@ use conc_types::{Event, NoMemory};
 
 /// What is known of a journal's disk.
 #[derive(Clone, Copy, Debug, PartialEq, Eq)]
-pub(crate) enum Stage {
+pub(crate) enum JournalState {
     /// No journal was begun here.
     NotBegun,
     /// A `begin` with this digest met a fault.
@@ -27,34 +27,34 @@ pub(crate) enum Stage {
 /// The list of a journal, and what is known of its disk, which it does not hold.
 #[derive(Drop)]
 pub struct Journal {
-    stage: Stage,
+    state: JournalState,
     events: Vec<Event>,
     room: u64,
     ghost kept: { room + vec_len events ≤ vec_capacity events },
     ghost few: { room + vec_len events ≤ 1048576 },
-    ghost begun: { IsTrue (fits_count stage (vec_len events)) },
+    ghost begun: { IsTrue (fits_count state (vec_len events)) },
 }
 
 impl Journal {
     ghost use Rattle.conc_outside.specs.Counts.{Rose};
     ghost use Rattle.conc_journal_image.specs.Fields.{has_record};
-    ghost use Rattle.conc_journal.specs.Journals.{FitsStage, IsOn, list_of, room_of, stage_of};
+    ghost use Rattle.conc_journal.specs.Journals.{FitsState, IsOn, list_of, room_of, state_of};
     ghost use Rattle.conc_disk.specs.Left.{LeavesOnly};
     ghost use Rattle.conc_journal.specs.Receipts.{event_of, number_of};
-    ghost use Rattle.conc_journal.specs.Stages.{after_fault, has_faulted, takes_events};
+    ghost use Rattle.conc_journal.specs.JournalStates.{after_fault, has_faulted, takes_events};
     ghost use Rattle.conc_journal.specs.declared.fault.AppendFail.TheVariants as AppendFail;
-    ghost use Rattle.conc_journal.specs.declared.journal.Stage.TheVariants.{Begun, BeginFailed, NotBegun};
+    ghost use Rattle.conc_journal.specs.declared.journal.JournalState.TheVariants.{Begun, BeginFailed, NotBegun};
 
     // A journal with these events, without room for more.
-    pub(crate) fn with_events(stage: Stage, events: Vec<Event>) -> Journal
+    pub(crate) fn with_events(state: JournalState, events: Vec<Event>) -> Journal
         requires few { vec_len events ≤ 1048576 }
-        requires stage { IsTrue (fits_count stage (vec_len events)) }
+        requires state { IsTrue (fits_count state (vec_len events)) }
         ensures list { list_of result ≡ events.items }
-        ensures stage { stage_of result ≡ stage }
+        ensures state { state_of result ≡ state }
         ensures room { room_of result ≡ 0 }
     {
         Journal {
-            stage,
+            state,
             events,
             room: 0,
         }
@@ -69,9 +69,9 @@ impl Journal {
 
     /// Whether it is begun and no record is broken.
     pub fn takes_events(&self) -> bool
-        ensures { result ≡ takes_events (stage_of self.now) }
+        ensures { result ≡ takes_events (state_of self.now) }
     {
-        matches!(self.stage, Stage::Begun { .. } | Stage::AppendFailed { .. })
+        matches!(self.state, JournalState::Begun { .. } | JournalState::AppendFailed { .. })
     }
 
     /// How many events it can take without memory.
@@ -88,7 +88,7 @@ impl Journal {
         ensures unchanged { OnErr result (room_of self.new ≡ room_of self.old) }
         ensures enough { records ≤ room_of self.old → IsOk result }
         ensures list { list_of self.new ≡ list_of self.old }
-        ensures stage { stage_of self.new ≡ stage_of self.old }
+        ensures state { state_of self.new ≡ state_of self.old }
     {
         self.events.reserve(records as usize)?;
         self.room = self.room.max(records);
@@ -98,24 +98,24 @@ impl Journal {
     /// Begins a journal for the input with this digest, where none was begun. After an `Ok` each image
     /// that a stop may leave has its header, and no event. After a fault only `events` is of use.
     pub fn begin<D: Disk>(&mut self, disk: &mut D, digest: &[u8; 32]) -> Result<(), Failed>
-        requires stage { stage_of self.old ≡ NotBegun }
+        requires state { state_of self.old ≡ NotBegun }
         requires on { IsOn self.old (D.state disk.old) }
         ensures on { IsOn self.new (D.state disk.new) }
-        ensures begun { OnOk result (stage_of self.new ≡ Begun digest.now) }
-        ensures failed { OnErr result (stage_of self.new ≡ BeginFailed digest.now) }
+        ensures begun { OnOk result (state_of self.new ≡ Begun digest.now) }
+        ensures failed { OnErr result (state_of self.new ≡ BeginFailed digest.now) }
         ensures fault { OnErr result (Rose (D.state disk.old).faults (D.state disk.new).faults) }
         ensures list { list_of self.new ≡ list_of self.old }
         ensures empty { list_of self.new ≡ [] }
         ensures room { room_of self.new ≡ room_of self.old }
-        ensures survives { LeavesOnly (FitsStage (BeginFailed digest.now) []) (D.state disk.old) (D.state disk.new) }
+        ensures survives { LeavesOnly (FitsState (BeginFailed digest.now) []) (D.state disk.old) (D.state disk.new) }
     {
         match write_header(disk, digest) {
             Ok(()) => {
-                self.stage = Stage::Begun { digest: *digest };
+                self.state = JournalState::Begun { digest: *digest };
                 Ok(())
             }
             Err(Failed) => {
-                self.stage = Stage::BeginFailed { digest: *digest };
+                self.state = JournalState::BeginFailed { digest: *digest };
                 Err(Failed)
             }
         }
@@ -124,10 +124,10 @@ impl Journal {
     // Adds an event for which there is room.
     fn push(&mut self, event: Event)
         requires room { 0 < room_of self.old }
-        requires takes { IsTrue (takes_events (stage_of self.old)) }
+        requires takes { IsTrue (takes_events (state_of self.old)) }
         ensures list { list_of self.new ≡ list_of self.old ++ event ∷ [] }
         ensures room { room_of self.new + 1 ≡ room_of self.old }
-        ensures stage { stage_of self.new ≡ stage_of self.old }
+        ensures state { state_of self.new ≡ state_of self.old }
     {
         match self.events.push(event) {
             Ok(()) => self.room -= 1,
@@ -139,7 +139,7 @@ impl Journal {
     /// the list with the event or without, and each later call fails and does nothing until the file is
     /// opened again. It takes no memory.
     pub fn append<D: Disk>(&mut self, disk: &mut D, event: Event) -> Result<Receipt, AppendFail>
-        requires takes { IsTrue (takes_events (stage_of self.old)) }
+        requires takes { IsTrue (takes_events (state_of self.old)) }
         requires room { 0 < room_of self.old }
         requires spelled { IsTrue (has_record event) }
         requires on { IsOn self.old (D.state disk.old) }
@@ -150,24 +150,24 @@ impl Journal {
         ensures appended { OnOk result (list_of self.new ≡ list_of self.old ++ event ∷ []) }
         ensures number { IfOk result (λ receipt. number_of receipt ≡ length (list_of self.new)) }
         ensures event { IfOk result (λ receipt. event_of receipt ≡ event) }
-        ensures stage { OnOk result (stage_of self.new ≡ stage_of self.old) }
+        ensures state { OnOk result (state_of self.new ≡ state_of self.old) }
         ensures room { OnOk result (room_of self.new + 1 ≡ room_of self.old) }
 
         // A fault.
         ensures fault { IsErrOf result AppendFail.DiskFault → Rose (D.state disk.old).faults (D.state disk.new).faults }
-        ensures faulted { IsErrOf result AppendFail.DiskFault → stage_of self.new ≡ after_fault event (stage_of self.old) }
+        ensures faulted { IsErrOf result AppendFail.DiskFault → state_of self.new ≡ after_fault event (state_of self.old) }
         ensures list { OnErr result (list_of self.new ≡ list_of self.old) }
         ensures no_room_taken { OnErr result (room_of self.new ≡ room_of self.old) }
 
         // After a fault.
-        ensures failed { IsErrOf result AppendFail.Failed ↔ IsTrue (has_faulted (stage_of self.old)) }
+        ensures failed { IsErrOf result AppendFail.Failed ↔ IsTrue (has_faulted (state_of self.old)) }
         ensures same { IsErrOf result AppendFail.Failed → self.new ≡ self.old }
         ensures untouched { IsErrOf result AppendFail.Failed → disk.new ≡ disk.old }
 
         // A stop at any moment leaves the list with the event or without.
-        ensures survives { LeavesOnly (FitsStage (after_fault event (stage_of self.old)) (list_of self.old)) (D.state disk.old) (D.state disk.new) }
+        ensures survives { LeavesOnly (FitsState (after_fault event (state_of self.old)) (list_of self.old)) (D.state disk.old) (D.state disk.new) }
     {
-        let Stage::Begun { digest } = self.stage else {
+        let JournalState::Begun { digest } = self.state else {
             return Err(AppendFail::Failed);
         };
         let number = self.events.len() as u64 + 1;
@@ -178,7 +178,7 @@ impl Journal {
                 Ok(Receipt { number, event })
             }
             Err(Failed) => {
-                self.stage = Stage::AppendFailed { digest, event };
+                self.state = JournalState::AppendFailed { digest, event };
                 Err(AppendFail::DiskFault)
             }
         }

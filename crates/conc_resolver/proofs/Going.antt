@@ -16,9 +16,9 @@ use Rattle.conc_law.proofs.AloneLawful.{next_alone-follows}
 use Rattle.conc_disk.specs.Disk.{DiskState, SeenFollows}
 use Rattle.conc_disk.specs.Left.{EachImage, LeavesOnly}
 use Rattle.conc_disk.proofs.Leaving.{if_some-any, leaves-none, leaves-twice, leaves-wider}
-use Rattle.conc_journal.specs.Journals.{list_of, stage_of}
-use Rattle.conc_journal.specs.Stages.{has_faulted, stage_digest}
-use Rattle.conc_journal.specs.declared.journal.Stage.TheVariants.{Begun}
+use Rattle.conc_journal.specs.Journals.{list_of, state_of}
+use Rattle.conc_journal.specs.JournalStates.{has_faulted, state_digest}
+use Rattle.conc_journal.specs.declared.journal.JournalState.TheVariants.{Begun}
 use Rattle.conc_spool.specs.Spools.{Agrees, KeepsBelow, used_of}
 use Rattle.conc_resolver_choice.proofs.Pushes.{Follows-push}
 use Rattle.conc_run_state.specs.Lists.{GoesOn, IsPrefix, longest_of}
@@ -36,12 +36,12 @@ use Rattle.conc_resolver.proofs.Logs.{sound-begun, sound-whole}
 use Rattle.conc_resolver.proofs.Texts.{agrees-on}
 
 -- where no append met a fault, the disk has at most the list
-pub sound-longest : (work : Work) → has_faulted (stage_of work.journal) ≡ false → longest_in work ≡ list_in work
-sound-longest work sound = ap (λ l. list_in work ++ l) (sound-whole (stage_of work.journal) sound) ∙ append-nil (list_in work)
+pub sound-longest : (work : Work) → has_faulted (state_of work.journal) ≡ false → longest_in work ≡ list_in work
+sound-longest work sound = ap (λ l. list_in work ++ l) (sound-whole (state_of work.journal) sound) ∙ append-nil (list_in work)
 
 -- ---- no event
 
-module _ (plan : Plan) (readings : List Reading) (old new : Work) (journal spool spool' : DiskState) (lawful : Lawful plan readings (list_in old)) (sound : has_faulted (stage_of old.journal) ≡ false)
+module _ (plan : Plan) (readings : List Reading) (old new : Work) (journal spool spool' : DiskState) (lawful : Lawful plan readings (list_in old)) (sound : has_faulted (state_of old.journal) ≡ false)
     (same : new.journal ≡ old.journal) where
   longest : longest_in new ≡ list_in old
   longest = ap (λ j. longest_of j) same ∙ sound-longest old sound
@@ -59,7 +59,7 @@ module _ (plan : Plan) (readings : List Reading) (old new : Work) (journal spool
     lawful = subst (λ (l : List Event). Lawful plan readings l) (sym longest) lawful;
     acknowledged = inl (longest ∙ sym (ap (λ j. list_of j) same));
     told = λ from. subst (λ (l : List Event). EachImage (AreTold plan from (list_in old)) spool → EachImage (AreTold plan from l) spool') (sym longest) (tells.told from);
-    digest = ap (λ j. stage_digest (stage_of j)) same;
+    digest = ap (λ j. state_digest (state_of j)) same;
     journal = λ digest begun. leaves-none (Survives digest (list_in old) (longest_in new)) journal;
     spool = tells.left;
     spool_now = tells.now;
@@ -72,7 +72,7 @@ module _ (plan : Plan) (readings : List Reading) (old new : Work) (e : Event) (k
   pub went-one : AreTied plan readings kept new journal' spool' → Lawful plan readings (list_in old ++ e ∷ [])
       → (longest_in new ≡ list_in new) ⊎ ((e : Event) × (longest_in new ≡ list_in new ++ e ∷ []))
       → TellsOn plan (used_of old.spool) (list_in old) (list_in old ++ e ∷ []) spool spool'
-      → stage_digest (stage_of new.journal) ≡ stage_digest (stage_of old.journal)
+      → state_digest (state_of new.journal) ≡ state_digest (state_of old.journal)
       → SurvivesFor old.journal (list_in old) (list_in old ++ e ∷ []) journal journal'
       → WentOn plan readings (disks journal journal' spool spool') old new
   went-one tied lawful acknowledged tells digest left = record {
@@ -149,10 +149,10 @@ module _ (plan : Plan) (readings : List Reading) (old mid new : Work) (journal j
     fewer : used_of old.spool ≤ used_of mid.spool
     fewer = omega (arith, begins, ready.tied.used_is, used-more (list_in old) goes.added, ap (λ l. used (reverse l)) goes.all)
 
-    still-begun : (digest : List ℕ) → stage_of old.journal ≡ Begun digest → stage_of mid.journal ≡ Begun digest
+    still-begun : (digest : List ℕ) → state_of old.journal ≡ Begun digest → state_of mid.journal ≡ Begun digest
     still-begun digest begun =
-        let is = sound-begun (stage_of mid.journal) ready.tied.takes ready.sound in
-        let same : Some is.0 ≡ Some digest = sym (ap stage_digest is.1) ∙ first.digest ∙ ap stage_digest begun in
+        let is = sound-begun (state_of mid.journal) ready.tied.takes ready.sound in
+        let same : Some is.0 ≡ Some digest = sym (ap state_digest is.1) ∙ first.digest ∙ ap state_digest begun in
         is.1 ∙ ap (λ d. Begun d) (same_Some is.0 digest same)
 
     pub went-twice : WentOn plan readings (disks journal journal'' spool spool'') old new

@@ -11,9 +11,9 @@ use Rattle.conc_law.proofs.AloneLawful.{next_alone-follows}
 use Rattle.conc_law.proofs.Positions.{reverse-push}
 use Rattle.conc_law.proofs.Remaining.{remaining_less}
 use Rattle.conc_disk.specs.Disk.{DiskState}
-use Rattle.conc_journal.specs.Journals.{list_of, room_of, stage_of}
+use Rattle.conc_journal.specs.Journals.{list_of, room_of, state_of}
 use Rattle.conc_journal.specs.Journals.{IsOn as JournalIsOn}
-use Rattle.conc_journal.specs.Stages.{after_fault, has_faulted, stage_digest}
+use Rattle.conc_journal.specs.JournalStates.{after_fault, has_faulted, state_digest}
 use Rattle.conc_journal.specs.declared.journal.Journal.{Journal}
 use Rattle.conc_machine.specs.StandsFor.{plan_of, readings_of}
 use Rattle.conc_machine.specs.declared.machine.Machine.{Machine}
@@ -85,24 +85,24 @@ module _ (old mid : Work) (journal spool spool' : DiskState) (ready : IsReady ol
         (subst (λ (m : Machine). Lawful (plan_of m) (unwrap_or (readings_of m) []) (list_in mid ++ e ∷ [])) machine may.lawful)
 
     -- the journal met a fault
-    pub went-unlogged : IsTied (Some e) new journal' any_disk → list_in new ≡ list_in mid → stage_of new.journal ≡ after_fault e (stage_of mid.journal)
+    pub went-unlogged : IsTied (Some e) new journal' any_disk → list_in new ≡ list_in mid → state_of new.journal ≡ after_fault e (state_of mid.journal)
         → WentOn (plan_in old) (readings_in old) (disks journal journal' spool spool') old new
     went-unlogged tied stays failed =
-        let behind : failed_in (stage_of new.journal) ≡ e ∷ [] = ap failed_in failed ∙ faulted-longest e (stage_of mid.journal) keeps.takes may.sound in
+        let behind : failed_in (state_of new.journal) ≡ e ∷ [] = ap failed_in failed ∙ faulted-longest e (state_of mid.journal) keeps.takes may.sound in
         let longest : longest_in new ≡ list_in new ++ e ∷ [] = ap (λ l. list_in new ++ l) behind in
         went-one (plan_in old) (readings_in old) old new e (Some e) journal journal' spool spool' next
         (longest ∙ ap (λ l. l ++ e ∷ []) (stays ∙ ap (λ j. list_of j) same))
         (tied-by (plan_in old) (readings_in old) (Some e) new journal' journal' any_disk spool' new-plan new-readings tied.journal_on new-on tied)
         lawful (inr (e, longest)) tells
-        (ap stage_digest failed ∙ faulted-digest e (stage_of mid.journal) ∙ ap (λ j. stage_digest (stage_of j)) same)
+        (ap state_digest failed ∙ faulted-digest e (state_of mid.journal) ∙ ap (λ j. state_digest (state_of j)) same)
         old-survives
 
-    module _ (tied : IsTied None new journal' any_disk) (added : list_in new ≡ list_in mid ++ e ∷ []) (stage : stage_of new.journal ≡ stage_of mid.journal) where
+    module _ (tied : IsTied None new journal' any_disk) (added : list_in new ≡ list_in mid ++ e ∷ []) (state : state_of new.journal ≡ state_of mid.journal) where
       added-to : list_in new ≡ list_in old ++ e ∷ []
       added-to = added ∙ ap (λ j. list_of j ++ e ∷ []) same
 
-      new-sound : has_faulted (stage_of new.journal) ≡ false
-      new-sound = ap has_faulted stage ∙ may.sound
+      new-sound : has_faulted (state_of new.journal) ≡ false
+      new-sound = ap has_faulted state ∙ may.sound
 
       pub went-logged : WentOn (plan_in old) (readings_in old) (disks journal journal' spool spool') old new
       went-logged =
@@ -110,7 +110,7 @@ module _ (old mid : Work) (journal spool spool' : DiskState) (ready : IsReady ol
           (sound-longest new new-sound ∙ added-to)
           (tied-by (plan_in old) (readings_in old) None new journal' journal' any_disk spool' new-plan new-readings tied.journal_on new-on tied)
           lawful (inl (sound-longest new new-sound)) tells
-          (ap stage_digest stage ∙ ap (λ j. stage_digest (stage_of j)) same)
+          (ap state_digest state ∙ ap (λ j. state_digest (state_of j)) same)
           old-survives
 
       none : is_resume e ≡ false

@@ -4,8 +4,8 @@ use Rattle.std.specs.Prelude.{unwrap_or}
 use Rattle.conc_types.specs.declared.plan.Plan.{Plan}
 use Rattle.conc_types.specs.declared.script.Reading.{Reading}
 use Rattle.conc_disk.specs.Disk.{DiskState}
-use Rattle.conc_journal.specs.Journals.{stage_of}
-use Rattle.conc_journal.specs.declared.journal.Stage.TheVariants.{Begun}
+use Rattle.conc_journal.specs.Journals.{state_of}
+use Rattle.conc_journal.specs.declared.journal.JournalState.TheVariants.{Begun}
 use Rattle.conc_machine.specs.StandsFor.{readings_of}
 use Rattle.conc_run_state.specs.Works.{AreReady}
 use Rattle.conc_run_state.specs.declared.work.Work.{Work}
@@ -21,7 +21,7 @@ pub record IsUnderway (plan : Plan) (first work : Work) (d : Disks) : Type 0 whe
   pub began : IsReady first d.journal_before d.spool_before
   pub ready : IsReady work d.journal_after d.spool_after
   pub went : WentOn (plan_in first) (readings_in first) d first work
-  pub stage : stage_of work.journal ≡ stage_of first.journal
+  pub state : state_of work.journal ≡ state_of first.journal
   pub faults : d.journal_before.faults ≤ d.journal_after.faults
 
 module _ (plan : Plan) (first mid new : Work) (journal journal' journal'' spool spool' spool'' : DiskState) (under : IsUnderway plan first mid (disks journal journal' spool spool')) where
@@ -41,16 +41,16 @@ module _ (plan : Plan) (first mid new : Work) (journal journal' journal'' spool 
         (subst (λ (p : Plan). WentOn p (readings_in first) (disks journal' journal'' spool' spool'') mid new) under.went.tied.plan_is
         (subst (λ (l : List Reading). WentOn (plan_in mid) l (disks journal' journal'' spool' spool'') mid new) same-readings more))
 
-    begun : (digest : List ℕ) × (stage_of mid.journal ≡ Begun digest)
-    begun = sound-begun (stage_of mid.journal) under.ready.tied.takes under.ready.sound
+    begun : (digest : List ℕ) × (state_of mid.journal ≡ Begun digest)
+    begun = sound-begun (state_of mid.journal) under.ready.tied.takes under.ready.sound
 
-    pub underway-more : IsReady new journal'' spool'' → stage_of new.journal ≡ stage_of mid.journal → IsUnderway plan first new (disks journal journal'' spool spool'')
-    underway-more ready stage = record {
+    pub underway-more : IsReady new journal'' spool'' → state_of new.journal ≡ state_of mid.journal → IsUnderway plan first new (disks journal journal'' spool spool'')
+    underway-more ready state = record {
       plan_is = further.tied.plan_is ∙ first-plan;
       began = under.began;
       ready = ready;
       went = further;
-      stage = stage ∙ under.stage;
+      state = state ∙ under.state;
       faults = omega (arith, under.faults, (more.journal begun.0 begun.1).faults);
     }
 

@@ -6,9 +6,9 @@ use Rattle.conc_types.specs.declared.script.Reading.{Reading}
 use Rattle.conc_law.specs.Law.{Lawful}
 use Rattle.conc_disk.specs.Disk.{SeenFollows}
 use Rattle.conc_disk.specs.Left.{EachImage, LeavesOnly}
-use Rattle.conc_journal.specs.Journals.{stage_of}
-use Rattle.conc_journal.specs.Stages.{stage_digest}
-use Rattle.conc_journal.specs.declared.journal.Stage.TheVariants.{Begun}
+use Rattle.conc_journal.specs.Journals.{state_of}
+use Rattle.conc_journal.specs.JournalStates.{state_digest}
+use Rattle.conc_journal.specs.declared.journal.JournalState.TheVariants.{Begun}
 use Rattle.conc_spool.specs.Spools.{Agrees, KeepsBelow, used_of}
 use Rattle.conc_run_state.specs.Disks.{Disks}
 use Rattle.conc_run_state.specs.Lists.{GoesOn}
@@ -28,7 +28,7 @@ pub record WentOn (plan : Plan) (readings : List Reading) (d : Disks) (old new :
   pub lawful : Lawful plan readings (longest_in new)
   pub acknowledged : (longest_in new ≡ list_in new) ⊎ ((e : Event) × (longest_in new ≡ list_in new ++ e ∷ []))
   pub told : (from : ℕ) → EachImage (AreTold plan from (list_in old)) d.spool_before → EachImage (AreTold plan from (longest_in new)) d.spool_after
-  pub digest : stage_digest (stage_of new.journal) ≡ stage_digest (stage_of old.journal)
-  pub journal : (digest : List ℕ) → stage_of old.journal ≡ Begun digest → LeavesOnly (Survives digest (list_in old) (longest_in new)) d.journal_before d.journal_after
+  pub digest : state_digest (state_of new.journal) ≡ state_digest (state_of old.journal)
+  pub journal : (digest : List ℕ) → state_of old.journal ≡ Begun digest → LeavesOnly (Survives digest (list_in old) (longest_in new)) d.journal_before d.journal_after
   pub spool : LeavesOnly (KeepsBelow (used_of old.spool) d.spool_before) d.spool_before d.spool_after
   pub spool_now : SeenFollows (Agrees (used_of old.spool)) d.spool_before d.spool_after

@@ -9,10 +9,10 @@ use Rattle.conc_law.specs.Remaining.{remaining}
 use Rattle.conc_disk.specs.Disk.{DiskState, SeenFollows, tells_nothing}
 use Rattle.conc_disk.specs.Left.{EachImage, LeavesOnly}
 use Rattle.conc_journal_image.specs.Fields.{has_record}
-use Rattle.conc_journal.specs.Journals.{room_of, stage_of}
-use Rattle.conc_journal.specs.Stages.{has_faulted}
+use Rattle.conc_journal.specs.Journals.{room_of, state_of}
+use Rattle.conc_journal.specs.JournalStates.{has_faulted}
 use Rattle.conc_journal.specs.declared.journal.Journal.{Journal}
-use Rattle.conc_journal.specs.declared.journal.Stage.TheVariants.{Begun}
+use Rattle.conc_journal.specs.declared.journal.JournalState.TheVariants.{Begun}
 use Rattle.conc_machine.specs.StandsFor.{plan_of, readings_of}
 use Rattle.conc_spool.specs.Spools.{Agrees, KeepsBelow}
 use Rattle.conc_run_state.specs.Survival.{Survives}
@@ -57,7 +57,7 @@ pub record MayLog (work : Work) (event : Event) : Type 0 where
   pub lawful : Lawful (plan_in work) (readings_in work) (list_in work ++ event ∷ [])
   pub spelled : IsTrue (has_record event)
   pub room : 0 < room_of work.journal
-  pub sound : IsFalse (has_faulted (stage_of work.journal))
+  pub sound : IsFalse (has_faulted (state_of work.journal))
 
 -- Where the spool's disk told the ends of the first list, it tells those of the second. At each moment it had the first bytes,
 -- so many, as they were, and it has them now.
@@ -69,4 +69,4 @@ pub record TellsOn (plan : Plan) (used : ℕ) (first second : List Event) (befor
 -- at each moment the disk of a journal that is begun had a list between these
 abbrev pub SurvivesFor : Journal → List Event → List Event → DiskState → DiskState → Type 0
 SurvivesFor journal first last before after =
-    (digest : List ℕ) → stage_of journal ≡ Begun digest → LeavesOnly (Survives digest first last) before after
+    (digest : List ℕ) → state_of journal ≡ Begun digest → LeavesOnly (Survives digest first last) before after

@@ -1,7 +1,7 @@
 ghost use Rattle.std.specs.Prelude.{◌≡◌, ◌+◌, ◌∷◌, ◌++◌, [], ℕ, List, IfErr, IfOk, None, OnErr, OnOk, Some};
-ghost use Rattle.conc_journal.specs.Journals.{room_of, stage_of};
+ghost use Rattle.conc_journal.specs.Journals.{room_of, state_of};
 ghost use Rattle.conc_journal.specs.Receipts.{IsNextOf};
-ghost use Rattle.conc_journal.specs.Stages.{after_fault};
+ghost use Rattle.conc_journal.specs.JournalStates.{after_fault};
 ghost use Rattle.conc_outside.specs.Counts.{Rose};
 ghost use Rattle.conc_resolver.specs.Steps.{any_disk, IsTied, MayLog, plan_in, readings_in, SurvivesFor};
 ghost use Rattle.conc_run_state.specs.Works.{list_in};
@@ -25,13 +25,13 @@ pub(crate) fn log_event<D: Disk>(
     ensures logged { OnOk result (IsTied None work.new (D.state journal.new) any_disk) }
     ensures added { OnOk result (list_in work.new ≡ list_in work.old ++ event ∷ []) }
     ensures receipt { IfOk result (IsNextOf (Some (list_in work.old)) (λ list. list ≡ list_in work.new)) }
-    ensures stage { OnOk result (stage_of work.new.journal ≡ stage_of work.old.journal) }
+    ensures state { OnOk result (state_of work.new.journal ≡ state_of work.old.journal) }
     ensures room { OnOk result (room_of work.new.journal + 1 ≡ room_of work.old.journal) }
 
     // A fault.
     ensures not_logged { OnErr result (IsTied (Some event) work.new (D.state journal.new) any_disk) }
     ensures as_before { OnErr result (list_in work.new ≡ list_in work.old) }
-    ensures failed { OnErr result (stage_of work.new.journal ≡ after_fault event (stage_of work.old.journal)) }
+    ensures failed { OnErr result (state_of work.new.journal ≡ after_fault event (state_of work.old.journal)) }
     ensures fault { OnErr result (Rose (D.state journal.old).faults (D.state journal.new).faults) }
     ensures cause { IfErr result (λ e. e ≡ RunFail.JournalFault) }
 

@@ -4,7 +4,7 @@ ghost use Rattle.conc_types.specs.declared.script.Reading.{Reading};
 ghost use Rattle.conc_law.specs.Law.{Finished};
 ghost use Rattle.conc_resolver_choice.specs.Choices.{event_of, HasItsText};
 ghost use Rattle.conc_outside.specs.Counts.{Rose};
-ghost use Rattle.conc_journal.specs.Journals.{stage_of};
+ghost use Rattle.conc_journal.specs.Journals.{state_of};
 ghost use Rattle.conc_journal.specs.Receipts.{IsNextOf};
 ghost use Rattle.conc_machine.specs.StandsFor.{readings_of};
 ghost use Rattle.conc_run_state.specs.Disks.{disks};
@@ -57,7 +57,7 @@ fn step<D: Disk, E: Disk>(
     // Why it adds none.
     ensures journal_fault { IsErrOf result RunFail.JournalFault → Rose (D.state journal.old).faults (D.state journal.new).faults }
     ensures spool_fault { IsErrOf result RunFail.SpoolFault → Rose (E.state spool.old).faults (E.state spool.new).faults }
-    ensures sound { (IsErrOf result RunFail.JournalFault → ⊥) → stage_of work.new.journal ≡ stage_of work.old.journal }
+    ensures sound { (IsErrOf result RunFail.JournalFault → ⊥) → state_of work.new.journal ≡ state_of work.old.journal }
 {
     match next(alloc, plan, work)? {
         None => Ok(None),
@@ -90,7 +90,7 @@ pub fn run_alone<D: Disk, E: Disk>(
     // Why it ends before.
     ensures journal_fault { IsErrOf result RunFail.JournalFault → Rose (D.state journal.old).faults (D.state journal.new).faults }
     ensures spool_fault { IsErrOf result RunFail.SpoolFault → Rose (E.state spool.old).faults (E.state spool.new).faults }
-    ensures sound { (IsErrOf result RunFail.JournalFault → ⊥) → stage_of work.new.journal ≡ stage_of work.old.journal }
+    ensures sound { (IsErrOf result RunFail.JournalFault → ⊥) → state_of work.new.journal ≡ state_of work.old.journal }
 {
     while step(alloc, plan, work, journal, spool)?.is_some() {}
     Ok(())

@@ -4,9 +4,9 @@ use Rattle.std.proofs.lemmas.Option.{IfSome_then}
 use Rattle.conc_types.specs.declared.event.Event.{Event}
 use Rattle.conc_disk.specs.Disk.{DiskState, SeenFollows, Stays}
 use Rattle.conc_disk.specs.Left.{EachImage, LeavesOnly}
-use Rattle.conc_journal.specs.Journals.{FitsStage, stage_of}
-use Rattle.conc_journal.specs.Stages.{stage_digest}
-use Rattle.conc_journal.specs.declared.journal.Stage.{Stage}
+use Rattle.conc_journal.specs.Journals.{FitsState, state_of}
+use Rattle.conc_journal.specs.JournalStates.{state_digest}
+use Rattle.conc_journal.specs.declared.journal.JournalState.{JournalState}
 use Rattle.conc_law.specs.Alone.{Alone, opening}
 use Rattle.conc_law.specs.Law.{Finished, Lawful, LawfulSoFar}
 use Rattle.conc_law.specs.State.{used}
@@ -56,8 +56,8 @@ module _ (h : Handed) (journal spool : DiskState) (old new : Work) (begun : IsBe
       let with = prefix-twice begun.found (list_in new) (with_kept went.kept (list_in new)) kept (prefix-with_kept went.kept (list_in new)) in
       omega (arith, used-found, used-prefix begun.found (with_kept went.kept (list_in new)) with, went.tied.used_is)
 
-  own-digest : stage_digest (stage_of new.journal) ≡ Some h.digest
-  own-digest = went.digest ∙ ap (λ (s : Stage). stage_digest s) begun.stage
+  own-digest : state_digest (state_of new.journal) ≡ Some h.digest
+  own-digest = went.digest ∙ ap (λ (s : JournalState). state_digest s) begun.state
 
   -- what was found is taken, whatever the disks are now
   still-taken : IsTaken h begun.found
@@ -69,7 +69,7 @@ module _ (h : Handed) (journal spool : DiskState) (old new : Work) (begun : IsBe
   has-now to_so_far stays = record {
     taken = still-taken;
     so_far = to_so_far (longest_in new) went.lawful;
-    journal = IfSome_then h.journal_after.seen went.tied.journal_on (λ bytes each image left. fits-survives (stage_of new.journal) h.digest (list_in new) image went.tied.takes own-digest (each image left));
+    journal = IfSome_then h.journal_after.seen went.tied.journal_on (λ bytes each image left. fits-survives (state_of new.journal) h.digest (list_in new) image went.tied.takes own-digest (each image left));
     spool = spool-now (used (reverse begun.found)) (used_of new.spool) h.spool_before spool h.spool_after (omega (arith, used-found, used-grows)) stays (subst (λ (n : ℕ). SeenFollows (Agrees n) spool h.spool_after) used-found went.spool_now) went.tied.spool_on;
     told = told-longest;
   }
@@ -82,33 +82,33 @@ module _ (h : Handed) (journal spool : DiskState) (old new : Work) (begun : IsBe
     goes_on = inr goes-on;
     acknowledged = went.acknowledged;
     journal = journal-left h.digest begun.found (longest_in new) h.journal_before journal h.journal_after begins begun.left
-        (subst (λ (l : List Event). LeavesOnly (Survives h.digest l (longest_in new)) journal h.journal_after) begun.list (went.journal h.digest begun.stage));
+        (subst (λ (l : List Event). LeavesOnly (Survives h.digest l (longest_in new)) journal h.journal_after) begun.list (went.journal h.digest begun.state));
     spool = subst (λ (n : ℕ). LeavesOnly (Keeps h.spool_before n) h.spool_before h.spool_after) used-found (spool-left (used_of old.spool) h.spool_before spool h.spool_after stays survives went.spool);
     now = inr (has-now to_so_far stays);
   }
 
   -- no append met a fault
-  pub longest-kept : stage_of new.journal ≡ stage_of old.journal → longest_in new ≡ list_in new
-  longest-kept same = begun-longest (stage_of new.journal) h.digest (list_in new) (same ∙ begun.stage)
+  pub longest-kept : state_of new.journal ≡ state_of old.journal → longest_in new ≡ list_in new
+  longest-kept same = begun-longest (state_of new.journal) h.digest (list_in new) (same ∙ begun.state)
 
-  alone : stage_of new.journal ≡ stage_of old.journal → Finished h.plan h.readings (list_in new) → Alone h.plan h.readings begun.found (list_in new)
+  alone : state_of new.journal ≡ state_of old.journal → Finished h.plan h.readings (list_in new) → Alone h.plan h.readings begun.found (list_in new)
   alone same finished =
       let going = subst (λ (l : List Event). GoesOn h.plan h.readings (opening begun.found) l) (longest-kept same) goes-on in
       record { begins = (going.added, going.all); each = going.each; finished = finished }
 
-  pub finished-run : ((list : List Event) → Lawful h.plan h.readings list → LawfulSoFar h.plan list) → Stays h.spool_before spool → LeavesOnly h.spool_before.may_leave h.spool_before spool → stage_of new.journal ≡ stage_of old.journal
+  pub finished-run : ((list : List Event) → Lawful h.plan h.readings list → LawfulSoFar h.plan list) → Stays h.spool_before spool → LeavesOnly h.spool_before.may_leave h.spool_before spool → state_of new.journal ≡ state_of old.journal
       → Finished h.plan h.readings (list_in new) → IsFinished h (list_in new)
   finished-run to_so_far stays survives same finished = record {
     found = begun.found;
     taken = still-taken;
     alone = alone same finished;
-    journal = subst (λ (s : Stage). EachImage (FitsStage s (list_in new)) h.journal_after) (same ∙ begun.stage) went.tied.journal_on;
+    journal = subst (λ (s : JournalState). EachImage (FitsState s (list_in new)) h.journal_after) (same ∙ begun.state) went.tied.journal_on;
     told = λ from told. subst (λ (l : List Event). EachImage (AreTold h.plan from l) h.spool_after) (longest-kept same) (told-longest from told);
     left = subst (λ (l : List Event). HasLeft h begun.found (list_in new) l) (longest-kept same) (left-run to_so_far stays survives);
   }
 
   -- the run ended before its history was finished
-  pub cut-run : (e : HistoryFail) → HasCause h e → (IsTrue (is_refusal e) → IsUntouched h) → (IsFalse (is_journal_fault e) → stage_of new.journal ≡ stage_of old.journal)
+  pub cut-run : (e : HistoryFail) → HasCause h e → (IsTrue (is_refusal e) → IsUntouched h) → (IsFalse (is_journal_fault e) → state_of new.journal ≡ state_of old.journal)
       → ((list : List Event) → Lawful h.plan h.readings list → LawfulSoFar h.plan list) → Stays h.spool_before spool → LeavesOnly h.spool_before.may_leave h.spool_before spool → IsCutShort h e
   cut-run e cause untouched sound to_so_far stays survives = record {
     cause = cause;

@@ -5,18 +5,18 @@ use Rattle.conc_types.specs.declared.event.Event.{Event}
 use Rattle.conc_disk.specs.Disk.{DiskState}
 use Rattle.conc_disk.specs.Left.{LeavesOnly}
 use Rattle.conc_disk.proofs.Leaving.{if_some-any, leaves-twice, leaves-wider}
-use Rattle.conc_journal.specs.Journals.{FitsStage}
-use Rattle.conc_journal.specs.Stages.{stage_digest, takes_events}
-use Rattle.conc_journal.specs.declared.journal.Stage.{Stage}
-use Rattle.conc_journal.specs.declared.journal.Stage.TheVariants.{NotBegun, BeginFailed, Begun, Broken, AppendFailed}
+use Rattle.conc_journal.specs.Journals.{FitsState}
+use Rattle.conc_journal.specs.JournalStates.{state_digest, takes_events}
+use Rattle.conc_journal.specs.declared.journal.JournalState.{JournalState}
+use Rattle.conc_journal.specs.declared.journal.JournalState.TheVariants.{NotBegun, BeginFailed, Begun, Broken, AppendFailed}
 use Rattle.conc_law.specs.Alone.{opening}
 use Rattle.conc_run_state.specs.Lists.{failed_in, IsPrefix}
 use Rattle.conc_run_state.specs.Survival.{Survives}
 use Rattle.conc_run_state.proofs.Prefixes.{prefix-opening, prefix-self}
 use Rattle.conc_run_state.proofs.Surviving.{journal-survives, survives-wider}
 
--- what fits the stage of a journal has its list, or the longest
-pub fits-survives : (stage : Stage) (digest : List ℕ) (list : List Event) (image : List ℕ) → IsTrue (takes_events stage) → stage_digest stage ≡ Some digest → FitsStage stage list image → Survives digest list (list ++ failed_in stage) image
+-- what fits the state of a journal has its list, or the longest
+pub fits-survives : (state : JournalState) (digest : List ℕ) (list : List Event) (image : List ℕ) → IsTrue (takes_events state) → state_digest state ≡ Some digest → FitsState state list image → Survives digest list (list ++ failed_in state) image
 fits-survives (Begun own) digest list image takes is fits =
     let same : own ≡ digest = cc in
     subst (λ (d : List ℕ). Survives d list (list ++ []) image) same (journal-survives own list list (list ++ []) image (prefix-self list) ([], refl) fits)
@@ -30,9 +30,9 @@ fits-survives NotBegun digest list image takes is fits = cc
 fits-survives (BeginFailed own) digest list image takes is fits = cc
 fits-survives (Broken own) digest list image takes is fits = cc
 
--- at a stage that is begun, the list is the longest
-pub begun-longest : (stage : Stage) (digest : List ℕ) (list : List Event) → stage ≡ Begun digest → list ++ failed_in stage ≡ list
-begun-longest stage digest list is = ap (λ (s : Stage). list ++ failed_in s) is ∙ append-nil list
+-- at a state that is begun, the list is the longest
+pub begun-longest : (state : JournalState) (digest : List ℕ) (list : List Event) → state ≡ Begun digest → list ++ failed_in state ≡ list
+begun-longest state digest list is = ap (λ (s : JournalState). list ++ failed_in s) is ∙ append-nil list
 
 -- ---- the journal's disk of a whole run
 

@@ -9,11 +9,11 @@ use Rattle.conc_law.specs.Alone.{opening}
 use Rattle.conc_law.specs.Law.{Lawful}
 use Rattle.conc_law.specs.State.{used}
 use Rattle.conc_machine.specs.StandsFor.{StandsFor}
-use Rattle.conc_journal.specs.Journals.{list_of, room_of, stage_of}
+use Rattle.conc_journal.specs.Journals.{list_of, room_of, state_of}
 use Rattle.conc_journal.specs.Journals.{IsOn as JournalIsOn}
-use Rattle.conc_journal.specs.Stages.{has_faulted, takes_events}
+use Rattle.conc_journal.specs.JournalStates.{has_faulted, takes_events}
 use Rattle.conc_journal.specs.declared.journal.Journal.{Journal}
-use Rattle.conc_journal.specs.declared.journal.Stage.TheVariants.{Begun}
+use Rattle.conc_journal.specs.declared.journal.JournalState.TheVariants.{Begun}
 use Rattle.conc_spool.specs.Spools.{KeepsBelow}
 use Rattle.conc_run_state.specs.Handed.{handed, IsTaken}
 use Rattle.conc_run_open.specs.declared.examining.Examined.{Examined}
@@ -52,10 +52,10 @@ stops plan readings digest journal mid new spool spool' examined is stays left n
 
 -- the life is begun
 pub begins : (plan : Plan) (readings : Readings) (digest : List ℕ) (journal mid new spool spool' : DiskState) (examined : Examined) (list : Journal)
-    → IsExamined (handed plan readings digest journal mid spool spool') examined → Stays spool spool' → JournalIsOn list new → stage_of list ≡ Begun digest → list_of list ≡ opening (list_of examined.journal)
+    → IsExamined (handed plan readings digest journal mid spool spool') examined → Stays spool spool' → JournalIsOn list new → state_of list ≡ Begun digest → list_of list ≡ opening (list_of examined.journal)
     → room_of list + length (list_of list) ≡ room_of examined.journal + length (list_of examined.journal) → LeavesOpening (handed plan readings digest journal new spool spool') (list_of examined.journal)
     → IsBegun (handed plan readings digest journal new spool spool') (record { machine = examined.machine; journal = list; spool = examined.spool })
-begins plan readings digest journal mid new spool spool' examined list is stays on stage all room left =
+begins plan readings digest journal mid new spool spool' examined list is stays on state all room left =
     let found : List Event = list_of examined.journal in
     let more = opening-lives found in
     let longer : length (list_of list) ≡ length found + length more.0 = ap length (all ∙ more.1) ∙ length-append found more.0 in
@@ -69,7 +69,7 @@ begins plan readings digest journal mid new spool spool' examined list is stays 
           readings_are = is.ready.readings_are;
           stands = subst (λ (l : List Event). StandsFor examined.machine (reverse l)) (sym all) is.ready.stands;
           lawful = subst (Lawful plan readings.list) (sym all) (opening-lawful plan readings.list found is.ready.so_far);
-          takes = ap takes_events stage;
+          takes = ap takes_events state;
           used_is = is.ready.used_is ∙ sym (opening-used found) ∙ ap (λ (l : List Event). used (reverse l)) (sym all);
           journal_on = on;
           spool_on = is.spool_on;
@@ -81,9 +81,9 @@ begins plan readings digest journal mid new spool spool' examined list is stays 
           one = more.2;
           enough = omega (arith, is.ready.room, room, longer);
         };
-        sound = ap has_faulted stage;
+        sound = ap has_faulted state;
       };
-      stage = stage;
+      state = state;
       left = left;
       told = told-still plan readings digest journal mid new spool spool' examined is stays;
     }

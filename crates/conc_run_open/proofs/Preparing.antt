@@ -6,9 +6,9 @@ use Rattle.conc_types.specs.declared.script.Reading.{Reading}
 use Rattle.conc_law.specs.Law.{LawfulSoFar}
 use Rattle.conc_disk.specs.Disk.{Reaches}
 use Rattle.conc_disk.specs.Left.{EachImage}
-use Rattle.conc_journal.specs.Journals.{FitsStage, list_of, stage_of}
+use Rattle.conc_journal.specs.Journals.{FitsState, list_of, state_of}
 use Rattle.conc_journal.specs.Journals.{IsOn as JournalIsOn}
-use Rattle.conc_journal.specs.declared.journal.Stage.{Stage}
+use Rattle.conc_journal.specs.declared.journal.JournalState.{JournalState}
 use Rattle.conc_journal.specs.declared.opened.Opened.{Opened}
 use Rattle.conc_spool.specs.Spools.{IsOn as SpoolIsOn}
 use Rattle.conc_spool.specs.declared.spool.Spool.{Spool}
@@ -44,18 +44,18 @@ prepared-cause h opened (Err e) has long cannot_begin = found-cannot_begin h ope
 
 -- what is in hand is what was found
 pub prepared : (h : Handed) (opened : Opened) (spool : Spool) (r : Result Examined HistoryFail) → HasFound h opened → Reaches h.spool_before (counted opened.events.items) → list_of opened.journal ≡ opened.events.items
-    → (opened.broken ≡ None → JournalIsOn opened.journal h.journal_after) → (opened.broken ≡ None → MayStart h.digest (stage_of opened.journal)) → SpoolIsOn spool h.spool_after
-    → IfOk r (IsReady h.plan h.readings) → IfOk r (λ examined. list_of examined.journal ≡ list_of opened.journal) → IfOk r (λ examined. stage_of examined.journal ≡ stage_of opened.journal)
+    → (opened.broken ≡ None → JournalIsOn opened.journal h.journal_after) → (opened.broken ≡ None → MayStart h.digest (state_of opened.journal)) → SpoolIsOn spool h.spool_after
+    → IfOk r (IsReady h.plan h.readings) → IfOk r (λ examined. list_of examined.journal ≡ list_of opened.journal) → IfOk r (λ examined. state_of examined.journal ≡ state_of opened.journal)
     → IfOk r (λ examined. examined.spool ≡ spool) → OnOk r (opened.broken ≡ None) → IfOk r (IsExamined h)
-prepared h opened spool (Err e) has long same on stage spool_on ready list_is stage_is spool_is whole = tt
-prepared h opened spool (Ok examined) has long same on stage spool_on ready list_is stage_is spool_is whole =
+prepared h opened spool (Err e) has long same on state spool_on ready list_is state_is spool_is whole = tt
+prepared h opened spool (Ok examined) has long same on state spool_on ready list_is state_is spool_is whole =
     let so_far : LawfulSoFar h.plan opened.events.items = subst (LawfulSoFar h.plan) (list_is ∙ same) ready.so_far in
     record {
       found = subst (IsFound h) (sym (list_is ∙ same)) (found-good h opened has so_far whole long);
       ready = ready;
-      stage = subst (MayStart h.digest) (sym stage_is) (stage whole);
+      state = subst (MayStart h.digest) (sym state_is) (state whole);
       journal_on =
-          subst (λ (s : Stage). EachImage (FitsStage s (list_of examined.journal)) h.journal_after) (sym stage_is)
-          (subst (λ (l : List Event). EachImage (FitsStage (stage_of opened.journal) l) h.journal_after) (sym list_is) (on whole));
+          subst (λ (s : JournalState). EachImage (FitsState s (list_of examined.journal)) h.journal_after) (sym state_is)
+          (subst (λ (l : List Event). EachImage (FitsState (state_of opened.journal) l) h.journal_after) (sym list_is) (on whole));
       spool_on = subst (λ (s : Spool). SpoolIsOn s h.spool_after) (sym spool_is) spool_on;
     }

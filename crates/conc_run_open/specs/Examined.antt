@@ -6,10 +6,10 @@ use Rattle.conc_law.specs.Alone.{opening}
 use Rattle.conc_law.specs.Law.{LawfulSoFar}
 use Rattle.conc_law.specs.State.{used}
 use Rattle.conc_machine.specs.StandsFor.{plan_of, readings_of, StandsFor}
-use Rattle.conc_journal.specs.Journals.{list_of, room_of, stage_of}
+use Rattle.conc_journal.specs.Journals.{list_of, room_of, state_of}
 use Rattle.conc_journal.specs.Journals.{IsOn as JournalIsOn}
-use Rattle.conc_journal.specs.declared.journal.Stage.{Stage}
-use Rattle.conc_journal.specs.declared.journal.Stage.TheVariants.{Begun, NotBegun}
+use Rattle.conc_journal.specs.declared.journal.JournalState.{JournalState}
+use Rattle.conc_journal.specs.declared.journal.JournalState.TheVariants.{Begun, NotBegun}
 use Rattle.conc_restart.specs.Need.{need}
 use Rattle.conc_spool.specs.Spools.{used_of}
 use Rattle.conc_spool.specs.Spools.{IsOn as SpoolIsOn}
@@ -17,8 +17,8 @@ use Rattle.conc_run_state.specs.Handed.{Handed, IsFound}
 use Rattle.conc_run_open.specs.declared.examining.Examined.{Examined}
 
 -- it is begun with this digest, or not at all
-abbrev pub MayStart : List ℕ → Stage → Type 0
-MayStart digest stage = (stage ≡ NotBegun) ⊎ (stage ≡ Begun digest)
+abbrev pub MayStart : List ℕ → JournalState → Type 0
+MayStart digest state = (state ≡ NotBegun) ⊎ (state ≡ Begun digest)
 
 -- The machine stands for the events found with the resume of the life that is to begin. The journal has the events alone,
 -- with room for a life.
@@ -34,6 +34,6 @@ pub record IsReady (plan : Plan) (readings : List Reading) (examined : Examined)
 pub record IsExamined (h : Handed) (examined : Examined) : Type 0 where
   pub found : IsFound h (list_of examined.journal)
   pub ready : IsReady h.plan h.readings examined
-  pub stage : MayStart h.digest (stage_of examined.journal)
+  pub state : MayStart h.digest (state_of examined.journal)
   pub journal_on : JournalIsOn examined.journal h.journal_after
   pub spool_on : SpoolIsOn examined.spool h.spool_after

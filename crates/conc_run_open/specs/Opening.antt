@@ -4,8 +4,8 @@ use Rattle.conc_types.specs.declared.event.Event.{Event}
 use Rattle.conc_law.specs.Alone.{opening}
 use Rattle.conc_law.specs.State.{used}
 use Rattle.conc_disk.specs.Left.{EachImage, LeavesOnly}
-use Rattle.conc_journal.specs.Journals.{stage_of}
-use Rattle.conc_journal.specs.declared.journal.Stage.TheVariants.{Begun}
+use Rattle.conc_journal.specs.Journals.{state_of}
+use Rattle.conc_journal.specs.declared.journal.JournalState.TheVariants.{Begun}
 use Rattle.conc_spool.specs.Spools.{KeepsBelow}
 use Rattle.conc_run_state.specs.Handed.{Handed, IsTaken}
 use Rattle.conc_run_state.specs.Survival.{Survives}
@@ -31,7 +31,7 @@ pub record IsBegun (h : Handed) (work : Work) : Type 0 where
   pub taken : IsTaken h found
   pub list : list_in work ≡ opening found
   pub ready : AreReady h.plan h.readings work h.journal_after h.spool_after
-  pub stage : stage_of work.journal ≡ Begun h.digest
+  pub state : state_of work.journal ≡ Begun h.digest
   pub left : LeavesOpening h found
   pub told : StillTold h found
 

@@ -80,4 +80,4 @@ HasReadCause plan digest d (history_fail.JournalFull len needed) = ⊥
 
 abbrev pub HasTextCause : Plan → List ℕ → RequestId → Disks → TextFail → Type 0
 HasTextCause plan digest id d text_fail.NotEnded = HasNotEnded plan digest id d.journal_before d.spool_before
-HasTextCause plan digest id d (text_fail.HistoryFail e) = HasReadCause plan digest d e
+HasTextCause plan digest id d (text_fail.NoHistory e) = HasReadCause plan digest d e

@@ -1,7 +1,7 @@
 ghost use Rattle.std.specs.Prelude.{◌≡◌, ℕ, IfErr, IfOk, IfSome, None, OnOk, Option};
 ghost use Rattle.conc_disk.specs.Disk.{Reaches, Stays};
 ghost use Rattle.conc_disk.specs.Left.{LeavesOnly};
-ghost use Rattle.conc_journal.specs.Journals.{list_of, room_of, stage_of};
+ghost use Rattle.conc_journal.specs.Journals.{list_of, room_of, state_of};
 ghost use Rattle.conc_journal.specs.Journals.{IsOn as JournalIsOn};
 ghost use Rattle.conc_journal.specs.Opens.{IsFoundIn};
 ghost use Rattle.conc_spool.specs.Spools.{used_of};
@@ -29,7 +29,7 @@ pub(crate) fn open_own<D: Disk>(
     ensures found { IfOk result (λ opened. IfSome (D.state disk.old).seen (λ image. IsFoundIn image opened)) }
     ensures own { OnOk result (IfSome (D.state disk.old).seen (IsOwnJournal digest.now)) }
     ensures on { IfOk result (λ opened. opened.broken ≡ None → JournalIsOn opened.journal (D.state disk.new)) }
-    ensures stage { IfOk result (λ opened. opened.broken ≡ None → MayStart digest.now (stage_of opened.journal)) }
+    ensures state { IfOk result (λ opened. opened.broken ≡ None → MayStart digest.now (state_of opened.journal)) }
     ensures list { IfOk result (λ opened. list_of opened.journal ≡ opened.events.items) }
     ensures room { IfOk result (λ opened. room_of opened.journal ≡ 0) }
     ensures cause { IfErr result (IsUnopened digest.now (D.state disk.old) (D.state disk.new)) }

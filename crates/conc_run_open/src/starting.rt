@@ -2,8 +2,8 @@ ghost use Rattle.std.specs.Prelude.{◌≡◌, ◌+◌, ◌<◌, length, OnErr, 
 ghost use Rattle.conc_outside.specs.Counts.{Rose};
 ghost use Rattle.conc_law.specs.Alone.{opening};
 ghost use Rattle.conc_disk.specs.Left.{EachImage, LeavesOnly};
-ghost use Rattle.conc_journal.specs.Journals.{IsOn, list_of, room_of, stage_of};
-ghost use Rattle.conc_journal.specs.declared.journal.Stage.TheVariants.{Begun};
+ghost use Rattle.conc_journal.specs.Journals.{IsOn, list_of, room_of, state_of};
+ghost use Rattle.conc_journal.specs.declared.journal.JournalState.TheVariants.{Begun};
 ghost use Rattle.conc_run_state.specs.Survival.{Survives};
 ghost use Rattle.conc_run_open.specs.Examined.{MayStart};
 
@@ -18,12 +18,12 @@ pub(crate) fn start<D: Disk>(
     disk: &mut D,
     digest: &[u8; 32],
 ) -> Result<(), Failed>
-    requires stage { MayStart digest.now (stage_of journal.old) }
+    requires state { MayStart digest.now (state_of journal.old) }
     requires room { 0 < room_of journal.old }
     requires on { IsOn journal.old (D.state disk.old) }
 
     ensures on { OnOk result (IsOn journal.new (D.state disk.new)) }
-    ensures stage { OnOk result (stage_of journal.new ≡ Begun digest.now) }
+    ensures state { OnOk result (state_of journal.new ≡ Begun digest.now) }
     ensures list { OnOk result (list_of journal.new ≡ opening (list_of journal.old)) }
     ensures room { OnOk result (room_of journal.new + length (list_of journal.new) ≡ room_of journal.old + length (list_of journal.old)) }
     ensures fault { OnErr result (Rose (D.state disk.old).faults (D.state disk.new).faults) }

@@ -19,17 +19,17 @@ use thiserror::Error;
 pub enum TextFail {
     /// What stands on the disks is refused, or could not be read.
     #[error(transparent)]
-    HistoryFail(HistoryFail),
+    NoHistory(HistoryFail),
     /// The journal has no end of the request that has a report.
     #[error("the request has not ended with a report")]
     NotEnded,
 }
 
 impl From<HistoryFail> for TextFail {
-    ghost from_gives = { λ fail e. e ≡ text_fail.HistoryFail fail };
+    ghost from_gives = { λ fail e. e ≡ text_fail.NoHistory fail };
 
     fn from(fail: HistoryFail) -> Self {
-        TextFail::HistoryFail(fail)
+        TextFail::NoHistory(fail)
     }
 }
 
@@ -88,9 +88,9 @@ pub fn read_text<D: Disk, E: Disk>(
     };
     match texts.read(alloc, spool, extent) {
         Ok(text) => Ok(text),
-        Err(ReadBack::DiskFault) => Err(TextFail::HistoryFail(HistoryFail::DiskFault {
+        Err(ReadBack::DiskFault) => Err(TextFail::NoHistory(HistoryFail::DiskFault {
             which: DiskName::Spool,
         })),
-        Err(ReadBack::NoMemory) => Err(TextFail::HistoryFail(HistoryFail::NoMemory)),
+        Err(ReadBack::NoMemory) => Err(TextFail::NoHistory(HistoryFail::NoMemory)),
     }
 }

@@ -6,10 +6,10 @@ use Rattle.conc_types.specs.declared.plan.Plan.{Plan}
 use Rattle.conc_types.specs.declared.script.Reading.{Reading}
 use Rattle.conc_law.specs.Alone.{Follows}
 use Rattle.conc_law.specs.Kinds.{is_resume}
-use Rattle.conc_journal.specs.Journals.{list_of, stage_of}
+use Rattle.conc_journal.specs.Journals.{list_of, state_of}
 use Rattle.conc_journal.specs.declared.journal.Journal.{Journal}
-use Rattle.conc_journal.specs.declared.journal.Stage.{Stage}
-use Rattle.conc_journal.specs.declared.journal.Stage.TheVariants.{NotBegun, BeginFailed, Begun, Broken, AppendFailed}
+use Rattle.conc_journal.specs.declared.journal.JournalState.{JournalState}
+use Rattle.conc_journal.specs.declared.journal.JournalState.TheVariants.{NotBegun, BeginFailed, Begun, Broken, AppendFailed}
 
 -- the second list begins with the first
 abbrev pub IsPrefix : List Event → List Event → Type 0
@@ -24,7 +24,7 @@ pub record GoesOn (plan : Plan) (readings : List Reading) (first list : List Eve
   pub no_resume : IsFalse (list_any is_resume added)
 
 -- the events whose append met a fault: each is the last that the disk may have
-abbrev pub failed_in : Stage → List Event
+abbrev pub failed_in : JournalState → List Event
 failed_in NotBegun = []
 failed_in (BeginFailed digest) = []
 failed_in (Begun digest) = []
@@ -33,4 +33,4 @@ failed_in (AppendFailed digest event) = event ∷ []
 
 -- the longest list that the disk of a journal may have
 abbrev pub longest_of : Journal → List Event
-longest_of journal = list_of journal ++ failed_in (stage_of journal)
+longest_of journal = list_of journal ++ failed_in (state_of journal)

@@ -7,9 +7,9 @@ use Rattle.conc_law.specs.Law.{Lawful}
 use Rattle.conc_law.specs.State.{used}
 use Rattle.conc_disk.specs.Disk.{DiskState}
 use Rattle.conc_machine.specs.StandsFor.{plan_of, readings_of, StandsFor}
-use Rattle.conc_journal.specs.Journals.{list_of, room_of, stage_of}
+use Rattle.conc_journal.specs.Journals.{list_of, room_of, state_of}
 use Rattle.conc_journal.specs.Journals.{IsOn as JournalIsOn}
-use Rattle.conc_journal.specs.Stages.{has_faulted, takes_events}
+use Rattle.conc_journal.specs.JournalStates.{has_faulted, takes_events}
 use Rattle.conc_restart.specs.Need.{IsOfOneLife, need}
 use Rattle.conc_spool.specs.Spools.{used_of}
 use Rattle.conc_spool.specs.Spools.{IsOn as SpoolIsOn}
@@ -36,7 +36,7 @@ pub record AreTied (plan : Plan) (readings : List Reading) (kept : Option Event)
   pub readings_are : readings_of work.machine ≡ Some readings
   pub stands : StandsFor work.machine (reverse (list_in work))
   pub lawful : Lawful plan readings (list_in work)
-  pub takes : IsTrue (takes_events (stage_of work.journal))
+  pub takes : IsTrue (takes_events (state_of work.journal))
   pub used_is : used_of work.spool ≡ used (reverse (with_kept kept (list_in work)))
   pub journal_on : JournalIsOn work.journal journal
   pub spool_on : SpoolIsOn work.spool spool
@@ -53,4 +53,4 @@ pub record HasRoom (plan : Plan) (readings : List Reading) (work : Work) : Type 
 pub record AreReady (plan : Plan) (readings : List Reading) (work : Work) (journal spool : DiskState) : Type 0 where
   pub tied : AreTied plan readings None work journal spool
   pub room : HasRoom plan readings work
-  pub sound : IsFalse (has_faulted (stage_of work.journal))
+  pub sound : IsFalse (has_faulted (state_of work.journal))

@@ -4,7 +4,7 @@ use Rattle.conc_types.specs.declared.plan.Plan.{Plan}
 use Rattle.conc_types.specs.declared.script.Reading.{Reading}
 use Rattle.conc_disk.specs.Disk.{DiskState, Stays}
 use Rattle.conc_disk.specs.Left.{LeavesOnly}
-use Rattle.conc_top_inputs.specs.Fails.{IsThere, IsUnread, StopsAt}
+use Rattle.conc_top_inputs.specs.Fails.{IsThere, IsUnread, FailsWith}
 use Rattle.conc_top_inputs.specs.Given.{Names}
 use Rattle.conc_top_inputs.specs.declared.fail.InputFail.{InputFail}
 use Rattle.conc_top_inputs.specs.declared.fail.InputFail.TheVariants as input
@@ -65,7 +65,7 @@ untouched-beside old new spool journal = record {
 -- ---- exits
 
 -- files that give no plan
-pub unplanned : (names : Names) (a : Around) (fail : InputFail) → StopsAt a.before a.after names fail → TookNothing a.sink
+pub unplanned : (names : Names) (a : Around) (fail : InputFail) → FailsWith a.before a.after names fail → TookNothing a.sink
     → IsUnplanned names a (exit_for_input fail)
 unplanned names a (input.Refused refusal name) stops nothing = (stops, nothing)
 unplanned names a (input.Absent name) stops nothing = (stops, nothing)

@@ -7,7 +7,7 @@ use Rattle.conc_types.specs.declared.script.Readings.{Readings}
 use Rattle.conc_disk.specs.Disk.{DiskState}
 use Rattle.conc_make_run.specs.Summary.{IsSummary}
 use Rattle.conc_history.specs.Listing.{listing}
-use Rattle.conc_top_inputs.specs.Fails.{StopsAt}
+use Rattle.conc_top_inputs.specs.Fails.{FailsWith}
 use Rattle.conc_top_inputs.specs.Given.{Accepts, digest_of, Names, Sources, sources, Told, told_by}
 use Rattle.conc_top_inputs.specs.declared.fail.InputFail.TheVariants as input
 use Rattle.conc_outside.specs.Files.{ShelfState}
@@ -36,10 +36,10 @@ told_in a = told_by a.before a.after
 
 -- the reading of the files with these names ended so, and nothing was written
 abbrev pub IsUnplanned : Names → Around → Exit → Type 0
-IsUnplanned names a (exit.Refused refusal name) = StopsAt a.before a.after names (input.Refused refusal name) × TookNothing a.sink
-IsUnplanned names a (exit.Absent name) = StopsAt a.before a.after names (input.Absent name) × TookNothing a.sink
-IsUnplanned names a (exit.ReadFault name) = StopsAt a.before a.after names (input.ReadFault name) × TookNothing a.sink
-IsUnplanned names a exit.ClockFault = StopsAt a.before a.after names input.ClockFault × TookNothing a.sink
+IsUnplanned names a (exit.Refused refusal name) = FailsWith a.before a.after names (input.Refused refusal name) × TookNothing a.sink
+IsUnplanned names a (exit.Absent name) = FailsWith a.before a.after names (input.Absent name) × TookNothing a.sink
+IsUnplanned names a (exit.ReadFault name) = FailsWith a.before a.after names (input.ReadFault name) × TookNothing a.sink
+IsUnplanned names a exit.ClockFault = FailsWith a.before a.after names input.ClockFault × TookNothing a.sink
 IsUnplanned names a exit.NoMemory = TookNothing a.sink
 IsUnplanned names a _ = ⊥
 

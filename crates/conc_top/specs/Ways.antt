@@ -29,5 +29,5 @@ exit_for digest history_fail.NoMemory = exit.NoMemory
 
 -- where no text of this request's report is given
 abbrev pub exit_for_text : List ℕ → RequestId → TextFail → Exit
-exit_for_text digest id (text.HistoryFail e) = exit_for digest e
+exit_for_text digest id (text.NoHistory e) = exit_for digest e
 exit_for_text digest id text.NotEnded = exit.NotEnded id.number

@@ -102,7 +102,7 @@ fn exit_for_text(fail: TextFail, digest: &[u8; 32], id: RequestId) -> Exit
     ensures { result ≡ exit_for_text_of digest.now id fail }
 {
     match fail {
-        TextFail::HistoryFail(history) => exit_for(history, digest),
+        TextFail::NoHistory(history) => exit_for(history, digest),
         TextFail::NotEnded => Exit::NotEnded { number: id.number },
     }
 }

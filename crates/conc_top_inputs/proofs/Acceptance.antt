@@ -18,13 +18,13 @@ use Rattle.conc_top_inputs.specs.declared.accepting.Accepted.{Accepted}
 use Rattle.conc_top_inputs.specs.declared.fail.InputFail.{InputFail}
 use Rattle.conc_top_inputs.specs.declared.reading.Start.{Start}
 use Rattle.conc_top_inputs.specs.Accepting.{IsAccepted}
-use Rattle.conc_top_inputs.specs.Fails.{StopsAt}
+use Rattle.conc_top_inputs.specs.Fails.{FailsWith}
 use Rattle.conc_top_inputs.specs.Given.{HasAll, HasTables, Names, ReadsClock, Sources, Told, told_by}
 use Rattle.conc_top_inputs.specs.Reading.{HasInputs, HasStart}
 use Rattle.conc_top_inputs.specs.Refusals.{fault_of_table}
 use Rattle.conc_top_inputs.specs.Ways.{fail_without_plan}
-use Rattle.conc_top_inputs.specs.Stops.{Ends, IsTableStop, StopsInTables}
-use Rattle.conc_top_inputs.proofs.Stopping.{ends-wider, IsLater-refl, stops-at}
+use Rattle.conc_top_inputs.specs.FileFails.{Ends, IsTableFail, FailsInTables}
+use Rattle.conc_top_inputs.proofs.FileFailing.{ends-wider, IsLater-refl, stops-at}
 
 -- there are as many tables as names of them
 pub tables-long : (told : Option Files) (names : List (List ℕ)) (tables : List Table) → HasTables told names tables → length tables ≡ length names
@@ -75,7 +75,7 @@ accepted told before names a start readings has named tables same files read dig
 pub without-plan : (old new : Sources) (before : Option Files) (names : Names) (start : Start) (readings : Option Readings) (has : HasInputs (told_by old new) names start readings) (named : List (List ℕ)) (tables : List Table)
     → named ≡ start.setup.tables → before ≡ old.shelf.files → HasTables before named tables
     → (made : List Table) → made ≡ tables → (e : ReadFail) → IsFailure (plan_fault start.setup start.script.commands made) e
-    → StopsAt old new names (fail_without_plan names.setup names.script e)
+    → FailsWith old new names (fail_without_plan names.setup names.script e)
 unfolding tables-of
 without-plan old new before names start readings has named tables same files read made these fail.NoMemory failed = tt
 without-plan old new before names start readings has named tables same files read made these (fail.Refused refusal) failed =
@@ -90,24 +90,24 @@ without-plan old new before names start readings has named tables same files rea
     })
 
 at-table : (old new : Sources) (mid : ShelfState) (names : Names) (start : Start) (readings : Option Readings) (has : HasInputs (told_by old new) names start readings) (named : List (List ℕ)) (end : InputFail)
-    → named ≡ has.files.before.before.setup.tables → IsLater old.shelf mid → IsTableStop mid new.shelf named end → StopsAt old new names end
-at-table old new mid names start readings has named end same later stop =
+    → named ≡ has.files.before.before.setup.tables → IsLater old.shelf mid → IsTableFail mid new.shelf named end → FailsWith old new names end
+at-table old new mid names start readings has named end same later file_fail =
     let P : Option Files → List (List ℕ) → Type 0 = λ files all.
-    (given : HasTables files (take stop.number all) stop.tables) × (slice_get all stop.number ≡ Some stop.name)
-    × Ends old.shelf new.shelf (λ bytes fault. fault_of_table (sum_by length given.contents) bytes ≡ Some fault) (kind.Table stop.number) stop.name stop.cause in
+    (given : HasTables files (take file_fail.number all) file_fail.tables) × (slice_get all file_fail.number ≡ Some file_fail.name)
+    × Ends old.shelf new.shelf (λ bytes fault. fault_of_table (sum_by length given.contents) bytes ≡ Some fault) (kind.Table file_fail.number) file_fail.name file_fail.cause in
     let here : P mid.files named = (
-      stop.given,
-      stop.named,
-      ends-wider old.shelf mid new.shelf (λ bytes fault. fault_of_table (sum_by length stop.given.contents) bytes ≡ Some fault) (kind.Table stop.number) stop.name stop.cause later stop.ends,
+      file_fail.given,
+      file_fail.named,
+      ends-wider old.shelf mid new.shelf (λ bytes fault. fault_of_table (sum_by length file_fail.given.contents) bytes ≡ Some fault) (kind.Table file_fail.number) file_fail.name file_fail.cause later file_fail.ends,
     ) in
     let there : P old.shelf.files has.files.before.before.setup.tables = subst (P old.shelf.files) same (subst (λ t. P t named) later.files here) in
-    stops-at old new old.shelf names (kind.Table stop.number) stop.name
-    (record { before = has.files; tables = stop.tables; given = there.0; named = there.1 })
-    stop.cause end (IsLater-refl old.shelf) there.2 (inl stop.is)
+    stops-at old new old.shelf names (kind.Table file_fail.number) file_fail.name
+    (record { before = has.files; tables = file_fail.tables; given = there.0; named = there.1 })
+    file_fail.cause end (IsLater-refl old.shelf) there.2 (inl file_fail.is)
 
 -- the reading of the tables ended
 pub tables-end : (old new : Sources) (mid : ShelfState) (names : Names) (start : Start) (readings : Option Readings) (has : HasInputs (told_by old new) names start readings) (named : List (List ℕ)) (end : InputFail)
-    → named ≡ start.setup.tables → IsLater old.shelf mid → StopsInTables mid new.shelf named end → StopsAt old new names end
-tables-end old new mid names start readings has named end same later (inl none) = subst (StopsAt old new names) (sym none) tt
-tables-end old new mid names start readings has named end same later (inr stop) =
-    at-table old new mid names start readings has named end (same ∙ ap (λ (s : Setup). s.tables) has.setup) later stop
+    → named ≡ start.setup.tables → IsLater old.shelf mid → FailsInTables mid new.shelf named end → FailsWith old new names end
+tables-end old new mid names start readings has named end same later (inl none) = subst (FailsWith old new names) (sym none) tt
+tables-end old new mid names start readings has named end same later (inr file_fail) =
+    at-table old new mid names start readings has named end (same ∙ ap (λ (s : Setup). s.tables) has.setup) later file_fail

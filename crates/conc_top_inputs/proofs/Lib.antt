@@ -1,3 +1,3 @@
-pub mod Stopping
+pub mod FileFailing
 pub mod Acceptance
 pub mod Digesting

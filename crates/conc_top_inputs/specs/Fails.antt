@@ -43,12 +43,12 @@ pub record IsClockFault (old new : Sources) (names : Names) : Type 0 where
   pub silent : IsSilent old.clock new.clock
 
 -- The reading, old before and new after it, ended for this cause. Want of memory is the one that needs none
-abbrev pub StopsAt : Sources → Sources → Names → InputFail → Type 0
-StopsAt old new names (input.Refused refusal name) = IsInputRefused (told_by old new) names refusal name
-StopsAt old new names (input.Absent name) = IsAbsent old new names name
-StopsAt old new names (input.ReadFault name) = IsReadFault old new names name
-StopsAt old new names input.ClockFault = IsClockFault old new names
-StopsAt old new names input.NoMemory = Unit {0}
+abbrev pub FailsWith : Sources → Sources → Names → InputFail → Type 0
+FailsWith old new names (input.Refused refusal name) = IsInputRefused (told_by old new) names refusal name
+FailsWith old new names (input.Absent name) = IsAbsent old new names name
+FailsWith old new names (input.ReadFault name) = IsReadFault old new names name
+FailsWith old new names input.ClockFault = IsClockFault old new names
+FailsWith old new names input.NoMemory = Unit {0}
 
 -- ---- a single file
 

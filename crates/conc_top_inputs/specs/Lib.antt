@@ -2,6 +2,6 @@ pub mod Given
 pub mod Refusals
 pub mod Fails
 pub mod Ways
-pub mod Stops
+pub mod FileFails
 pub mod Reading
 pub mod Accepting

@@ -3,7 +3,7 @@ ghost use Rattle.conc_outside_clock.specs.Clocks.{ClockState};
 ghost use Rattle.conc_types.specs.Scripts.{are_commands};
 ghost use Rattle.conc_types.specs.declared.script.Readings.{Readings as ReadingsIn};
 ghost use Rattle.conc_outside.specs.Files.{IsLater, ShelfState};
-ghost use Rattle.conc_top_inputs.specs.Fails.{StopsAt};
+ghost use Rattle.conc_top_inputs.specs.Fails.{FailsWith};
 ghost use Rattle.conc_top_inputs.specs.Accepting.{IsAccepted};
 ghost use Rattle.conc_top_inputs.specs.Given.{named, sources, Told, told_by};
 ghost use Rattle.conc_top_inputs.specs.Reading.{HasInputs};
@@ -64,7 +64,7 @@ fn plan_from<F: Shelf>(
         → HasInputs told (named setup script clock) start readings → IfOk result (IsAccepted told (named setup script clock) readings) }
     ensures err { (old : ShelfState) (before after : ClockState) (clock : Option (List ℕ)) (readings : Option ReadingsIn) → IsLater old (F.state shelf.old)
         → HasInputs (told_by (sources old before) (sources (F.state shelf.new) after)) (named setup script clock) start readings
-        → IfErr result (StopsAt (sources old before) (sources (F.state shelf.new) after) (named setup script clock)) }
+        → IfErr result (FailsWith (sources old before) (sources (F.state shelf.new) after) (named setup script clock)) }
 {
     let mut digest = start.digest;
     let tables = match read_tables(alloc, shelf, start.setup.tables.as_slice(), &mut digest) {
@@ -91,7 +91,7 @@ pub fn accept<F: Shelf>(
 ) -> Result<Accepted, InputFail>
     ensures later { IsLater (F.state shelf.old) (F.state shelf.new) }
     ensures ok { (clock : ClockState) → IfOk result (IsAccepted (told_by (sources (F.state shelf.old) clock) (sources (F.state shelf.new) clock)) (named setup script None) None) }
-    ensures err { (clock : ClockState) → IfErr result (StopsAt (sources (F.state shelf.old) clock) (sources (F.state shelf.new) clock) (named setup script None)) }
+    ensures err { (clock : ClockState) → IfErr result (FailsWith (sources (F.state shelf.old) clock) (sources (F.state shelf.new) clock) (named setup script None)) }
 {
     let start = match read_start(alloc, shelf, &setup, &script) {
         Ok(start) => start,
@@ -113,7 +113,7 @@ pub fn accept_timed<F: Shelf, C: Clock>(
 ) -> Result<(Accepted, Readings), InputFail>
     ensures later { IsLater (F.state shelf.old) (F.state shelf.new) }
     ensures ok { IfOk result (λ p. IsAccepted (told_by (sources (F.state shelf.old) (C.state clock.old)) (sources (F.state shelf.new) (C.state clock.new))) (named setup script (Some file)) (Some p.1) p.0) }
-    ensures err { IfErr result (StopsAt (sources (F.state shelf.old) (C.state clock.old)) (sources (F.state shelf.new) (C.state clock.new)) (named setup script (Some file))) }
+    ensures err { IfErr result (FailsWith (sources (F.state shelf.old) (C.state clock.old)) (sources (F.state shelf.new) (C.state clock.new)) (named setup script (Some file))) }
 {
     let start = match read_start(alloc, shelf, &setup, &script) {
         Ok(start) => start,

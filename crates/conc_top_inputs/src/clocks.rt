@@ -1,11 +1,11 @@
 ghost use Rattle.std.specs.Prelude.{◌≡◌, ◌∷◌, [], codes, IfErr, IfOk};
 ghost use Rattle.conc_outside.specs.Files.{IsLater};
 ghost use Rattle.conc_top_inputs.specs.Given.{IsShown, is_system as is_system_of, ReadsFrom, reading_at as reading_of, sources, told_by};
-ghost use Rattle.conc_top_inputs.specs.Stops.{StopsAtClock, StopsUnshown};
+ghost use Rattle.conc_top_inputs.specs.FileFails.{FailsAtClock, FailsUnshown};
 
 use crate::InputFail;
 use crate::given::judge_clock;
-use crate::stop::fail_at;
+use crate::file_fail::fail_at;
 use conc_outside::Shelf;
 use conc_outside_clock::Clock;
 use conc_types::{Moment, Name, NoMemory, Reading, Readings, Seq};
@@ -35,7 +35,7 @@ fn reading_at(alloc: Global, moment: Moment) -> Result<Readings, NoMemory>
 // The one reading that the clock gives now.
 fn show<C: Clock>(alloc: Global, clock: &mut C) -> Result<Readings, InputFail>
     ensures ok { IfOk result (IsShown (C.state clock.old) (C.state clock.new)) }
-    ensures err { IfErr result (StopsUnshown (C.state clock.old) (C.state clock.new)) }
+    ensures err { IfErr result (FailsUnshown (C.state clock.old) (C.state clock.new)) }
 {
     let moment = match clock.now() {
         Ok(moment) => moment,
@@ -56,13 +56,13 @@ pub(crate) fn read_readings<F: Shelf, C: Clock>(
 ) -> Result<Readings, InputFail>
     ensures later { IsLater (F.state shelf.old) (F.state shelf.new) }
     ensures ok { IfOk result (λ readings. ReadsFrom (told_by (sources (F.state shelf.old) (C.state clock.old)) (sources (F.state shelf.new) (C.state clock.new))) name.now readings (is_system_of name.now)) }
-    ensures err { IfErr result (StopsAtClock (sources (F.state shelf.old) (C.state clock.old)) (sources (F.state shelf.new) (C.state clock.new)) name.now) }
+    ensures err { IfErr result (FailsAtClock (sources (F.state shelf.old) (C.state clock.old)) (sources (F.state shelf.new) (C.state clock.new)) name.now) }
 {
     if is_system(name) {
         return show(alloc, clock);
     }
     match judge_clock(alloc, shelf, name) {
         Ok(readings) => Ok(readings),
-        Err(stop) => Err(fail_at(alloc, stop, name)),
+        Err(file_fail) => Err(fail_at(alloc, file_fail, name)),
     }
 }

@@ -7,10 +7,10 @@ ghost use Rattle.conc_script.specs.Clock.{clock_fault, SpellsClock};
 ghost use Rattle.conc_script.specs.Script.{script_fault, SpellsScript};
 ghost use Rattle.conc_tables.specs.Tables.{SpellsTable};
 ghost use Rattle.conc_top_inputs.specs.Refusals.{fault_of_table};
-ghost use Rattle.conc_top_inputs.specs.Stops.{Ends, EndsUnread};
-ghost use Rattle.conc_top_inputs.specs.Ways.{stop_for};
+ghost use Rattle.conc_top_inputs.specs.FileFails.{Ends, EndsUnread};
+ghost use Rattle.conc_top_inputs.specs.Ways.{file_fail_for};
 
-use crate::stop::Stop;
+use crate::file_fail::FileFail;
 use conc_outside::{Shelf, ShelfFail};
 use conc_script::{read_clock, read_script};
 use conc_setup::read_setup;
@@ -22,26 +22,26 @@ use std::alloc::Global;
 const MOST_BYTES: usize = 134_217_728;
 
 // The bytes of the file with this name.
-pub(crate) fn read<F: Shelf>(alloc: Global, shelf: &mut F, name: &Name) -> Result<Vec<u8>, Stop>
+pub(crate) fn read<F: Shelf>(alloc: Global, shelf: &mut F, name: &Name) -> Result<Vec<u8>, FileFail>
     ensures later { IsLater (F.state shelf.old) (F.state shelf.new) }
     ensures ok { IfOk result (λ bytes. Gives (F.state shelf.old).files name.now bytes.items) }
     ensures err { IfErr result (EndsUnread (F.state shelf.old) (F.state shelf.new) name.now) }
 {
     match shelf.read_file(alloc, name) {
         Ok(bytes) => Ok(bytes),
-        Err(ShelfFail::Absent) => Err(Stop::Absent),
-        Err(ShelfFail::Failed) => Err(Stop::ReadFault),
-        Err(ShelfFail::NoMemory) => Err(Stop::NoMemory),
+        Err(ShelfFail::Absent) => Err(FileFail::Absent),
+        Err(ShelfFail::Failed) => Err(FileFail::ReadFault),
+        Err(ShelfFail::NoMemory) => Err(FileFail::NoMemory),
     }
 }
 
 // What a reader's refusal stops with.
-fn stop_of(fail: ReadFail) -> Stop
-    ensures { result ≡ stop_for fail }
+fn file_fail_of(fail: ReadFail) -> FileFail
+    ensures { result ≡ file_fail_for fail }
 {
     match fail {
-        ReadFail::Refused(refusal) => Stop::Refused(refusal),
-        ReadFail::NoMemory => Stop::NoMemory,
+        ReadFail::Refused(refusal) => FileFail::Refused(refusal),
+        ReadFail::NoMemory => FileFail::NoMemory,
     }
 }
 
@@ -50,7 +50,7 @@ pub(crate) fn judge_setup<F: Shelf>(
     alloc: Global,
     shelf: &mut F,
     name: &Name,
-) -> Result<(Setup, Vec<u8>), Stop>
+) -> Result<(Setup, Vec<u8>), FileFail>
     ensures later { IsLater (F.state shelf.old) (F.state shelf.new) }
     ensures ok { IfOk result (λ p. Gives (F.state shelf.old).files name.now p.1.items × (setup_in p.1.items ≡ Ok p.0)) }
     ensures err { IfErr result (Ends (F.state shelf.old) (F.state shelf.new) (λ bytes fault. fault_in bytes ≡ Some fault) kind.Setup name.now) }
@@ -58,7 +58,7 @@ pub(crate) fn judge_setup<F: Shelf>(
     let bytes = read(alloc, shelf, name)?;
     match read_setup(alloc, &bytes) {
         Ok(setup) => Ok((setup, bytes)),
-        Err(fail) => Err(stop_of(fail)),
+        Err(fail) => Err(file_fail_of(fail)),
     }
 }
 
@@ -68,7 +68,7 @@ pub(crate) fn judge_script<F: Shelf>(
     shelf: &mut F,
     name: &Name,
     setup: &Setup,
-) -> Result<(Script, Vec<u8>), Stop>
+) -> Result<(Script, Vec<u8>), FileFail>
     ensures later { IsLater (F.state shelf.old) (F.state shelf.new) }
     ensures ok { IfOk result (λ p. Gives (F.state shelf.old).files name.now p.1.items × SpellsScript setup.now p.1.items p.0) }
     ensures fits { IfOk result (λ p. IsTrue (are_commands setup.now p.0.commands)) }
@@ -77,7 +77,7 @@ pub(crate) fn judge_script<F: Shelf>(
     let bytes = read(alloc, shelf, name)?;
     match read_script(alloc, &bytes, setup) {
         Ok(script) => Ok((script, bytes)),
-        Err(fail) => Err(stop_of(fail)),
+        Err(fail) => Err(file_fail_of(fail)),
     }
 }
 
@@ -86,7 +86,7 @@ pub(crate) fn judge_clock<F: Shelf>(
     alloc: Global,
     shelf: &mut F,
     name: &Name,
-) -> Result<Readings, Stop>
+) -> Result<Readings, FileFail>
     ensures later { IsLater (F.state shelf.old) (F.state shelf.new) }
     ensures ok { IfOk result (λ readings. (bytes : List ℕ) × Gives (F.state shelf.old).files name.now bytes × SpellsClock bytes readings) }
     ensures err { IfErr result (Ends (F.state shelf.old) (F.state shelf.new) (λ bytes fault. clock_fault bytes ≡ Some fault) kind.Clock name.now) }
@@ -94,7 +94,7 @@ pub(crate) fn judge_clock<F: Shelf>(
     let bytes = read(alloc, shelf, name)?;
     match read_clock(alloc, &bytes) {
         Ok(readings) => Ok(readings),
-        Err(fail) => Err(stop_of(fail)),
+        Err(fail) => Err(file_fail_of(fail)),
     }
 }
 
@@ -106,7 +106,7 @@ pub(crate) fn judge_table<F: Shelf>(
     name: &Name,
     number: u32,
     before: usize,
-) -> Result<(Table, Vec<u8>), Stop>
+) -> Result<(Table, Vec<u8>), FileFail>
     requires { before ≤ 134217728 }
     ensures later { IsLater (F.state shelf.old) (F.state shelf.new) }
     ensures ok { IfOk result (λ p. Gives (F.state shelf.old).files name.now p.1.items × SpellsTable p.1.items p.0) }
@@ -115,7 +115,7 @@ pub(crate) fn judge_table<F: Shelf>(
 {
     let bytes = read(alloc, shelf, name)?;
     if before + bytes.len() > MOST_BYTES {
-        return Err(Stop::Refused(Refusal {
+        return Err(FileFail::Refused(Refusal {
             file: FileKind::Table(number),
             line: 0,
             kind: 33,
@@ -123,6 +123,6 @@ pub(crate) fn judge_table<F: Shelf>(
     }
     match read_table(alloc, &bytes, number) {
         Ok(table) => Ok((table, bytes)),
-        Err(fail) => Err(stop_of(fail)),
+        Err(fail) => Err(file_fail_of(fail)),
     }
 }

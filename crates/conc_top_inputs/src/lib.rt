@@ -8,7 +8,7 @@ mod fail;
 mod given;
 mod reading;
 mod single;
-mod stop;
+mod file_fail;
 
 pub use accepting::{Accepted, accept, accept_timed};
 pub use fail::InputFail;

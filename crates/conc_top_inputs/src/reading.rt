@@ -2,14 +2,14 @@ ghost use Rattle.std.specs.Prelude.{◌≡◌, ◌≤◌, length, IfErr, IfOk, I
 ghost use Rattle.conc_outside_clock.specs.Clocks.{ClockState};
 ghost use Rattle.conc_types.specs.Scripts.{are_commands};
 ghost use Rattle.conc_outside.specs.Files.{IsLater};
-ghost use Rattle.conc_top_inputs.specs.Fails.{StopsAt};
+ghost use Rattle.conc_top_inputs.specs.Fails.{FailsWith};
 ghost use Rattle.conc_top_inputs.specs.Given.{named, sources};
-ghost use Rattle.conc_top_inputs.specs.Stops.{StopsInTables};
+ghost use Rattle.conc_top_inputs.specs.FileFails.{FailsInTables};
 ghost use Rattle.conc_top_inputs.specs.Reading.{HasStart, HasTablesIn};
 
 use crate::InputFail;
 use crate::given::{judge_script, judge_setup, judge_table};
-use crate::stop::fail_at;
+use crate::file_fail::fail_at;
 use conc_journal_digest::InputDigest;
 use conc_outside::Shelf;
 use conc_types::{Name, Script, Setup, Table};
@@ -34,15 +34,15 @@ pub(crate) fn read_start<F: Shelf>(
     ensures later { IsLater (F.state shelf.old) (F.state shelf.new) }
     ensures ok { (clock : Option (List ℕ)) → IfOk result (HasStart (F.state shelf.old).files (named setup.now script.now clock)) }
     ensures fits { IfOk result (λ start. IsTrue (are_commands start.setup start.script.commands)) }
-    ensures err { (before after : ClockState) (clock : Option (List ℕ)) → IfErr result (StopsAt (sources (F.state shelf.old) before) (sources (F.state shelf.new) after) (named setup.now script.now clock)) }
+    ensures err { (before after : ClockState) (clock : Option (List ℕ)) → IfErr result (FailsWith (sources (F.state shelf.old) before) (sources (F.state shelf.new) after) (named setup.now script.now clock)) }
 {
     let (setup_read, setup_bytes) = match judge_setup(alloc, shelf, setup) {
         Ok(read) => read,
-        Err(stop) => return Err(fail_at(alloc, stop, setup)),
+        Err(file_fail) => return Err(fail_at(alloc, file_fail, setup)),
     };
     let (script_read, script_bytes) = match judge_script(alloc, shelf, script, &setup_read) {
         Ok(read) => read,
-        Err(stop) => return Err(fail_at(alloc, stop, script)),
+        Err(file_fail) => return Err(fail_at(alloc, file_fail, script)),
     };
     Ok(Start {
         digest: InputDigest::new(&setup_bytes, &script_bytes),
@@ -62,7 +62,7 @@ pub(crate) fn read_tables<F: Shelf>(
     requires { length names.now ≤ 64 }
     ensures later { IsLater (F.state shelf.old) (F.state shelf.new) }
     ensures ok { IfOk result (λ tables. HasTablesIn (F.state shelf.old).files names.now digest.old digest.new tables.items) }
-    ensures err { IfErr result (StopsInTables (F.state shelf.old) (F.state shelf.new) names.now) }
+    ensures err { IfErr result (FailsInTables (F.state shelf.old) (F.state shelf.new) names.now) }
 {
     let mut tables = Vec::new(alloc);
     let mut total = 0;
@@ -76,7 +76,7 @@ pub(crate) fn read_tables<F: Shelf>(
                 digest.add_table(name.as_bytes(), &bytes);
                 total += bytes.len();
             }
-            Err(stop) => return Err(fail_at(alloc, stop, name)),
+            Err(file_fail) => return Err(fail_at(alloc, file_fail, name)),
         }
         number += 1;
     }

@@ -4,7 +4,7 @@ ghost use Rattle.conc_top_inputs.specs.Fails.{IsUnread};
 
 use crate::InputFail;
 use crate::given::read;
-use crate::stop::fail_at;
+use crate::file_fail::fail_at;
 use conc_outside::Shelf;
 use conc_types::Name;
 use std::alloc::Global;
@@ -17,6 +17,6 @@ pub fn read_file<F: Shelf>(alloc: Global, shelf: &mut F, name: &Name) -> Result<
 {
     match read(alloc, shelf, name) {
         Ok(bytes) => Ok(bytes),
-        Err(stop) => Err(fail_at(alloc, stop, name)),
+        Err(file_fail) => Err(fail_at(alloc, file_fail, name)),
     }
 }

@@ -1,6 +1,6 @@
 ghost use Rattle.std.specs.Prelude.{◌≡◌, [], IfOk};
-ghost use Rattle.conc_journal.specs.Journals.{IsOn, list_of, room_of, stage_of};
-ghost use Rattle.conc_journal.specs.declared.journal.Stage.TheVariants.{Begun};
+ghost use Rattle.conc_journal.specs.Journals.{IsOn, list_of, room_of, state_of};
+ghost use Rattle.conc_journal.specs.declared.journal.JournalState.TheVariants.{Begun};
 
 use super::expect::{same, same_at};
 use conc_disk::Disk;
@@ -53,7 +53,7 @@ fn disk_of(alloc: Global, bytes: &[u8], fails: &[u64]) -> Result<MemDisk, Fail> 
 // A journal that is begun on a disk where none was, with room for two events.
 fn begun<Rt: Abort>(rt: &Rt, alloc: Global, disk: &mut MemDisk) -> Result<Journal, Fail>
     ensures on { IfOk result (λ journal. IsOn journal (⟦<MemDisk as Disk>⟧.state disk.new)) }
-    ensures stage { IfOk result (λ journal. stage_of journal ≡ Begun DIGEST) }
+    ensures stage { IfOk result (λ journal. state_of journal ≡ Begun DIGEST) }
     ensures list { IfOk result (λ journal. list_of journal ≡ []) }
     ensures room { IfOk result (λ journal. room_of journal ≡ 2) }
 {

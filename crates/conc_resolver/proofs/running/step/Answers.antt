@@ -41,7 +41,7 @@ returns-in_ok-log_event-in-Some-clause-went_on g c =
     let done = c.in_ok-log_event-in-Some.ensures in
     went-logged c.args.work.now c.keep.new.work (g.D.Disk.state c.args.journal.now) (g.E.Disk.state c.args.spool.now) (g.E.Disk.state c.keep.new.spool) c.requires.ready c.keep.ensures.machine c.keep.ensures.journal
     c.log_event.new.work c.in-Some.next.event (g.D.Disk.state c.log_event.new.journal) next c.keep.ensures.may kept.kept kept.told logged.survives logged.plan logged.readings logged.spool
-    done.logged done.added done.stage
+    done.logged done.added done.state
 
 pub returns-in_ok-log_event-in-Some-clause-ready : goal.returns-in_ok-log_event-in-Some-clause-ready
 returns-in_ok-log_event-in-Some-clause-ready g c =
@@ -51,7 +51,7 @@ returns-in_ok-log_event-in-Some-clause-ready g c =
     let done = c.in_ok-log_event-in-Some.ensures in
     ready-logged c.args.work.now c.keep.new.work (g.D.Disk.state c.args.journal.now) (g.E.Disk.state c.args.spool.now) (g.E.Disk.state c.keep.new.spool) c.requires.ready c.keep.ensures.machine c.keep.ensures.journal
     c.log_event.new.work c.in-Some.next.event (g.D.Disk.state c.log_event.new.journal) next c.keep.ensures.may kept.kept kept.told logged.survives logged.plan logged.readings logged.spool
-    done.logged done.added done.stage done.room
+    done.logged done.added done.state done.room
 
 pub returns-in_ok-log_event-in-Some-clause-less : goal.returns-in_ok-log_event-in-Some-clause-less
 returns-in_ok-log_event-in-Some-clause-less g c = λ _.
@@ -61,4 +61,4 @@ returns-in_ok-log_event-in-Some-clause-less g c = λ _.
     let done = c.in_ok-log_event-in-Some.ensures in
     less-logged c.args.work.now c.keep.new.work (g.D.Disk.state c.args.journal.now) (g.E.Disk.state c.args.spool.now) (g.E.Disk.state c.keep.new.spool) c.requires.ready c.keep.ensures.machine c.keep.ensures.journal
     c.log_event.new.work c.in-Some.next.event (g.D.Disk.state c.log_event.new.journal) next c.keep.ensures.may kept.kept kept.told logged.survives logged.plan logged.readings logged.spool
-    done.logged done.added done.stage
+    done.logged done.added done.state

@@ -24,7 +24,7 @@ returns-clause-examined g c =
     let made = c.prepare.ensures in
     prepared h c.in_ok-opened.opened c.in_ok-texts.texts c.prepare.result (record { own = found.own; found = found.found })
     (subst (λ (l : List Event). Reaches spool (counted l)) c.deref.ensures.value c.in_ok-texts.ensures.long)
-    found.list found.on found.stage c.in_ok-texts.ensures.on made.ready made.list made.stage made.spool made.whole
+    found.list found.on found.state c.in_ok-texts.ensures.on made.ready made.list made.state made.spool made.whole
 
 pub returns-clause-cause : goal.returns-clause-cause
 returns-clause-cause g c =

@@ -13,7 +13,7 @@ returns-in-Ok-clause-begun g c =
     let h = handed c.args.plan.now c.args.readings.now c.args.digest.now (g.D.Disk.state c.args.journal.now) (g.D.Disk.state c.start.new.disk) (g.E.Disk.state c.args.spool.now) (g.E.Disk.state c.examine.new.spool) in
     let begun = c.in-Ok.ensures in
     begins c.args.plan.now c.args.readings.now c.args.digest.now (g.D.Disk.state c.args.journal.now) (g.D.Disk.state c.examine.new.journal) (g.D.Disk.state c.start.new.disk) (g.E.Disk.state c.args.spool.now) (g.E.Disk.state c.examine.new.spool)
-    c.in_ok-machine.field-0 c.start.new.journal c.in_ok-machine.ensures.examined c.examine.ensures.untouched.spool begun.on begun.stage begun.list begun.room
+    c.in_ok-machine.field-0 c.start.new.journal c.in_ok-machine.ensures.examined c.examine.ensures.untouched.spool begun.on begun.state begun.list begun.room
     (opening-left h c.in_ok-machine.field-0.journal.events.items (g.D.Disk.state c.examine.new.journal) c.examine.ensures.untouched.journal_survives c.start.ensures.survives)
 
 pub returns-clause-given_up : goal.returns-clause-given_up

@@ -1,6 +1,6 @@
 use Rattle.std.proofs.Common.{Some, refl, subst, sym, inl, inr}
 use Rattle.conc_top_inputs.specs.Given.{named}
-use Rattle.conc_top_inputs.proofs.Stopping.{IsLater-trans}
+use Rattle.conc_top_inputs.proofs.FileFailing.{IsLater-trans}
 use Rattle.conc_top.specs.Answers.{around, IsUnplanned}
 use Rattle.conc_top.specs.Printing.{sunk}
 use Rattle.conc_top.proofs.Meaning.{check-earlier, unplanned}

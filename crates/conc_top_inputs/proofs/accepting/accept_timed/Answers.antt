@@ -1,7 +1,7 @@
 use Rattle.std.proofs.Common.{Some, refl, sym, ◌∙◌}
 use Rattle.conc_top_inputs.specs.Given.{named, sources, told_by}
 use Rattle.conc_top_inputs.proofs.Acceptance.{with-readings}
-use Rattle.conc_top_inputs.proofs.Stopping.{clock-end, IsLater-trans, reads-clock}
+use Rattle.conc_top_inputs.proofs.FileFailing.{clock-end, IsLater-trans, reads-clock}
 use Rattle.conc_top_inputs.proofs.accepting.accept_timed.Goals as goal
 
 pub returns-in-Err-read_readings-clause-err : goal.returns-in-Err-read_readings-clause-err

@@ -1,6 +1,6 @@
 use Rattle.std.proofs.Common.{◌∙◌, [], ap, length, refl, subst, sym}
 use Rattle.std.specs.List.{zip}
-use Rattle.conc_top_inputs.specs.Fails.{StopsAt}
+use Rattle.conc_top_inputs.specs.Fails.{FailsWith}
 use Rattle.conc_top_inputs.specs.Given.{named, sources}
 use Rattle.conc_top_inputs.proofs.Acceptance.{accepted, tables-end, tables-long, without-plan}
 use Rattle.conc_top_inputs.proofs.accepting.plan_from.Goals as goal
@@ -34,7 +34,7 @@ returns-in-Err-make_plan-clause-err g c old before after clock readings later ha
     let start = sources old before in
     let end = sources (state c.read_tables.new.shelf) after in
     let names = named c.args.setup c.args.script clock in
-    subst (StopsAt start end names) (sym c.fail_without_plan.ensures)
+    subst (FailsWith start end names) (sym c.fail_without_plan.ensures)
     (without-plan start end (state c.args.shelf.now).files names c.args.start readings has
     c.as_slice.result.now c.in-Ok.tables.items c.as_slice.ensures later.files
     c.in-Ok.ensures.ok.given c.from_vec.result c.from_vec.ensures c.in-Err-make_plan.fail c.in-Err-make_plan.ensures.err)

@@ -4,7 +4,7 @@ use Rattle.std.specs.Result.{is_ok}
 use Rattle.std.proofs.lemmas.List.{take_all}
 use Rattle.conc_outside.specs.Files.{Gives}
 use Rattle.conc_top_inputs.proofs.Digesting.{adds-of}
-use Rattle.conc_top_inputs.proofs.Stopping.{all-read, AreRead, IsLater-refl, IsLater-trans, tables-more, tables-none, tables-stop}
+use Rattle.conc_top_inputs.proofs.FileFailing.{all-read, AreRead, IsLater-refl, IsLater-trans, tables-more, tables-none, tables-file_fail}
 use Rattle.conc_top_inputs.proofs.reading.read_tables.Goals as goal
 
 pub loop-name-init : goal.loop-name-init
@@ -17,9 +17,9 @@ loop-name-init g c = record {
 
 pub returns-in-Err-clause-err : goal.returns-in-Err-clause-err
 returns-in-Err-clause-err g c =
-    tables-stop (g.F.Shelf.state c.args.shelf.now) (g.F.Shelf.state c.loop-name.shelf) (g.F.Shelf.state c.judge_table.new.shelf) c.args.names.now
+    tables-file_fail (g.F.Shelf.state c.args.shelf.now) (g.F.Shelf.state c.loop-name.shelf) (g.F.Shelf.state c.judge_table.new.shelf) c.args.names.now
     c.loop-name.name-index c.loop-name.number c.name-item.result c.loop-name.tables.items c.loop-name.invariant.read.0 c.loop-name.total
-    c.in-Err.stop c.fail_at.result
+    c.in-Err.file_fail c.fail_at.result
     c.loop-name-test.true c.name-item.is c.loop-name.invariant.number c.loop-name.invariant.later c.loop-name.invariant.read.1
     c.in-Err.ensures.err c.fail_at.ensures
 

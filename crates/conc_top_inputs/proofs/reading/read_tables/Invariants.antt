@@ -1,6 +1,6 @@
 use Rattle.std.proofs.Common.{◌≡◌, ◌≤◌, take}
 use Rattle.conc_outside.specs.Files.{IsLater}
-use Rattle.conc_top_inputs.proofs.Stopping.{AreRead}
+use Rattle.conc_top_inputs.proofs.FileFailing.{AreRead}
 use Rattle.conc_top_inputs.proofs.reading.read_tables.Given as goal
 
 abbrev pub invariant-loop-name : goal.invariant-loop-name

@@ -18,13 +18,13 @@ use Rattle.conc_outside.specs.Files.{file_named, Files, Gives, IsLater, Lacks, S
 use Rattle.conc_tables.specs.Tables.{SpellsTable}
 use Rattle.conc_top_inputs.specs.declared.fail.InputFail.{InputFail}
 use Rattle.conc_top_inputs.specs.declared.fail.InputFail.TheVariants as input
-use Rattle.conc_top_inputs.specs.declared.stop.Stop.{Stop}
-use Rattle.conc_top_inputs.specs.declared.stop.Stop.TheVariants as stop
-use Rattle.conc_top_inputs.specs.Fails.{IsThere, StopsAt}
+use Rattle.conc_top_inputs.specs.declared.file_fail.FileFail.{FileFail}
+use Rattle.conc_top_inputs.specs.declared.file_fail.FileFail.TheVariants as file_fail
+use Rattle.conc_top_inputs.specs.Fails.{IsThere, FailsWith}
 use Rattle.conc_top_inputs.specs.Given.{HasScript, HasTables, is_system, IsNext, Names, ReadsFrom, sources, Sources, Told, told_by}
 use Rattle.conc_top_inputs.specs.Reading.{HasTablesIn}
 use Rattle.conc_top_inputs.specs.Refusals.{fault_of_table, HasFault, IsFileRefused}
-use Rattle.conc_top_inputs.specs.Stops.{Ends, IsFailAt, StopsAtClock, StopsInTables, StopsUnshown}
+use Rattle.conc_top_inputs.specs.FileFails.{Ends, IsFailAt, FailsAtClock, FailsInTables, FailsUnshown}
 use Rattle.conc_top_inputs.specs.Ways.{fail_at}
 use Rattle.conc_journal_digest.specs.Taken.{HasTaken}
 use Rattle.conc_journal_digest.specs.declared.input.InputDigest.{InputDigest}
@@ -46,15 +46,15 @@ pub IsLater-refl : (a : ShelfState) → IsLater a a
 IsLater-refl a = record { files = refl; absences = omega arith; faults = omega arith }
 
 -- the same file ends a longer reading
-pub ends-wider : (old mid new : ShelfState) (has_fault : List ℕ → Fault → Type 0) (file : FileKind) (name : List ℕ) (s : Stop) → IsLater old mid
+pub ends-wider : (old mid new : ShelfState) (has_fault : List ℕ → Fault → Type 0) (file : FileKind) (name : List ℕ) (s : FileFail) → IsLater old mid
     → Ends mid new has_fault file name s → Ends old new has_fault file name s
-ends-wider old mid new has_fault file name (stop.Refused refusal) later h =
+ends-wider old mid new has_fault file name (file_fail.Refused refusal) later h =
     record { bytes = h.bytes; given = subst (λ t. Gives t name h.bytes) later.files h.given; file_is = h.file_is; fault = h.fault }
-ends-wider old mid new has_fault file name stop.Absent later h =
+ends-wider old mid new has_fault file name file_fail.Absent later h =
     (subst (λ t. Lacks t name) later.files h.0, Rose-wider old.absences mid.absences new.absences later.absences h.1)
-ends-wider old mid new has_fault file name stop.ReadFault later h =
+ends-wider old mid new has_fault file name file_fail.ReadFault later h =
     (subst (λ t. IsThere t name) later.files h.0, Rose-wider old.faults mid.faults new.faults later.faults h.1)
-ends-wider old mid new has_fault file name stop.NoMemory later h = tt
+ends-wider old mid new has_fault file name file_fail.NoMemory later h = tt
 
 refused : (told : Told) (names : Names) (file : FileKind) (name : List ℕ) (next : IsNext told names file name) (refusal : Refusal) (bytes : List ℕ)
     → refusal.file ≡ file → Gives told.files name bytes → HasFault told names file name next bytes (refusal.line, refusal.kind) → IsFileRefused told names refusal name
@@ -63,19 +63,19 @@ refused told names file name next refusal bytes same given fault =
     = subst (λ k. (n : IsNext told names k name) × HasFault told names k name n bytes (refusal.line, refusal.kind)) (sym same) (next, fault) in
     record { next = at.0; bytes = bytes; given = given; fault = at.1 }
 
-stops-by : (old new : Sources) (names : Names) (file : FileKind) (name : List ℕ) (next : IsNext (told_by old new) names file name) (s : Stop)
-    → Ends old.shelf new.shelf (HasFault (told_by old new) names file name next) file name s → StopsAt old new names (fail_at s name)
-stops-by old new names file name next (stop.Refused refusal) h = inl (refused (told_by old new) names file name next refusal h.bytes h.file_is h.given h.fault)
-stops-by old new names file name next stop.Absent h = record { file = file; next = next; lacking = h.0; counted = h.1 }
-stops-by old new names file name next stop.ReadFault h = record { file = file; next = next; there = h.0; counted = h.1 }
-stops-by old new names file name next stop.NoMemory h = tt
+stops-by : (old new : Sources) (names : Names) (file : FileKind) (name : List ℕ) (next : IsNext (told_by old new) names file name) (s : FileFail)
+    → Ends old.shelf new.shelf (HasFault (told_by old new) names file name next) file name s → FailsWith old new names (fail_at s name)
+stops-by old new names file name next (file_fail.Refused refusal) h = inl (refused (told_by old new) names file name next refusal h.bytes h.file_is h.given h.fault)
+stops-by old new names file name next file_fail.Absent h = record { file = file; next = next; lacking = h.0; counted = h.1 }
+stops-by old new names file name next file_fail.ReadFault h = record { file = file; next = next; there = h.0; counted = h.1 }
+stops-by old new names file name next file_fail.NoMemory h = tt
 
 -- the file that was next ends the reading, and this is its failure
-pub stops-at : (old new : Sources) (mid : ShelfState) (names : Names) (file : FileKind) (name : List ℕ) (next : IsNext (told_by old new) names file name) (s : Stop) (end : InputFail)
-    → IsLater old.shelf mid → Ends mid new.shelf (HasFault (told_by old new) names file name next) file name s → IsFailAt s name end → StopsAt old new names end
-stops-at old new mid names file name next s end later h (inl is) = subst (StopsAt old new names) (sym is)
+pub stops-at : (old new : Sources) (mid : ShelfState) (names : Names) (file : FileKind) (name : List ℕ) (next : IsNext (told_by old new) names file name) (s : FileFail) (end : InputFail)
+    → IsLater old.shelf mid → Ends mid new.shelf (HasFault (told_by old new) names file name next) file name s → IsFailAt s name end → FailsWith old new names end
+stops-at old new mid names file name next s end later h (inl is) = subst (FailsWith old new names) (sym is)
     (stops-by old new names file name next s (ends-wider old.shelf mid new.shelf (HasFault (told_by old new) names file name next) file name s later h))
-stops-at old new mid names file name next s end later h (inr is) = subst (StopsAt old new names) (sym is) tt
+stops-at old new mid names file name next s end later h (inr is) = subst (FailsWith old new names) (sym is) tt
 
 -- the clock that is named was read, also as seen from the beginning
 pub reads-clock : (old new : Sources) (mid : ShelfState) → mid.files ≡ old.shelf.files → (name : List ℕ) (readings : Readings)
@@ -85,7 +85,7 @@ reads-clock old new mid same name readings =
 
 -- the clock that was asked ends the reading
 unshown : (old new : Sources) (names : Names) (name : List ℕ) → HasScript old.shelf.files names → names.clock ≡ Some name → is_system name ≡ true
-    → (end : InputFail) → StopsUnshown old.clock new.clock end → StopsAt old new names end
+    → (end : InputFail) → FailsUnshown old.clock new.clock end → FailsWith old new names end
 unshown old new names name before named asked input.ClockFault h = record { before = before; name = name; named = named; asked = asked; silent = h }
 unshown old new names name before named asked input.NoMemory h = tt
 unshown old new names name before named asked (input.Refused refusal file) h = absurd h
@@ -94,7 +94,7 @@ unshown old new names name before named asked (input.ReadFault file) h = absurd 
 
 -- the clock that is named ends the reading
 pub clock-end : (old new : Sources) (mid : ShelfState) (names : Names) (name : List ℕ) (end : InputFail) → HasScript old.shelf.files names → names.clock ≡ Some name
-    → IsLater old.shelf mid → StopsAtClock (sources mid old.clock) new name end → StopsAt old new names end
+    → IsLater old.shelf mid → FailsAtClock (sources mid old.clock) new name end → FailsWith old new names end
 clock-end old new mid names name end before named later (inl h) = unshown old new names name before named h.0 end h.1
 clock-end old new mid names name end before named later (inr h) =
     stops-at old new mid names kind.Clock name (before, named, h.from_file) h.cause end later h.ends h.is
@@ -142,11 +142,11 @@ all-read told names some tables total old new all read =
     subst (λ l. HasTablesIn told l old new tables) all (record { given = read.0; digest = read.2 })
 
 -- the table that was next ends the reading
-pub tables-stop : (old mid new : ShelfState) (names : List (List ℕ)) (i number : ℕ) (name : List ℕ) (tables : List Table) (has : HasTables old.files (take i names) tables) (total : ℕ) (s : Stop) (end : InputFail)
+pub tables-file_fail : (old mid new : ShelfState) (names : List (List ℕ)) (i number : ℕ) (name : List ℕ) (tables : List Table) (has : HasTables old.files (take i names) tables) (total : ℕ) (s : FileFail) (end : InputFail)
     → i < length names → name ≡ get_or names i name → number ≡ i → IsLater old mid → sum_by length has.contents ≡ total
-    → Ends mid new (λ bytes fault. fault_of_table total bytes ≡ Some fault) (kind.Table number) name s → IsFailAt s name end → StopsInTables old new names end
-tables-stop old mid new names i number name tables has total s end below here at later so_far h (inr is) = inl is
-tables-stop old mid new names i number name tables has total s end below here at later so_far h (inl is) =
+    → Ends mid new (λ bytes fault. fault_of_table total bytes ≡ Some fault) (kind.Table number) name s → IsFailAt s name end → FailsInTables old new names end
+tables-file_fail old mid new names i number name tables has total s end below here at later so_far h (inr is) = inl is
+tables-file_fail old mid new names i number name tables has total s end below here at later so_far h (inl is) =
     inr (record {
       number = i;
       name = name;

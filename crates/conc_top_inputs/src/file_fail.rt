@@ -1,4 +1,4 @@
-ghost use Rattle.conc_top_inputs.specs.Stops.{IsFailAt};
+ghost use Rattle.conc_top_inputs.specs.FileFails.{IsFailAt};
 
 use crate::InputFail;
 use conc_types::{Name, NoMemory, Refusal};
@@ -6,14 +6,14 @@ use std::alloc::Global;
 
 // Why a file ends the reading.
 #[derive(Clone, Copy)]
-pub(crate) enum Stop {
+pub(crate) enum FileFail {
     Refused(Refusal),
     Absent,
     ReadFault,
     NoMemory,
 }
 
-impl Stop {
+impl FileFail {
     ghost use Rattle.std.specs.Prelude.{◌≡◌};
     ghost use Rattle.conc_top_inputs.specs.Ways.{fail_at};
 
@@ -22,20 +22,20 @@ impl Stop {
         ensures { result ≡ fail_at self name }
     {
         match self {
-            Stop::Refused(refusal) => InputFail::Refused { refusal, name },
-            Stop::Absent => InputFail::Absent { name },
-            Stop::ReadFault => InputFail::ReadFault { name },
-            Stop::NoMemory => InputFail::NoMemory,
+            FileFail::Refused(refusal) => InputFail::Refused { refusal, name },
+            FileFail::Absent => InputFail::Absent { name },
+            FileFail::ReadFault => InputFail::ReadFault { name },
+            FileFail::NoMemory => InputFail::NoMemory,
         }
     }
 }
 
 // The failure for the file with this name, where there is memory for a name.
-pub(crate) fn fail_at(alloc: Global, stop: Stop, name: &Name) -> InputFail
-    ensures { IsFailAt stop name.now result }
+pub(crate) fn fail_at(alloc: Global, file_fail: FileFail, name: &Name) -> InputFail
+    ensures { IsFailAt file_fail name.now result }
 {
     match name.try_clone(alloc) {
-        Ok(name) => stop.at(name),
+        Ok(name) => file_fail.at(name),
         Err(NoMemory) => InputFail::NoMemory,
     }
 }

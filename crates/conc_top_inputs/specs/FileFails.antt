@@ -10,8 +10,8 @@ use Rattle.conc_types.specs.Faults.{Fault}
 use Rattle.conc_outside.specs.Counts.{Rose}
 use Rattle.conc_outside.specs.Files.{Files, Gives, Lacks, ShelfState}
 use Rattle.conc_script.specs.Clock.{clock_fault}
-use Rattle.conc_top_inputs.specs.declared.stop.Stop.{Stop}
-use Rattle.conc_top_inputs.specs.declared.stop.Stop.TheVariants as stop
+use Rattle.conc_top_inputs.specs.declared.file_fail.FileFail.{FileFail}
+use Rattle.conc_top_inputs.specs.declared.file_fail.FileFail.TheVariants as file_fail
 use Rattle.conc_top_inputs.specs.declared.fail.InputFail.{InputFail}
 use Rattle.conc_top_inputs.specs.declared.fail.InputFail.TheVariants as input
 use Rattle.conc_top_inputs.specs.Fails.{IsSilent, IsThere}
@@ -27,51 +27,51 @@ pub record WasRefused (told : Option Files) (has_fault : List ℕ → Fault → 
   pub fault : has_fault bytes (refusal.line, refusal.kind)
 
 -- the file with this name could not be read, for this cause
-abbrev pub EndsUnread : ShelfState → ShelfState → List ℕ → Stop → Type 0
-EndsUnread old new name (stop.Refused refusal) = ⊥
-EndsUnread old new name stop.Absent = Lacks old.files name × Rose old.absences new.absences
-EndsUnread old new name stop.ReadFault = IsThere old.files name × Rose old.faults new.faults
-EndsUnread old new name stop.NoMemory = Unit {0}
+abbrev pub EndsUnread : ShelfState → ShelfState → List ℕ → FileFail → Type 0
+EndsUnread old new name (file_fail.Refused refusal) = ⊥
+EndsUnread old new name file_fail.Absent = Lacks old.files name × Rose old.absences new.absences
+EndsUnread old new name file_fail.ReadFault = IsThere old.files name × Rose old.faults new.faults
+EndsUnread old new name file_fail.NoMemory = Unit {0}
 
 -- the file of this kind, under this name, ends the reading for this cause
-abbrev pub Ends : ShelfState → ShelfState → (List ℕ → Fault → Type 0) → FileKind → List ℕ → Stop → Type 0
-Ends old new has_fault file name (stop.Refused refusal) = WasRefused old.files has_fault file name refusal
+abbrev pub Ends : ShelfState → ShelfState → (List ℕ → Fault → Type 0) → FileKind → List ℕ → FileFail → Type 0
+Ends old new has_fault file name (file_fail.Refused refusal) = WasRefused old.files has_fault file name refusal
 Ends old new has_fault file name s = EndsUnread old new name s
 
 -- the failure for the file with this name, unless there was no memory for it
-abbrev pub IsFailAt : Stop → List ℕ → InputFail → Type 0
+abbrev pub IsFailAt : FileFail → List ℕ → InputFail → Type 0
 IsFailAt s name end = (end ≡ fail_at s name) ⊎ (end ≡ input.NoMemory)
 
 -- ---- the clock
 
 -- the clock gave no moment, or there was no memory for its reading
-abbrev pub StopsUnshown : ClockState → ClockState → InputFail → Type 0
-StopsUnshown old new input.ClockFault = IsSilent old new
-StopsUnshown old new input.NoMemory = Unit {0}
-StopsUnshown old new _ = ⊥
+abbrev pub FailsUnshown : ClockState → ClockState → InputFail → Type 0
+FailsUnshown old new input.ClockFault = IsSilent old new
+FailsUnshown old new input.NoMemory = Unit {0}
+FailsUnshown old new _ = ⊥
 
 -- the clock's file ends the reading
-pub record IsClockFileStop (old new : Sources) (name : List ℕ) (end : InputFail) : Type 0 where
+pub record IsClockFileFail (old new : Sources) (name : List ℕ) (end : InputFail) : Type 0 where
   pub from_file : is_system name ≡ false
-  pub cause : Stop
+  pub cause : FileFail
   pub ends : Ends old.shelf new.shelf (λ bytes fault. clock_fault bytes ≡ Some fault) kind.Clock name cause
   pub is : IsFailAt cause name end
 
-abbrev pub StopsAtClock : Sources → Sources → List ℕ → InputFail → Type 0
-StopsAtClock old new name end = ((is_system name ≡ true) × StopsUnshown old.clock new.clock end) ⊎ IsClockFileStop old new name end
+abbrev pub FailsAtClock : Sources → Sources → List ℕ → InputFail → Type 0
+FailsAtClock old new name end = ((is_system name ≡ true) × FailsUnshown old.clock new.clock end) ⊎ IsClockFileFail old new name end
 
 -- ---- tables
 
 -- the reading of the tables with these names ended at one of them
-pub record IsTableStop (old new : ShelfState) (names : List (List ℕ)) (end : InputFail) : Type 0 where
+pub record IsTableFail (old new : ShelfState) (names : List (List ℕ)) (end : InputFail) : Type 0 where
   pub number : ℕ
   pub name : List ℕ
   pub named : slice_get names number ≡ Some name
   pub tables : List Table
   pub given : HasTables old.files (take number names) tables
-  pub cause : Stop
+  pub cause : FileFail
   pub ends : Ends old new (λ bytes fault. fault_of_table (sum_by length given.contents) bytes ≡ Some fault) (kind.Table number) name cause
   pub is : end ≡ fail_at cause name
 
-abbrev pub StopsInTables : ShelfState → ShelfState → List (List ℕ) → InputFail → Type 0
-StopsInTables old new names end = (end ≡ input.NoMemory) ⊎ IsTableStop old new names end
+abbrev pub FailsInTables : ShelfState → ShelfState → List (List ℕ) → InputFail → Type 0
+FailsInTables old new names end = (end ≡ input.NoMemory) ⊎ IsTableFail old new names end
