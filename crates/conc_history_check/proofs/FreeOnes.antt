@@ -18,7 +18,7 @@ use Rattle.conc_law.specs.State.{facts_at, is_live, no_facts}
 use Rattle.conc_law.specs.Words.{Has, id_eq}
 use Rattle.conc_law.proofs.Numbering.{found}
 use Rattle.conc_machine_queue.proofs.Maps.{place_of_request}
-use Rattle.conc_machine_classes.specs.Classes.{AreClasses, are_rivals, clash, class_at, rivals_at, spares_at}
+use Rattle.conc_machine_classes.specs.Classes.{AreClasses, are_rivals, clash, class_at, rivals_at, excludes_kin_at}
 use Rattle.conc_machine_classes.specs.declared.classes.Classes.{Classes}
 use Rattle.conc_history_check.specs.Live.{AreLive, IsLiveOf, noted, rival_noted}
 
@@ -112,10 +112,10 @@ other_number plan s q r hq hr is not = false_from_ne_true (id_eq q.number r.numb
 
 -- a rival that is noted is live, and excludes the request unless they are kin
 pub free-not : (plan : Plan) (classes : Classes) (s : State) (live : List (Option RequestId)) (r : Req) (id : RequestId) → AreClasses plan classes → AreLive plan classes s live
-    → Has plan.requests r → is_live (facts_at s r) ≡ false → rival_noted classes live (class_at classes r) ≡ Some id → spares_at classes (class_at classes r) ≡ false
+    → Has plan.requests r → is_live (facts_at s r) ≡ false → rival_noted classes live (class_at classes r) ≡ Some id → excludes_kin_at classes (class_at classes r) ≡ false
     → is_free plan s r ≡ false
 unfolding is_free rival_noted are_rivals
-free-not plan classes s live r id are lives has idle some spares = by _ refl some where
+free-not plan classes s live r id are lives has idle some excludes_kin = by _ refl some where
   at : (d : ℕ) → find (λ d. is_some (noted live d)) (rivals_at classes (class_at classes r)) ≡ Some d → noted live d ≡ Some id → is_free plan s r ≡ false
   at d is here = one (lives.own d id here) where
     one : IsLiveOf plan classes s d id → is_free plan s r ≡ false
@@ -124,7 +124,7 @@ free-not plan classes s live r id are lives has idle some spares = by _ refl som
         let rivals : are_rivals classes (class_at classes r) (class_at classes q) ≡ true =
         any-has (λ x. x == class_at classes q) (rivals_at classes (class_at classes r)) d (find-some _ (rivals_at classes (class_at classes r)) d is).0 (eq-eqb d (class_at classes q) (sym class)) in
         let clashes : clash plan q r ≡ true = clash-comm plan q r ∙ are.rivals r q has hq ∙ rivals in
-        let strangers : is_kin q r ≡ false = false_from_ne_true (is_kin q r) (λ kin. both_ways _ (are.spared q r hq has kin spares) clashes) in
+        let strangers : is_kin q r ≡ false = false_from_ne_true (is_kin q r) (λ kin. both_ways _ (are.kin_marked q r hq has kin excludes_kin) clashes) in
         let distinct : id_eq q.number r.number ≡ false = other_number plan s q r hq has is_live_there idle in
         ap not (any-has (blocks plan s r) plan.requests q hq
         (blocks-by plan s r q ∙ and_from _ _ is_live_there (rw (distinct, strangers) clashes)))

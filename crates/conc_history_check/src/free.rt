@@ -72,6 +72,6 @@ pub(crate) fn is_free(
     let class = classes.class(r);
     match rival_noted(classes, live, class) {
         None => true,
-        Some(rival) => classes.spares(class) && is_free_of_all(plan, state, r, rival),
+        Some(rival) => classes.excludes_kin(class) && is_free_of_all(plan, state, r, rival),
     }
 }

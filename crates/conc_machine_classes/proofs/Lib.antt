@@ -1,9 +1,9 @@
 pub mod KindEquality
 pub mod Pushes
-pub mod Seats
-pub mod SeatSteps
+pub mod Slots
+pub mod PartitionSteps
 pub mod Passing
 pub mod RivalRows
-pub mod Spared
+pub mod KinMarked
 pub mod Numbered
 pub mod Made

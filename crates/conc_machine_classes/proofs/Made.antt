@@ -1,4 +1,4 @@
--- What is seated, with its rows of rivals and its spares, are the classes of a plan.
+-- What has its place, with its rows of rivals and its marks of kin, are the classes of a plan.
 use Rattle.std.proofs.Common.{◌≡◌, ℕ, suc, ◌==◌, Bool, true, List, [], ◌∷◌, length, None, Some, refl, subst, sym, ◌∙◌, ap, arith, inl, inr}
 use Rattle.std.specs.Prelude.{slice_get, unwrap_or, IsTrue}
 use Rattle.std.specs.Bool.{then_some}
@@ -19,12 +19,12 @@ use Rattle.conc_law.proofs.Options.{some_and-some}
 use Rattle.conc_law.proofs.Positions.{slice_get-some}
 use Rattle.conc_machine_classes.specs.declared.classes.Classes.{Classes}
 use Rattle.conc_machine_classes.specs.declared.kinds.Head.{Head}
-use Rattle.conc_machine_classes.specs.declared.seating.Seating.{Seating}
-use Rattle.conc_machine_classes.specs.Classes.{are_rising, are_rivals, AreClasses, clash, class_at, of_class, rivals_at, seat_at, spares_at}
+use Rattle.conc_machine_classes.specs.declared.partition.Partition.{Partition}
+use Rattle.conc_machine_classes.specs.Classes.{are_rising, are_rivals, AreClasses, clash, class_at, of_class, rivals_at, slot_at, excludes_kin_at}
 use Rattle.conc_machine_classes.specs.Kinds.{kind_at, kind_of, kinds_clash}
 use Rattle.conc_machine_classes.specs.Rivals.{heads_clash, row_of, rows_of}
-use Rattle.conc_machine_classes.specs.Seatings.{AreSeated, IsSeating, picked}
-use Rattle.conc_machine_classes.specs.Spares.{are_row_rivals, AreSpared, IsMarked, parent_class, rival_parent}
+use Rattle.conc_machine_classes.specs.Partitions.{ArePartitioned, IsPartition, picked}
+use Rattle.conc_machine_classes.specs.ExcludesKin.{are_row_rivals, AreKinMarked, IsMarked, parent_class, rival_parent}
 use Rattle.conc_machine_classes.proofs.KindEquality.{clash_by_kinds}
 use Rattle.conc_machine_classes.proofs.Numbered.{number_at, numbered-got, place-got, place_of}
 use Rattle.conc_machine_classes.proofs.Passing.{get-mapped, places-any, places-rising}
@@ -47,10 +47,10 @@ filter-picked f c (k ∷ ks) (r ∷ rs) e h =
     ]
 
 -- ---- what a mark says
-marked-spares : (spares : List Bool) (c : ℕ) → IsMarked spares c → unwrap_or (slice_get spares c) true ≡ true
-marked-spares spares c mark = elim (cases_lt c (length spares)) [
+marked-excludes_kin : (excludes_kin : List Bool) (c : ℕ) → IsMarked excludes_kin c → unwrap_or (slice_get excludes_kin c) true ≡ true
+marked-excludes_kin excludes_kin c mark = elim (cases_lt c (length excludes_kin)) [
   | inl within ↦ ap (λ o. unwrap_or o true) (mark within)
-  | inr past ↦ ap (λ o. unwrap_or o true) (slice_get_past spares c past)
+  | inr past ↦ ap (λ o. unwrap_or o true) (slice_get_past excludes_kin c past)
 ]
 
 clash-comm : (plan : Plan) (x y : Req) → clash plan x y ≡ clash plan y x
@@ -71,28 +71,28 @@ rival_parent-got cs rows q r c p kin is rivals =
 -- ---- the classes
 module _ (plan : Plan) (cs ss ns : List ℕ) (hs : List Head) (sp : List Bool) where
   abbrev made : Classes
-  made = record { classes = cs; seats = ss; sizes = ns; rivals = rows_of plan hs hs; spares = sp }
+  made = record { classes = cs; slots = ss; sizes = ns; rivals = rows_of plan hs hs; excludes_kin = sp }
 
-  class-got : AreSeated plan plan.requests cs ss ns hs → (k : ℕ) (r : Req) → slice_get plan.requests k ≡ Some r → slice_get cs k ≡ Some (class_at made r)
+  class-got : ArePartitioned plan plan.requests cs ss ns hs → (k : ℕ) (r : Req) → slice_get plan.requests k ≡ Some r → slice_get cs k ≡ Some (class_at made r)
   unfolding class_at
   class-got is k r here = place-got cs r.number.number k (number_at plan k r here) (omega (arith, slice_get_within plan.requests k r here, is.each_class))
 
-  class-numbered : AreSeated plan plan.requests cs ss ns hs → (r : Req) → Has plan.requests r → numbered cs r.number.number ≡ Some (class_at made r)
+  class-numbered : ArePartitioned plan plan.requests cs ss ns hs → (r : Req) → Has plan.requests r → numbered cs r.number.number ≡ Some (class_at made r)
   unfolding class_at
   class-numbered is r has =
       let w : (k : ℕ) × (r.number.number ≡ suc k) × (slice_get plan.requests k ≡ Some r) = place_of plan r has in
       numbered-got cs r.number.number w.0 w.1 (omega (arith, slice_get_within plan.requests w.0 r w.2, is.each_class))
 
-  seat-got : AreSeated plan plan.requests cs ss ns hs → (k : ℕ) (r : Req) → slice_get plan.requests k ≡ Some r → slice_get ss k ≡ Some (seat_at made r)
-  unfolding seat_at
-  seat-got is k r here = place-got ss r.number.number k (number_at plan k r here) (omega (arith, slice_get_within plan.requests k r here, is.each_seat))
+  slot-got : ArePartitioned plan plan.requests cs ss ns hs → (k : ℕ) (r : Req) → slice_get plan.requests k ≡ Some r → slice_get ss k ≡ Some (slot_at made r)
+  unfolding slot_at
+  slot-got is k r here = place-got ss r.number.number k (number_at plan k r here) (omega (arith, slice_get_within plan.requests k r here, is.each_slot))
 
-  of_class-picked : AreSeated plan plan.requests cs ss ns hs → (c : ℕ) → of_class plan made c ≡ picked c cs plan.requests
+  of_class-picked : ArePartitioned plan plan.requests cs ss ns hs → (c : ℕ) → of_class plan made c ≡ picked c cs plan.requests
   unfolding of_class
   of_class-picked is c = filter-picked (class_at made) c cs plan.requests is.each_class (class-got is)
 
   -- the head of the class of a request
-  head-got : AreSeated plan plan.requests cs ss ns hs → (r : Req) → Has plan.requests r
+  head-got : ArePartitioned plan plan.requests cs ss ns hs → (r : Req) → Has plan.requests r
       → (head : Head) × (slice_get hs (class_at made r) ≡ Some head) × (kind_at plan head ≡ kind_of plan r)
   head-got is r has =
       let w : (k : ℕ) × (r.number.number ≡ suc k) × (slice_get plan.requests k ≡ Some r) = place_of plan r has in
@@ -105,7 +105,7 @@ module _ (plan : Plan) (cs ss ns : List ℕ) (hs : List Head) (sp : List Bool) w
   row-got : (c : ℕ) (head : Head) → slice_get hs c ≡ Some head → unwrap_or (slice_get (rows_of plan hs hs) c) [] ≡ row_of plan hs head
   row-got c head here = ap (λ o. unwrap_or o []) (get-mapped (row_of plan hs) hs c head here)
 
-  rivals-made : AreSeated plan plan.requests cs ss ns hs → (x y : Req) → Has plan.requests x → Has plan.requests y
+  rivals-made : ArePartitioned plan plan.requests cs ss ns hs → (x y : Req) → Has plan.requests x → Has plan.requests y
       → clash plan x y ≡ list_any (λ z. z == class_at made y) (unwrap_or (slice_get (rows_of plan hs hs) (class_at made x)) [])
   unfolding heads_clash row_of
   rivals-made is x y has_x has_y =
@@ -117,7 +117,7 @@ module _ (plan : Plan) (cs ss ns : List ℕ) (hs : List Head) (sp : List Bool) w
       ap (λ k. kinds_clash plan.setup k (kind_at plan b.0)) a.2 ∙ ap (kinds_clash plan.setup (kind_of plan x)) b.2 in
       clash_by_kinds plan x y ∙ (sym kinds ∙ (sym row ∙ ap (list_any (λ z. z == class_at made y)) (sym (row-got (class_at made x) a.0 a.1))))
 
-  rising-made : AreSeated plan plan.requests cs ss ns hs → (c : ℕ) → IsTrue (are_rising (length ns) (unwrap_or (slice_get (rows_of plan hs hs) c) []))
+  rising-made : ArePartitioned plan plan.requests cs ss ns hs → (c : ℕ) → IsTrue (are_rising (length ns) (unwrap_or (slice_get (rows_of plan hs hs) c) []))
   unfolding row_of
   rising-made is c = elim (cases_lt c (length hs)) [
     | inl within ↦
@@ -129,50 +129,50 @@ module _ (plan : Plan) (cs ss ns : List ℕ) (hs : List Head) (sp : List Bool) w
   ]
 
   -- a request whose kin clashes has its class marked
-  kin-marked : AreSeated plan plan.requests cs ss ns hs → AreSpared plan.requests cs (rows_of plan hs hs) sp → (q r : Req)
+  kin-marked : ArePartitioned plan plan.requests cs ss ns hs → AreKinMarked plan.requests cs (rows_of plan hs hs) sp → (q r : Req)
       → Has plan.requests q → Has plan.requests r → is_kin q r ≡ true → clash plan q r ≡ true → IsMarked sp (class_at made r)
   unfolding is_kin are_row_rivals
-  kin-marked is spared q r has_q has_r kin clashes =
+  kin-marked is kin_marked q r has_q has_r kin clashes =
       let a : (k : ℕ) × (q.number.number ≡ suc k) × (slice_get plan.requests k ≡ Some q) = place_of plan q has_q in
       let b : (k : ℕ) × (r.number.number ≡ suc k) × (slice_get plan.requests k ≡ Some r) = place_of plan r has_r in
       let down : are_row_rivals (rows_of plan hs hs) (class_at made q) (class_at made r) ≡ true = sym (rivals-made is q r has_q has_r) ∙ clashes in
       let up : are_row_rivals (rows_of plan hs hs) (class_at made r) (class_at made q) ≡ true =
       sym (rivals-made is r q has_r has_q) ∙ (clash-comm plan r q ∙ clashes) in
       elim (or_cases (some_and (id_eq r.number) q.parent) (some_and (id_eq q.number) r.parent) kin) [
-        | inl w ↦ spared.parent a.0 (class_at made q) (class_at made r) q a.2 (class-got is a.0 q a.2)
+        | inl w ↦ kin_marked.parent a.0 (class_at made q) (class_at made r) q a.2 (class-got is a.0 q a.2)
             (rival_parent-got cs (rows_of plan hs hs) r q (class_at made q) (class_at made r) w (class-numbered is r has_r) up)
-        | inr w ↦ spared.own b.0 (class_at made r) (class_at made q) r b.2 (class-got is b.0 r b.2)
+        | inr w ↦ kin_marked.own b.0 (class_at made r) (class_at made q) r b.2 (class-got is b.0 r b.2)
             (rival_parent-got cs (rows_of plan hs hs) q r (class_at made r) (class_at made q) w (class-numbered is q has_q) down)
       ]
 
-  pub are_classes : AreSeated plan plan.requests cs ss ns hs → AreSpared plan.requests cs (rows_of plan hs hs) sp → AreClasses plan made
-  unfolding rivals_at are_rivals spares_at
-  are_classes is spared = record {
+  pub are_classes : ArePartitioned plan plan.requests cs ss ns hs → AreKinMarked plan.requests cs (rows_of plan hs hs) sp → AreClasses plan made
+  unfolding rivals_at are_rivals excludes_kin_at
+  are_classes is kin_marked = record {
     known = λ r has.
         let w : (k : ℕ) × (r.number.number ≡ suc k) × (slice_get plan.requests k ≡ Some r) = place_of plan r has in
         is.known w.0 (class_at made r) (class-got is w.0 r w.2);
     sized = λ c n e. ap length (of_class-picked is c) ∙ is.sized c n e;
-    seated = λ r has.
+    located = λ r has.
         let w : (k : ℕ) × (r.number.number ≡ suc k) × (slice_get plan.requests k ≡ Some r) = place_of plan r has in
-        ap (λ l. slice_get l (seat_at made r)) (of_class-picked is (class_at made r))
-        ∙ is.seated w.0 (class_at made r) (seat_at made r) r (class-got is w.0 r w.2) (seat-got is w.0 r w.2) w.2;
+        ap (λ l. slice_get l (slot_at made r)) (of_class-picked is (class_at made r))
+        ∙ is.located w.0 (class_at made r) (slot_at made r) r (class-got is w.0 r w.2) (slot-got is w.0 r w.2) w.2;
     rivals = rivals-made is;
     rising = rising-made is;
-    spared = λ q r has_q has_r kin free. elim (cases_Bool (clash plan q r)) [
+    kin_marked = λ q r has_q has_r kin free. elim (cases_Bool (clash plan q r)) [
       | inl t ↦
-          let marked : unwrap_or (slice_get sp (class_at made r)) true ≡ true = marked-spares sp (class_at made r) (kin-marked is spared q r has_q has_r kin t) in
+          let marked : unwrap_or (slice_get sp (class_at made r)) true ≡ true = marked-excludes_kin sp (class_at made r) (kin-marked is kin_marked q r has_q has_r kin t) in
           cc
       | inr f ↦ f
     ];
   }
 
--- what is made of a seating
-pub made_of : (plan : Plan) (seating : Seating) (classes : Classes) → IsSeating plan plan.requests seating
-    → classes.classes ≡ seating.classes.items → classes.seats ≡ seating.seats.items → classes.sizes ≡ seating.sizes.items
-    → classes.rivals ≡ rows_of plan seating.heads.items seating.heads.items
-    → AreSpared plan.requests seating.classes.items classes.rivals classes.spares → AreClasses plan classes
-made_of plan seating classes is c s n rows spared =
-    let seated : AreSeated plan plan.requests classes.classes classes.seats classes.sizes seating.heads.items = rw (c, s, n) is.seated in
-    let free : AreSpared plan.requests classes.classes (rows_of plan seating.heads.items seating.heads.items) classes.spares = rw (c, ← rows) spared in
-    subst (λ (z : List (List ℕ)). AreClasses plan (record { classes = classes.classes; seats = classes.seats; sizes = classes.sizes; rivals = z; spares = classes.spares }))
-    (sym rows) (are_classes plan classes.classes classes.seats classes.sizes seating.heads.items classes.spares seated free)
+-- what is made of a partition
+pub made_of : (plan : Plan) (partition : Partition) (classes : Classes) → IsPartition plan plan.requests partition
+    → classes.classes ≡ partition.classes.items → classes.slots ≡ partition.slots.items → classes.sizes ≡ partition.sizes.items
+    → classes.rivals ≡ rows_of plan partition.heads.items partition.heads.items
+    → AreKinMarked plan.requests partition.classes.items classes.rivals classes.excludes_kin → AreClasses plan classes
+made_of plan partition classes is c s n rows kin_marked =
+    let located : ArePartitioned plan plan.requests classes.classes classes.slots classes.sizes partition.heads.items = rw (c, s, n) is.located in
+    let free : AreKinMarked plan.requests classes.classes (rows_of plan partition.heads.items partition.heads.items) classes.excludes_kin = rw (c, ← rows) kin_marked in
+    subst (λ (z : List (List ℕ)). AreClasses plan (record { classes = classes.classes; slots = classes.slots; sizes = classes.sizes; rivals = z; excludes_kin = classes.excludes_kin }))
+    (sym rows) (are_classes plan classes.classes classes.slots classes.sizes partition.heads.items classes.excludes_kin located free)

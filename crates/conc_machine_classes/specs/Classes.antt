@@ -13,12 +13,12 @@ use Rattle.conc_machine_classes.specs.declared.classes.Classes.{Classes}
 unfoldable pub clash : Plan → Req → Req → Bool
 clash plan x y = excludes_from plan.setup x y (parent_item plan y) || excludes_from plan.setup y x (parent_item plan x)
 
--- the class of a request, from 0, and its seat among those of its class, from 0
+-- the class of a request, from 0, and its slot among those of its class, from 0
 unfoldable pub class_at : Classes → Req → ℕ
 class_at classes r = unwrap_or (numbered classes.classes r.number.number) 0
 
-unfoldable pub seat_at : Classes → Req → ℕ
-seat_at classes r = unwrap_or (numbered classes.seats r.number.number) 0
+unfoldable pub slot_at : Classes → Req → ℕ
+slot_at classes r = unwrap_or (numbered classes.slots r.number.number) 0
 
 -- the requests of a class, in order
 unfoldable pub of_class : Plan → Classes → ℕ → List Req
@@ -32,8 +32,8 @@ unfoldable pub are_rivals : Classes → ℕ → ℕ → Bool
 are_rivals classes c d = list_any (λ x. x == d) (rivals_at classes c)
 
 -- whether a request of the class would exclude kin of its own, were they not kin
-unfoldable pub spares_at : Classes → ℕ → Bool
-spares_at classes c = unwrap_or (slice_get classes.spares c) true
+unfoldable pub excludes_kin_at : Classes → ℕ → Bool
+excludes_kin_at classes c = unwrap_or (slice_get classes.excludes_kin c) true
 
 -- each number is greater than the one before it, and below the limit
 abbrev pub are_rising : ℕ → List ℕ → Bool
@@ -44,7 +44,7 @@ are_rising most (x ∷ xs) = nat_lt x most && (list_all (nat_lt x) xs && are_ris
 pub record AreClasses (plan : Plan) (classes : Classes) : Type 0 where
   pub known : (r : Req) → Has plan.requests r → class_at classes r < length classes.sizes
   pub sized : (c n : ℕ) → slice_get classes.sizes c ≡ Some n → length (of_class plan classes c) ≡ n
-  pub seated : (r : Req) → Has plan.requests r → slice_get (of_class plan classes (class_at classes r)) (seat_at classes r) ≡ Some r
+  pub located : (r : Req) → Has plan.requests r → slice_get (of_class plan classes (class_at classes r)) (slot_at classes r) ≡ Some r
   pub rivals : (x y : Req) → Has plan.requests x → Has plan.requests y → clash plan x y ≡ are_rivals classes (class_at classes x) (class_at classes y)
   pub rising : (c : ℕ) → IsTrue (are_rising (length classes.sizes) (rivals_at classes c))
-  pub spared : (q r : Req) → Has plan.requests q → Has plan.requests r → IsTrue (is_kin q r) → IsFalse (spares_at classes (class_at classes r)) → IsFalse (clash plan q r)
+  pub kin_marked : (q r : Req) → Has plan.requests q → Has plan.requests r → IsTrue (is_kin q r) → IsFalse (excludes_kin_at classes (class_at classes r)) → IsFalse (clash plan q r)

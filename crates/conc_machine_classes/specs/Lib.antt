@@ -2,5 +2,5 @@ pub mod Classes
 pub mod Kinds
 pub mod Places
 pub mod Rivals
-pub mod Seatings
-pub mod Spares
+pub mod Partitions
+pub mod ExcludesKin

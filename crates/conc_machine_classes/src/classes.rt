@@ -1,10 +1,10 @@
 ghost use Rattle.std.specs.Prelude.{◌≡◌, IfOk, length, slice_get};
 ghost use Rattle.std.specs.Option.{option_copied};
-ghost use Rattle.conc_machine_classes.specs.Classes.{AreClasses, class_at, rivals_at, seat_at, spares_at};
+ghost use Rattle.conc_machine_classes.specs.Classes.{AreClasses, class_at, rivals_at, slot_at, excludes_kin_at};
 
 use crate::rivals::all_rows;
-use crate::seating::seat_all;
-use crate::spares::all_spares;
+use crate::partition::partition_all;
+use crate::excludes_kin::all_excluding_kin;
 use conc_types::{NoMemory, Plan, Req, Seq, numbered};
 use std::alloc::Global;
 
@@ -14,14 +14,14 @@ use std::alloc::Global;
 pub struct Classes {
     // The class of each request, from 0.
     classes: Seq<u32>,
-    // The seat of each request among those of its class, from 0.
-    seats: Seq<u32>,
+    // The slot of each request among those of its class, from 0.
+    slots: Seq<u32>,
     // How many requests each class has.
     sizes: Seq<u32>,
     // For each class those whose requests exclude its requests.
     rivals: Seq<Seq<u32>>,
     // For each class, whether a request of it would exclude kin of its own, were they not kin.
-    spares: Seq<bool>,
+    excludes_kin: Seq<bool>,
 }
 
 impl Classes {
@@ -29,15 +29,15 @@ impl Classes {
     pub fn new(alloc: Global, plan: &Plan) -> Result<Classes, NoMemory>
         ensures { IfOk result (λ classes. AreClasses plan.now classes) }
     {
-        let seating = seat_all(alloc, plan)?;
-        let rivals = all_rows(alloc, plan, seating.heads.as_slice())?;
-        let spares = all_spares(alloc, plan, seating.classes.as_slice(), rivals.as_slice())?;
+        let partition = partition_all(alloc, plan)?;
+        let rivals = all_rows(alloc, plan, partition.heads.as_slice())?;
+        let excludes_kin = all_excluding_kin(alloc, plan, partition.classes.as_slice(), rivals.as_slice())?;
         Ok(Classes {
-            classes: Seq::from_vec(seating.classes),
-            seats: Seq::from_vec(seating.seats),
-            sizes: Seq::from_vec(seating.sizes),
+            classes: Seq::from_vec(partition.classes),
+            slots: Seq::from_vec(partition.slots),
+            sizes: Seq::from_vec(partition.sizes),
             rivals,
-            spares,
+            excludes_kin,
         })
     }
 
@@ -65,12 +65,12 @@ impl Classes {
             .unwrap_or(0)
     }
 
-    /// The seat of a request among those of its class, from 0.
-    #[tactic(auto, unfolding(crate::specs::Classes::seat_at))]
-    pub fn seat(&self, r: &Req) -> u32
-        ensures { result ≡ seat_at self.now r.now }
+    /// The slot of a request among those of its class, from 0.
+    #[tactic(auto, unfolding(crate::specs::Classes::slot_at))]
+    pub fn slot(&self, r: &Req) -> u32
+        ensures { result ≡ slot_at self.now r.now }
     {
-        numbered(self.seats.as_slice(), r.number.number)
+        numbered(self.slots.as_slice(), r.number.number)
             .copied()
             .unwrap_or(0)
     }
@@ -87,11 +87,11 @@ impl Classes {
     }
 
     /// Whether a request of the class would exclude kin of its own, were they not kin.
-    #[tactic(auto, unfolding(crate::specs::Classes::spares_at))]
-    pub fn spares(&self, class: u32) -> bool
-        ensures { result ≡ spares_at self.now class }
+    #[tactic(auto, unfolding(crate::specs::Classes::excludes_kin_at))]
+    pub fn excludes_kin(&self, class: u32) -> bool
+        ensures { result ≡ excludes_kin_at self.now class }
     {
-        self.spares
+        self.excludes_kin
             .as_slice()
             .get(class as usize)
             .copied()

@@ -4,7 +4,7 @@
 mod classes;
 mod kinds;
 mod rivals;
-mod seating;
-mod spares;
+mod partition;
+mod excludes_kin;
 
 pub use classes::Classes;

@@ -1,4 +1,4 @@
--- One value for each request of a plan: where one request's value changes, one seat is written.
+-- One value for each request of a plan: where one request's value changes, one slot is written.
 use Rattle.std.proofs.Common.{◌≡◌, ℕ, zero, suc, ◌+◌, ◌<◌, ◌≤◌, Bool, List, [], ◌∷◌, length, map, set, Option, None, Some, refl, sym, ◌∙◌, ap, inl, inr, arith}
 use Rattle.std.specs.Prelude.{slice_get, unwrap_or}
 use Rattle.std.specs.Bool.{then_some}
@@ -79,7 +79,7 @@ pub map-alike : {B : Type 0} (plan : Plan) (f g : Req → B) → ((q : Req) → 
     → map g plan.requests ≡ map f plan.requests
 map-alike plan f g same = map-same f g plan.requests same
 
--- one request's value changes: one seat is written
+-- one request's value changes: one slot is written
 pub map-written : {B : Type 0} (plan : Plan) (f g : Req → B) (i : ℕ) (r : Req) → slice_get plan.requests i ≡ Some r
     → ((q : Req) → Has plan.requests q → (q.number.number ≡ i + 1 → ⊥) → g q ≡ f q)
     → map g plan.requests ≡ set (map f plan.requests) i (g r)
@@ -129,7 +129,7 @@ facts_at-alike before after same q = ap (λ l. unwrap_or (numbered l q.number.nu
 
 -- ---- keys of those that pass
 
--- where no request has a key, all seats are vacant
+-- where no request has a key, all slots are vacant
 pub map-vacant : (f : Req → Option ℕ) (xs : List Req) → ((q : Req) → Has xs q → f q ≡ None) → map f xs ≡ vacant (length xs)
 unfolding vacant
 map-vacant f [] none = refl
@@ -163,7 +163,7 @@ unfolding numbers_of
 numbers_of-alike plan f g same =
     map-alike plan (λ q. then_some (f q) q.number.number) (λ q. then_some (g q) q.number.number) (λ q has. ap (λ b. then_some b q.number.number) (same q has))
 
--- there is a seat for each request
+-- there is a slot for each request
 pub length-turns_of : (test : Req → Bool) (requests : List Req) → length (turns_of test requests) ≡ length requests
 unfolding turns_of
 length-turns_of test requests = length-map requests (λ r. then_some (test r) (turn r))

@@ -15,21 +15,21 @@ played-set_other nodes i j key ne pos =
     let right : node (set nodes i key) (j * 2 + 1) ≡ node nodes (j * 2 + 1) = get_or-set_other nodes i (j * 2 + 1) key None (λ (e : j * 2 + 1 ≡ i). ne (omega arith)) in
     cc
 
--- a seat is written: but at the node above it the tournament stays
-pub seat_written : (seats : ℕ) (nodes : List (Option ℕ)) (seat : ℕ) (key : Option ℕ) → IsTournament seats nodes
-    → IsTournamentBut seats (set nodes (seats + seat) key) ((seats + seat) / 2)
-seat_written seats nodes seat key t = record {
-  size = length-set nodes (seats + seat) key ∙ t.size;
+-- a slot is written: but at the node above it the tournament stays
+pub slot_written : (slots : ℕ) (nodes : List (Option ℕ)) (slot : ℕ) (key : Option ℕ) → IsTournament slots nodes
+    → IsTournamentBut slots (set nodes (slots + slot) key) ((slots + slot) / 2)
+slot_written slots nodes slot key t = record {
+  size = length-set nodes (slots + slot) key ∙ t.size;
   inner = λ i pos within ne.
-      get_or-set_other nodes (seats + seat) i key None (λ (e : i ≡ seats + seat). absurd (omega arith))
+      get_or-set_other nodes (slots + slot) i key None (λ (e : i ≡ slots + slot). absurd (omega arith))
       ∙ t.inner i pos within
-      ∙ sym (played-set_other nodes (seats + seat) i key ne pos);
+      ∙ sym (played-set_other nodes (slots + slot) i key ne pos);
 }
 
 -- a node is made the lesser of its two: then the node above it is perhaps not
-pub settled : (seats : ℕ) (nodes : List (Option ℕ)) (at : ℕ) → 1 ≤ at → at < length nodes → IsTournamentBut seats nodes at
-    → IsTournamentBut seats (set nodes at (played nodes at)) (at / 2)
-settled seats nodes at pos within t = record {
+pub settled : (slots : ℕ) (nodes : List (Option ℕ)) (at : ℕ) → 1 ≤ at → at < length nodes → IsTournamentBut slots nodes at
+    → IsTournamentBut slots (set nodes at (played nodes at)) (at / 2)
+settled slots nodes at pos within t = record {
   size = length-set nodes at (played nodes at) ∙ t.size;
   inner = λ i from before ne. elim (cases_eq i at) [
     | inl e ↦
@@ -44,9 +44,9 @@ settled seats nodes at pos within t = record {
 }
 
 -- where that changes nothing all is settled
-pub settled_before : (seats : ℕ) (nodes : List (Option ℕ)) (at : ℕ) → at < length nodes → set nodes at (played nodes at) ≡ nodes
-    → IsTournamentBut seats nodes at → IsTournament seats nodes
-settled_before seats nodes at within same t = record {
+pub settled_before : (slots : ℕ) (nodes : List (Option ℕ)) (at : ℕ) → at < length nodes → set nodes at (played nodes at) ≡ nodes
+    → IsTournamentBut slots nodes at → IsTournament slots nodes
+settled_before slots nodes at within same t = record {
   size = t.size;
   inner = λ i pos before. elim (cases_eq i at) [
     | inl e ↦
@@ -57,8 +57,8 @@ settled_before seats nodes at within same t = record {
 }
 
 -- above the first node there is none
-pub all_settled : (seats : ℕ) (nodes : List (Option ℕ)) (at : ℕ) → at ≤ 1 → IsTournamentBut seats nodes (at / 2) → IsTournament seats nodes
-all_settled seats nodes at first t = record {
+pub all_settled : (slots : ℕ) (nodes : List (Option ℕ)) (at : ℕ) → at ≤ 1 → IsTournamentBut slots nodes (at / 2) → IsTournament slots nodes
+all_settled slots nodes at first t = record {
   size = t.size;
   inner = λ i pos within. t.inner i pos within (λ (e : i ≡ at / 2). absurd (omega arith));
 }
@@ -123,13 +123,13 @@ least-is xs m k h within e = at_most-both (least xs) m (rw e (least-below xs k w
 -- ---- the first node
 
 -- the first node is no greater than each
-first-below : (seats : ℕ) (nodes : List (Option ℕ)) → IsTournament seats nodes
-    → (most i : ℕ) → i ≤ most → 1 ≤ i → i < seats * 2 → AtMost (node nodes 1) (node nodes i)
-first-below seats nodes t zero i le pos within = absurd (omega arith)
-first-below seats nodes t (suc most) i le pos within = elim (cases_eq i 1) [
+first-below : (slots : ℕ) (nodes : List (Option ℕ)) → IsTournament slots nodes
+    → (most i : ℕ) → i ≤ most → 1 ≤ i → i < slots * 2 → AtMost (node nodes 1) (node nodes i)
+first-below slots nodes t zero i le pos within = absurd (omega arith)
+first-below slots nodes t (suc most) i le pos within = elim (cases_eq i 1) [
   | inl e ↦ rw e (at_most-self (node nodes 1))
   | inr ne ↦
-      let half : AtMost (node nodes 1) (node nodes (i / 2)) = first-below seats nodes t most (i / 2) (omega arith) (omega arith) (omega arith) in
+      let half : AtMost (node nodes 1) (node nodes (i / 2)) = first-below slots nodes t most (i / 2) (omega arith) (omega arith) (omega arith) in
       let right : node nodes (i / 2) ≡ played nodes (i / 2) = t.inner (i / 2) (omega arith) (omega arith) in
       let below : AtMost (node nodes 1) (played nodes (i / 2)) = rw right at half in
       elim (cases_eq i (i / 2 * 2)) [
@@ -141,50 +141,50 @@ first-below seats nodes t (suc most) i le pos within = elim (cases_eq i 1) [
       ]
 ]
 
--- each node has the key of a seat
-key_of_seat : (seats : ℕ) (nodes : List (Option ℕ)) → IsTournament seats nodes
-    → (more i : ℕ) → seats * 2 ≤ i + more → 1 ≤ i → i < seats * 2 → (k : ℕ) × (k < seats) × (node nodes i ≡ node nodes (seats + k))
-key_of_seat seats nodes t zero i le pos within = absurd (omega arith)
-key_of_seat seats nodes t (suc more) i le pos within = elim (cases_lt i seats) [
-  | inr seat ↦ let e : i ≡ seats + (i - seats) = omega arith in (i - seats, omega arith, ap (node nodes) e)
+-- each node has the key of a slot
+key_of_slot : (slots : ℕ) (nodes : List (Option ℕ)) → IsTournament slots nodes
+    → (more i : ℕ) → slots * 2 ≤ i + more → 1 ≤ i → i < slots * 2 → (k : ℕ) × (k < slots) × (node nodes i ≡ node nodes (slots + k))
+key_of_slot slots nodes t zero i le pos within = absurd (omega arith)
+key_of_slot slots nodes t (suc more) i le pos within = elim (cases_lt i slots) [
+  | inr slot ↦ let e : i ≡ slots + (i - slots) = omega arith in (i - slots, omega arith, ap (node nodes) e)
   | inl before ↦
       let right : node nodes i ≡ played nodes i = t.inner i pos before in
-      let left : (k : ℕ) × (k < seats) × (node nodes (i * 2) ≡ node nodes (seats + k)) =
-      key_of_seat seats nodes t more (i * 2) (omega arith) (omega arith) (omega arith) in
-      let other : (k : ℕ) × (k < seats) × (node nodes (i * 2 + 1) ≡ node nodes (seats + k)) =
-      key_of_seat seats nodes t more (i * 2 + 1) (omega arith) (omega arith) (omega arith) in
+      let left : (k : ℕ) × (k < slots) × (node nodes (i * 2) ≡ node nodes (slots + k)) =
+      key_of_slot slots nodes t more (i * 2) (omega arith) (omega arith) (omega arith) in
+      let other : (k : ℕ) × (k < slots) × (node nodes (i * 2 + 1) ≡ node nodes (slots + k)) =
+      key_of_slot slots nodes t more (i * 2 + 1) (omega arith) (omega arith) (omega arith) in
       elim (lesser-parts (node nodes (i * 2)) (node nodes (i * 2 + 1))).0 [
         | inl e ↦ (left.0, left.1, right ∙ e ∙ left.2)
         | inr e ↦ (other.0, other.1, right ∙ e ∙ other.2)
       ]
 ]
 
--- the first node is the least of the seats
-pub first_least : (seats : ℕ) (nodes : List (Option ℕ)) → IsTournament seats nodes → 1 ≤ seats → least (drop seats nodes) ≡ node nodes 1
-first_least seats nodes t pos =
-    let many : length (drop seats nodes) ≡ seats = omega (arith, length-drop seats nodes, t.size) in
-    let k : (k : ℕ) × (k < seats) × (node nodes 1 ≡ node nodes (seats + k)) = key_of_seat seats nodes t (seats * 2) 1 (omega arith) (omega arith) (omega arith) in
-    least-is (drop seats nodes) (node nodes 1) k.0
-    (λ j within. rw (get_or-drop seats nodes j None) (first-below seats nodes t (seats + j) (seats + j) (omega arith) (omega arith) (omega arith)))
+-- the first node is the least of the slots
+pub first_least : (slots : ℕ) (nodes : List (Option ℕ)) → IsTournament slots nodes → 1 ≤ slots → least (drop slots nodes) ≡ node nodes 1
+first_least slots nodes t pos =
+    let many : length (drop slots nodes) ≡ slots = omega (arith, length-drop slots nodes, t.size) in
+    let k : (k : ℕ) × (k < slots) × (node nodes 1 ≡ node nodes (slots + k)) = key_of_slot slots nodes t (slots * 2) 1 (omega arith) (omega arith) (omega arith) in
+    least-is (drop slots nodes) (node nodes 1) k.0
+    (λ j within. rw (get_or-drop slots nodes j None) (first-below slots nodes t (slots + j) (slots + j) (omega arith) (omega arith) (omega arith)))
     (omega (arith, k.1))
-    (k.2 ∙ sym (get_or-drop seats nodes k.0 None))
+    (k.2 ∙ sym (get_or-drop slots nodes k.0 None))
 
--- without seats there is no key
-pub none_least : (seats : ℕ) (nodes : List (Option ℕ)) → length nodes ≡ 0 → least (drop seats nodes) ≡ None
+-- without slots there is no key
+pub none_least : (slots : ℕ) (nodes : List (Option ℕ)) → length nodes ≡ 0 → least (drop slots nodes) ≡ None
 unfolding least
 none_least zero [] e = refl
-none_least (suc seats) [] e = refl
-none_least seats (x ∷ xs) e = absurd (omega arith)
+none_least (suc slots) [] e = refl
+none_least slots (x ∷ xs) e = absurd (omega arith)
 
--- ---- how many seats
+-- ---- how many slots
 
--- without seats the list of them is empty
-pub no_seats : (seats : ℕ) (nodes : List (Option ℕ)) → IsTournament seats nodes → seats ≡ 0 → drop seats nodes ≡ []
-no_seats seats nodes t e = by (drop seats nodes) (omega (arith, length-drop seats nodes, t.size)) where
+-- without slots the list of them is empty
+pub no_slots : (slots : ℕ) (nodes : List (Option ℕ)) → IsTournament slots nodes → slots ≡ 0 → drop slots nodes ≡ []
+no_slots slots nodes t e = by (drop slots nodes) (omega (arith, length-drop slots nodes, t.size)) where
   by : (xs : List (Option ℕ)) → length xs ≡ 0 → xs ≡ []
   by [] h = refl
   by (x ∷ xs) h = absurd (omega arith)
 
--- where the list of the seats is empty there is none
-pub no_list : (seats : ℕ) (nodes : List (Option ℕ)) → IsTournament seats nodes → drop seats nodes ≡ [] → seats ≡ 0
-no_list seats nodes t e = omega (arith, length-drop seats nodes, t.size, ap length e)
+-- where the list of the slots is empty there is none
+pub no_list : (slots : ℕ) (nodes : List (Option ℕ)) → IsTournament slots nodes → drop slots nodes ≡ [] → slots ≡ 0
+no_list slots nodes t e = omega (arith, length-drop slots nodes, t.size, ap length e)

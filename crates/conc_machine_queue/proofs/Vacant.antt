@@ -1,9 +1,9 @@
--- Seats without a key.
+-- Slots without a key.
 use Rattle.std.proofs.Common.{◌≡◌, ℕ, zero, suc, ◌+◌, ◌*◌, ◌++◌, length, drop, [], ◌∷◌, None, refl, ap, arith}
 use Rattle.conc_machine_queue.specs.Least.{vacant}
 use Rattle.conc_machine_queue.specs.Tournament.{IsTournament, node}
 
--- one more seat
+-- one more slot
 pub vacant_push : (n : ℕ) → vacant n ++ None ∷ [] ≡ vacant (suc n)
 unfolding vacant
 vacant_push zero = refl
@@ -29,17 +29,17 @@ drop-vacant zero m k e = let same : m ≡ k = omega arith in ap vacant same
 drop-vacant (suc n) zero k e = absurd (omega arith)
 drop-vacant (suc n) (suc m) k e = drop-vacant n m k (omega arith)
 
--- the seats among them
-pub vacant_seats : (seats : ℕ) → drop seats (vacant (seats * 2)) ≡ vacant seats
-vacant_seats seats = drop-vacant seats (seats * 2) seats (omega arith)
+-- the slots among them
+pub vacant_slots : (slots : ℕ) → drop slots (vacant (slots * 2)) ≡ vacant slots
+vacant_slots slots = drop-vacant slots (slots * 2) slots (omega arith)
 
 -- nodes without a key are a tournament
-pub vacant_tournament : (seats : ℕ) → IsTournament seats (vacant (seats * 2))
-vacant_tournament seats = record {
-  size = length-vacant (seats * 2);
+pub vacant_tournament : (slots : ℕ) → IsTournament slots (vacant (slots * 2))
+vacant_tournament slots = record {
+  size = length-vacant (slots * 2);
   inner = λ i pos within.
-      let own : node (vacant (seats * 2)) i ≡ None = node-vacant (seats * 2) i in
-      let left : node (vacant (seats * 2)) (i * 2) ≡ None = node-vacant (seats * 2) (i * 2) in
-      let right : node (vacant (seats * 2)) (i * 2 + 1) ≡ None = node-vacant (seats * 2) (i * 2 + 1) in
+      let own : node (vacant (slots * 2)) i ≡ None = node-vacant (slots * 2) i in
+      let left : node (vacant (slots * 2)) (i * 2) ≡ None = node-vacant (slots * 2) (i * 2) in
+      let right : node (vacant (slots * 2)) (i * 2 + 1) ≡ None = node-vacant (slots * 2) (i * 2 + 1) in
       rw (own, left, right);
 }

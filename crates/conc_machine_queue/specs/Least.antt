@@ -1,4 +1,4 @@
--- The least of some keys, where a seat may have none.
+-- The least of some keys, where a slot may have none.
 use Rattle.std.specs.Prelude.{ℕ, zero, suc, nat_lt, if◌then◌else◌, List, [], ◌∷◌, Option, None, Some}
 
 -- the lesser of two keys, where both are there
@@ -12,7 +12,7 @@ unfoldable pub least : List (Option ℕ) → Option ℕ
 least [] = None
 least (x ∷ xs) = lesser x (least xs)
 
--- so many seats without a key
+-- so many slots without a key
 unfoldable pub vacant : ℕ → List (Option ℕ)
 vacant zero = []
 vacant (suc n) = None ∷ vacant n

@@ -10,12 +10,12 @@ node nodes i = slice_index_or nodes i None
 abbrev pub played : List (Option ℕ) → ℕ → Option ℕ
 played nodes i = lesser (node nodes (i * 2)) (node nodes (i * 2 + 1))
 
--- the seats are the last nodes, and each node before them is the lesser of the two below it; no node is at 0
-pub record IsTournament (seats : ℕ) (nodes : List (Option ℕ)) : Type 0 where
-  pub size : length nodes ≡ seats * 2
-  pub inner : (i : ℕ) → 1 ≤ i → i < seats → node nodes i ≡ played nodes i
+-- the slots are the last nodes, and each node before them is the lesser of the two below it; no node is at 0
+pub record IsTournament (slots : ℕ) (nodes : List (Option ℕ)) : Type 0 where
+  pub size : length nodes ≡ slots * 2
+  pub inner : (i : ℕ) → 1 ≤ i → i < slots → node nodes i ≡ played nodes i
 
 -- the same, but perhaps for one node
-pub record IsTournamentBut (seats : ℕ) (nodes : List (Option ℕ)) (one : ℕ) : Type 0 where
-  pub size : length nodes ≡ seats * 2
-  pub inner : (i : ℕ) → 1 ≤ i → i < seats → (i ≡ one → ⊥) → node nodes i ≡ played nodes i
+pub record IsTournamentBut (slots : ℕ) (nodes : List (Option ℕ)) (one : ℕ) : Type 0 where
+  pub size : length nodes ≡ slots * 2
+  pub inner : (i : ℕ) → 1 ≤ i → i < slots → (i ≡ one → ⊥) → node nodes i ≡ played nodes i

@@ -6,12 +6,12 @@ use conc_types::NoMemory;
 use std::alloc::Global;
 use std::marker::Model;
 
-/// Seats, each with a key or none, of which the least key is known. Contracts see the list of the
-/// seats. They are the last of the nodes, and each node `i` before them, from 1, is the lesser of the
+/// Slots, each with a key or none, of which the least key is known. Contracts see the list of the
+/// slots. They are the last of the nodes, and each node `i` before them, from 1, is the lesser of the
 /// nodes `2 * i` and `2 * i + 1`: so node 1 is the least of all.
 #[derive(Drop)]
 pub struct Queue {
-    seats: usize,
+    slots: usize,
     nodes: Vec<Option<u64>>,
 }
 
@@ -21,63 +21,63 @@ impl Model for Queue {
 
     ghost Value = { List (Option ℕ) };
 
-    ghost view = { λ q. drop q.seats q.nodes.items };
+    ghost view = { λ q. drop q.slots q.nodes.items };
 
-    ghost invariant = { λ q. IsTournament q.seats q.nodes.items };
+    ghost invariant = { λ q. IsTournament q.slots q.nodes.items };
 }
 
 impl Queue {
-    /// So many seats without a key.
+    /// So many slots without a key.
     #[tactic(auto, using(crate::proofs::Vacant::vacant_push), unfolding(crate::specs::Least::vacant))]
-    pub fn new(alloc: Global, seats: usize) -> Result<Queue, NoMemory>
-        ensures { IfOk result (λ q. q ≡ vacant seats) }
+    pub fn new(alloc: Global, slots: usize) -> Result<Queue, NoMemory>
+        ensures { IfOk result (λ q. q ≡ vacant slots) }
     {
-        let Some(count) = seats.checked_mul(2) else {
+        let Some(count) = slots.checked_mul(2) else {
             return Err(NoMemory);
         };
         let mut nodes = Vec::with_capacity(alloc, count)?;
         for _ in 0..count {
             nodes.push(None)?;
         }
-        Ok(Queue { seats, nodes })
+        Ok(Queue { slots, nodes })
     }
 
-    /// Gives a seat this key, or none. It takes no memory, and a time that grows with the logarithm
-    /// of the number of seats where the least key changes, and less elsewhere.
-    #[tactic(auto, using(crate::proofs::Tournaments::seat_written))]
-    pub fn put(&mut self, seat: usize, key: Option<u64>)
-        requires { seat < length self.old }
-        ensures { self.new ≡ slice_set self.old seat key }
+    /// Gives a slot this key, or none. It takes no memory, and a time that grows with the logarithm
+    /// of the number of slots where the least key changes, and less elsewhere.
+    #[tactic(auto, using(crate::proofs::Tournaments::slot_written))]
+    pub fn put(&mut self, slot: usize, key: Option<u64>)
+        requires { slot < length self.old }
+        ensures { self.new ≡ slice_set self.old slot key }
     {
-        let node = self.seats + seat;
+        let node = self.slots + slot;
         self.nodes[node] = key;
-        settle_above(self.nodes.as_mut_slice(), self.seats, node);
+        settle_above(self.nodes.as_mut_slice(), self.slots, node);
     }
 
-    /// The least key. It takes the same time at any number of seats.
+    /// The least key. It takes the same time at any number of slots.
     #[tactic(auto, using(crate::proofs::Tournaments::first_least, crate::proofs::Tournaments::none_least))]
     pub fn least(&self) -> Option<u64>
         ensures { result ≡ least_of self.now }
     {
-        if self.seats == 0 {
+        if self.slots == 0 {
             return None;
         }
         self.nodes[1]
     }
 
-    /// How many seats there are.
+    /// How many slots there are.
     pub fn len(&self) -> usize
         ensures { result ≡ length self.now }
     {
-        self.seats
+        self.slots
     }
 
-    /// Whether there is no seat.
-    #[tactic(auto, using(crate::proofs::Tournaments::no_seats, crate::proofs::Tournaments::no_list))]
+    /// Whether there is no slot.
+    #[tactic(auto, using(crate::proofs::Tournaments::no_slots, crate::proofs::Tournaments::no_list))]
     pub fn is_empty(&self) -> bool
         ensures { IsTrue result ↔ (self.now ≡ []) }
     {
-        self.seats == 0
+        self.slots == 0
     }
 }
 
@@ -107,12 +107,12 @@ fn settle(nodes: &mut [Option<u64>], node: usize) -> bool
 }
 
 // Makes each node above this one the lesser of the two below it, up to the first that was that before.
-fn settle_above(nodes: &mut [Option<u64>], seats: usize, node: usize)
+fn settle_above(nodes: &mut [Option<u64>], slots: usize, node: usize)
     requires positive { 0 < node }
     requires within { node < length nodes.old }
-    requires below { IsTournamentBut seats nodes.old (node / 2) }
-    ensures all { IsTournament seats nodes.new }
-    ensures same_seats { drop seats nodes.new ≡ drop seats nodes.old }
+    requires below { IsTournamentBut slots nodes.old (node / 2) }
+    ensures all { IsTournament slots nodes.new }
+    ensures same_slots { drop slots nodes.new ≡ drop slots nodes.old }
 {
     let mut at = node;
     while at > 1 {

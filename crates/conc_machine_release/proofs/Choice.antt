@@ -17,12 +17,12 @@ use Rattle.conc_machine_queue.specs.Least.{least, lesser}
 use Rattle.conc_machine_queue.specs.Turns.{request_at_turn, turn, turns_of}
 use Rattle.conc_machine_queue.proofs.Firsts.{request_at_turn-own}
 use Rattle.conc_machine_queue.proofs.LeastOf.{HasLeast, least-none, least-some}
-use Rattle.conc_machine_classes.specs.Classes.{AreClasses, class_at, of_class, spares_at}
+use Rattle.conc_machine_classes.specs.Classes.{AreClasses, class_at, of_class, excludes_kin_at}
 use Rattle.conc_machine_classes.specs.declared.classes.Classes.{Classes}
-use Rattle.conc_machine_release.specs.Forced.{is_spared, turn_in_class}
+use Rattle.conc_machine_release.specs.Forced.{has_only_kin_rivals, turn_in_class}
 use Rattle.conc_machine_release.specs.Lets.{AreLets, live_rivals}
 use Rattle.conc_machine_release.specs.declared.lets.Lets.{Lets}
-use Rattle.conc_machine_release.proofs.Free.{free-may_let, may_let-parts, rival-may_let, spared-may_let}
+use Rattle.conc_machine_release.proofs.Free.{free-may_let, may_let-parts, rival-may_let, kin_marked-may_let}
 use Rattle.conc_machine_release.proofs.Lists.{map_range-get}
 use Rattle.conc_machine_release.proofs.Queues.{of_class-has, turns-same}
 use Rattle.conc_machine_queue.proofs.LeastTurns.{least-filter, least-or, least_of-none}
@@ -62,13 +62,13 @@ class-free plan classes s are c none = ap least (turns-same (is_ready plan s) (m
     let p : Has plan.requests r × (class_at classes r ≡ c) = of_class-has plan classes c r has in
     free-may_let plan classes s are r p.0 (ap (live_rivals plan classes s) p.1 ∙ none)))
 
--- where a rival is live and the class spares no kin, none may be let
-pub class-blocked : (plan : Plan) (classes : Classes) (s : State) → AreClasses plan classes → (c : ℕ) → (live_rivals plan classes s c ≡ 0 → ⊥) → spares_at classes c ≡ false
+-- where a rival is live and the class excludes no kin, none may be let
+pub class-blocked : (plan : Plan) (classes : Classes) (s : State) → AreClasses plan classes → (c : ℕ) → (live_rivals plan classes s c ≡ 0 → ⊥) → excludes_kin_at classes c ≡ false
     → None ≡ turn_in_class plan classes s c
 unfolding turn_in_class
-class-blocked plan classes s are c some spares = sym (least_of-none (may_let plan s) (of_class plan classes c) (λ r has.
+class-blocked plan classes s are c some excludes_kin = sym (least_of-none (may_let plan s) (of_class plan classes c) (λ r has.
     let p : Has plan.requests r × (class_at classes r ≡ c) = of_class-has plan classes c r has in
-    rival-may_let plan classes s are r p.0 (λ z. some (ap (live_rivals plan classes s) (sym p.1) ∙ z)) (ap (spares_at classes) p.1 ∙ spares)))
+    rival-may_let plan classes s are r p.0 (λ z. some (ap (live_rivals plan classes s) (sym p.1) ∙ z)) (ap (excludes_kin_at classes) p.1 ∙ excludes_kin)))
 
 -- those of the class that may be let
 class-let : (plan : Plan) (classes : Classes) (s : State) (c : ℕ) → turn_in_class plan classes s c ≡ least (turns_of (λ r. (class_at classes r == c) && may_let plan s r) plan.requests)
@@ -76,12 +76,12 @@ unfolding turn_in_class of_class
 class-let plan classes s c = least-filter (λ r. class_at classes r == c) (may_let plan s) plan.requests
 
 -- otherwise those may be let of which all live rivals are kin
-pub class-spared : (plan : Plan) (classes : Classes) (s : State) → AreClasses plan classes → (c rivals : ℕ) → rivals ≡ live_rivals plan classes s c
-    → least (turns_of (is_spared plan classes s c rivals) plan.requests) ≡ turn_in_class plan classes s c
-class-spared plan classes s are c rivals e =
-    ap (λ n. least (turns_of (is_spared plan classes s c n) plan.requests)) e
-    ∙ ap least (turns-same (is_spared plan classes s c (live_rivals plan classes s c)) (λ r. (class_at classes r == c) && may_let plan s r) plan.requests
-    (λ r has. spared-may_let plan classes s are c r has))
+pub class-kin_marked : (plan : Plan) (classes : Classes) (s : State) → AreClasses plan classes → (c rivals : ℕ) → rivals ≡ live_rivals plan classes s c
+    → least (turns_of (has_only_kin_rivals plan classes s c rivals) plan.requests) ≡ turn_in_class plan classes s c
+class-kin_marked plan classes s are c rivals e =
+    ap (λ n. least (turns_of (has_only_kin_rivals plan classes s c n) plan.requests)) e
+    ∙ ap least (turns-same (has_only_kin_rivals plan classes s c (live_rivals plan classes s c)) (λ r. (class_at classes r == c) && may_let plan s r) plan.requests
+    (λ r has. kin_marked-may_let plan classes s are c r has))
     ∙ sym (class-let plan classes s c)
 
 -- the first of those that are ready, where it may be let
@@ -111,15 +111,15 @@ at_turn : (plan : Plan) (t : ℕ) (r : Req) → request_at_turn plan t ≡ Some 
 unfolding request_at_turn
 at_turn plan t r h = h
 
--- so where it is spared
-pub class-first_spared : (plan : Plan) (classes : Classes) (s : State) → AreClasses plan classes → (c rivals : ℕ) → rivals ≡ live_rivals plan classes s c
+-- so where all its live rivals are kin
+pub class-first_with_only_kin_rivals : (plan : Plan) (classes : Classes) (s : State) → AreClasses plan classes → (c rivals : ℕ) → rivals ≡ live_rivals plan classes s c
     → (t : ℕ) → least (turns_of (is_ready plan s) (of_class plan classes c)) ≡ Some t
-    → some_and (is_spared plan classes s c rivals) (request_at_turn plan t) ≡ true → Some t ≡ turn_in_class plan classes s c
-class-first_spared plan classes s are c rivals e t is h =
-    let r : (r : Req) × (request_at_turn plan t ≡ Some r) × (is_spared plan classes s c rivals r ≡ true) = some_and-some (is_spared plan classes s c rivals) (request_at_turn plan t) h in
+    → some_and (has_only_kin_rivals plan classes s c rivals) (request_at_turn plan t) ≡ true → Some t ≡ turn_in_class plan classes s c
+class-first_with_only_kin_rivals plan classes s are c rivals e t is h =
+    let r : (r : Req) × (request_at_turn plan t ≡ Some r) × (has_only_kin_rivals plan classes s c rivals r ≡ true) = some_and-some (has_only_kin_rivals plan classes s c rivals) (request_at_turn plan t) h in
     let has : Has plan.requests r.0 = (found plan (record { number = t % 32768 }) r.0 (at_turn plan t r.0 r.1)).1 in
-    let spared : ((class_at classes r.0 == c) && may_let plan s r.0) ≡ true = sym (spared-may_let plan classes s are c r.0 has) ∙ ap (λ n. is_spared plan classes s c n r.0) (sym e) ∙ r.2 in
-    class-first plan classes s c t r.0 is r.1 (and_parts _ _ spared).1
+    let kin_marked : ((class_at classes r.0 == c) && may_let plan s r.0) ≡ true = sym (kin_marked-may_let plan classes s are c r.0 has) ∙ ap (λ n. has_only_kin_rivals plan classes s c n r.0) (sym e) ∙ r.2 in
+    class-first plan classes s c t r.0 is r.1 (and_parts _ _ kin_marked).1
 
 -- ---- all classes
 

@@ -17,11 +17,11 @@ use Rattle.conc_law.specs.State.{facts_at, is_live}
 use Rattle.conc_law.specs.Words.{Has, id_eq}
 use Rattle.conc_law.proofs.Numbering.{found, numbered_plan}
 use Rattle.conc_machine_queue.proofs.Maps.{place_of_request, request_at_place}
-use Rattle.conc_machine_classes.specs.Classes.{AreClasses, clash, class_at, spares_at}
+use Rattle.conc_machine_classes.specs.Classes.{AreClasses, clash, class_at, excludes_kin_at}
 use Rattle.conc_machine_classes.specs.declared.classes.Classes.{Classes}
 use Rattle.conc_machine_reach.specs.Spans.{AreSpans, span_of_members}
 use Rattle.conc_machine_reach.specs.declared.spans.Spans.{Spans}
-use Rattle.conc_machine_release.specs.Forced.{is_child, is_live_member, is_live_outside, is_spared, live_members, live_parents}
+use Rattle.conc_machine_release.specs.Forced.{is_child, is_live_member, is_live_outside, has_only_kin_rivals, live_members, live_parents}
 use Rattle.conc_machine_release.specs.Lets.{is_live_rival, live_rivals}
 use Rattle.conc_machine_release.proofs.Lists.{any-filter, length-filter_change, length-filter_none, length-filter_parts, length-filter_same}
 use Rattle.conc_machine_release.proofs.Queues.{same_number}
@@ -185,11 +185,11 @@ pub may_let-parts : (plan : Plan) (s : State) (r : Req) → may_let plan s r ≡
 unfolding may_let
 may_let-parts plan s r = refl
 
--- a request is spared where so many live rivals are kin of it as there are
-pub spared-may_let : (plan : Plan) (classes : Classes) (s : State) → AreClasses plan classes → (c : ℕ) (r : Req) → Has plan.requests r
-    → is_spared plan classes s c (live_rivals plan classes s c) r ≡ ((class_at classes r == c) && may_let plan s r)
-unfolding is_spared
-spared-may_let plan classes s are c r has = elim (cases_Bool (class_at classes r == c)) [
+-- all rivals of a request are kin where so many live rivals are kin of it as there are
+pub kin_marked-may_let : (plan : Plan) (classes : Classes) (s : State) → AreClasses plan classes → (c : ℕ) (r : Req) → Has plan.requests r
+    → has_only_kin_rivals plan classes s c (live_rivals plan classes s c) r ≡ ((class_at classes r == c) && may_let plan s r)
+unfolding has_only_kin_rivals
+kin_marked-may_let plan classes s are c r has = elim (cases_Bool (class_at classes r == c)) [
   | inr f ↦ and_left _ _ f ∙ sym (and_left _ _ f)
   | inl t ↦ ap (λ b. (class_at classes r == c) && b) (elim (cases_Bool (is_ready plan s r)) [
     | inr f ↦ and_left _ _ f ∙ sym (may_let-parts plan s r ∙ and_left _ _ f)
@@ -219,17 +219,17 @@ free-may_let plan classes s are r has none = elim (cases_Bool (is_ready plan s r
       ready ∙ sym (may_let-parts plan s r ∙ ap (λ b. b && is_free plan s r) ready ∙ free)
 ]
 
--- where a rival is live and the class spares no kin, none may be let
+-- where a rival is live and the class excludes no kin, none may be let
 pub rival-may_let : (plan : Plan) (classes : Classes) (s : State) → AreClasses plan classes → (r : Req) → Has plan.requests r
-    → (live_rivals plan classes s (class_at classes r) ≡ 0 → ⊥) → spares_at classes (class_at classes r) ≡ false → may_let plan s r ≡ false
+    → (live_rivals plan classes s (class_at classes r) ≡ 0 → ⊥) → excludes_kin_at classes (class_at classes r) ≡ false → may_let plan s r ≡ false
 unfolding live_rivals strangers is_live_rival
-rival-may_let plan classes s are r has some spares = elim (cases_Bool (is_ready plan s r)) [
+rival-may_let plan classes s are r has some excludes_kin = elim (cases_Bool (is_ready plan s r)) [
   | inr f ↦ may_let-parts plan s r ∙ and_left _ _ f
   | inl ready ↦
       let none : length (filter (λ q. is_live_rival classes s (class_at classes r) q && is_kin q r) plan.requests) ≡ 0 =
       length-filter_none (λ q. is_live_rival classes s (class_at classes r) q && is_kin q r) plan.requests (λ q hq. elim (cases_Bool (is_kin q r)) [
         | inr f ↦ and_right _ _ f
-        | inl kin ↦ and_left _ _ (and_right _ _ (sym (are.rivals q r hq has) ∙ are.spared q r hq has kin spares))
+        | inl kin ↦ and_left _ _ (and_right _ _ (sym (are.rivals q r hq has) ∙ are.kin_marked q r hq has kin excludes_kin))
       ]) in
       let parts : live_rivals plan classes s (class_at classes r) ≡ length (filter (λ q. is_live_rival classes s (class_at classes r) q && is_kin q r) plan.requests) + strangers plan classes s (class_at classes r) r =
       length-filter_parts (is_live_rival classes s (class_at classes r)) (λ q. is_kin q r) plan.requests in

@@ -9,17 +9,17 @@ use Rattle.conc_machine_release.specs.Rivals.{counted_all, counted_at}
 
 -- ---- keys
 
--- nothing changes past the last seat
+-- nothing changes past the last slot
 set-past : {T : Type 0} (xs : List T) (k : ℕ) (y : T) → length xs ≤ k → set xs k y ≡ xs
 set-past [] k y h = refl
 set-past (x ∷ xs) zero y h = absurd (omega arith)
 set-past (x ∷ xs) (suc k) y h = ap (λ l. x ∷ l) (set-past xs k y (omega arith))
 
-pub put_in-past : (queues : List (List (Option ℕ))) (c seat : ℕ) (key : Option ℕ) (q : List (Option ℕ)) → c < length queues → q ≡ get_or queues c q → length q ≤ seat
-    → queues ≡ put_in queues c seat key
-put_in-past [] c seat key q h e k = absurd (omega arith)
-put_in-past (x ∷ xs) zero seat key q h e k = ap (λ l. l ∷ xs) (sym (set-past x seat key (omega (arith, ap length e))))
-put_in-past (x ∷ xs) (suc c) seat key q h e k = ap (λ l. x ∷ l) (put_in-past xs c seat key q (omega arith) e k)
+pub put_in-past : (queues : List (List (Option ℕ))) (c slot : ℕ) (key : Option ℕ) (q : List (Option ℕ)) → c < length queues → q ≡ get_or queues c q → length q ≤ slot
+    → queues ≡ put_in queues c slot key
+put_in-past [] c slot key q h e k = absurd (omega arith)
+put_in-past (x ∷ xs) zero slot key q h e k = ap (λ l. l ∷ xs) (sym (set-past x slot key (omega (arith, ap length e))))
+put_in-past (x ∷ xs) (suc c) slot key q h e k = ap (λ l. x ∷ l) (put_in-past xs c slot key q (omega arith) e k)
 
 pub refreshed_all-next : (plan : Plan) (classes : Classes) (s : State) (n m i : ℕ) (queues : List (List (Option ℕ))) → n ≡ m + 1
     → refreshed_all plan classes s n i queues ≡ refreshed_all plan classes s m (i + 1) (refreshed plan classes s queues i)

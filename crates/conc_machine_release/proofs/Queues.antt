@@ -12,7 +12,7 @@ use Rattle.conc_law.specs.Words.{Has}
 use Rattle.conc_law.proofs.Numbering.{numbered_plan}
 use Rattle.conc_machine_queue.specs.Turns.{turn, turns_of}
 use Rattle.conc_machine_queue.proofs.Maps.{place_of_request, request_at_place}
-use Rattle.conc_machine_classes.specs.Classes.{AreClasses, class_at, of_class, seat_at}
+use Rattle.conc_machine_classes.specs.Classes.{AreClasses, class_at, of_class, slot_at}
 use Rattle.conc_machine_classes.specs.declared.classes.Classes.{Classes}
 use Rattle.conc_law.specs.Next.{is_ready}
 use Rattle.conc_machine_release.specs.Refresh.{put_in, queues_of, refreshed, refreshed_all, refreshed_by}
@@ -78,10 +78,10 @@ queues-same plan classes f g h =
 -- two tests that agree but on one request
 queue-renewed : (plan : Plan) (classes : Classes) → AreClasses plan classes → (f g : Req → Bool) (r : Req) → Has plan.requests r
     → ((q : Req) → Has plan.requests q → (q.number.number ≡ r.number.number → ⊥) → g q ≡ f q)
-    → put_in (queues_of plan classes f) (class_at classes r) (seat_at classes r) (then_some (g r) (turn r)) ≡ queues_of plan classes g
+    → put_in (queues_of plan classes f) (class_at classes r) (slot_at classes r) (then_some (g r) (turn r)) ≡ queues_of plan classes g
 unfolding queues_of of_class
 queue-renewed plan classes are f g r has other =
-    ap (λ o. set (queues_of plan classes f) (class_at classes r) (set (unwrap_or o []) (seat_at classes r) (then_some (g r) (turn r)))) here
+    ap (λ o. set (queues_of plan classes f) (class_at classes r) (set (unwrap_or o []) (slot_at classes r) (then_some (g r) (turn r)))) here
     ∙ map_range-set of_f of_g (length classes.sizes) (class_at classes r) _ (sym own) others where
       of_f : ℕ → List (Option ℕ)
       of_f c = turns_of f (of_class plan classes c)
@@ -95,13 +95,13 @@ queue-renewed plan classes are f g r has other =
       distinct : IsDistinct (of_class plan classes (class_at classes r))
       distinct = filter-distinct (λ q. class_at classes q == class_at classes r) plan.requests (requests-distinct plan)
 
-      own : set (of_f (class_at classes r)) (seat_at classes r) (then_some (g r) (turn r)) ≡ of_g (class_at classes r)
-      own = turns-set f g (of_class plan classes (class_at classes r)) (seat_at classes r) r (are.seated r has) (λ j y at ne.
+      own : set (of_f (class_at classes r)) (slot_at classes r) (then_some (g r) (turn r)) ≡ of_g (class_at classes r)
+      own = turns-set f g (of_class plan classes (class_at classes r)) (slot_at classes r) r (are.located r has) (λ j y at ne.
           let inside : Has plan.requests y × (class_at classes y ≡ class_at classes r) =
           of_class-has plan classes (class_at classes r) y (place-has (of_class plan classes (class_at classes r)) j y at) in
           other y inside.0 (λ (n : y.number.number ≡ r.number.number).
           let same : y ≡ r = same_number plan y r inside.0 has n in
-          ne (distinct.one j (seat_at classes r) r (at ∙ ap (λ z. Some z) same) (are.seated r has))))
+          ne (distinct.one j (slot_at classes r) r (at ∙ ap (λ z. Some z) same) (are.located r has))))
 
       others : (d : ℕ) → (d ≡ class_at classes r → ⊥) → of_g d ≡ of_f d
       others d ne = turns-same g f (of_class plan classes d) (λ y inside.
@@ -132,7 +132,7 @@ refreshed-is plan classes s are i f = by (slice_get plan.requests i) refl where
       cc)))
   by (Some r) some =
       let p : (r.number.number ≡ i + 1) × Has plan.requests r = request_at_place plan i r some in
-      ap (λ b. put_in (queues_of plan classes f) (class_at classes r) (seat_at classes r) (then_some b (turn r))) (sym (at_number-own (i + 1) (is_ready plan s) f r p.0))
+      ap (λ b. put_in (queues_of plan classes f) (class_at classes r) (slot_at classes r) (then_some b (turn r))) (sym (at_number-own (i + 1) (is_ready plan s) f r p.0))
       ∙ queue-renewed plan classes are f (at_number (i + 1) (is_ready plan s) f) r p.1
       (λ q has ne. at_number-other (i + 1) (is_ready plan s) f q (λ (n : q.number.number ≡ i + 1). ne (omega (arith, p.0))))
 

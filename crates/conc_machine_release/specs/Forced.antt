@@ -40,7 +40,7 @@ unfoldable pub live_parents : Plan → Classes → State → ℕ → Req → ℕ
 live_parents plan classes s c r = if some_and (is_live_outside classes s c r) (parent plan r) then 1 else 0
 
 -- r is of the class and ready, and so many live requests as exclude its class are kin of it
-unfoldable pub is_spared : Plan → Classes → State → ℕ → ℕ → Req → Bool
-is_spared plan classes s c rivals r =
+unfoldable pub has_only_kin_rivals : Plan → Classes → State → ℕ → ℕ → Req → Bool
+has_only_kin_rivals plan classes s c rivals r =
     class_at classes r == c
     && (is_ready plan s r && live_members plan classes s c r + live_parents plan classes s c r == rivals)

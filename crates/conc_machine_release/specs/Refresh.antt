@@ -6,7 +6,7 @@ use Rattle.conc_types.specs.declared.plan.Plan.{Plan}
 use Rattle.conc_types.specs.declared.plan.Req.{Req}
 use Rattle.conc_types.specs.Words.{is_between}
 use Rattle.conc_machine_queue.specs.Turns.{turn, turns_of}
-use Rattle.conc_machine_classes.specs.Classes.{class_at, of_class, seat_at}
+use Rattle.conc_machine_classes.specs.Classes.{class_at, of_class, slot_at}
 use Rattle.conc_machine_classes.specs.declared.classes.Classes.{Classes}
 use Rattle.conc_law.specs.Next.{is_ready}
 use Rattle.conc_machine_release.specs.Lets.{all_classes}
@@ -19,13 +19,13 @@ key plan s r = then_some (is_ready plan s r) (turn r)
 unfoldable pub queues_of : Plan → Classes → (Req → Bool) → List (List (Option ℕ))
 queues_of plan classes test = map (λ c. turns_of test (of_class plan classes c)) (all_classes classes)
 
--- a seat in the queue of a class has this key
+-- a slot in the queue of a class has this key
 abbrev pub put_in : List (List (Option ℕ)) → ℕ → ℕ → Option ℕ → List (List (Option ℕ))
-put_in queues c seat key = slice_set queues c (slice_set (unwrap_or (slice_get queues c) []) seat key)
+put_in queues c slot key = slice_set queues c (slice_set (unwrap_or (slice_get queues c) []) slot key)
 
 -- the key of a request is what stands
 abbrev pub refreshed_at : Plan → Classes → State → List (List (Option ℕ)) → Req → List (List (Option ℕ))
-refreshed_at plan classes s queues r = put_in queues (class_at classes r) (seat_at classes r) (key plan s r)
+refreshed_at plan classes s queues r = put_in queues (class_at classes r) (slot_at classes r) (key plan s r)
 
 abbrev pub refreshed_by : Plan → Classes → State → List (List (Option ℕ)) → Option Req → List (List (Option ℕ))
 refreshed_by plan classes s queues None = queues

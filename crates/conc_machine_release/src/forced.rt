@@ -6,7 +6,7 @@ ghost use Rattle.conc_law.specs.Next.{let_event as let_event_of};
 ghost use Rattle.conc_machine_queue.specs.Least.{least as least_of};
 ghost use Rattle.conc_machine_queue.specs.Turns.{request_at_turn as request_at_turn_of, turn as turn_of, turns_of};
 ghost use Rattle.conc_machine_reach.specs.Spans.{AreSpans};
-ghost use Rattle.conc_machine_release.specs.Forced.{is_spared as is_spared_of};
+ghost use Rattle.conc_machine_release.specs.Forced.{has_only_kin_rivals as has_only_kin_rivals_of};
 
 use crate::kin::{live_members, live_parents};
 use conc_law_decisions::{is_ready, let_event};
@@ -16,8 +16,8 @@ use conc_machine_reach::Spans;
 use conc_types::{Event, Plan, Req, State};
 
 // Whether r is of the class and ready, and so many live requests as exclude its class are kin of it.
-#[tactic(auto, unfolding(crate::specs::Forced::is_spared))]
-fn is_spared(
+#[tactic(auto, unfolding(crate::specs::Forced::has_only_kin_rivals))]
+fn has_only_kin_rivals(
     plan: &Plan,
     classes: &Classes,
     spans: &Spans,
@@ -27,7 +27,7 @@ fn is_spared(
     r: &Req,
 ) -> bool
     requires { AreSpans plan.now spans.now }
-    ensures { result ≡ is_spared_of plan.now classes.now state.now class rivals r.now }
+    ensures { result ≡ has_only_kin_rivals_of plan.now classes.now state.now class rivals r.now }
 {
     classes.class(r) == class
         && is_ready(plan, state, r)
@@ -36,7 +36,7 @@ fn is_spared(
             == rivals as usize
 }
 
-fn turn_if_spared(
+fn turn_if_only_kin_rivals(
     plan: &Plan,
     classes: &Classes,
     spans: &Spans,
@@ -46,13 +46,13 @@ fn turn_if_spared(
     r: &Req,
 ) -> Option<u64>
     requires { AreSpans plan.now spans.now }
-    ensures { result ≡ then_some (is_spared_of plan.now classes.now state.now class rivals r.now) (turn_of r.now) }
+    ensures { result ≡ then_some (has_only_kin_rivals_of plan.now classes.now state.now class rivals r.now) (turn_of r.now) }
 {
-    is_spared(plan, classes, spans, state, class, rivals, r).then_some(turn(r))
+    has_only_kin_rivals(plan, classes, spans, state, class, rivals, r).then_some(turn(r))
 }
 
-/// Whether the request that has this turn is spared by so many rivals of its class as are live.
-pub(crate) fn is_turn_spared(
+/// Whether the request that has this turn has no live rivals but kin, of so many as are live.
+pub(crate) fn has_turn_only_kin_rivals(
     plan: &Plan,
     classes: &Classes,
     spans: &Spans,
@@ -62,16 +62,16 @@ pub(crate) fn is_turn_spared(
     turn: u64,
 ) -> bool
     requires { AreSpans plan.now spans.now }
-    ensures { result ≡ some_and (is_spared_of plan.now classes.now state.now class rivals) (request_at_turn_of plan.now turn) }
+    ensures { result ≡ some_and (has_only_kin_rivals_of plan.now classes.now state.now class rivals) (request_at_turn_of plan.now turn) }
 {
     match request_at_turn(plan, turn) {
-        Some(r) => is_spared(plan, classes, spans, state, class, rivals, r),
+        Some(r) => has_only_kin_rivals(plan, classes, spans, state, class, rivals, r),
         None => false,
     }
 }
 
-/// The least turn of those that are spared by so many rivals of their class as are live.
-pub(crate) fn least_spared(
+/// The least turn of those that have no live rivals but kin, of so many as are live.
+pub(crate) fn least_with_only_kin_rivals(
     plan: &Plan,
     classes: &Classes,
     spans: &Spans,
@@ -80,13 +80,13 @@ pub(crate) fn least_spared(
     rivals: u32,
 ) -> Option<u64>
     requires { AreSpans plan.now spans.now }
-    ensures { result ≡ least_of (turns_of (is_spared_of plan.now classes.now state.now class rivals) plan.now.requests) }
+    ensures { result ≡ least_of (turns_of (has_only_kin_rivals_of plan.now classes.now state.now class rivals) plan.now.requests) }
 {
     let mut best = None;
     for r in plan.requests.as_slice() {
         best = lesser(
             best,
-            turn_if_spared(plan, classes, spans, state, class, rivals, r),
+            turn_if_only_kin_rivals(plan, classes, spans, state, class, rivals, r),
         );
     }
     best

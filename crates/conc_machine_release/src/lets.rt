@@ -10,7 +10,7 @@ ghost use Rattle.conc_machine_reach.specs.Spans.{AreSpans};
 ghost use Rattle.conc_machine_release.specs.Forced.{turn_in_class as turn_in_class_of};
 ghost use Rattle.conc_machine_release.specs.Lets.{AreLets};
 
-use crate::forced::{event_at, is_turn_spared, least_spared};
+use crate::forced::{event_at, has_turn_only_kin_rivals, least_with_only_kin_rivals};
 use crate::fresh::{vacant_queues, zeros};
 use crate::refresh::refresh_span;
 use crate::renewal::{recount, renew};
@@ -92,7 +92,7 @@ impl Lets {
     }
 
     // The least turn of those of a class that may be let, where the first that is ready has this turn.
-    // Where rivals are live and the class spares kin, it looks at that one, and through all requests
+    // Where rivals are live and the class may exclude kin, it looks at that one, and through all requests
     // only where that one is excluded.
     fn turn_in_class(
         &self,
@@ -114,13 +114,13 @@ impl Lets {
         if rivals == 0 {
             return Some(first);
         }
-        if !classes.spares(class) {
+        if !classes.excludes_kin(class) {
             return None;
         }
-        if is_turn_spared(plan, classes, spans, state, class, rivals, first) {
+        if has_turn_only_kin_rivals(plan, classes, spans, state, class, rivals, first) {
             return Some(first);
         }
-        least_spared(plan, classes, spans, state, class, rivals)
+        least_with_only_kin_rivals(plan, classes, spans, state, class, rivals)
     }
 
     // The least turn of those that may be let.

@@ -7,13 +7,13 @@ use conc_machine_queue::{Queue, turn};
 use conc_machine_reach::Span;
 use conc_types::{Plan, Req, State};
 
-// Gives a seat in the queue of a class this key, or none.
-fn put_in(queues: &mut Vec<Queue>, class: usize, seat: usize, key: Option<u64>)
-    ensures { queues.new.items ≡ put_in_of queues.old.items class seat key }
+// Gives a slot in the queue of a class this key, or none.
+fn put_in(queues: &mut Vec<Queue>, class: usize, slot: usize, key: Option<u64>)
+    ensures { queues.new.items ≡ put_in_of queues.old.items class slot key }
 {
     if class < queues.len() {
-        if seat < queues[class].len() {
-            queues[class].put(seat, key);
+        if slot < queues[class].len() {
+            queues[class].put(slot, key);
         }
     }
 }
@@ -38,7 +38,7 @@ pub(crate) fn refresh_request(
     put_in(
         queues,
         classes.class(r) as usize,
-        classes.seat(r) as usize,
+        classes.slot(r) as usize,
         key,
     );
 }

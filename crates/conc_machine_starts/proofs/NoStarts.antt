@@ -21,7 +21,7 @@ use Rattle.conc_machine_starts.specs.Starts.{AreStarts, is_usable_now, may_start
 use Rattle.conc_machine_starts.proofs.Counts.{filter-none}
 use Rattle.conc_machine_starts.proofs.Ranges.{map-agree}
 
--- where none passes, no seat has a key
+-- where none passes, no slot has a key
 vacant-turns : (f : Req → Bool) (rs : List Req) → ((r : Req) → f r ≡ false) → vacant (length rs) ≡ turns_of f rs
 unfolding vacant turns_of
 vacant-turns f [] h = refl

@@ -109,8 +109,8 @@ running-few plan s place = omega (arith, filter-within (runs_at s place) plan.re
 
 -- what one write makes of what is kept
 pub record AreWritten (plan : Plan) (after : State) (i : ℕ) (old : Facts) (r : Req) (starts next : Starts) : Type 0 where
-  pub queues : (seats : Manager → List (Option ℕ)) → starts.queues.items ≡ map seats plan.setup.managers
-      → next.queues.items ≡ map (λ manager. set (seats manager) i (key_of (facts_at after r) manager r)) plan.setup.managers
+  pub queues : (slots : Manager → List (Option ℕ)) → starts.queues.items ≡ map slots plan.setup.managers
+      → next.queues.items ≡ map (λ manager. set (slots manager) i (key_of (facts_at after r) manager r)) plan.setup.managers
   pub owners : next.owners ≡ starts.owners
   pub running : next.running ≡ with_one (without_one starts.running old.place) (facts_at after r).place
   pub usable : next.usable ≡ starts.usable

@@ -22,24 +22,24 @@ fn key_of(facts: Facts, manager: &Manager, r: &Req) -> Option<u64>
     }
 }
 
-// Gives a seat this key, or none, where there is such a seat.
-fn put(queue: &mut Queue, seat: usize, key: Option<u64>)
-    ensures { queue.new ≡ slice_set queue.old seat key }
+// Gives a slot this key, or none, where there is such a slot.
+fn put(queue: &mut Queue, slot: usize, key: Option<u64>)
+    ensures { queue.new ≡ slice_set queue.old slot key }
 {
-    if seat < queue.len() {
-        queue.put(seat, key);
+    if slot < queue.len() {
+        queue.put(slot, key);
     }
 }
 
-/// Gives the seat of a request in each manager's queue its key by these facts.
+/// Gives the slot of a request in each manager's queue its key by these facts.
 pub(crate) fn refresh(
     queues: &mut [Queue],
     managers: &[Manager],
-    seat: usize,
+    slot: usize,
     r: &Req,
     facts: Facts,
 )
-    ensures { (seats : Manager → List (Option ℕ)) → queues.old ≡ map seats managers.now → queues.new ≡ map (λ manager. slice_set (seats manager) seat (key_of_of facts manager r.now)) managers.now }
+    ensures { (slots : Manager → List (Option ℕ)) → queues.old ≡ map slots managers.now → queues.new ≡ map (λ manager. slice_set (slots manager) slot (key_of_of facts manager r.now)) managers.now }
 {
     let Some((queue, queues)) = queues.split_first_mut() else {
         return;
@@ -47,8 +47,8 @@ pub(crate) fn refresh(
     let Some((manager, managers)) = managers.split_first() else {
         return;
     };
-    put(queue, seat, key_of(facts, manager, r));
-    refresh(queues, managers, seat, r, facts);
+    put(queue, slot, key_of(facts, manager, r));
+    refresh(queues, managers, slot, r, facts);
 }
 
 // ---- counts

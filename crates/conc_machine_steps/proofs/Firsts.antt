@@ -15,14 +15,14 @@ use Rattle.conc_machine_steps.specs.Steps.{AreRunning, AreSteps}
 pub first_running : (plan : Plan) (s : State) (running : Running) → AreRunning plan s running
     → option_and_then (request_numbered plan) (least running.all) ≡ find (runs_somewhere s) plan.requests
 first_running plan s running are =
-    ap (λ seats. option_and_then (request_numbered plan) (least seats)) are.all ∙ sym (find-least plan (runs_somewhere s))
+    ap (λ slots. option_and_then (request_numbered plan) (least slots)) are.all ∙ sym (find-least plan (runs_somewhere s))
 
 pub first_left : (plan : Plan) (s : State) (running : Running) → AreRunning plan s running
     → option_and_then (request_numbered plan) (least running.left) ≡ find (is_left_running s) plan.requests
 first_left plan s running are =
-    ap (λ seats. option_and_then (request_numbered plan) (least seats)) are.left ∙ sym (find-least plan (is_left_running s))
+    ap (λ slots. option_and_then (request_numbered plan) (least slots)) are.left ∙ sym (find-least plan (is_left_running s))
 
 pub first_due : (plan : Plan) (s : State) (steps : Steps) → AreSteps plan s steps
     → option_and_then (request_numbered plan) (least steps.due) ≡ find (has_step plan s) plan.requests
 first_due plan s steps are =
-    ap (λ seats. option_and_then (request_numbered plan) (least seats)) are.due ∙ sym (find-least plan (has_step plan s))
+    ap (λ slots. option_and_then (request_numbered plan) (least slots)) are.due ∙ sym (find-least plan (has_step plan s))

@@ -1,4 +1,4 @@
--- Seats of requests: where the tests of one or two requests change, one or two seats are written.
+-- Slots of requests: where the tests of one or two requests change, one or two slots are written.
 use Rattle.std.proofs.Common.{◌≡◌, ℕ, ◌+◌, ◌-◌, ◌==◌, Bool, true, false, if◌then◌else◌, List, length, Some, eqb, refl, sym, ◌∙◌, ap, arith}
 use Rattle.std.specs.Prelude.{slice_get}
 use Rattle.std.specs.Bool.{then_some}
@@ -9,16 +9,16 @@ use Rattle.conc_law.specs.Words.{Has}
 use Rattle.conc_machine_queue.specs.Least.{vacant}
 use Rattle.conc_machine_queue.specs.Turns.{numbers_of}
 use Rattle.conc_machine_queue.proofs.Maps.{map-vacant, numbers_of-written, place_of_request}
-use Rattle.conc_machine_steps.specs.Seats.{refreshed}
+use Rattle.conc_machine_steps.specs.Slots.{refreshed}
 
--- where no request passes, all seats are vacant
+-- where no request passes, all slots are vacant
 pub numbers_of-none : (test : Req → Bool) (rs : List Req) → ((r : Req) → Has rs r → test r ≡ false)
     → vacant (length rs) ≡ numbers_of test rs
 unfolding numbers_of
 numbers_of-none test rs none =
     sym (map-vacant (λ r. then_some (test r) r.number.number) rs (λ r has. ap (λ b. then_some b r.number.number) (none r has)))
 
--- where one request's test changes, its seat is written
+-- where one request's test changes, its slot is written
 pub numbers_of-one : (plan : Plan) (f g : Req → Bool) (r : Req) → Has plan.requests r
     → ((q : Req) → Has plan.requests q → (q.number.number ≡ r.number.number → ⊥) → g q ≡ f q)
     → numbers_of g plan.requests ≡ refreshed (numbers_of f plan.requests) r (g r)
@@ -45,7 +45,7 @@ between-later f g r q same = by (eqb q.number.number r.number.number) refl where
   by true e = refl
   by false e = same (λ (n : q.number.number ≡ r.number.number). let y : true ≡ false = sym (eq-eqb _ _ n) ∙ e in cc)
 
--- where two requests' tests change, both seats are written
+-- where two requests' tests change, both slots are written
 pub numbers_of-two : (plan : Plan) (f g : Req → Bool) (r t : Req) → Has plan.requests r → Has plan.requests t
     → ((q : Req) → Has plan.requests q → (q.number.number ≡ r.number.number → ⊥) → (q.number.number ≡ t.number.number → ⊥) → g q ≡ f q)
     → numbers_of g plan.requests ≡ refreshed (refreshed (numbers_of f plan.requests) r (g r)) t (g t)

@@ -1,4 +1,4 @@
--- Where the facts of one request are written, its seats are written, and in the queue of sets that of its set.
+-- Where the facts of one request are written, its slots are written, and in the queue of sets that of its set.
 use Rattle.std.proofs.Common.{◌≡◌, ℕ, zero, suc, [], ◌∷◌, ◌<◌, ◌+◌, true, List, length, None, Some, eqb, sym, ◌∙◌, ap, arith}
 use Rattle.std.specs.Prelude.{slice_get}
 use Rattle.std.proofs.lemmas.Bool.{and_parts, eqb-true}
@@ -20,7 +20,7 @@ use Rattle.conc_machine_queue.specs.Written.{IsWritten}
 use Rattle.conc_machine_queue.proofs.Maps.{facts_at-written, request_at_place}
 use Rattle.conc_machine_steps.specs.declared.running.Running.{Running}
 use Rattle.conc_machine_steps.specs.declared.steps.Steps.{Steps}
-use Rattle.conc_machine_steps.specs.Seats.{refreshed}
+use Rattle.conc_machine_steps.specs.Slots.{refreshed}
 use Rattle.conc_machine_steps.specs.Steps.{AreRunning, AreSteps}
 use Rattle.conc_machine_steps.proofs.Same.{has_step-same, is_left-same, runs-same}
 use Rattle.conc_machine_steps.proofs.Numbers.{numbers_of-one, numbers_of-two}

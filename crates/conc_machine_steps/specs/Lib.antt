@@ -1,2 +1,2 @@
-pub mod Seats
+pub mod Slots
 pub mod Steps

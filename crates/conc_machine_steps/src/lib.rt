@@ -3,7 +3,7 @@
 #![tactic(auto)]
 
 mod running;
-mod seats;
+mod slots;
 mod steps;
 
 pub use running::Running;

@@ -7,7 +7,7 @@ ghost use Rattle.conc_law.specs.State.{state};
 ghost use Rattle.conc_machine_queue.specs.Written.{IsWritten};
 ghost use Rattle.conc_machine_steps.specs.Steps.{AreRunning};
 
-use crate::seats::{least_request, refresh, request_at};
+use crate::slots::{least_request, refresh, request_at};
 use conc_law_decisions::{is_left_running, runs_somewhere};
 use conc_machine_queue::Queue;
 use conc_types::{Event, Facts, NoMemory, Plan, Req, State};

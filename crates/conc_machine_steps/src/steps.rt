@@ -6,10 +6,10 @@ ghost use Rattle.conc_law.specs.Next.{forced_step as forced_step_of, has_step as
 ghost use Rattle.conc_law.specs.State.{state};
 ghost use Rattle.conc_machine_queue.specs.Written.{IsWritten};
 ghost use Rattle.conc_machine_reach.specs.Spans.{AreSpans};
-ghost use Rattle.conc_machine_steps.specs.Seats.{refreshed};
+ghost use Rattle.conc_machine_steps.specs.Slots.{refreshed};
 ghost use Rattle.conc_machine_steps.specs.Steps.{AreSteps};
 
-use crate::seats::{least_request, refresh, request_at};
+use crate::slots::{least_request, refresh, request_at};
 use conc_law_decisions::{has_step, set_step};
 use conc_machine_queue::Queue;
 use conc_machine_reach::Spans;

@@ -25,16 +25,16 @@ fn knows_the_least_key(rt: HostRuntime) -> Result<(), Fail> {
     same(&rt, queue.len(), 5);
     assert!(rt; !queue.is_empty());
     same(&rt, queue.least(), None);
-    for (seat, key, want) in PUTS {
-        assert!(rt; seat < queue.len());
-        queue.put(seat, key);
-        same_at(&rt, queue.least(), want, seat);
+    for (slot, key, want) in PUTS {
+        assert!(rt; slot < queue.len());
+        queue.put(slot, key);
+        same_at(&rt, queue.least(), want, slot);
     }
     Ok(())
 }
 
 #[test]
-fn holds_few_seats(rt: HostRuntime) -> Result<(), Fail> {
+fn holds_few_slots(rt: HostRuntime) -> Result<(), Fail> {
     let none = Queue::new(rt.alloc(), 0)?;
     assert!(rt; none.is_empty());
     same(&rt, none.least(), None);

@@ -6,8 +6,8 @@ abbrev pub invariant-loop-at : goal.invariant-loop-at
 invariant-loop-at l = record {
   positive : 0 < l.at;
   within : l.at < length l.nodes;
-  below : IsTournamentBut l.seats l.nodes (l.at / 2);
-  same_seats : drop l.seats l.nodes ≡ drop l.seats l.fn.nodes;
+  below : IsTournamentBut l.slots l.nodes (l.at / 2);
+  same_slots : drop l.slots l.nodes ≡ drop l.slots l.fn.nodes;
 }
 
 abbrev pub decreases-loop-at : goal.decreases-loop-at

@@ -7,8 +7,8 @@ pub returns : goal.returns
 returns c =
     let whole : length c.settle_above.new.nodes ≡ c.self.inside.nodes.len =
     omega (arith, c.settle_above.ensures.all.size, c.self.invariant.size, c.self.inside.nodes.ok.0) in
-    ap (drop c.self.inside.seats) (with_items_is (with_item c.self.inside.nodes (c.self.inside.seats + c.args.seat) c.args.key) c.settle_above.new.nodes whole)
-    ∙ c.settle_above.ensures.same_seats
-    ∙ ap (drop c.self.inside.seats) c.as_mut_slice.ensures.value
-    ∙ drop-set-add c.self.inside.seats c.self.inside.nodes.items c.args.seat c.args.key
-    ∙ ap (λ l. set l c.args.seat c.args.key) c.self.view_is
+    ap (drop c.self.inside.slots) (with_items_is (with_item c.self.inside.nodes (c.self.inside.slots + c.args.slot) c.args.key) c.settle_above.new.nodes whole)
+    ∙ c.settle_above.ensures.same_slots
+    ∙ ap (drop c.self.inside.slots) c.as_mut_slice.ensures.value
+    ∙ drop-set-add c.self.inside.slots c.self.inside.nodes.items c.args.slot c.args.key
+    ∙ ap (λ l. set l c.args.slot c.args.key) c.self.view_is

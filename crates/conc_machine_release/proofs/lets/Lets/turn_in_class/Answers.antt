@@ -1,5 +1,5 @@
 use Rattle.std.proofs.Common.{sym, ◌∙◌}
-use Rattle.conc_machine_release.proofs.Choice.{class-blocked, class-first_spared, class-free, class-spared, rivals-kept}
+use Rattle.conc_machine_release.proofs.Choice.{class-blocked, class-first_with_only_kin_rivals, class-free, class-kin_marked, rivals-kept}
 use Rattle.conc_machine_release.proofs.lets.Lets.turn_in_class.Goals as goal
 
 pub returns-then-rivals-eq0 : goal.returns-then-rivals-eq0
@@ -7,20 +7,20 @@ returns-then-rivals-eq0 c =
     let rivals = sym (rivals-kept c.args.plan.now c.args.classes.now c.args.state.now c.args.self.now c.requires.stands c.args.class c.requires.within) ∙ sym c.rival_count-rivals.ensures in
     sym c.requires.first ∙ class-free c.args.plan.now c.args.classes.now c.args.state.now c.requires.classes c.args.class (rivals ∙ c.if-rivals-eq0.true)
 
-pub returns-then-not-spares : goal.returns-then-not-spares
-returns-then-not-spares c =
+pub returns-then-not-excludes_kin : goal.returns-then-not-excludes_kin
+returns-then-not-excludes_kin c =
     let rivals = sym (rivals-kept c.args.plan.now c.args.classes.now c.args.state.now c.args.self.now c.requires.stands c.args.class c.requires.within) ∙ sym c.rival_count-rivals.ensures in
     class-blocked c.args.plan.now c.args.classes.now c.args.state.now c.requires.classes c.args.class (λ z. c.if-rivals-eq0.false (sym rivals ∙ z))
-    (sym c.if-not-spares.ensures)
+    (sym c.if-not-excludes_kin.ensures)
 
-pub returns-then-is_turn_spared : goal.returns-then-is_turn_spared
-returns-then-is_turn_spared c =
-    class-first_spared c.args.plan.now c.args.classes.now c.args.state.now c.requires.classes c.args.class c.rival_count-rivals.result
+pub returns-then-has_turn_only_kin_rivals : goal.returns-then-has_turn_only_kin_rivals
+returns-then-has_turn_only_kin_rivals c =
+    class-first_with_only_kin_rivals c.args.plan.now c.args.classes.now c.args.state.now c.requires.classes c.args.class c.rival_count-rivals.result
     (c.rival_count-rivals.ensures ∙ rivals-kept c.args.plan.now c.args.classes.now c.args.state.now c.args.self.now c.requires.stands c.args.class c.requires.within)
-    c.args.first c.requires.first (sym c.if-is_turn_spared.ensures)
+    c.args.first c.requires.first (sym c.if-has_turn_only_kin_rivals.ensures)
 
 pub returns : goal.returns
 returns c =
-    c.least_spared.ensures
-    ∙ class-spared c.args.plan.now c.args.classes.now c.args.state.now c.requires.classes c.args.class c.rival_count-rivals.result
+    c.least_with_only_kin_rivals.ensures
+    ∙ class-kin_marked c.args.plan.now c.args.classes.now c.args.state.now c.requires.classes c.args.class c.rival_count-rivals.result
     (c.rival_count-rivals.ensures ∙ rivals-kept c.args.plan.now c.args.classes.now c.args.state.now c.args.self.now c.requires.stands c.args.class c.requires.within)

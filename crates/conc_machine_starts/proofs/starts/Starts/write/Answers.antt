@@ -13,12 +13,12 @@ returns c = λ before w are.
     (ap (λ l. slice_get l c.args.i) (sym c.as_slice.ensures)
     ∙ slice_get_read c.as_slice.result.now (length c.as_slice.result.now) c.args.i c.in-Some.r.now refl c.in-Some.ensures.lookup.3.0 c.in-Some.ensures.lookup.1)
     (record {
-      queues = λ seats e.
-          all-written c.args.self.now.queues c.refresh.new.queues seats
-          (λ manager. set (seats manager) c.args.i (key_of (facts_at c.args.after.now c.in-Some.r.now) manager c.in-Some.r.now)) c.args.plan.now.setup.managers e
-          (c.refresh.ensures seats (c.as_mut_slice.ensures.value ∙ e ∙ ap (map seats) (sym c.as_slice-2.ensures))
-          ∙ ap (map (λ (manager : Manager). set (seats manager) c.args.i (key_of c.facts_at-facts.result manager c.in-Some.r.now))) c.as_slice-2.ensures
-          ∙ ap (λ facts. map (λ (manager : Manager). set (seats manager) c.args.i (key_of facts manager c.in-Some.r.now)) c.args.plan.now.setup.managers) c.facts_at-facts.ensures);
+      queues = λ slots e.
+          all-written c.args.self.now.queues c.refresh.new.queues slots
+          (λ manager. set (slots manager) c.args.i (key_of (facts_at c.args.after.now c.in-Some.r.now) manager c.in-Some.r.now)) c.args.plan.now.setup.managers e
+          (c.refresh.ensures slots (c.as_mut_slice.ensures.value ∙ e ∙ ap (map slots) (sym c.as_slice-2.ensures))
+          ∙ ap (map (λ (manager : Manager). set (slots manager) c.args.i (key_of c.facts_at-facts.result manager c.in-Some.r.now))) c.as_slice-2.ensures
+          ∙ ap (λ facts. map (λ (manager : Manager). set (slots manager) c.args.i (key_of facts manager c.in-Some.r.now)) c.args.plan.now.setup.managers) c.facts_at-facts.ensures);
       owners = refl;
       running =
           c.enter.ensures

@@ -1,10 +1,10 @@
 ghost use Rattle.std.specs.Prelude.{◌≡◌, [], IfOk, slice_get, slice_set, true, unwrap_or};
-ghost use Rattle.conc_machine_classes.specs.Spares.{AreSpared, IsSpare, are_row_rivals, parent_class as parent_class_of, rival_parent as rival_parent_of};
+ghost use Rattle.conc_machine_classes.specs.ExcludesKin.{AreKinMarked, MarksKin, are_row_rivals, parent_class as parent_class_of, rival_parent as rival_parent_of};
 
 use conc_types::{NoMemory, Plan, Req, RequestId, Seq, numbered};
 use std::alloc::Global;
 
-#[tactic(auto, unfolding(crate::specs::Spares::parent_class))]
+#[tactic(auto, unfolding(crate::specs::ExcludesKin::parent_class))]
 fn parent_class(classes: &[u32], r: &Req) -> Option<u32>
     ensures { result ≡ parent_class_of classes.now r.now }
 {
@@ -23,7 +23,7 @@ fn row_at(rows: &[Seq<u32>], class: u32) -> &[u32]
     }
 }
 
-#[tactic(auto, unfolding(crate::specs::Spares::are_row_rivals))]
+#[tactic(auto, unfolding(crate::specs::ExcludesKin::are_row_rivals))]
 fn are_rivals(rows: &[Seq<u32>], c: u32, d: u32) -> bool
     ensures { result ≡ are_row_rivals rows.now c d }
 {
@@ -31,7 +31,7 @@ fn are_rivals(rows: &[Seq<u32>], c: u32, d: u32) -> bool
 }
 
 // The class of a request's parent, if it excludes the request's own class.
-#[tactic(auto, unfolding(crate::specs::Spares::rival_parent))]
+#[tactic(auto, unfolding(crate::specs::ExcludesKin::rival_parent))]
 fn rival_parent(classes: &[u32], rows: &[Seq<u32>], r: &Req, class: u32) -> Option<u32>
     ensures { result ≡ rival_parent_of classes.now rows.now r.now class }
 {
@@ -47,46 +47,46 @@ fn rival_parent(classes: &[u32], rows: &[Seq<u32>], r: &Req, class: u32) -> Opti
     }
 }
 
-fn mark(spares: &mut Vec<bool>, class: u32)
-    ensures { spares.new.items ≡ slice_set spares.old.items class true }
+fn mark(excludes_kin: &mut Vec<bool>, class: u32)
+    ensures { excludes_kin.new.items ≡ slice_set excludes_kin.old.items class true }
 {
-    if (class as usize) < spares.len() {
-        spares[class as usize] = true;
+    if (class as usize) < excludes_kin.len() {
+        excludes_kin[class as usize] = true;
     }
 }
 
-fn no_spares(alloc: Global, count: usize) -> Result<Vec<bool>, NoMemory> {
-    let mut spares = Vec::with_capacity(alloc, count)?;
+fn none_excluding_kin(alloc: Global, count: usize) -> Result<Vec<bool>, NoMemory> {
+    let mut excludes_kin = Vec::with_capacity(alloc, count)?;
     for _ in 0..count {
-        spares.push(false)?;
+        excludes_kin.push(false)?;
     }
-    Ok(spares)
+    Ok(excludes_kin)
 }
 
 // Marks the class of a request and that of its parent, if these exclude each other.
-fn spare(classes: &[u32], rows: &[Seq<u32>], index: usize, r: &Req, spares: &mut Vec<bool>)
-    ensures { IsSpare classes.now rows.now index r.now spares.old.items spares.new.items }
+fn mark_kin(classes: &[u32], rows: &[Seq<u32>], index: usize, r: &Req, excludes_kin: &mut Vec<bool>)
+    ensures { MarksKin classes.now rows.now index r.now excludes_kin.old.items excludes_kin.new.items }
 {
     if let Some(class) = classes.get(index).copied() {
         if let Some(parent) = rival_parent(classes, rows, r, class) {
-            mark(spares, parent);
-            mark(spares, class);
+            mark(excludes_kin, parent);
+            mark(excludes_kin, class);
         }
     }
 }
 
 /// For each class, whether a request of it would exclude kin of its own, were they not kin.
-pub(crate) fn all_spares(
+pub(crate) fn all_excluding_kin(
     alloc: Global,
     plan: &Plan,
     classes: &[u32],
     rows: &[Seq<u32>],
 ) -> Result<Seq<bool>, NoMemory>
-    ensures { IfOk result (λ spares. AreSpared plan.now.requests classes.now rows.now spares) }
+    ensures { IfOk result (λ excludes_kin. AreKinMarked plan.now.requests classes.now rows.now excludes_kin) }
 {
-    let mut spares = no_spares(alloc, rows.len())?;
+    let mut excludes_kin = none_excluding_kin(alloc, rows.len())?;
     for (i, r) in plan.requests.as_slice().iter().enumerate() {
-        spare(classes, rows, i, r, &mut spares);
+        mark_kin(classes, rows, i, r, &mut excludes_kin);
     }
-    Ok(Seq::from_vec(spares))
+    Ok(Seq::from_vec(excludes_kin))
 }

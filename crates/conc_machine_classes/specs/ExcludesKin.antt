@@ -19,15 +19,15 @@ unfoldable pub rival_parent : List ℕ → List (List ℕ) → Req → ℕ → O
 rival_parent classes rows r c = option_and_then (λ p. then_some (are_row_rivals rows p c) p) (parent_class classes r)
 
 abbrev pub IsMarked : List Bool → ℕ → Type 0
-IsMarked spares c = c < length spares → slice_get spares c ≡ Some true
+IsMarked excludes_kin c = c < length excludes_kin → slice_get excludes_kin c ≡ Some true
 
 -- each request that clashes with its parent has its class marked, and that of its parent
-pub record AreSpared (rs : List Req) (classes : List ℕ) (rows : List (List ℕ)) (spares : List Bool) : Type 0 where
-  pub own : (i c p : ℕ) (r : Req) → slice_get rs i ≡ Some r → slice_get classes i ≡ Some c → rival_parent classes rows r c ≡ Some p → IsMarked spares c
-  pub parent : (i c p : ℕ) (r : Req) → slice_get rs i ≡ Some r → slice_get classes i ≡ Some c → rival_parent classes rows r c ≡ Some p → IsMarked spares p
+pub record AreKinMarked (rs : List Req) (classes : List ℕ) (rows : List (List ℕ)) (excludes_kin : List Bool) : Type 0 where
+  pub own : (i c p : ℕ) (r : Req) → slice_get rs i ≡ Some r → slice_get classes i ≡ Some c → rival_parent classes rows r c ≡ Some p → IsMarked excludes_kin c
+  pub parent : (i c p : ℕ) (r : Req) → slice_get rs i ≡ Some r → slice_get classes i ≡ Some c → rival_parent classes rows r c ≡ Some p → IsMarked excludes_kin p
 
 -- one request more: the marks stay, and if it clashes with its parent both classes are marked
-pub record IsSpare (classes : List ℕ) (rows : List (List ℕ)) (i : ℕ) (r : Req) (old new : List Bool) : Type 0 where
+pub record MarksKin (classes : List ℕ) (rows : List (List ℕ)) (i : ℕ) (r : Req) (old new : List Bool) : Type 0 where
   pub stay : (c : ℕ) → IsMarked old c → IsMarked new c
   pub own : (c p : ℕ) → slice_get classes i ≡ Some c → rival_parent classes rows r c ≡ Some p → IsMarked new c
   pub parent : (c p : ℕ) → slice_get classes i ≡ Some c → rival_parent classes rows r c ≡ Some p → IsMarked new p

@@ -1,4 +1,4 @@
--- The seating after one more request of the plan.
+-- The partition after one more request of the plan.
 use Rattle.std.proofs.Common.{◌≡◌, ℕ, suc, ◌<◌, ◌≤◌, true, false, List, [], ◌∷◌, ◌++◌, length, get_or, take, Some, refl, sym, ◌∙◌, arith, add-one}
 use Rattle.std.specs.Prelude.{slice_get, slice_set}
 use Rattle.std.specs.List.{position}
@@ -9,21 +9,21 @@ use Rattle.conc_types.specs.declared.plan.Plan.{Plan}
 use Rattle.conc_types.specs.declared.plan.Req.{Req}
 use Rattle.conc_law.proofs.Positions.{take-suc_at}
 use Rattle.conc_machine_classes.specs.declared.kinds.Head.{Head}
-use Rattle.conc_machine_classes.specs.declared.seating.Seating.{Seating}
+use Rattle.conc_machine_classes.specs.declared.partition.Partition.{Partition}
 use Rattle.conc_machine_classes.specs.Kinds.{kind_at, kind_eq, kind_of}
-use Rattle.conc_machine_classes.specs.Seatings.{AreSeated, IsJoined, IsOpened, IsSeating}
+use Rattle.conc_machine_classes.specs.Partitions.{ArePartitioned, IsJoined, IsOpened, IsPartition}
 use Rattle.conc_machine_classes.proofs.KindEquality.{kind_eq-true}
-use Rattle.conc_machine_classes.proofs.Seats.{joined, opened, picked-few}
+use Rattle.conc_machine_classes.proofs.Slots.{joined, opened, picked-few}
 
--- no requests have no seats
-pub seated-none : (plan : Plan) → AreSeated plan [] [] [] [] []
-seated-none plan = record {
+-- no requests have no slots
+pub located-none : (plan : Plan) → ArePartitioned plan [] [] [] [] []
+located-none plan = record {
   each_class = refl;
-  each_seat = refl;
+  each_slot = refl;
   each_head = refl;
   known = λ i c e. cc;
   sized = λ c n e. cc;
-  seated = λ i c s r e f g. cc;
+  located = λ i c s r e f g. cc;
   kinds = λ i c r head e f g. cc;
 }
 
@@ -38,46 +38,46 @@ found_class plan heads head c e =
     (p.0, kind_eq-true _ _ p.1)
 
 -- the size of a class is at most the number of requests
-size_few : (plan : Plan) (i c : ℕ) (s : Seating) → IsSeating plan (take i plan.requests) s → c < length s.sizes.items
+size_few : (plan : Plan) (i c : ℕ) (s : Partition) → IsPartition plan (take i plan.requests) s → c < length s.sizes.items
     → get_or s.sizes.items c 0 ≤ 16384
 size_few plan i c s was within =
     let size : slice_get s.sizes.items c ≡ Some (get_or s.sizes.items c 0) = slice_get-get_or s.sizes.items c 0 within in
-    omega (arith, was.seated.sized c (get_or s.sizes.items c 0) size, picked-few c s.classes.items (take i plan.requests), length-take i plan.requests, plan.few)
+    omega (arith, was.located.sized c (get_or s.sizes.items c 0) size, picked-few c s.classes.items (take i plan.requests), length-take i plan.requests, plan.few)
 
 -- so it is for the class that is found
-pub found_few : (plan : Plan) (i c : ℕ) (head : Head) (s : Seating) → IsSeating plan (take i plan.requests) s
+pub found_few : (plan : Plan) (i c : ℕ) (head : Head) (s : Partition) → IsPartition plan (take i plan.requests) s
     → Some c ≡ position (λ h. kind_eq (kind_at plan h) (kind_at plan head)) s.heads.items
     → (c < length s.sizes.items) × (get_or s.sizes.items c 0 ≤ 16384)
 found_few plan i c head s was e =
-    let within : c < length s.sizes.items = omega (arith, (found_class plan s.heads.items head c e).0, was.seated.each_head) in
+    let within : c < length s.sizes.items = omega (arith, (found_class plan s.heads.items head c e).0, was.located.each_head) in
     (within, size_few plan i c s was within)
 
--- the request gets a seat in the class that is found
-pub seated_joined : (plan : Plan) (i c : ℕ) (r : Req) (head : Head) (old new : Seating) → IsSeating plan (take i plan.requests) old
+-- the request gets a slot in the class that is found
+pub located_joined : (plan : Plan) (i c : ℕ) (r : Req) (head : Head) (old new : Partition) → IsPartition plan (take i plan.requests) old
     → slice_get plan.requests i ≡ Some r → kind_at plan head ≡ kind_of plan r
     → Some c ≡ position (λ h. kind_eq (kind_at plan h) (kind_at plan head)) old.heads.items
-    → IsJoined old new c → IsSeating plan (take (suc i) plan.requests) new
-seated_joined plan i c r head old new was here same found step =
+    → IsJoined old new c → IsPartition plan (take (suc i) plan.requests) new
+located_joined plan i c r head old new was here same found step =
     let p : (c < length old.heads.items) × (kind_at plan (get_or old.heads.items c head) ≡ kind_at plan head) = found_class plan old.heads.items head c found in
     let more : take (suc i) plan.requests ≡ take i plan.requests ++ r ∷ [] = take-suc_at plan.requests i r here in
-    let within : c < length old.sizes.items = omega (arith, p.0, was.seated.each_head) in
-    let now : AreSeated plan (take i plan.requests ++ r ∷ []) (old.classes.items ++ c ∷ []) (old.seats.items ++ get_or old.sizes.items c 0 ∷ [])
+    let within : c < length old.sizes.items = omega (arith, p.0, was.located.each_head) in
+    let now : ArePartitioned plan (take i plan.requests ++ r ∷ []) (old.classes.items ++ c ∷ []) (old.slots.items ++ get_or old.sizes.items c 0 ∷ [])
     (slice_set old.sizes.items c (suc (get_or old.sizes.items c 0))) old.heads.items =
-    joined plan (take i plan.requests) old.classes.items old.seats.items old.sizes.items old.heads.items r c (get_or old.sizes.items c 0) (get_or old.heads.items c head)
-    was.seated (slice_get-get_or old.sizes.items c 0 within) (slice_get-get_or old.heads.items c head p.0) (p.1 ∙ same) in
+    joined plan (take i plan.requests) old.classes.items old.slots.items old.sizes.items old.heads.items r c (get_or old.sizes.items c 0) (get_or old.heads.items c head)
+    was.located (slice_get-get_or old.sizes.items c 0 within) (slice_get-get_or old.heads.items c head p.0) (p.1 ∙ same) in
     record {
-      seated = rw (more, step.classes, step.seats, step.sizes, step.heads, add-one) now;
+      located = rw (more, step.classes, step.slots, step.sizes, step.heads, add-one) now;
       few = rw (more, step.heads) (omega (arith, was.few, length-append (take i plan.requests) (r ∷ [])));
     }
 
 -- the request gets a class of its own
-pub seated_opened : (plan : Plan) (i : ℕ) (r : Req) (head : Head) (old new : Seating) → IsSeating plan (take i plan.requests) old
+pub located_opened : (plan : Plan) (i : ℕ) (r : Req) (head : Head) (old new : Partition) → IsPartition plan (take i plan.requests) old
     → slice_get plan.requests i ≡ Some r → kind_at plan head ≡ kind_of plan r
-    → IsOpened old new head → IsSeating plan (take (suc i) plan.requests) new
-seated_opened plan i r head old new was here same step =
+    → IsOpened old new head → IsPartition plan (take (suc i) plan.requests) new
+located_opened plan i r head old new was here same step =
     let more : take (suc i) plan.requests ≡ take i plan.requests ++ r ∷ [] = take-suc_at plan.requests i r here in
     record {
-      seated = rw (more, step.classes, step.seats, step.sizes, step.heads)
-          (opened plan (take i plan.requests) old.classes.items old.seats.items old.sizes.items old.heads.items head r (length old.heads.items) was.seated refl same);
+      located = rw (more, step.classes, step.slots, step.sizes, step.heads)
+          (opened plan (take i plan.requests) old.classes.items old.slots.items old.sizes.items old.heads.items head r (length old.heads.items) was.located refl same);
       few = rw (more, step.heads) (omega (arith, was.few, length-append (take i plan.requests) (r ∷ []), length-append old.heads.items (head ∷ [])));
     }

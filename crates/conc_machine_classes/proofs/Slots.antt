@@ -1,4 +1,4 @@
--- One more request has a class and a seat.
+-- One more request has a class and a slot.
 use Rattle.std.proofs.Common.{◌≡◌, ℕ, suc, ◌<◌, ◌≤◌, ◌==◌, true, List, [], ◌∷◌, ◌++◌, length, Some, refl, sym, ◌∙◌, ap, arith, inl, inr}
 use Rattle.std.specs.Prelude.{slice_get, slice_set}
 use Rattle.std.proofs.lemmas.Bool.{cases_Bool, eq-eqb, eqb-true, ne_eqb}
@@ -8,7 +8,7 @@ use Rattle.conc_types.specs.declared.plan.Plan.{Plan}
 use Rattle.conc_types.specs.declared.plan.Req.{Req}
 use Rattle.conc_machine_classes.specs.declared.kinds.Head.{Head}
 use Rattle.conc_machine_classes.specs.Kinds.{kind_at, kind_of}
-use Rattle.conc_machine_classes.specs.Seatings.{AreSeated, picked}
+use Rattle.conc_machine_classes.specs.Partitions.{ArePartitioned, picked}
 use Rattle.conc_machine_classes.proofs.Pushes.{get-front, get-one, get-push, get-seam, get-set, set-seam}
 
 -- ---- the requests of a class, and one more
@@ -63,7 +63,7 @@ picked-few c (k ∷ ks) (r ∷ rs) =
 
 -- ---- a request in a class of its kind
 module _ (plan : Plan) (rs : List Req) (cs ss ns : List ℕ) (hs : List Head) (r : Req) (c n : ℕ) (head : Head) where
-  joined-sized : AreSeated plan rs cs ss ns hs → slice_get ns c ≡ Some n → (d m : ℕ) → slice_get (slice_set ns c (suc n)) d ≡ Some m
+  joined-sized : ArePartitioned plan rs cs ss ns hs → slice_get ns c ≡ Some n → (d m : ℕ) → slice_get (slice_set ns c (suc n)) d ≡ Some m
       → length (picked d (cs ++ c ∷ []) (rs ++ r ∷ [])) ≡ m
   joined-sized was size d m e = elim (get-set ns c d (suc n) m e) [
     | inl w ↦
@@ -72,18 +72,18 @@ module _ (plan : Plan) (rs : List Req) (cs ss ns : List ℕ) (hs : List Head) (r
     | inr w ↦ ap length (picked-other d c cs rs r was.each_class (λ same. w.0 (sym same))) ∙ was.sized d m w.1
   ]
 
-  joined-seated : AreSeated plan rs cs ss ns hs → slice_get ns c ≡ Some n → (i d s : ℕ) (q : Req)
+  joined-located : ArePartitioned plan rs cs ss ns hs → slice_get ns c ≡ Some n → (i d s : ℕ) (q : Req)
       → slice_get (cs ++ c ∷ []) i ≡ Some d → slice_get (ss ++ n ∷ []) i ≡ Some s → slice_get (rs ++ r ∷ []) i ≡ Some q
       → slice_get (picked d (cs ++ c ∷ []) (rs ++ r ∷ [])) s ≡ Some q
-  joined-seated was size i d s q e f g = elim (get-push cs c (length rs) i d was.each_class e) [
-    | inl w ↦ elim (get-push ss n (length rs) i s was.each_seat f) [
+  joined-located was size i d s q e f g = elim (get-push cs c (length rs) i d was.each_class e) [
+    | inl w ↦ elim (get-push ss n (length rs) i s was.each_slot f) [
       | inl v ↦ elim (get-push rs r (length rs) i q refl g) [
-        | inl u ↦ picked-front d c s cs rs r q was.each_class (was.seated i d s q w.1 v.1 u.1)
+        | inl u ↦ picked-front d c s cs rs r q was.each_class (was.located i d s q w.1 v.1 u.1)
         | inr u ↦ absurd (omega (arith, w.0, u.0))
       ]
       | inr v ↦ absurd (omega (arith, w.0, v.0))
     ]
-    | inr w ↦ elim (get-push ss n (length rs) i s was.each_seat f) [
+    | inr w ↦ elim (get-push ss n (length rs) i s was.each_slot f) [
       | inl v ↦ absurd (omega (arith, w.0, v.0))
       | inr v ↦ elim (get-push rs r (length rs) i q refl g) [
         | inl u ↦ absurd (omega (arith, w.0, u.0))
@@ -95,7 +95,7 @@ module _ (plan : Plan) (rs : List Req) (cs ss ns : List ℕ) (hs : List Head) (r
     ]
   ]
 
-  joined-kinds : AreSeated plan rs cs ss ns hs → slice_get hs c ≡ Some head → kind_at plan head ≡ kind_of plan r → (i d : ℕ) (q : Req) (other : Head)
+  joined-kinds : ArePartitioned plan rs cs ss ns hs → slice_get hs c ≡ Some head → kind_at plan head ≡ kind_of plan r → (i d : ℕ) (q : Req) (other : Head)
       → slice_get (cs ++ c ∷ []) i ≡ Some d → slice_get (rs ++ r ∷ []) i ≡ Some q → slice_get hs d ≡ Some other → kind_at plan other ≡ kind_of plan q
   joined-kinds was here same i d q other e g h = elim (get-push cs c (length rs) i d was.each_class e) [
     | inl w ↦ elim (get-push rs r (length rs) i q refl g) [
@@ -110,43 +110,43 @@ module _ (plan : Plan) (rs : List Req) (cs ss ns : List ℕ) (hs : List Head) (r
     ]
   ]
 
-  pub joined : AreSeated plan rs cs ss ns hs → slice_get ns c ≡ Some n → slice_get hs c ≡ Some head → kind_at plan head ≡ kind_of plan r
-      → AreSeated plan (rs ++ r ∷ []) (cs ++ c ∷ []) (ss ++ n ∷ []) (slice_set ns c (suc n)) hs
+  pub joined : ArePartitioned plan rs cs ss ns hs → slice_get ns c ≡ Some n → slice_get hs c ≡ Some head → kind_at plan head ≡ kind_of plan r
+      → ArePartitioned plan (rs ++ r ∷ []) (cs ++ c ∷ []) (ss ++ n ∷ []) (slice_set ns c (suc n)) hs
   joined was size here same = record {
     each_class = omega (arith, length-append cs (c ∷ []), length-append rs (r ∷ []), was.each_class);
-    each_seat = omega (arith, length-append ss (n ∷ []), length-append rs (r ∷ []), was.each_seat);
+    each_slot = omega (arith, length-append ss (n ∷ []), length-append rs (r ∷ []), was.each_slot);
     each_head = was.each_head ∙ sym (length-set ns c (suc n));
     known = λ i d e. rw length-set (elim (get-push cs c (length rs) i d was.each_class e) [
       | inl w ↦ was.known i d w.1
       | inr w ↦ omega (arith, w.1, slice_get_within ns c n size)
     ]);
     sized = joined-sized was size;
-    seated = joined-seated was size;
+    located = joined-located was size;
     kinds = joined-kinds was here same;
   }
 
 -- ---- a request in a class of its own
 module _ (plan : Plan) (rs : List Req) (cs ss ns : List ℕ) (hs : List Head) (head : Head) where
   -- a new class has no request
-  emptied : AreSeated plan rs cs ss ns hs → AreSeated plan rs cs ss (ns ++ 0 ∷ []) (hs ++ head ∷ [])
+  emptied : ArePartitioned plan rs cs ss ns hs → ArePartitioned plan rs cs ss (ns ++ 0 ∷ []) (hs ++ head ∷ [])
   emptied was = record {
     each_class = was.each_class;
-    each_seat = was.each_seat;
+    each_slot = was.each_slot;
     each_head = omega (arith, length-append ns (0 ∷ []), length-append hs (head ∷ []), was.each_head);
     known = λ i d e. omega (arith, length-append ns (0 ∷ []), was.known i d e);
     sized = λ d m e. elim (get-push ns 0 (length ns) d m refl e) [
       | inl w ↦ was.sized d m w.1
       | inr w ↦ ap length (picked-none d cs rs (λ i k g. omega (arith, was.known i k g, w.0))) ∙ w.1
     ];
-    seated = was.seated;
+    located = was.located;
     kinds = λ i d q other e g h. elim (get-push hs head (length ns) d other was.each_head h) [
       | inl w ↦ was.kinds i d q other e g w.1
       | inr w ↦ absurd (omega (arith, was.known i d e, w.0))
     ];
   }
 
-  pub opened : (r : Req) (c : ℕ) → AreSeated plan rs cs ss ns hs → c ≡ length hs → kind_at plan head ≡ kind_of plan r
-      → AreSeated plan (rs ++ r ∷ []) (cs ++ c ∷ []) (ss ++ 0 ∷ []) (ns ++ 1 ∷ []) (hs ++ head ∷ [])
+  pub opened : (r : Req) (c : ℕ) → ArePartitioned plan rs cs ss ns hs → c ≡ length hs → kind_at plan head ≡ kind_of plan r
+      → ArePartitioned plan (rs ++ r ∷ []) (cs ++ c ∷ []) (ss ++ 0 ∷ []) (ns ++ 1 ∷ []) (hs ++ head ∷ [])
   opened r c was last same =
       let size : slice_get (ns ++ 0 ∷ []) c ≡ Some 0 = get-seam ns 0 [] c (sym was.each_head ∙ sym last) in
       let here : slice_get (hs ++ head ∷ []) c ≡ Some head = get-seam hs head [] c (sym last) in

@@ -1,0 +1,80 @@
+ghost use Rattle.std.specs.Prelude.{◌≡◌, ◌+◌, ◌<◌, ◌≤◌, ◌^◌, IfOk, OnOk, Some, length, slice_get, slice_index, suc, take};
+ghost use Rattle.std.specs.List.{position};
+ghost use Rattle.conc_machine_classes.specs.Kinds.{kind_at, kind_eq};
+ghost use Rattle.conc_machine_classes.specs.Partitions.{IsJoined, IsOpened, IsPartition};
+
+use crate::kinds::{Head, are_one_kind, head_of};
+use conc_types::{NoMemory, Plan, Req};
+use std::alloc::Global;
+
+/// The class and the slot of each request, and for each class its size and its first request.
+#[derive(Drop)]
+pub(crate) struct Partition {
+    pub classes: Vec<u32>,
+    pub slots: Vec<u32>,
+    pub sizes: Vec<u32>,
+    pub heads: Vec<Head>,
+}
+
+fn class_of(plan: &Plan, heads: &[Head], head: Head) -> Option<usize>
+    ensures { result ≡ position (λ h. kind_eq (kind_at plan.now h) (kind_at plan.now head)) heads.now }
+{
+    heads
+        .iter()
+        .position(|other| are_one_kind(plan, *other, head))
+}
+
+// Places one more request, in this class.
+fn join(partition: &mut Partition, class: u32) -> Result<(), NoMemory>
+    requires within { class < length partition.old.sizes.items }
+    requires few { slice_index partition.old.sizes.items class ≤ 16384 }
+    ensures { OnOk result (IsJoined partition.old partition.new class) }
+{
+    let size = partition.sizes[class as usize];
+    partition.classes.push(class)?;
+    partition.slots.push(size)?;
+    partition.sizes[class as usize] = size + 1;
+    Ok(())
+}
+
+// Places one more request, in a class of its own.
+fn open(partition: &mut Partition, head: Head) -> Result<(), NoMemory>
+    requires few { length partition.old.heads.items ≤ 16384 }
+    ensures { OnOk result (IsOpened partition.old partition.new head) }
+{
+    let class = partition.heads.len() as u32;
+    partition.classes.push(class)?;
+    partition.slots.push(0)?;
+    partition.sizes.push(1)?;
+    partition.heads.push(head)?;
+    Ok(())
+}
+
+// Places the request at this index, which is the next one.
+fn slot(plan: &Plan, partition: &mut Partition, index: u32, r: &Req) -> Result<(), NoMemory>
+    requires before { IsPartition plan.now (take index plan.now.requests) partition.old }
+    requires here { slice_get plan.now.requests index ≡ Some r.now }
+    ensures { OnOk result (IsPartition plan.now (take (suc index) plan.now.requests) partition.new) }
+{
+    let head = head_of(plan, index, r);
+    match class_of(plan, partition.heads.as_slice(), head) {
+        Some(class) => join(partition, class as u32),
+        None => open(partition, head),
+    }
+}
+
+/// Places all requests of the plan.
+pub(crate) fn partition_all(alloc: Global, plan: &Plan) -> Result<Partition, NoMemory>
+    ensures { IfOk result (λ partition. IsPartition plan.now plan.now.requests partition) }
+{
+    let mut partition = Partition {
+        classes: Vec::with_capacity(alloc, plan.requests.len())?,
+        slots: Vec::with_capacity(alloc, plan.requests.len())?,
+        sizes: Vec::new(alloc),
+        heads: Vec::new(alloc),
+    };
+    for (i, r) in plan.requests.as_slice().iter().enumerate() {
+        slot(plan, &mut partition, i as u32, r)?;
+    }
+    Ok(partition)
+}
