@@ -6,13 +6,9 @@ use Rattle.conc_types.specs.declared.plan.Plan.{Plan}
 use Rattle.conc_types.specs.Plans.{request}
 use Rattle.conc_law.specs.Alone.{report_of}
 use Rattle.conc_law.specs.Report.{Report}
-use Rattle.conc_reports.specs.declared.making.Made.{Made}
+use Rattle.conc_reports.specs.Reports.{as_report}
 use Rattle.conc_board_seats.specs.declared.posted.Posted.{Posted}
 use Rattle.conc_board_seats.specs.declared.posted.Posted.TheVariants.{Text, Stopped, NoMemory}
-
--- a report as the program makes it
-abbrev pub as_report : Made → Report
-as_report made = record { outcome = made.outcome; text = made.text }
 
 -- the report of the request with this number
 abbrev pub report_for : Plan → RequestId → Option Report

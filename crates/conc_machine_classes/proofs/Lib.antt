@@ -6,4 +6,4 @@ pub mod Passing
 pub mod RivalRows
 pub mod KinMarked
 pub mod Numbered
-pub mod Made
+pub mod Built

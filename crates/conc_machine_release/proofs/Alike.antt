@@ -17,7 +17,7 @@ use Rattle.conc_machine_classes.specs.Classes.{are_rivals, class_at, of_class}
 use Rattle.conc_machine_classes.specs.declared.classes.Classes.{Classes}
 use Rattle.conc_law.specs.Next.{is_ready}
 use Rattle.conc_machine_release.specs.Lets.{AreLets, is_live_rival, live_rivals}
-use Rattle.conc_machine_release.specs.Starts.{earlier, is_in_lull, lull_at, next_from}
+use Rattle.conc_machine_release.specs.Starts.{earlier, is_in_window, window_at, next_from}
 use Rattle.conc_machine_release.specs.declared.lets.Lets.{Lets}
 use Rattle.conc_machine_release.proofs.Lists.{length-filter_same, map_range-same}
 use Rattle.conc_machine_release.proofs.Queues.{of_class-has, turns-same}
@@ -42,7 +42,7 @@ kept-alike plan classes before after lets facts come are = record {
       (waiting-same plan before after q (λ set p. ap (λ f. f.begun.bits) (facts set))))));
   rivals = are.rivals ∙ map_range-same (live_rivals plan classes before) (live_rivals plan classes after) 0 (length classes.sizes)
       (λ c le. rivals-alike plan classes before after facts c);
-  lull = λ t since next r has. come r has ∙ are.lull t since next r has;
+  window = λ t since next r has. come r has ∙ are.window t since next r has;
   few = are.few;
 }
 
@@ -53,24 +53,24 @@ AreLets-alike plan classes before after lets alike are =
 
 -- ---- moments between which no start comes
 
--- at a moment of the lull the same starts have come
-come-alike : (plan : Plan) (classes : Classes) (before : State) (lets : Lets) → AreLets plan classes before lets → (time : Option Moment) → is_in_lull lets.lull time ≡ true
+-- at a moment of the window the same starts have come
+come-alike : (plan : Plan) (classes : Classes) (before : State) (lets : Lets) → AreLets plan classes before lets → (time : Option Moment) → is_in_window lets.window time ≡ true
     → (q : Req) → Has plan.requests q → has_come time q.start ≡ has_come before.time q.start
 unfolding has_come
 come-alike plan classes before lets are None h q has = cc
 come-alike plan classes before lets are (Some t) h q has =
-    let p : (nat_le lets.lull.since t.seconds ≡ true) × (nat_lt t.seconds lets.lull.next ≡ true) = and_parts _ _ h in
-    sym (are.lull t.seconds (leb-true _ _ p.0) (ltb-true _ _ p.1) q has)
+    let p : (nat_le lets.window.since t.seconds ≡ true) × (nat_lt t.seconds lets.window.next ≡ true) = and_parts _ _ h in
+    sym (are.window t.seconds (leb-true _ _ p.0) (ltb-true _ _ p.1) q has)
 
 -- so what is kept stays right at a tick within it
-pub kept-in_lull : (plan : Plan) (classes : Classes) (before after : State) (lets : Lets) → after.facts ≡ before.facts → is_in_lull lets.lull after.time ≡ true
+pub kept-in_window : (plan : Plan) (classes : Classes) (before after : State) (lets : Lets) → after.facts ≡ before.facts → is_in_window lets.window after.time ≡ true
     → AreLets plan classes before lets → AreLets plan classes after lets
 unfolding facts_at
-kept-in_lull plan classes before after lets same within are =
+kept-in_window plan classes before after lets same within are =
     kept-alike plan classes before after lets (λ q. ap (λ l. unwrap_or (numbered l q.number.number) no_facts) same)
     (come-alike plan classes before lets are after.time within) are
 
--- ---- a lull that begins
+-- ---- a window that begins
 
 earlier-most : (now best start : ℕ) → earlier now best start ≤ best
 earlier-most now best start = grind (arith, nat_tests)
@@ -93,12 +93,12 @@ next-bound now best (x ∷ rs) r has h = elim has [
   | inr later ↦ next-bound now (earlier now best x.start.seconds) rs r later h
 ]
 
--- at each moment of the lull the starts have come that had come when it began
-pub lull-begun : (plan : Plan) (time : Option Moment) (t : ℕ) → (lull_at plan time).since ≤ t → t < (lull_at plan time).next → (r : Req) → Has plan.requests r
+-- at each moment of the window the starts have come that had come when it began
+pub window-begun : (plan : Plan) (time : Option Moment) (t : ℕ) → (window_at plan time).since ≤ t → t < (window_at plan time).next → (r : Req) → Has plan.requests r
     → has_come time r.start ≡ nat_le r.start.seconds t
 unfolding has_come
-lull-begun plan None t since next r has = absurd (omega (arith, next))
-lull-begun plan (Some m) t since next r has = elim (cases_lt m.seconds r.start.seconds) [
+window-begun plan None t since next r has = absurd (omega (arith, next))
+window-begun plan (Some m) t since next r has = elim (cases_lt m.seconds r.start.seconds) [
   | inl before ↦
       let bound : next_from m.seconds 18446744073709551615 plan.requests ≤ r.start.seconds = next-bound m.seconds 18446744073709551615 plan.requests r has before in
       lt-leb r.start.seconds m.seconds before ∙ sym (lt-leb r.start.seconds t (omega (arith, next, bound)))

@@ -25,10 +25,10 @@ abbrev pub all_classes : Classes → List ℕ
 all_classes classes = range_with_len 0 (length classes.sizes)
 
 -- what is kept is what stands: for each class the turns of its requests that are ready, and how many live
--- requests exclude it, kin counted; at each moment of the lull the same starts have come; 32 bits count the
+-- requests exclude it, kin counted; at each moment of the window the same starts have come; 32 bits count the
 -- classes
 pub record AreLets (plan : Plan) (classes : Classes) (s : State) (lets : Lets) : Type 0 where
   pub ready : lets.ready.items ≡ map (λ c. turns_of (is_ready plan s) (of_class plan classes c)) (all_classes classes)
   pub rivals : lets.rivals ≡ map (live_rivals plan classes s) (all_classes classes)
-  pub lull : (t : ℕ) → lets.lull.since ≤ t → t < lets.lull.next → (r : Req) → Has plan.requests r → has_come s.time r.start ≡ nat_le r.start.seconds t
+  pub window : (t : ℕ) → lets.window.since ≤ t → t < lets.window.next → (r : Req) → Has plan.requests r → has_come s.time r.start ≡ nat_le r.start.seconds t
   pub few : length classes.sizes < 4294967296

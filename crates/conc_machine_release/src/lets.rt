@@ -14,7 +14,7 @@ use crate::forced::{event_at, has_turn_only_kin_rivals, least_with_only_kin_riva
 use crate::fresh::{vacant_queues, zeros};
 use crate::refresh::refresh_span;
 use crate::renewal::{recount, renew};
-use crate::starts::Lull;
+use crate::starts::StartWindow;
 use conc_machine_classes::Classes;
 use conc_machine_queue::{Queue, lesser};
 use conc_machine_reach::{Span, Spans};
@@ -29,7 +29,7 @@ pub struct Lets {
     // For each class how many live requests are of a class that excludes it.
     rivals: Seq<u32>,
     // The moments between which no start of a request comes.
-    lull: Lull,
+    window: StartWindow,
 }
 
 impl Lets {
@@ -45,7 +45,7 @@ impl Lets {
         Ok(Lets {
             ready: vacant_queues(alloc, classes, count)?,
             rivals: zeros(alloc, count)?,
-            lull: Lull::NONE,
+            window: StartWindow::NONE,
         })
     }
 
@@ -73,7 +73,7 @@ impl Lets {
         requires { AreClasses plan.now classes.now }
         ensures { (before : State) → after.now.facts ≡ before.facts → AreLets plan.now classes.now before self.old → AreLets plan.now classes.now after.now self.new }
     {
-        if self.lull.contains(after.time) {
+        if self.window.contains(after.time) {
             return;
         }
         let all = Span {
@@ -81,7 +81,7 @@ impl Lets {
             to: plan.requests.len(),
         };
         refresh_span(&mut self.ready, plan, classes, after, all);
-        self.lull = Lull::at(plan, after.time);
+        self.window = StartWindow::at(plan, after.time);
     }
 
     // How many live requests are of a class that excludes this one.

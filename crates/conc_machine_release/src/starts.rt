@@ -1,11 +1,11 @@
 ghost use Rattle.std.specs.Prelude.{◌≡◌};
-ghost use Rattle.conc_machine_release.specs.Starts.{earlier as earlier_of, is_in_lull, lull_at, next_from};
+ghost use Rattle.conc_machine_release.specs.Starts.{earlier as earlier_of, is_in_window, window_at, next_from};
 
 use conc_types::{Moment, Plan};
 
 /// Seconds from a moment on, and before another one, between which no start of a request comes.
 #[derive(Clone, Copy, Debug, PartialEq, Eq)]
-pub(crate) struct Lull {
+pub(crate) struct StartWindow {
     pub(crate) since: u64,
     pub(crate) next: u64,
 }
@@ -32,26 +32,26 @@ fn next_start(plan: &Plan, now: u64) -> u64
     best
 }
 
-impl Lull {
+impl StartWindow {
     /// No moment at all.
-    pub(crate) const NONE: Lull = Lull { since: 0, next: 0 };
+    pub(crate) const NONE: StartWindow = StartWindow { since: 0, next: 0 };
 
     /// Those that begin with this moment.
-    pub(crate) fn at(plan: &Plan, time: Option<Moment>) -> Lull
-        ensures { result ≡ lull_at plan.now time }
+    pub(crate) fn at(plan: &Plan, time: Option<Moment>) -> StartWindow
+        ensures { result ≡ window_at plan.now time }
     {
         match time {
-            Some(t) => Lull {
+            Some(t) => StartWindow {
                 since: t.seconds,
                 next: next_start(plan, t.seconds),
             },
-            None => Lull::NONE,
+            None => StartWindow::NONE,
         }
     }
 
     /// Whether the moment is one of these.
     pub(crate) fn contains(self, time: Option<Moment>) -> bool
-        ensures { result ≡ is_in_lull self time }
+        ensures { result ≡ is_in_window self time }
     {
         match time {
             Some(t) => self.since <= t.seconds && t.seconds < self.next,

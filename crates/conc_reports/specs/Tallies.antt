@@ -6,8 +6,8 @@ use Rattle.conc_types.specs.declared.program.Job.{Job}
 use Rattle.conc_types.specs.declared.table.Table.{Table}
 use Rattle.conc_law.specs.Numbers.{total}
 use Rattle.conc_law.specs.Report.{Row, first_bad, passes, passing, rows_of}
-use Rattle.conc_reports.specs.declared.tally.Pass.{Pass}
-use Rattle.conc_reports.specs.declared.tally.Pass.TheVariants as pass
+use Rattle.conc_reports.specs.declared.tally.Tallied.{Tallied}
+use Rattle.conc_reports.specs.declared.tally.Tallied.TheVariants as tallied
 use Rattle.conc_reports.specs.Columns.{place_if_named, value_in}
 use Rattle.conc_reports.specs.Figures.{figures_at, shown}
 
@@ -39,8 +39,8 @@ pub record IsTally (sum group : Option (List ℕ)) (table : Table) (rows : List 
   pub keys_are : (key : List ℕ) → of_key key ≡ figures_of_key sum group table rows key
   pub none_bad : find (λ row. is_none (value_of sum table row)) rows ≡ None
 
-abbrev pub IsPass : Job → List ℕ → Table → Pass → Type 0
-IsPass job argument table (pass.Bad number) =
+abbrev pub IsTallied : Job → List ℕ → Table → Tallied → Type 0
+IsTallied job argument table (tallied.Bad number) =
     option_map (λ row. row.0) (first_bad job table (passing job argument table)) ≡ Some number
-IsPass job argument table (pass.Whole tally) =
+IsTallied job argument table (tallied.Whole tally) =
     IsTally job.sum job.group table (passing job argument table) (shown tally.total) (figures_at tally.groups)

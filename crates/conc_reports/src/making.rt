@@ -11,7 +11,7 @@ ghost use Rattle.conc_reports.specs.Texts.{figures_line, group_of, groups_text, 
 use crate::figures::Figures;
 use crate::groups::Groups;
 use crate::quotes::put_quoted;
-use crate::tally::{Pass, Tally, tally_rows};
+use crate::tally::{Tallied, Tally, tally_rows};
 use conc_law::report_is_short;
 use conc_types::{Bytes, Job, NoMemory, Outcome, Table, put_decimal};
 use itoa::Buffer;
@@ -192,8 +192,8 @@ fn report_by_rows(
     ensures text { IfOk result (λ made. made.text ≡ (report_of job.now argument.now table.now).text) }
 {
     match tally_rows(alloc, job, argument, table)? {
-        Pass::Bad(number) => bad_row(alloc, number),
-        Pass::Whole(tally) => report_of_tally(alloc, job, &tally),
+        Tallied::Bad(number) => bad_row(alloc, number),
+        Tallied::Whole(tally) => report_of_tally(alloc, job, &tally),
     }
 }
 

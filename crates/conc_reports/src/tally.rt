@@ -1,7 +1,7 @@
 ghost use Rattle.std.specs.Prelude.{◌≡◌, ◌^◌, ◌<◌, ℕ, List, IfOk, IfSome, None, OnOk, Some, pos};
 ghost use Rattle.std.specs.Option.{option_and_then, option_map};
 ghost use Rattle.conc_reports.specs.Figures.{figures_at, grown, grown_at, shown};
-ghost use Rattle.conc_reports.specs.Tallies.{IsPass};
+ghost use Rattle.conc_reports.specs.Tallies.{IsTallied};
 
 use crate::columns::{key_at, place_if_named, value_at};
 use crate::figures::Figures;
@@ -20,7 +20,7 @@ pub struct Tally<'a> {
 
 /// What one pass over the rows gives.
 #[derive(Drop)]
-pub enum Pass<'a> {
+pub enum Tallied<'a> {
     /// The number, from 1, of the first row that passes and whose cell to be added is no whole
     /// number.
     Bad(u64),
@@ -60,8 +60,8 @@ pub fn tally_rows<'a>(
     job: &Job,
     argument: &[u8],
     table: &'a Table,
-) -> Result<Pass<'a>, NoMemory>
-    ensures { IfOk result (λ pass. IsPass job.now argument.now table.now pass) }
+) -> Result<Tallied<'a>, NoMemory>
+    ensures { IfOk result (λ pass. IsTallied job.now argument.now table.now pass) }
 {
     let conditions = conditions(alloc, job, argument, table)?;
     let sum = place_if_named(table, &job.sum);
@@ -72,9 +72,9 @@ pub fn tally_rows<'a>(
             continue;
         }
         let Some(value) = value_at(table, row, sum) else {
-            return Ok(Pass::Bad(row as u64 + 1));
+            return Ok(Tallied::Bad(row as u64 + 1));
         };
         tally.add(key_at(table, row, group), value)?;
     }
-    Ok(Pass::Whole(tally))
+    Ok(Tallied::Whole(tally))
 }

@@ -25,7 +25,7 @@ use Rattle.conc_machine.specs.StandsFor.{plan_of, readings_of}
 use Rattle.conc_machine.specs.declared.machine.Machine.{Machine}
 use Rattle.conc_reports.specs.declared.making.Made.{Made}
 use Rattle.conc_resolver_choice.specs.Choices.{HasItsText}
-use Rattle.conc_resolver_choice.specs.Made.{as_report}
+use Rattle.conc_reports.specs.Reports.{as_report}
 use Rattle.conc_resolver_choice.specs.declared.choosing.Next.{Next}
 
 -- what an answer meets for each of some values it meets for all of them

@@ -12,7 +12,7 @@ ghost use Rattle.conc_law.specs.State.{state};
 ghost use Rattle.conc_machine.specs.StandsFor.{plan_of, readings_of, StandsFor};
 ghost use Rattle.conc_types.specs.Plans.{request};
 ghost use Rattle.conc_resolver_choice.specs.Choices.{event_of, HasItsText};
-ghost use Rattle.conc_resolver_choice.specs.Made.{as_report};
+ghost use Rattle.conc_reports.specs.Reports.{as_report};
 
 use conc_machine::Machine;
 use conc_reports::{Made, report};

@@ -1,7 +1,7 @@
 use Rattle.std.proofs.Common.{◌∙◌, ap}
 use Rattle.conc_machine_classes.specs.Rivals.{rows_of}
 use Rattle.conc_machine_classes.specs.ExcludesKin.{AreKinMarked}
-use Rattle.conc_machine_classes.proofs.Made.{made_of}
+use Rattle.conc_machine_classes.proofs.Built.{made_of}
 use Rattle.conc_machine_classes.proofs.classes.Classes.new.Goals as goal
 
 pub returns : goal.returns

@@ -6,6 +6,6 @@ pub returns : goal.returns
 returns c = record {
   ready = c.in_ok-vacant_queues.ensures ∙ queues-none c.args._plan.now c.args.classes.now c.requires c.count-count.result c.count-count.ensures;
   rivals = c.in_ok-zeros.ensures ∙ zeros-none c.args._plan.now c.args.classes.now c.count-count.result c.count-count.ensures;
-  lull = λ t since next r has. absurd (omega (arith, next));
+  window = λ t since next r has. absurd (omega (arith, next));
   few = omega (arith, c.if-count.false, c.count.ensures);
 }

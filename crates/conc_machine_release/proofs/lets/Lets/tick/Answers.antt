@@ -5,15 +5,15 @@ use Rattle.conc_law.specs.State.{facts_at, no_facts}
 use Rattle.conc_law.specs.Next.{is_ready}
 use Rattle.conc_machine_release.specs.Lets.{live_rivals}
 use Rattle.conc_machine_release.specs.Refresh.{queues_of}
-use Rattle.conc_machine_release.specs.declared.starts.Lull.{Lull}
-use Rattle.conc_machine_release.proofs.Alike.{kept-in_lull, lull-begun, rivals-alike}
+use Rattle.conc_machine_release.specs.declared.starts.StartWindow.{StartWindow}
+use Rattle.conc_machine_release.proofs.Alike.{kept-in_window, window-begun, rivals-alike}
 use Rattle.conc_machine_release.proofs.Lists.{map_range-same}
 use Rattle.conc_machine_release.proofs.Written.{all-renewed}
 use Rattle.conc_machine_release.proofs.lets.Lets.tick.Goals as goal
 
 pub returns-then-contains : goal.returns-then-contains
 returns-then-contains c before same are =
-    kept-in_lull c.args.plan.now c.args.classes.now before c.args.after.now c.args.self.now same (sym c.if-contains.ensures) are
+    kept-in_window c.args.plan.now c.args.classes.now before c.args.after.now c.args.self.now same (sym c.if-contains.ensures) are
 
 pub returns : goal.returns
 unfolding queues_of facts_at
@@ -23,7 +23,7 @@ returns c before same are = record {
       c.args.self.now.ready.items are.ready;
   rivals = are.rivals ∙ map_range-same (live_rivals c.args.plan.now c.args.classes.now before) (live_rivals c.args.plan.now c.args.classes.now c.args.after.now) 0 (length c.args.classes.now.sizes)
       (λ n le. rivals-alike c.args.plan.now c.args.classes.now before c.args.after.now (λ q. ap (λ l. unwrap_or (numbered l q.number.number) no_facts) same) n);
-  lull = λ t since next r has. lull-begun c.args.plan.now c.args.after.now.time t
-      (omega (arith, since, ap (λ (l : Lull). l.since) c.at-self.ensures)) (omega (arith, next, ap (λ (l : Lull). l.next) c.at-self.ensures)) r has;
+  window = λ t since next r has. window-begun c.args.plan.now c.args.after.now.time t
+      (omega (arith, since, ap (λ (l : StartWindow). l.since) c.at-self.ensures)) (omega (arith, next, ap (λ (l : StartWindow). l.next) c.at-self.ensures)) r has;
   few = are.few;
 }

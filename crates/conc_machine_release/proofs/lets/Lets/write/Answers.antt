@@ -12,6 +12,6 @@ returns c before w are = record {
       ∙ renewed-is c.args.plan.now c.args.classes.now c.args.spans.now c.requires.classes c.requires.spans before c.args.after.now c.args.i c.args.old w c.args.self.now.ready.items are.ready;
   rivals = c.recount.ensures
       ∙ recounted-is c.args.plan.now c.args.classes.now c.requires.classes before c.args.after.now c.args.i c.args.old w c.args.self.now.rivals are.rivals;
-  lull = λ t since next r has. ap (λ time. has_come time r.start) w.time ∙ are.lull t since next r has;
+  window = λ t since next r has. ap (λ time. has_come time r.start) w.time ∙ are.window t since next r has;
   few = are.few;
 }
