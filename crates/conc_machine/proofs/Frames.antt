@@ -26,9 +26,9 @@ use Rattle.conc_machine_steps.specs.declared.steps.Steps.{Steps}
 use Rattle.conc_machine_steps.specs.Steps.{AreRunning, AreSteps}
 use Rattle.conc_machine_steps.proofs.Alike.{AreRunning-alike, AreSteps-alike}
 use Rattle.conc_machine_steps.proofs.Same.{has_step-same, is_left-same, runs-same}
-use Rattle.conc_machine.specs.Kept.{AreParts, first_undone}
+use Rattle.conc_machine.specs.Indexes.{AreParts, first_undone}
 use Rattle.conc_machine.specs.Taken.{HasParts}
-use Rattle.conc_machine.specs.declared.kept.Kept.{Kept}
+use Rattle.conc_machine.specs.declared.indexes.Indexes.{Indexes}
 use Rattle.conc_machine.proofs.Undone.{all_before, first_undone-few}
 
 -- ---- the same facts, at another moment
@@ -53,7 +53,7 @@ AreSteps-same plan before after steps same are = record {
 
 -- ---- the same facts, at the same moment
 
-pub AreParts-alike : (plan : Plan) (before after : Kept) → HasParts before after → IsAlike before.state after.state
+pub AreParts-alike : (plan : Plan) (before after : Indexes) → HasParts before after → IsAlike before.state after.state
     → AreParts plan before → AreParts plan after
 AreParts-alike plan before after parts alike are = record {
   all = ap length alike.facts ∙ are.all;

@@ -8,14 +8,14 @@ use Rattle.conc_law_effects.specs.Advance.{all_after}
 use Rattle.conc_machine_reach.specs.Spans.{is_within, LeavesOthers}
 use Rattle.conc_machine_reach.specs.declared.span.Span.{Span}
 use Rattle.conc_machine_reach.proofs.Passes.{all_after-before, all_after-from}
-use Rattle.conc_machine.specs.Kept.{AreFacts}
-use Rattle.conc_machine.specs.declared.kept.Kept.{Kept}
+use Rattle.conc_machine.specs.Indexes.{AreFacts}
+use Rattle.conc_machine.specs.declared.indexes.Indexes.{Indexes}
 
 -- nothing has changed before the first of them
-pub AreFacts-none : (plan : Plan) (kept : Kept) (named : Facts) (e : Event) (span : Span) → LeavesOthers plan e span
-    → AreFacts kept kept (all_after plan named e (take span.from plan.requests) kept.state.facts)
-AreFacts-none plan kept named e span leaves = record {
-  facts = sym (all_after-before plan named e span kept.state.facts leaves);
+pub AreFacts-none : (plan : Plan) (indexes : Indexes) (named : Facts) (e : Event) (span : Span) → LeavesOthers plan e span
+    → AreFacts indexes indexes (all_after plan named e (take span.from plan.requests) indexes.state.facts)
+AreFacts-none plan indexes named e span leaves = record {
+  facts = sym (all_after-before plan named e span indexes.state.facts leaves);
   empty = refl;
   time = refl;
   used = refl;
@@ -24,7 +24,7 @@ AreFacts-none plan kept named e span leaves = record {
 }
 
 -- equal facts
-pub AreFacts-is : (before after : Kept) (facts all : List Facts) → AreFacts before after facts → facts ≡ all → AreFacts before after all
+pub AreFacts-is : (before after : Indexes) (facts all : List Facts) → AreFacts before after facts → facts ≡ all → AreFacts before after all
 AreFacts-is before after facts all are same = record {
   facts = are.facts ∙ same;
   empty = are.empty;
@@ -35,7 +35,7 @@ AreFacts-is before after facts all are same = record {
 }
 
 -- one change after the other
-pub AreFacts-then : (before middle after : Kept) (facts all : List Facts) → AreFacts before middle facts → AreFacts middle after all → AreFacts before after all
+pub AreFacts-then : (before middle after : Indexes) (facts all : List Facts) → AreFacts before middle facts → AreFacts middle after all → AreFacts before after all
 AreFacts-then before middle after facts all first then = record {
   facts = then.facts;
   empty = then.empty ∙ first.empty;

@@ -10,7 +10,7 @@ use Rattle.conc_law.specs.Facts.{facts_of}
 use Rattle.conc_law.specs.State.{is_done, now, state}
 use Rattle.conc_machine_readings.specs.declared.life.Life.{Life}
 use Rattle.conc_machine_readings.specs.Life.{IsLife}
-use Rattle.conc_machine.specs.Kept.{first_undone}
+use Rattle.conc_machine.specs.Indexes.{first_undone}
 use Rattle.conc_machine.specs.StandsFor.{StandsFor}
 use Rattle.conc_machine.specs.declared.machine.Machine.{Machine}
 
@@ -39,7 +39,7 @@ unfolding state
 first-command plan s is = none-done 1 plan.script.commands ∙ sym (ap (λ s. first_undone s.done) is)
 
 -- the moment of the last tick
-pub time-of : (machine : Machine) (past : List Event) → StandsFor machine past → machine.kept.state.time ≡ now past
+pub time-of : (machine : Machine) (past : List Event) → StandsFor machine past → machine.indexes.state.time ≡ now past
 unfolding state
 time-of machine past stands = ap (λ s. s.time) stands.state
 

@@ -17,7 +17,7 @@ use Rattle.conc_types.specs.Words.{numbered}
 use Rattle.conc_law.specs.Next.{forced_command, is_due}
 use Rattle.conc_law.specs.State.{has_come}
 use Rattle.conc_law.proofs.Numbering.{numbered-at}
-use Rattle.conc_machine.specs.Kept.{first_undone}
+use Rattle.conc_machine.specs.Indexes.{first_undone}
 
 -- ---- the first that is not done
 

@@ -1,3 +1,3 @@
-pub mod Kept
+pub mod Indexes
 pub mod StandsFor
 pub mod Taken

@@ -24,5 +24,5 @@ AreLived known past = (life : Life) → known ≡ Some life → IsLife life past
 -- the machine stands for the list, which is given with the latest event first: what it keeps is what stands
 -- after the list
 pub record StandsFor (machine : Machine) (past : List Event) : Type 0 where
-  pub state : machine.kept.state ≡ state machine.plan.now past
+  pub state : machine.indexes.state ≡ state machine.plan.now past
   pub life : AreLived machine.life past

@@ -4,11 +4,11 @@ use Rattle.std.specs.Option.{option_or}
 use Rattle.conc_types.specs.declared.event.Event.{Event}
 use Rattle.conc_law_effects.specs.Advance.{done_after}
 use Rattle.conc_law.specs.Kinds.{tick_of}
-use Rattle.conc_machine.specs.Kept.{first_undone}
-use Rattle.conc_machine.specs.declared.kept.Kept.{Kept}
+use Rattle.conc_machine.specs.Indexes.{first_undone}
+use Rattle.conc_machine.specs.declared.indexes.Indexes.{Indexes}
 
 -- the parts are the same ones
-pub record HasParts (before after : Kept) : Type 0 where
+pub record HasParts (before after : Indexes) : Type 0 where
   pub spans : after.spans ≡ before.spans
   pub classes : after.classes ≡ before.classes
   pub running : after.running ≡ before.running
@@ -17,7 +17,7 @@ pub record HasParts (before after : Kept) : Type 0 where
   pub starts : after.starts ≡ before.starts
 
 -- the command of the event is done, and all else is as it was
-pub record HasCommand (before after : Kept) (e : Event) : Type 0 where
+pub record HasCommand (before after : Indexes) (e : Event) : Type 0 where
   pub done : after.state.done ≡ done_after before.state.done e
   pub command : after.next_command ≡ first_undone after.state.done
   pub parts : HasParts before after
@@ -27,7 +27,7 @@ pub record HasCommand (before after : Kept) (e : Event) : Type 0 where
   pub facts : after.state.facts ≡ before.state.facts
 
 -- the last tick is that of the event, if it is one, and what else stands is as it was
-pub record HasTick (before after : Kept) (e : Event) : Type 0 where
+pub record HasTick (before after : Indexes) (e : Event) : Type 0 where
   pub time : after.state.time ≡ option_or (tick_of e) before.state.time
   pub empty : after.state.empty ≡ before.state.empty
   pub used : after.state.used ≡ before.state.used

@@ -38,14 +38,14 @@ impl<'p> Machine<'p> {
     pub fn judge(&self, event: &Event) -> bool
         ensures { (past : List Event) → StandsFor self.now past → result ≡ may_follow (plan_of self.now) (readings_of self.now) past event.now }
     {
-        may_come(self.plan, &self.kept, self.known_next(), *event)
+        may_come(self.plan, &self.indexes, self.known_next(), *event)
     }
 
     /// The event that is forced, if one is due.
     pub fn forced(&self) -> Option<Event>
         ensures { (past : List Event) → StandsFor self.now past → result ≡ forced_of (plan_of self.now) (state (plan_of self.now) past) }
     {
-        forced(self.plan, &self.kept)
+        forced(self.plan, &self.indexes)
     }
 
     /// Whether a request may start at a place, where nothing is forced.
@@ -53,7 +53,7 @@ impl<'p> Machine<'p> {
         ensures { (past : List Event) → StandsFor self.now past →
             result ≡ some_and (λ r. may_start_of (plan_of self.now) (state (plan_of self.now) past) r place) (request_of (plan_of self.now) request) }
     {
-        may_start(self.plan, &self.kept, request, place)
+        may_start(self.plan, &self.indexes, request, place)
     }
 
     /// The first let request in precedence that has an allowed place, with the first such place.
@@ -61,7 +61,7 @@ impl<'p> Machine<'p> {
         ensures { (past : List Event) → StandsFor self.now past →
             option_map (λ (start : RequestId × PlaceId). event.Started start.0 start.1) result ≡ first_start_of (plan_of self.now) (state (plan_of self.now) past) }
     {
-        self.kept.starts.first_start(self.plan, &self.kept.state)
+        self.indexes.starts.first_start(self.plan, &self.indexes.state)
     }
 
     /// The request with the least number of those that run at a place.
@@ -69,7 +69,7 @@ impl<'p> Machine<'p> {
         ensures { (past : List Event) → StandsFor self.now past →
             result ≡ option_map (λ r. r.number) (find (runs_somewhere (state (plan_of self.now) past)) (plan_of self.now).requests) }
     {
-        match self.kept.running.first(self.plan, &self.kept.state) {
+        match self.indexes.running.first(self.plan, &self.indexes.state) {
             Some(r) => Some(r.number),
             None => None,
         }
@@ -91,7 +91,7 @@ impl<'p> Machine<'p> {
             result ≡ some_and (may_take_of (plan_of self.now) (state (plan_of self.now) past)) (option_and_then (λ readings. next_reading_of readings past) (readings_of self.now)) }
     {
         match self.next_reading() {
-            Some(reading) => may_take(self.plan, &self.kept, reading),
+            Some(reading) => may_take(self.plan, &self.indexes, reading),
             None => false,
         }
     }
@@ -100,21 +100,21 @@ impl<'p> Machine<'p> {
     pub fn at_rest(&self) -> bool
         ensures { (past : List Event) → StandsFor self.now past → result ≡ is_at_rest_of (plan_of self.now) (state (plan_of self.now) past) }
     {
-        is_at_rest(self.plan, &self.kept)
+        is_at_rest(self.plan, &self.indexes)
     }
 
     /// How many bytes of the spool the extents take, where 64 bits hold it.
     pub fn used(&self) -> Option<u64>
         ensures { (past : List Event) → StandsFor self.now past → result ≡ (state (plan_of self.now) past).used }
     {
-        self.kept.state.used
+        self.indexes.state.used
     }
 
     /// Whether a place may be used at the last tick. Before the first tick none may.
     pub fn usable(&self, place: PlaceId) -> bool
         ensures { (past : List Event) → StandsFor self.now past → result ≡ some_and (λ t. is_usable_of (plan_of self.now) t place) (now past) }
     {
-        match self.kept.state.time {
+        match self.indexes.state.time {
             Some(t) => is_usable(self.plan, t, place),
             None => false,
         }
@@ -127,7 +127,7 @@ impl<'p> Machine<'p> {
     {
         match self.plan.request(request) {
             Some(r) => {
-                let facts = facts_at(&self.kept.state, r);
+                let facts = facts_at(&self.indexes.state, r);
                 facts.place.is_some() && facts.terminated
             }
             None => false,
@@ -140,7 +140,7 @@ impl<'p> Machine<'p> {
             result ≡ option_and_then (status_of (plan_of self.now) (state (plan_of self.now) past)) (request_of (plan_of self.now) request) }
     {
         match self.plan.request(request) {
-            Some(r) => status(self.plan, &self.kept.state, r),
+            Some(r) => status(self.plan, &self.indexes.state, r),
             None => None,
         }
     }

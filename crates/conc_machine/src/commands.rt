@@ -4,7 +4,7 @@ ghost use Rattle.std.specs.Bool.{then_some};
 ghost use Rattle.std.specs.Option.{option_and_then};
 ghost use Rattle.conc_types.specs.declared.event.Event.TheVariants.{Command as command};
 ghost use Rattle.conc_law.specs.Next.{forced_command as forced_command_of, is_due as is_due_of};
-ghost use Rattle.conc_machine.specs.Kept.{first_undone as first_undone_of};
+ghost use Rattle.conc_machine.specs.Indexes.{first_undone as first_undone_of};
 
 use conc_law_decisions::is_due;
 use conc_types::{Event, Plan, State};

@@ -6,7 +6,7 @@ mod answers;
 mod commands;
 mod forcing;
 mod judging;
-mod kept;
+mod indexes;
 mod machine;
 mod making;
 mod taking;

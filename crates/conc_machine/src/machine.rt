@@ -1,6 +1,6 @@
-ghost use Rattle.conc_machine.specs.Kept.{AreKept};
+ghost use Rattle.conc_machine.specs.Indexes.{AreIndexes};
 
-use crate::kept::Kept;
+use crate::indexes::Indexes;
 use conc_machine_readings::Life;
 use conc_types::Plan;
 
@@ -10,7 +10,7 @@ use conc_types::Plan;
 #[derive(Drop)]
 pub struct Machine<'p> {
     pub(crate) plan: &'p Plan,
-    pub(crate) kept: Kept,
+    pub(crate) indexes: Indexes,
     pub(crate) life: Option<Life>,
-    ghost are: { AreKept plan.now kept },
+    ghost are: { AreIndexes plan.now indexes },
 }

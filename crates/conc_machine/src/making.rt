@@ -3,10 +3,10 @@ ghost use Rattle.std.specs.Option.{option_map};
 ghost use Rattle.conc_types.specs.declared.event.Event.{Event};
 ghost use Rattle.conc_law.specs.Before.{last_life};
 ghost use Rattle.conc_law.specs.State.{now, state};
-ghost use Rattle.conc_machine.specs.Kept.{AreKept};
+ghost use Rattle.conc_machine.specs.Indexes.{AreIndexes};
 ghost use Rattle.conc_machine.specs.StandsFor.{AreLived, plan_of, readings_of, StandsFor};
 
-use crate::kept::Kept;
+use crate::indexes::Indexes;
 use crate::machine::Machine;
 use crate::taking::take_in;
 use conc_law_effects::begin;
@@ -20,12 +20,12 @@ use conc_types::{Event, Moment, NoMemory, Plan, Readings};
 use std::alloc::Global;
 
 // What is kept before the first event.
-fn begun(alloc: Global, plan: &Plan) -> Result<Kept, NoMemory>
-    ensures kept { IfOk result (λ kept. AreKept plan.now kept) }
-    ensures none { IfOk result (λ kept. kept.state ≡ state plan.now []) }
+fn begun(alloc: Global, plan: &Plan) -> Result<Indexes, NoMemory>
+    ensures indexes { IfOk result (λ indexes. AreIndexes plan.now indexes) }
+    ensures none { IfOk result (λ indexes. indexes.state ≡ state plan.now []) }
 {
     let classes = Classes::new(alloc, plan)?;
-    Ok(Kept {
+    Ok(Indexes {
         spans: Spans::new(alloc, plan)?,
         state: begin(alloc, plan)?,
         running: Running::new(alloc, plan)?,
@@ -58,7 +58,7 @@ impl<'p> Machine<'p> {
     {
         Ok(Machine {
             plan,
-            kept: begun(alloc, plan)?,
+            indexes: begun(alloc, plan)?,
             life: None,
         })
     }
@@ -71,7 +71,7 @@ impl<'p> Machine<'p> {
         ensures stands { OnOk result ((past : List Event) → last_life past ≡ [] → StandsFor self.old past → StandsFor self.new past) }
         ensures err { OnErr result (self.new ≡ self.old) }
     {
-        let life = Life::new(alloc, readings, self.kept.state.time)?;
+        let life = Life::new(alloc, readings, self.indexes.state.time)?;
         self.life = Some(life);
         Ok(())
     }
@@ -82,8 +82,8 @@ impl<'p> Machine<'p> {
         ensures readings { readings_of self.new ≡ readings_of self.old }
         ensures stands { (past : List Event) → StandsFor self.old past → StandsFor self.new (event ∷ past) }
     {
-        let time = self.kept.state.time;
+        let time = self.indexes.state.time;
         live_on(&mut self.life, event, time);
-        take_in(self.plan, &mut self.kept, event);
+        take_in(self.plan, &mut self.indexes, event);
     }
 }

@@ -1,47 +1,47 @@
 ghost use Rattle.std.specs.Prelude.{◌≡◌};
 ghost use Rattle.conc_law_effects.specs.Advance.{IsAfter};
-ghost use Rattle.conc_machine.specs.Kept.{AreKept, AreParts, first_undone as first_undone_of};
+ghost use Rattle.conc_machine.specs.Indexes.{AreIndexes, AreParts, first_undone as first_undone_of};
 ghost use Rattle.conc_machine.specs.Taken.{HasCommand, HasTick};
 
 use crate::commands::first_undone;
-use crate::kept::Kept;
+use crate::indexes::Indexes;
 use crate::writing::write_all;
 use conc_law_effects::{mark_done, named_facts, used_after};
 use conc_types::{Event, Plan};
 
 // Takes in the command of an event, if it is one.
-fn take_command(kept: &mut Kept, e: Event)
-    requires { kept.old.next_command ≡ first_undone_of kept.old.state.done }
-    ensures { HasCommand kept.old kept.new e }
+fn take_command(indexes: &mut Indexes, e: Event)
+    requires { indexes.old.next_command ≡ first_undone_of indexes.old.state.done }
+    ensures { HasCommand indexes.old indexes.new e }
 {
-    mark_done(&mut kept.state.done, e);
-    kept.next_command = first_undone(kept.state.done.as_slice(), kept.next_command);
+    mark_done(&mut indexes.state.done, e);
+    indexes.next_command = first_undone(indexes.state.done.as_slice(), indexes.next_command);
 }
 
 // Takes in the moment of an event, if it is a tick.
-fn take_tick(plan: &Plan, kept: &mut Kept, e: Event)
-    requires { AreParts plan.now kept.old }
-    ensures parts { AreParts plan.now kept.new }
-    ensures tick { HasTick kept.old kept.new e }
+fn take_tick(plan: &Plan, indexes: &mut Indexes, e: Event)
+    requires { AreParts plan.now indexes.old }
+    ensures parts { AreParts plan.now indexes.new }
+    ensures tick { HasTick indexes.old indexes.new e }
 {
     if let Event::Tick { moment } = e {
-        kept.state.time = Some(moment);
-        kept.lets.tick(plan, &kept.classes, &kept.state);
-        kept.starts.tick(plan, &kept.state);
+        indexes.state.time = Some(moment);
+        indexes.lets.tick(plan, &indexes.classes, &indexes.state);
+        indexes.starts.tick(plan, &indexes.state);
     }
 }
 
 /// Takes in one more event.
-pub(crate) fn take_in(plan: &Plan, kept: &mut Kept, e: Event)
-    requires { AreKept plan.now kept.old }
-    ensures kept { AreKept plan.now kept.new }
-    ensures after { IsAfter plan.now kept.old.state kept.new.state e }
+pub(crate) fn take_in(plan: &Plan, indexes: &mut Indexes, e: Event)
+    requires { AreIndexes plan.now indexes.old }
+    ensures indexes { AreIndexes plan.now indexes.new }
+    ensures after { IsAfter plan.now indexes.old.state indexes.new.state e }
 {
-    let named = named_facts(plan, kept.state.facts.as_slice(), e);
-    let span = kept.spans.reach(plan, e);
-    write_all(plan, kept, named, e, span);
-    take_command(kept, e);
-    kept.state.used = used_after(kept.state.used, e);
-    kept.state.empty = false;
-    take_tick(plan, kept, e);
+    let named = named_facts(plan, indexes.state.facts.as_slice(), e);
+    let span = indexes.spans.reach(plan, e);
+    write_all(plan, indexes, named, e, span);
+    take_command(indexes, e);
+    indexes.state.used = used_after(indexes.state.used, e);
+    indexes.state.empty = false;
+    take_tick(plan, indexes, e);
 }

@@ -83,17 +83,17 @@ pub record IsEndWith (plan : Plan) (e : Event) (text : List ℕ) : Type 0 where
   pub outcome : Outcome
   pub extent : Extent
   pub is : e ≡ event.Ended id outcome (Some extent)
-  pub told : IsReported plan id outcome extent
-  pub same : text ≡ told.made.text
+  pub stored : IsReported plan id outcome extent
+  pub same : text ≡ stored.made.text
 
 pub end-with : (plan : Plan) (e : Event) (text : List ℕ) → HasItsText plan e (Some text) → IsEndWith plan e text
-end-with plan (event.Ended id o (Some x)) text told = record { id = id; outcome = o; extent = x; is = refl; told = told.0; same = same_Some text told.0.made.text told.1 }
-end-with plan e text told = cc
+end-with plan (event.Ended id o (Some x)) text stored = record { id = id; outcome = o; extent = x; is = refl; stored = stored.0; same = same_Some text stored.0.made.text stored.1 }
+end-with plan e text stored = cc
 
 -- an event without a text has no extent
 pub without-text : (plan : Plan) (e : Event) → HasItsText plan e None → extent_length e ≡ 0
-without-text plan (event.Ended id o (Some x)) told = let never : None ≡ Some told.0.made.text = told.1 in cc
-without-text plan e told = refl
+without-text plan (event.Ended id o (Some x)) stored = let never : None ≡ Some stored.0.made.text = stored.1 in cc
+without-text plan e stored = refl
 
 -- ---- an event that comes next has a record
 
@@ -115,12 +115,12 @@ close-record set o h = cc
 
 line-record : (plan : Plan) (e : Event) (text : Option (List ℕ)) → has_line plan e ≡ true → HasItsText plan e text → has_record e ≡ true
 unfolding has_line
-line-record plan (event.CloseSet set o) text line told = close-record set o (and_parts (is_small set.number) (is_report_outcome o) line).1
-line-record plan (event.Ended id o None) text line told = terminated-record id o (and_parts (is_small id.number) (is_terminated o) line).1
-line-record plan (event.Ended id o (Some x)) text line told =
-    let good = made-good plan told.0.ended told.0.made told.0.report in
-    reported-record id o x (ap is_report_outcome told.0.same_outcome ∙ good.outcome) (omega (arith, told.0.same_length, good.some))
-line-record plan e text line told = refl
+line-record plan (event.CloseSet set o) text line stored = close-record set o (and_parts (is_small set.number) (is_report_outcome o) line).1
+line-record plan (event.Ended id o None) text line stored = terminated-record id o (and_parts (is_small id.number) (is_terminated o) line).1
+line-record plan (event.Ended id o (Some x)) text line stored =
+    let good = made-good plan stored.0.ended stored.0.made stored.0.report in
+    reported-record id o x (ap is_report_outcome stored.0.same_outcome ∙ good.outcome) (omega (arith, stored.0.same_length, good.some))
+line-record plan e text line stored = refl
 
 last-line : (plan : Plan) (list : List Event) (e : Event) → LawfulSoFar plan (list ++ e ∷ []) → has_line plan e ≡ true
 last-line plan list e past =
@@ -158,14 +158,14 @@ module _ (plan : Plan) (readings : List Reading) (old : Work) (e : Event) (known
 -- ---- so it may be logged
 
 pub may-log : (work : Work) (e : Event) (text : Option (List ℕ)) (journal spool : DiskState) → IsReady work journal spool → next_in work ≡ Some e → HasItsText (plan_in work) e text → MayLog work e
-may-log work e text journal spool ready next told =
+may-log work e text journal spool ready next stored =
     let plan = plan_in work in
     let readings = readings_in work in
     let lawful = next-lawful plan readings (list_in work) e ready.tied.lawful next in
     let past = lawful-past plan work.machine readings (list_in work ++ e ∷ []) ready.tied.readings_are lawful in
     record {
       lawful = lawful;
-      spelled = line-record plan e text (last-line plan (list_in work) e past) told;
+      spelled = line-record plan e text (last-line plan (list_in work) e past) stored;
       room = takes-one plan readings work e ready.tied.readings_are (next_alone-follows plan readings (reverse (list_in work)) e next).0 ready.room lawful;
       sound = ready.sound;
     }
@@ -173,9 +173,9 @@ may-log work e text journal spool ready next told =
 -- ---- the text of an end fits the spool
 
 pub text-length : (plan : Plan) (e : Event) (text : List ℕ) → HasItsText plan e (Some text) → extent_length e ≡ length text
-text-length plan e text told =
-    let end = end-with plan e text told in
-    ap extent_length end.is ∙ end.told.same_length ∙ sym (ap length end.same)
+text-length plan e text stored =
+    let end = end-with plan e text stored in
+    ap extent_length end.is ∙ end.stored.same_length ∙ sym (ap length end.same)
 
 pub record Fits (used : ℕ) (text : List ℕ) : Type 0 where
   pub some : 1 ≤ length text
@@ -183,14 +183,14 @@ pub record Fits (used : ℕ) (text : List ℕ) : Type 0 where
   pub below : used + length text < 18446744073709551616
 
 pub text-fits : (plan : Plan) (list : List Event) (e : Event) (text : List ℕ) → HasItsText plan e (Some text) → LawfulSoFar plan (list ++ e ∷ []) → Fits (used (reverse list)) text
-text-fits plan list e text told past =
-    let end = end-with plan e text told in
-    let good = made-good plan end.told.ended end.told.made end.told.report in
+text-fits plan list e text stored past =
+    let end = end-with plan e text stored in
+    let good = made-good plan end.stored.ended end.stored.made end.stored.report in
     let same = ap length end.same in
     record {
       some = omega (arith, same, good.some);
       few = omega (arith, same, good.short);
-      below = omega (arith, text-length plan e text told, used-push list e, used-below plan (list ++ e ∷ []) past);
+      below = omega (arith, text-length plan e text stored, used-push list e, used-below plan (list ++ e ∷ []) past);
     }
 
 -- ---- the work after it is kept

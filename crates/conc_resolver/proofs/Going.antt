@@ -23,12 +23,12 @@ use Rattle.conc_spool.specs.Spools.{Agrees, KeepsBelow, used_of}
 use Rattle.conc_resolver_choice.proofs.Pushes.{Follows-push}
 use Rattle.conc_run_state.specs.Lists.{GoesOn, IsPrefix, longest_of}
 use Rattle.conc_run_state.specs.Survival.{Survives}
-use Rattle.conc_run_state.specs.Told.{AreTold}
+use Rattle.conc_run_state.specs.Stored.{AreStored}
 use Rattle.conc_run_state.specs.Works.{AreReady, AreTied, list_in, longest_in}
 use Rattle.conc_run_state.specs.declared.work.Work.{Work}
 use Rattle.conc_run_state.specs.Disks.{disks}
 use Rattle.conc_resolver.specs.Runs.{WentOn}
-use Rattle.conc_resolver.specs.Steps.{SurvivesFor, TellsOn}
+use Rattle.conc_resolver.specs.Steps.{SurvivesFor, StoresOn}
 use Rattle.conc_resolver.proofs.Extents.{used-more}
 use Rattle.conc_run_state.proofs.Prefixes.{prefix-self}
 use Rattle.conc_run_state.proofs.Surviving.{survives-wider}
@@ -46,8 +46,8 @@ module _ (plan : Plan) (readings : List Reading) (old new : Work) (journal spool
   longest : longest_in new ≡ list_in old
   longest = ap (λ j. longest_of j) same ∙ sound-longest old sound
 
-  pub went-none : AreTied plan readings None new journal spool' → TellsOn plan (used_of old.spool) (list_in old) (list_in old) spool spool' → WentOn plan readings (disks journal journal spool spool') old new
-  went-none tied tells = record {
+  pub went-none : AreTied plan readings None new journal spool' → StoresOn plan (used_of old.spool) (list_in old) (list_in old) spool spool' → WentOn plan readings (disks journal journal spool spool') old new
+  went-none tied stores = record {
     kept = None;
     tied = tied;
     list = record {
@@ -58,11 +58,11 @@ module _ (plan : Plan) (readings : List Reading) (old new : Work) (journal spool
     };
     lawful = subst (λ (l : List Event). Lawful plan readings l) (sym longest) lawful;
     acknowledged = inl (longest ∙ sym (ap (λ j. list_of j) same));
-    told = λ from. subst (λ (l : List Event). EachImage (AreTold plan from (list_in old)) spool → EachImage (AreTold plan from l) spool') (sym longest) (tells.told from);
+    stored = λ from. subst (λ (l : List Event). EachImage (AreStored plan from (list_in old)) spool → EachImage (AreStored plan from l) spool') (sym longest) (stores.stored from);
     digest = ap (λ j. state_digest (state_of j)) same;
     journal = λ digest begun. leaves-none (Survives digest (list_in old) (longest_in new)) journal;
-    spool = tells.left;
-    spool_now = tells.now;
+    spool = stores.left;
+    spool_now = stores.now;
   }
 
 -- ---- one event
@@ -71,11 +71,11 @@ module _ (plan : Plan) (readings : List Reading) (old new : Work) (e : Event) (k
     (longest : longest_in new ≡ list_in old ++ e ∷ []) where
   pub went-one : AreTied plan readings kept new journal' spool' → Lawful plan readings (list_in old ++ e ∷ [])
       → (longest_in new ≡ list_in new) ⊎ ((e : Event) × (longest_in new ≡ list_in new ++ e ∷ []))
-      → TellsOn plan (used_of old.spool) (list_in old) (list_in old ++ e ∷ []) spool spool'
+      → StoresOn plan (used_of old.spool) (list_in old) (list_in old ++ e ∷ []) spool spool'
       → state_digest (state_of new.journal) ≡ state_digest (state_of old.journal)
       → SurvivesFor old.journal (list_in old) (list_in old ++ e ∷ []) journal journal'
       → WentOn plan readings (disks journal journal' spool spool') old new
-  went-one tied lawful acknowledged tells digest left = record {
+  went-one tied lawful acknowledged stores digest left = record {
     kept = kept;
     tied = tied;
     list = record {
@@ -87,11 +87,11 @@ module _ (plan : Plan) (readings : List Reading) (old new : Work) (e : Event) (k
     };
     lawful = subst (λ (l : List Event). Lawful plan readings l) (sym longest) lawful;
     acknowledged = acknowledged;
-    told = λ from. subst (λ (l : List Event). EachImage (AreTold plan from (list_in old)) spool → EachImage (AreTold plan from l) spool') (sym longest) (tells.told from);
+    stored = λ from. subst (λ (l : List Event). EachImage (AreStored plan from (list_in old)) spool → EachImage (AreStored plan from l) spool') (sym longest) (stores.stored from);
     digest = digest;
     journal = λ d begun. subst (λ (l : List Event). LeavesOnly (Survives d (list_in old) l) journal journal') (sym longest) (left d begun);
-    spool = tells.left;
-    spool_now = tells.now;
+    spool = stores.left;
+    spool_now = stores.now;
   }
 
 -- ---- what follows twice
@@ -162,7 +162,7 @@ module _ (plan : Plan) (readings : List Reading) (old mid new : Work) (journal j
       list = goes-twice plan readings (list_in old) (list_in mid) (longest_in new) goes second.list;
       lawful = second.lawful;
       acknowledged = second.acknowledged;
-      told = λ from told. second.told from (subst (λ (l : List Event). EachImage (AreTold plan from l) spool') whole (first.told from told));
+      stored = λ from stored. second.stored from (subst (λ (l : List Event). EachImage (AreStored plan from l) spool') whole (first.stored from stored));
       digest = second.digest ∙ first.digest;
       journal = λ digest begun.
           let kind = Survives digest (list_in old) (longest_in new) in

@@ -25,7 +25,7 @@ use Rattle.conc_run_state.specs.Works.{AreTied, HasRoom, list_in, longest_in}
 use Rattle.conc_run_state.specs.declared.work.Work.{Work}
 use Rattle.conc_run_state.specs.Disks.{disks}
 use Rattle.conc_resolver.specs.Runs.{WentOn}
-use Rattle.conc_resolver.specs.Steps.{any_disk, IsReady, IsTied, left_in, MayLog, next_in, plan_in, readings_in, SurvivesFor, TellsOn}
+use Rattle.conc_resolver.specs.Steps.{any_disk, IsReady, IsTied, left_in, MayLog, next_in, plan_in, readings_in, SurvivesFor, StoresOn}
 use Rattle.conc_resolver.proofs.Coming.{has-room, lawful-past}
 use Rattle.conc_resolver.proofs.Going.{sound-longest, went-none, went-one}
 use Rattle.conc_resolver.proofs.Logs.{faulted-digest, faulted-longest}
@@ -57,14 +57,14 @@ module _ (old mid : Work) (journal spool spool' : DiskState) (ready : IsReady ol
   mid-readings = ap (λ (m : Machine). unwrap_or (readings_of m) []) machine
 
   -- the text met a fault
-  pub went-unkept : IsTied None mid any_disk spool' → TellsOn (plan_in old) (used_of old.spool) (list_in old) (list_in old) spool spool'
+  pub went-unkept : IsTied None mid any_disk spool' → StoresOn (plan_in old) (used_of old.spool) (list_in old) (list_in old) spool spool'
       → WentOn (plan_in old) (readings_in old) (disks journal journal spool spool') old mid
-  went-unkept tied tells =
+  went-unkept tied stores =
       went-none (plan_in old) (readings_in old) old mid journal spool spool' ready.tied.lawful ready.sound same
-      (tied-by (plan_in old) (readings_in old) None mid any_disk journal spool' spool' mid-plan mid-readings mid-on tied.spool_on tied) tells
+      (tied-by (plan_in old) (readings_in old) None mid any_disk journal spool' spool' mid-plan mid-readings mid-on tied.spool_on tied) stores
 
   module _ (new : Work) (e : Event) (journal' : DiskState) (next : next_in old ≡ Some e) (may : MayLog mid e) (keeps : IsTied (Some e) mid any_disk spool')
-      (tells : TellsOn (plan_in old) (used_of old.spool) (list_in old) (list_in old ++ e ∷ []) spool spool')
+      (stores : StoresOn (plan_in old) (used_of old.spool) (list_in old) (list_in old ++ e ∷ []) spool spool')
       (survives : SurvivesFor mid.journal (list_in mid) (list_in mid ++ e ∷ []) journal journal')
       (plan : plan_in new ≡ plan_in mid) (readings : readings_in new ≡ readings_in mid) (text : new.spool ≡ mid.spool) where
     new-on : SpoolIsOn new.spool spool'
@@ -93,7 +93,7 @@ module _ (old mid : Work) (journal spool spool' : DiskState) (ready : IsReady ol
         went-one (plan_in old) (readings_in old) old new e (Some e) journal journal' spool spool' next
         (longest ∙ ap (λ l. l ++ e ∷ []) (stays ∙ ap (λ j. list_of j) same))
         (tied-by (plan_in old) (readings_in old) (Some e) new journal' journal' any_disk spool' new-plan new-readings tied.journal_on new-on tied)
-        lawful (inr (e, longest)) tells
+        lawful (inr (e, longest)) stores
         (ap state_digest failed ∙ faulted-digest e (state_of mid.journal) ∙ ap (λ j. state_digest (state_of j)) same)
         old-survives
 
@@ -109,7 +109,7 @@ module _ (old mid : Work) (journal spool spool' : DiskState) (ready : IsReady ol
           went-one (plan_in old) (readings_in old) old new e None journal journal' spool spool' next
           (sound-longest new new-sound ∙ added-to)
           (tied-by (plan_in old) (readings_in old) None new journal' journal' any_disk spool' new-plan new-readings tied.journal_on new-on tied)
-          lawful (inl (sound-longest new new-sound)) tells
+          lawful (inl (sound-longest new new-sound)) stores
           (ap state_digest state ∙ ap (λ j. state_digest (state_of j)) same)
           old-survives
 

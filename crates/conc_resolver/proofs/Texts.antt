@@ -1,4 +1,4 @@
--- Ends that the spool tells, while texts are added to it.
+-- Ends whose texts the spool holds, while texts are added to it.
 use Rattle.std.proofs.Common.{◌≡◌, ◌⊎◌, inl, inr, ℕ, zero, suc, ◌+◌, ◌≤◌, List, [], ◌∷◌, ◌++◌, length, reverse, take, drop, Option, None, Some, refl, sym, ◌∙◌, ap, subst, arith}
 use Rattle.std.specs.Prelude.{IfSome, IsSomeAnd, MatchOption, slice_get, ⊤}
 use Rattle.std.proofs.lemmas.Option.{IfSome_then, same_Some}
@@ -13,8 +13,8 @@ use Rattle.conc_disk.proofs.Leaving.{if_some-any, leaves-none}
 use Rattle.conc_journal_image.proofs.Fronts.{part-front}
 use Rattle.conc_spool.specs.Spools.{Agrees, KeepsBelow}
 use Rattle.conc_resolver_choice.specs.Choices.{HasItsText}
-use Rattle.conc_run_state.specs.Told.{AreTold, IsTold}
-use Rattle.conc_resolver.specs.Steps.{TellsOn}
+use Rattle.conc_run_state.specs.Stored.{AreStored, IsStored}
+use Rattle.conc_resolver.specs.Steps.{StoresOn}
 use Rattle.conc_resolver.proofs.Extents.{last-at, within-used}
 
 -- ---- bytes that agree
@@ -37,26 +37,26 @@ same-part : (n at len : ℕ) (bytes image : List ℕ) → at + len ≤ n → Agr
 same-part n at len bytes image within agrees =
     sym (part-front at len n bytes within) ∙ ap (λ (l : List ℕ). take len (drop at l)) (sym agrees.front) ∙ part-front at len n image within
 
--- ---- what is told
+-- ---- what is held
 
 module _ (plan : Plan) where
-  -- ends within the bytes that agree are told alike
-  told-alike : (n from : ℕ) (list : List Event) (bytes image : List ℕ) → LawfulSoFar plan list → used (reverse list) ≤ n → Agrees n bytes image → AreTold plan from list bytes → AreTold plan from list image
-  told-alike n from list bytes image past le agrees told = λ i id o x at here.
-      let was = told i id o x at here in
+  -- ends within the bytes that agree are held alike
+  stored-alike : (n from : ℕ) (list : List Event) (bytes image : List ℕ) → LawfulSoFar plan list → used (reverse list) ≤ n → Agrees n bytes image → AreStored plan from list bytes → AreStored plan from list image
+  stored-alike n from list bytes image past le agrees stored = λ i id o x at here.
+      let was = stored i id o x at here in
       let within = within-used plan list i id o x past here in
       record { report = was.report; text = was.text ∙ same-part n x.offset x.length bytes image (omega (arith, within, le)) agrees }
 
-  -- the event is told, if it is an end with an extent
-  EventTold : List ℕ → Event → Type 0
-  EventTold bytes (event.Ended id o (Some x)) = IsTold plan bytes id o x
-  EventTold bytes e = ⊤
+  -- the event's text is held, if it is an end with an extent
+  EventStored : List ℕ → Event → Type 0
+  EventStored bytes (event.Ended id o (Some x)) = IsStored plan bytes id o x
+  EventStored bytes e = ⊤
 
-  told-more : (from : ℕ) (list : List Event) (e : Event) (bytes : List ℕ) → AreTold plan from list bytes → EventTold bytes e → AreTold plan from (list ++ e ∷ []) bytes
-  unfolding EventTold
-  told-more from list e bytes told last = λ i id o x at here. elim (place list e i (event.Ended id o (Some x)) here) [
-    | inl before ↦ told i id o x at before
-    | inr same ↦ subst (EventTold bytes) same last
+  stored-more : (from : ℕ) (list : List Event) (e : Event) (bytes : List ℕ) → AreStored plan from list bytes → EventStored bytes e → AreStored plan from (list ++ e ∷ []) bytes
+  unfolding EventStored
+  stored-more from list e bytes stored last = λ i id o x at here. elim (place list e i (event.Ended id o (Some x)) here) [
+    | inl before ↦ stored i id o x at before
+    | inr same ↦ subst (EventStored bytes) same last
   ]
     where
       place : (list : List Event) (e : Event) (i : ℕ) (found : Event) → slice_get (list ++ e ∷ []) i ≡ Some found → (slice_get list i ≡ Some found) ⊎ (e ≡ found)
@@ -65,41 +65,41 @@ module _ (plan : Plan) where
       place (first ∷ list) e zero found here = inl here
       place (first ∷ list) e (suc i) found here = place list e i found here
 
-  without-told : (e : Event) (bytes : List ℕ) → HasItsText plan e None → EventTold bytes e
-  unfolding EventTold
-  without-told (event.Ended id o (Some x)) bytes told = let never : None ≡ Some told.0.made.text = told.1 in cc
-  without-told e bytes told = tt
+  without-stored : (e : Event) (bytes : List ℕ) → HasItsText plan e None → EventStored bytes e
+  unfolding EventStored
+  without-stored (event.Ended id o (Some x)) bytes stored = let never : None ≡ Some stored.0.made.text = stored.1 in cc
+  without-stored e bytes stored = tt
 
   -- the text of an end stands behind those of the earlier ends
-  text-told : (list : List Event) (e : Event) (text bytes : List ℕ) → HasItsText plan e (Some text) → LawfulSoFar plan (list ++ e ∷ []) → text ≡ take (length text) (drop (used (reverse list)) bytes) → EventTold bytes e
-  unfolding EventTold
-  text-told list (event.Ended id o (Some x)) text bytes told past here =
-      let same : text ≡ told.0.made.text = same_Some text told.0.made.text told.1 in
+  text-stored : (list : List Event) (e : Event) (text bytes : List ℕ) → HasItsText plan e (Some text) → LawfulSoFar plan (list ++ e ∷ []) → text ≡ take (length text) (drop (used (reverse list)) bytes) → EventStored bytes e
+  unfolding EventStored
+  text-stored list (event.Ended id o (Some x)) text bytes stored past here =
+      let same : text ≡ stored.0.made.text = same_Some text stored.0.made.text stored.1 in
       record {
-        report = told.0;
+        report = stored.0;
         text =
             sym same
             ∙ here
-            ∙ ap (λ k. take k (drop (used (reverse list)) bytes)) (ap length same ∙ sym told.0.same_length)
+            ∙ ap (λ k. take k (drop (used (reverse list)) bytes)) (ap length same ∙ sym stored.0.same_length)
             ∙ ap (λ k. take x.length (drop k bytes)) (sym (last-at plan list id o x past));
       }
-  text-told list e text bytes told past here = tt
+  text-stored list e text bytes stored past here = tt
 
   -- ---- from one state of the disk to the next
 
-  -- the ends that it told it tells still, and those that were added
+  -- the texts of the ends that it held it holds still, and those that were added
   module _ (n m from : ℕ) (first second : List Event) (old new : DiskState) (past : LawfulSoFar plan first) (later : LawfulSoFar plan second) (before : used (reverse first) ≤ n) (after : used (reverse second) ≤ m) where
     go : (o s : Option (List ℕ)) → IfSome o old.may_leave → MatchOption o (s ≡ None) (λ a. IsSomeAnd s (λ b. Agrees n a b)) → IfSome s (λ bytes. (image : List ℕ) → new.may_leave image → Agrees m bytes image)
-        → IfSome s (λ bytes. AreTold plan from first bytes → AreTold plan from second bytes) → IfSome o (λ bytes. (image : List ℕ) → old.may_leave image → AreTold plan from first image)
-        → IfSome s (λ bytes. (image : List ℕ) → new.may_leave image → AreTold plan from second image)
+        → IfSome s (λ bytes. AreStored plan from first bytes → AreStored plan from second bytes) → IfSome o (λ bytes. (image : List ℕ) → old.may_leave image → AreStored plan from first image)
+        → IfSome s (λ bytes. (image : List ℕ) → new.may_leave image → AreStored plan from second image)
     go o None left follows on more each = tt
     go None (Some b) left follows on more each = absurd (cc)
     go (Some a) (Some b) left follows on more each = λ image is_left.
-        told-alike m from second b image later after (on image is_left) (more (told-alike n from first a b past before follows (each a left)))
+        stored-alike m from second b image later after (on image is_left) (more (stored-alike n from first a b past before follows (each a left)))
 
-    told-after : IfSome old.seen old.may_leave → SeenFollows (Agrees n) old new → IfSome new.seen (λ bytes. (image : List ℕ) → new.may_leave image → Agrees m bytes image)
-        → IfSome new.seen (λ bytes. AreTold plan from first bytes → AreTold plan from second bytes) → EachImage (AreTold plan from first) old → EachImage (AreTold plan from second) new
-    told-after left follows on more each = go old.seen new.seen left follows on more each
+    stored-after : IfSome old.seen old.may_leave → SeenFollows (Agrees n) old new → IfSome new.seen (λ bytes. (image : List ℕ) → new.may_leave image → Agrees m bytes image)
+        → IfSome new.seen (λ bytes. AreStored plan from first bytes → AreStored plan from second bytes) → EachImage (AreStored plan from first) old → EachImage (AreStored plan from second) new
+    stored-after left follows on more each = go old.seen new.seen left follows on more each
 
   -- nothing was written
   module _ (n : ℕ) (list : List Event) (disk : DiskState) (left : IfSome disk.seen disk.may_leave) (on : IfSome disk.seen (λ bytes. (image : List ℕ) → disk.may_leave image → Agrees n bytes image)) where
@@ -109,9 +109,9 @@ module _ (plan : Plan) where
       go None left on = refl
       go (Some a) left on = agrees-self n a (on a left).no_shorter
 
-    pub tells-without : (e : Event) → HasItsText plan e None → TellsOn plan n list (list ++ e ∷ []) disk disk
-    tells-without e told = record {
-      told = λ from each. IfSome_then disk.seen each (λ bytes here image is_left. told-more from list e image (here image is_left) (without-told e image told));
+    pub stores-without : (e : Event) → HasItsText plan e None → StoresOn plan n list (list ++ e ∷ []) disk disk
+    stores-without e stored = record {
+      stored = λ from each. IfSome_then disk.seen each (λ bytes here image is_left. stored-more from list e image (here image is_left) (without-stored e image stored));
       left = leaves-none (KeepsBelow n disk) disk;
       now = unwritten;
     }
@@ -119,20 +119,20 @@ module _ (plan : Plan) where
   -- a text was added, or a fault met
   module _ (n m : ℕ) (list : List Event) (old new : DiskState) (left : IfSome old.seen old.may_leave) (run : LeavesOnly (KeepsBelow n old) old new) (follows : SeenFollows (Agrees n) old new)
       (on : IfSome new.seen (λ bytes. (image : List ℕ) → new.may_leave image → Agrees m bytes image)) (before : used (reverse list) ≡ n) where
-    pub tells-fault : LawfulSoFar plan list → m ≡ n → TellsOn plan n list list old new
-    tells-fault past same = record {
-      told = λ from each. told-after n m from list list old new past past (omega (arith, before)) (omega (arith, before, same)) left follows on (if_some-any new.seen (λ bytes told. told)) each;
+    pub stores-fault : LawfulSoFar plan list → m ≡ n → StoresOn plan n list list old new
+    stores-fault past same = record {
+      stored = λ from each. stored-after n m from list list old new past past (omega (arith, before)) (omega (arith, before, same)) left follows on (if_some-any new.seen (λ bytes stored. stored)) each;
       left = run;
       now = follows;
     }
 
-    pub tells-text : (e : Event) (text : List ℕ) → HasItsText plan e (Some text) → LawfulSoFar plan list → LawfulSoFar plan (list ++ e ∷ []) → used (reverse (list ++ e ∷ [])) ≡ m
-        → IfSome new.seen (λ bytes. text ≡ take (length text) (drop n bytes)) → TellsOn plan n list (list ++ e ∷ []) old new
-    tells-text e text told past later after here = record {
-      told = λ from each.
-          told-after n m from list (list ++ e ∷ []) old new past later (omega (arith, before)) (omega (arith, after)) left follows on
+    pub stores-text : (e : Event) (text : List ℕ) → HasItsText plan e (Some text) → LawfulSoFar plan list → LawfulSoFar plan (list ++ e ∷ []) → used (reverse (list ++ e ∷ [])) ≡ m
+        → IfSome new.seen (λ bytes. text ≡ take (length text) (drop n bytes)) → StoresOn plan n list (list ++ e ∷ []) old new
+    stores-text e text stored past later after here = record {
+      stored = λ from each.
+          stored-after n m from list (list ++ e ∷ []) old new past later (omega (arith, before)) (omega (arith, after)) left follows on
           (IfSome_then new.seen here (λ bytes at before_it.
-          told-more from list e bytes before_it (text-told list e text bytes told later (at ∙ ap (λ k. take (length text) (drop k bytes)) (sym before)))))
+          stored-more from list e bytes before_it (text-stored list e text bytes stored later (at ∙ ap (λ k. take (length text) (drop k bytes)) (sym before)))))
           each;
       left = run;
       now = follows;

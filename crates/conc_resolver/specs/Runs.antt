@@ -13,12 +13,12 @@ use Rattle.conc_spool.specs.Spools.{Agrees, KeepsBelow, used_of}
 use Rattle.conc_run_state.specs.Disks.{Disks}
 use Rattle.conc_run_state.specs.Lists.{GoesOn}
 use Rattle.conc_run_state.specs.Survival.{Survives}
-use Rattle.conc_run_state.specs.Told.{AreTold}
+use Rattle.conc_run_state.specs.Stored.{AreStored}
 use Rattle.conc_run_state.specs.Works.{AreTied, list_in, longest_in}
 use Rattle.conc_run_state.specs.declared.work.Work.{Work}
 
 -- What a run made of its work, however it ended. The list went on as a run without workers goes on, also by the event whose
--- append met a fault, if one did. The ends that the spool told before it tells still, and those that were added too. At
+-- append met a fault, if one did. The texts of ends that the spool held before it holds still, and those that were added too. At
 -- each moment the journal's disk had a list between the one before and the longest after, and the spool's bytes of earlier
 -- ends stayed.
 pub record WentOn (plan : Plan) (readings : List Reading) (d : Disks) (old new : Work) : Type 0 where
@@ -27,7 +27,7 @@ pub record WentOn (plan : Plan) (readings : List Reading) (d : Disks) (old new :
   pub list : GoesOn plan readings (list_in old) (longest_in new)
   pub lawful : Lawful plan readings (longest_in new)
   pub acknowledged : (longest_in new ≡ list_in new) ⊎ ((e : Event) × (longest_in new ≡ list_in new ++ e ∷ []))
-  pub told : (from : ℕ) → EachImage (AreTold plan from (list_in old)) d.spool_before → EachImage (AreTold plan from (longest_in new)) d.spool_after
+  pub stored : (from : ℕ) → EachImage (AreStored plan from (list_in old)) d.spool_before → EachImage (AreStored plan from (longest_in new)) d.spool_after
   pub digest : state_digest (state_of new.journal) ≡ state_digest (state_of old.journal)
   pub journal : (digest : List ℕ) → state_of old.journal ≡ Begun digest → LeavesOnly (Survives digest (list_in old) (longest_in new)) d.journal_before d.journal_after
   pub spool : LeavesOnly (KeepsBelow (used_of old.spool) d.spool_before) d.spool_before d.spool_after

@@ -16,7 +16,7 @@ use Rattle.conc_journal.specs.declared.journal.JournalState.TheVariants.{Begun}
 use Rattle.conc_machine.specs.StandsFor.{plan_of, readings_of}
 use Rattle.conc_spool.specs.Spools.{Agrees, KeepsBelow}
 use Rattle.conc_run_state.specs.Survival.{Survives}
-use Rattle.conc_run_state.specs.Told.{AreTold}
+use Rattle.conc_run_state.specs.Stored.{AreStored}
 use Rattle.conc_run_state.specs.Works.{AreReady, AreTied, list_in}
 use Rattle.conc_run_state.specs.declared.work.Work.{Work}
 
@@ -59,10 +59,10 @@ pub record MayLog (work : Work) (event : Event) : Type 0 where
   pub room : 0 < room_of work.journal
   pub sound : IsFalse (has_faulted (state_of work.journal))
 
--- Where the spool's disk told the ends of the first list, it tells those of the second. At each moment it had the first bytes,
+-- Where the spool's disk held the texts of the ends of the first list, it holds those of the second. At each moment it had the first bytes,
 -- so many, as they were, and it has them now.
-pub record TellsOn (plan : Plan) (used : ℕ) (first second : List Event) (before after : DiskState) : Type 0 where
-  pub told : (from : ℕ) → EachImage (AreTold plan from first) before → EachImage (AreTold plan from second) after
+pub record StoresOn (plan : Plan) (used : ℕ) (first second : List Event) (before after : DiskState) : Type 0 where
+  pub stored : (from : ℕ) → EachImage (AreStored plan from first) before → EachImage (AreStored plan from second) after
   pub left : LeavesOnly (KeepsBelow used before) before after
   pub now : SeenFollows (Agrees used) before after
 

@@ -1,7 +1,7 @@
 ghost use Rattle.std.specs.Prelude.{◌≡◌, ◌∷◌, ◌++◌, [], IfErr, None, OnErr, OnOk, Some};
 ghost use Rattle.conc_resolver_choice.specs.Choices.{HasItsText};
 ghost use Rattle.conc_outside.specs.Counts.{Rose};
-ghost use Rattle.conc_resolver.specs.Steps.{any_disk, IsTied, MayLog, plan_in, TellsOn};
+ghost use Rattle.conc_resolver.specs.Steps.{any_disk, IsTied, MayLog, plan_in, StoresOn};
 ghost use Rattle.conc_spool.specs.Spools.{used_of};
 ghost use Rattle.conc_run_state.specs.Works.{list_in};
 ghost use Rattle.conc_run_state.specs.declared.fail.RunFail.TheVariants as RunFail;
@@ -18,11 +18,11 @@ pub(crate) fn keep<E: Disk>(work: &mut Work<'_>, spool: &mut E, next: &Next) -> 
     requires text { HasItsText (plan_in work.old) next.now.event next.now.text }
 
     ensures kept { OnOk result (IsTied (Some next.now.event) work.new any_disk (E.state spool.new)) }
-    ensures told { OnOk result (TellsOn (plan_in work.old) (used_of work.old.spool) (list_in work.old) (list_in work.old ++ next.now.event ∷ []) (E.state spool.old) (E.state spool.new)) }
+    ensures stored { OnOk result (StoresOn (plan_in work.old) (used_of work.old.spool) (list_in work.old) (list_in work.old ++ next.now.event ∷ []) (E.state spool.old) (E.state spool.new)) }
 
     // A fault.
     ensures not_kept { OnErr result (IsTied None work.new any_disk (E.state spool.new)) }
-    ensures as_before { OnErr result (TellsOn (plan_in work.old) (used_of work.old.spool) (list_in work.old) (list_in work.old) (E.state spool.old) (E.state spool.new)) }
+    ensures as_before { OnErr result (StoresOn (plan_in work.old) (used_of work.old.spool) (list_in work.old) (list_in work.old) (E.state spool.old) (E.state spool.new)) }
     ensures fault { OnErr result (Rose (E.state spool.old).faults (E.state spool.new).faults) }
     ensures cause { IfErr result (λ e. e ≡ RunFail.SpoolFault) }
 

@@ -50,9 +50,9 @@ fn step<D: Disk, E: Disk>(
 
     ensures went_on { WentOn (plan_in work.old) (readings_in work.old) (disks (D.state journal.old) (D.state journal.new) (E.state spool.old) (E.state spool.new)) work.old work.new }
     ensures ready { OnOk result (IsReady work.new (D.state journal.new) (E.state spool.new)) }
-    ensures receipt { IfOk result (λ told. IfSome told (IsNextOf (Some (list_in work.old)) (λ list. list ≡ list_in work.new))) }
-    ensures less { IfOk result (λ told. IsSome told → left_in work.new < left_in work.old) }
-    ensures finished { IfOk result (λ told. IsNone told → IsFinished work.new) }
+    ensures receipt { IfOk result (λ logged. IfSome logged (IsNextOf (Some (list_in work.old)) (λ list. list ≡ list_in work.new))) }
+    ensures less { IfOk result (λ logged. IsSome logged → left_in work.new < left_in work.old) }
+    ensures finished { IfOk result (λ logged. IsNone logged → IsFinished work.new) }
 
     // Why it adds none.
     ensures journal_fault { IsErrOf result RunFail.JournalFault → Rose (D.state journal.old).faults (D.state journal.new).faults }

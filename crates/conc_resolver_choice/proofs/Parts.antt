@@ -36,19 +36,19 @@ for_each Q P (Err e) each = tt
 -- ---- texts
 
 -- the end with a report has the report's text
-told_end : (plan : Plan) (r : Req) (made : Report) (offset : ℕ) → request plan r.number ≡ Some r → report_of plan r ≡ Some made
+stored_end : (plan : Plan) (r : Req) (made : Report) (offset : ℕ) → request plan r.number ≡ Some r → report_of plan r ≡ Some made
     → HasItsText plan (end_with r made offset) (Some made.text)
-told_end plan r made offset found report =
+stored_end plan r made offset found report =
     (record { ended = r; found = found; made = made; report = report; same_outcome = refl; same_length = refl }, refl)
 
 -- so has what comes next, where it is that end
-pub told_next : (plan : Plan) (r : Req) (made : Made) (offset : ℕ) (next : Next) (o : Option Made) → request plan r.number ≡ Some r
+pub stored_next : (plan : Plan) (r : Req) (made : Made) (offset : ℕ) (next : Next) (o : Option Made) → request plan r.number ≡ Some r
     → option_map as_report o ≡ report_of plan r → o ≡ Some made → next.event ≡ end_with r (as_report made) offset → next.text ≡ Some made.text
     → HasItsText plan next.event next.text
-told_next plan r made offset next o found report is event text =
-    let told : HasItsText plan (end_with r (as_report made) offset) (Some made.text) =
-    told_end plan r (as_report made) offset found (sym report ∙ ap (option_map as_report) is) in
-    subst (λ e. HasItsText plan e next.text) (sym event) (subst (HasItsText plan (end_with r (as_report made) offset)) (sym text) told)
+stored_next plan r made offset next o found report is event text =
+    let stored : HasItsText plan (end_with r (as_report made) offset) (Some made.text) =
+    stored_end plan r (as_report made) offset found (sym report ∙ ap (option_map as_report) is) in
+    subst (λ e. HasItsText plan e next.text) (sym event) (subst (HasItsText plan (end_with r (as_report made) offset)) (sym text) stored)
 
 -- an event of a kind that is forced has none
 forced_kind-no_text : (plan : Plan) (e : Event) → is_forced_kind e ≡ true → HasItsText plan e None

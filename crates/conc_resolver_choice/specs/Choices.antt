@@ -8,7 +8,7 @@ use Rattle.conc_resolver_choice.specs.declared.choosing.Next.{Next}
 
 -- An end with an extent is that of its request's report, and this is the report's text. No other event has a text.
 abbrev pub HasItsText : Plan → Event → Option (List ℕ) → Type 0
-HasItsText plan (event.Ended id o (Some x)) text = (told : IsReported plan id o x) × (text ≡ Some told.made.text)
+HasItsText plan (event.Ended id o (Some x)) text = (stored : IsReported plan id o x) × (text ≡ Some stored.made.text)
 HasItsText plan e text = text ≡ None
 
 abbrev pub event_of : Next → Event

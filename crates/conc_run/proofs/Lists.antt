@@ -14,7 +14,7 @@ use Rattle.conc_law.specs.Kinds.{extent_length}
 use Rattle.conc_law.specs.State.{used}
 use Rattle.conc_law.proofs.Positions.{reverse-push}
 use Rattle.conc_run_state.specs.Lists.{IsPrefix}
-use Rattle.conc_run_state.specs.Told.{AreTold}
+use Rattle.conc_run_state.specs.Stored.{AreStored}
 use Rattle.conc_run_state.specs.Works.{with_kept}
 use Rattle.conc_run_state.proofs.Prefixes.{prefix-opening, prefix-self, prefix-twice}
 
@@ -69,6 +69,6 @@ end-found [] (suc i) id o x is = is
 end-found (e ∷ es) zero id o x is = is
 end-found (e ∷ es) (suc i) id o x is = end-found es i id o x is
 
-pub told-opening : (plan : Plan) (from : ℕ) (found : List Event) (bytes : List ℕ) → AreTold plan from found bytes → AreTold plan from (opening found) bytes
-told-opening plan from [] bytes told = told
-told-opening plan from (e ∷ es) bytes told = λ i id o x le is. told i id o x le (end-found (e ∷ es) i id o x is)
+pub stored-opening : (plan : Plan) (from : ℕ) (found : List Event) (bytes : List ℕ) → AreStored plan from found bytes → AreStored plan from (opening found) bytes
+stored-opening plan from [] bytes stored = stored
+stored-opening plan from (e ∷ es) bytes stored = λ i id o x le is. stored i id o x le (end-found (e ∷ es) i id o x is)

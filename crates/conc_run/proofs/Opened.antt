@@ -18,17 +18,17 @@ use Rattle.conc_run_state.specs.declared.fail.HistoryFail.TheVariants as history
 use Rattle.conc_run_state.specs.declared.fail.DiskName.TheVariants as which
 use Rattle.conc_run.specs.Whole.{HasBetween, HasLeft, IsCutShort, KeepsTexts}
 use Rattle.conc_run_state.proofs.Prefixes.{prefix-self}
-use Rattle.conc_run.proofs.Lists.{opening-adds, told-opening}
+use Rattle.conc_run.proofs.Lists.{opening-adds, stored-opening}
 
 -- what is found in what a disk tells
 found-in : Option (List ℕ) → List Event
 found-in None = []
 found-in (Some image) = events_of image
 
-found-told : (seen : Option (List ℕ)) → IfSome seen (λ image. found-in seen ≡ events_of image)
+found-stored : (seen : Option (List ℕ)) → IfSome seen (λ image. found-in seen ≡ events_of image)
 unfolding found-in
-found-told None = tt
-found-told (Some image) = refl
+found-stored None = tt
+found-stored (Some image) = refl
 
 -- nothing was written
 left-untouched : (h : Handed) (found : List Event) → IfSome h.journal_before.seen (λ image. found ≡ events_of image) → IsUntouched h → HasLeft h found found found
@@ -66,7 +66,7 @@ left-opening h s to_so_far survives = record {
     so_far = to_so_far (opening s.found) (opening-lawful h.plan h.readings s.found s.taken.is_found.so_far);
     journal = s.journal;
     spool = s.spool;
-    told = λ from told. IfSome_then h.spool_after.seen (s.told from told) (λ bytes each image left. told-opening h.plan from s.found image (each image left));
+    stored = λ from stored. IfSome_then h.spool_after.seen (s.stored from stored) (λ bytes each image left. stored-opening h.plan from s.found image (each image left));
   });
 }
 
@@ -90,7 +90,7 @@ cut-untouched h e cause is =
       found = found;
       kept = found;
       last = found;
-      left = left-untouched h found (found-told h.journal_before.seen) is;
+      left = left-untouched h found (found-stored h.journal_before.seen) is;
       whole = λ same. refl;
     }
 

@@ -18,13 +18,13 @@ use Rattle.conc_spool.specs.Spools.{Agrees, used_of}
 use Rattle.conc_run_state.specs.Handed.{Handed, IsTaken, IsUntouched}
 use Rattle.conc_run_state.specs.Lists.{GoesOn, IsPrefix}
 use Rattle.conc_run_state.specs.Survival.{Survives}
-use Rattle.conc_run_state.specs.Told.{AreTold}
+use Rattle.conc_run_state.specs.Stored.{AreStored}
 use Rattle.conc_run_state.specs.Works.{list_in, longest_in, with_kept}
 use Rattle.conc_run_state.specs.declared.fail.HistoryFail.{HistoryFail}
 use Rattle.conc_run_state.specs.declared.work.Work.{Work}
 use Rattle.conc_run.specs.Whole.{HasLeft, HasNow, IsCutShort, IsFinished}
 use Rattle.conc_run_state.proofs.Prefixes.{prefix-twice}
-use Rattle.conc_run.proofs.Lists.{prefix-kept, prefix-with_kept, told-opening, used-opening, used-prefix}
+use Rattle.conc_run.proofs.Lists.{prefix-kept, prefix-with_kept, stored-opening, used-opening, used-prefix}
 use Rattle.conc_run.proofs.Survived.{begun-longest, fits-survives, journal-left}
 use Rattle.conc_run.proofs.Texts.{Keeps, spool-left, spool-now}
 
@@ -40,11 +40,11 @@ module _ (h : Handed) (journal spool : DiskState) (old new : Work) (begun : IsBe
   begins : IsPrefix (opening begun.found) (longest_in new)
   begins = (goes-on.added, goes-on.all)
 
-  -- what is told of the events found is told of the longest list
-  told-longest : (from : ℕ) → IfSome h.spool_before.seen (AreTold h.plan from begun.found) → EachImage (AreTold h.plan from (longest_in new)) h.spool_after
-  told-longest from told =
-      went.told from (IfSome_then spool.seen (begun.told from told) (λ bytes each image left.
-      subst (λ (l : List Event). AreTold h.plan from l image) (sym begun.list) (told-opening h.plan from begun.found image (each image left))))
+  -- what is held of the events found is held of the longest list
+  stored-longest : (from : ℕ) → IfSome h.spool_before.seen (AreStored h.plan from begun.found) → EachImage (AreStored h.plan from (longest_in new)) h.spool_after
+  stored-longest from stored =
+      went.stored from (IfSome_then spool.seen (begun.stored from stored) (λ bytes each image left.
+      subst (λ (l : List Event). AreStored h.plan from l image) (sym begun.list) (stored-opening h.plan from begun.found image (each image left))))
 
   -- the bytes of the texts of the events found
   used-found : used_of old.spool ≡ used (reverse begun.found)
@@ -71,7 +71,7 @@ module _ (h : Handed) (journal spool : DiskState) (old new : Work) (begun : IsBe
     so_far = to_so_far (longest_in new) went.lawful;
     journal = IfSome_then h.journal_after.seen went.tied.journal_on (λ bytes each image left. fits-survives (state_of new.journal) h.digest (list_in new) image went.tied.takes own-digest (each image left));
     spool = spool-now (used (reverse begun.found)) (used_of new.spool) h.spool_before spool h.spool_after (omega (arith, used-found, used-grows)) stays (subst (λ (n : ℕ). SeenFollows (Agrees n) spool h.spool_after) used-found went.spool_now) went.tied.spool_on;
-    told = told-longest;
+    stored = stored-longest;
   }
 
   pub left-run : ((list : List Event) → Lawful h.plan h.readings list → LawfulSoFar h.plan list) → Stays h.spool_before spool → LeavesOnly h.spool_before.may_leave h.spool_before spool
@@ -103,7 +103,7 @@ module _ (h : Handed) (journal spool : DiskState) (old new : Work) (begun : IsBe
     taken = still-taken;
     alone = alone same finished;
     journal = subst (λ (s : JournalState). EachImage (FitsState s (list_in new)) h.journal_after) (same ∙ begun.state) went.tied.journal_on;
-    told = λ from told. subst (λ (l : List Event). EachImage (AreTold h.plan from l) h.spool_after) (longest-kept same) (told-longest from told);
+    stored = λ from stored. subst (λ (l : List Event). EachImage (AreStored h.plan from l) h.spool_after) (longest-kept same) (stored-longest from stored);
     left = subst (λ (l : List Event). HasLeft h begun.found (list_in new) l) (longest-kept same) (left-run to_so_far stays survives);
   }
 

@@ -12,7 +12,7 @@ use Rattle.conc_run_state.specs.Causes.{HasCause, is_journal_fault, is_refusal}
 use Rattle.conc_run_state.specs.Handed.{Handed, IsTaken, IsUntouched}
 use Rattle.conc_run_state.specs.Lists.{GoesOn, IsPrefix}
 use Rattle.conc_run_state.specs.Survival.{Survives}
-use Rattle.conc_run_state.specs.Told.{AreTold}
+use Rattle.conc_run_state.specs.Stored.{AreStored}
 use Rattle.conc_run_state.specs.declared.fail.HistoryFail.{HistoryFail}
 
 -- ---- what is left
@@ -26,14 +26,14 @@ abbrev pub KeepsTexts : Handed → List Event → List ℕ → Type 0
 KeepsTexts h found image = h.spool_before.may_leave image ⊎ KeepsBelow (used (reverse found)) h.spool_before image
 
 -- What was found is taken. Each image now of the journal has the kept list or the last, which is lawful, every life judged as
--- an earlier one. Each image now of the spool has the bytes of the texts of the ends found, and tells the ends of the last list
--- if the spool told those found.
+-- an earlier one. Each image now of the spool has the bytes of the texts of the ends found, and holds those of the last list
+-- if the spool held those found.
 pub record HasNow (h : Handed) (found kept last : List Event) : Type 0 where
   pub taken : IsTaken h found
   pub so_far : LawfulSoFar h.plan last
   pub journal : EachImage (Survives h.digest kept last) h.journal_after
   pub spool : EachImage (KeepsBelow (used (reverse found)) h.spool_before) h.spool_after
-  pub told : (from : ℕ) → IfSome h.spool_before.seen (AreTold h.plan from found) → EachImage (AreTold h.plan from last) h.spool_after
+  pub stored : (from : ℕ) → IfSome h.spool_before.seen (AreStored h.plan from found) → EachImage (AreStored h.plan from last) h.spool_after
 
 -- What the run leaves on its disks, however it ended. `found` is the list found, `kept` the one that was acknowledged, and `last`
 -- the longest that the journal's disk may have: `kept`, or `kept` and the event whose append met a fault. At each moment a stop
@@ -51,13 +51,13 @@ pub record HasLeft (h : Handed) (found kept last : List Event) : Type 0 where
 -- ---- how a run ends
 
 -- The run is finished: its list is the one that the run without workers makes from the list found. Each image now of the
--- journal has it, and each of the spool tells the ends that were added, and all ends if it told those found.
+-- journal has it, and each of the spool holds the texts of the ends that were added, and of all ends if it held those found.
 pub record IsFinished (h : Handed) (list : List Event) : Type 0 where
   pub found : List Event
   pub taken : IsTaken h found
   pub alone : Alone h.plan h.readings found list
   pub journal : EachImage (IsJournal h.digest list) h.journal_after
-  pub told : (from : ℕ) → IfSome h.spool_before.seen (AreTold h.plan from found) → EachImage (AreTold h.plan from list) h.spool_after
+  pub stored : (from : ℕ) → IfSome h.spool_before.seen (AreStored h.plan from found) → EachImage (AreStored h.plan from list) h.spool_after
   pub left : HasLeft h found list list
 
 -- The run did not begin, or ended before its history was finished. Where it was refused nothing was written; and but for a fault of

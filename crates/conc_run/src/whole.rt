@@ -14,7 +14,7 @@ use conc_run_state::{RunFail, HistoryFail, DiskName, Work};
 use conc_types::{Plan, Readings};
 use std::alloc::Global;
 
-// The stop that tells why a run ended.
+// Why a run ended.
 fn history_fail_of(fail: RunFail) -> HistoryFail
     ensures journal { fail ≡ run_fail.JournalFault → result ≡ history_fail.DiskFault which.Journal }
     ensures spool { fail ≡ run_fail.SpoolFault → result ≡ history_fail.DiskFault which.Spool }

@@ -18,9 +18,9 @@ use Rattle.conc_spool.specs.Spools.{KeepsBelow}
 use Rattle.conc_run_state.specs.Handed.{handed, IsTaken}
 use Rattle.conc_run_open.specs.declared.examining.Examined.{Examined}
 use Rattle.conc_run_open.specs.Examined.{IsExamined}
-use Rattle.conc_run_open.specs.Opening.{HasOpening, IsBegun, IsGivenUp, LeavesOpening, StillTold}
+use Rattle.conc_run_open.specs.Opening.{HasOpening, IsBegun, IsGivenUp, LeavesOpening, StillStored}
 use Rattle.conc_run_open.proofs.Counting.{end-within}
-use Rattle.conc_run_open.proofs.Lives.{disk-told, opening-lawful, opening-lives, opening-used}
+use Rattle.conc_run_open.proofs.Lives.{disk-stored, opening-lawful, opening-lives, opening-used}
 use Rattle.conc_run_open.proofs.Surviving.{texts-stay}
 
 -- what was examined is taken
@@ -31,11 +31,11 @@ taken plan readings digest journal mid new spool spool' examined is = record {
   room = omega (arith, is.ready.room, examined.journal.few);
 }
 
--- the texts of its ends are told as before
-told-still : (plan : Plan) (readings : Readings) (digest : List ℕ) (journal mid new spool spool' : DiskState) (examined : Examined)
-    → IsExamined (handed plan readings digest journal mid spool spool') examined → Stays spool spool' → StillTold (handed plan readings digest journal new spool spool') (list_of examined.journal)
-told-still plan readings digest journal mid new spool spool' examined is stays = λ from told.
-    disk-told plan from examined.spool.used (list_of examined.journal) spool spool' stays (end-within plan examined.spool.used (list_of examined.journal) is.ready.so_far (omega (arith, is.ready.used_is))) is.spool_on told
+-- the texts of its ends are held as before
+stored-still : (plan : Plan) (readings : Readings) (digest : List ℕ) (journal mid new spool spool' : DiskState) (examined : Examined)
+    → IsExamined (handed plan readings digest journal mid spool spool') examined → Stays spool spool' → StillStored (handed plan readings digest journal new spool spool') (list_of examined.journal)
+stored-still plan readings digest journal mid new spool spool' examined is stays = λ from stored.
+    disk-stored plan from examined.spool.used (list_of examined.journal) spool spool' stays (end-within plan examined.spool.used (list_of examined.journal) is.ready.so_far (omega (arith, is.ready.used_is))) is.spool_on stored
 
 -- the journal's disk failed
 pub stops : (plan : Plan) (readings : Readings) (digest : List ℕ) (journal mid new spool spool' : DiskState) (examined : Examined)
@@ -47,7 +47,7 @@ stops plan readings digest journal mid new spool spool' examined is stays left n
   left = left;
   journal = now;
   spool = subst (λ (n : ℕ). EachImage (KeepsBelow n spool) spool') is.ready.used_is (texts-stay examined.spool.used spool spool' stays is.spool_on);
-  told = told-still plan readings digest journal mid new spool spool' examined is stays;
+  stored = stored-still plan readings digest journal mid new spool spool' examined is stays;
 }
 
 -- the life is begun
@@ -85,5 +85,5 @@ begins plan readings digest journal mid new spool spool' examined list is stays 
       };
       state = state;
       left = left;
-      told = told-still plan readings digest journal mid new spool spool' examined is stays;
+      stored = stored-still plan readings digest journal mid new spool spool' examined is stays;
     }

@@ -14,7 +14,7 @@ use Rattle.conc_run_state.specs.declared.fail.HistoryFail.{HistoryFail}
 use Rattle.conc_run_state.specs.declared.fail.HistoryFail.TheVariants as history_fail
 use Rattle.conc_run_state.specs.declared.fail.DiskName.TheVariants as which
 use Rattle.conc_run_open.specs.Extents.{counted}
-use Rattle.conc_run_open.specs.Refusals.{LacksRoom, CannotBegin, IsRefused, IsUntold}
+use Rattle.conc_run_open.specs.Refusals.{LacksRoom, CannotBegin, IsRefused, IsUnreadable}
 use Rattle.conc_run_open.proofs.Counting.{counted-is, end-within}
 
 -- what was found in the journal of this input
@@ -51,25 +51,25 @@ found-refused h opened len (history_fail.JournalFull n needed) has is bad = absu
 found-refused h opened len (history_fail.DiskFault which) has is bad = absurd is
 
 -- a record is bad, where the spool is too short
-pub short-untold : (plan : Plan) (events : List Event) (broken : Option ℕ) (old new : DiskState) (len : ℕ) (e : HistoryFail) → HasLength old len → IsRefused plan len events broken e → IsUntold plan events broken old new e
-short-untold plan events broken old new len (history_fail.Unlawful number) long is =
+pub short-unreadable : (plan : Plan) (events : List Event) (broken : Option ℕ) (old new : DiskState) (len : ℕ) (e : HistoryFail) → HasLength old len → IsRefused plan len events broken e → IsUnreadable plan events broken old new e
+short-unreadable plan events broken old new len (history_fail.Unlawful number) long is =
     IfSome_then old.seen long (λ texts same. subst (λ (n : ℕ). IsBadRecord plan n events broken number) same is)
-short-untold plan events broken old new len history_fail.NoMemory long is = tt
-short-untold plan events broken old new len history_fail.NotJournal long is = absurd is
-short-untold plan events broken old new len (history_fail.OtherInput found) long is = absurd is
-short-untold plan events broken old new len (history_fail.JournalFull n needed) long is = absurd is
-short-untold plan events broken old new len (history_fail.DiskFault which) long is = absurd is
+short-unreadable plan events broken old new len history_fail.NoMemory long is = tt
+short-unreadable plan events broken old new len history_fail.NotJournal long is = absurd is
+short-unreadable plan events broken old new len (history_fail.OtherInput found) long is = absurd is
+short-unreadable plan events broken old new len (history_fail.JournalFull n needed) long is = absurd is
+short-unreadable plan events broken old new len (history_fail.DiskFault which) long is = absurd is
 
 -- or it could not be read
-pub found-untold : (h : Handed) (opened : Opened) (events : List Event) (e : HistoryFail) → HasFound h opened → events ≡ opened.events.items → IsUntold h.plan events opened.broken h.spool_before h.spool_after e → HasCause h e
-found-untold h opened events (history_fail.Unlawful number) has same is =
+pub found-unreadable : (h : Handed) (opened : Opened) (events : List Event) (e : HistoryFail) → HasFound h opened → events ≡ opened.events.items → IsUnreadable h.plan events opened.broken h.spool_before h.spool_after e → HasCause h e
+found-unreadable h opened events (history_fail.Unlawful number) has same is =
     found-bad h opened number has (subst (λ (l : List Event). IfSome h.spool_before.seen (λ texts. IsBadRecord h.plan (length texts) l opened.broken number)) same is)
-found-untold h opened events (history_fail.DiskFault which.Spool) has same is = (has.own, is)
-found-untold h opened events history_fail.NoMemory has same is = tt
-found-untold h opened events history_fail.NotJournal has same is = absurd is
-found-untold h opened events (history_fail.OtherInput found) has same is = absurd is
-found-untold h opened events (history_fail.JournalFull n needed) has same is = absurd is
-found-untold h opened events (history_fail.DiskFault which.Journal) has same is = absurd is
+found-unreadable h opened events (history_fail.DiskFault which.Spool) has same is = (has.own, is)
+found-unreadable h opened events history_fail.NoMemory has same is = tt
+found-unreadable h opened events history_fail.NotJournal has same is = absurd is
+found-unreadable h opened events (history_fail.OtherInput found) has same is = absurd is
+found-unreadable h opened events (history_fail.JournalFull n needed) has same is = absurd is
+found-unreadable h opened events (history_fail.DiskFault which.Journal) has same is = absurd is
 
 found-lacks_room : (h : Handed) (opened : Opened) (e : HistoryFail) → IsFound h opened.events.items → LacksRoom h.plan h.readings opened.events.items e → HasCause h e
 found-lacks_room h opened (history_fail.JournalFull len needed) found is = record { found = opened.events.items; is_found = found; len_is = is.0; needed_is = is.1; full = is.2 }

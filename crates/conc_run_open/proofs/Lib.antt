@@ -7,5 +7,5 @@ pub mod Resuming
 pub mod Preparing
 pub mod Beginning
 pub mod Listed
-pub mod Told
+pub mod Stored
 pub mod Ends

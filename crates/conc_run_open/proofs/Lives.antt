@@ -21,7 +21,7 @@ use Rattle.conc_disk.proofs.Leaving.{if_some-both}
 use Rattle.conc_restart.specs.Need.{IsOfOneLife}
 use Rattle.conc_spool.specs.Spools.{Agrees}
 use Rattle.conc_run_state.specs.Judging.{EndWithin}
-use Rattle.conc_run_state.specs.Told.{AreTold, IsTold}
+use Rattle.conc_run_state.specs.Stored.{AreStored, IsStored}
 
 -- ---- the resume
 
@@ -62,21 +62,21 @@ same-text used at n bytes image agrees within =
     let one : take (at + n) image ≡ take (at + n) bytes = sym (take-take (at + n) used image within) ∙ ap (take (at + n)) agrees.front ∙ take-take (at + n) used bytes within in
     sym (drop-take at n image) ∙ ap (drop at) one ∙ drop-take at n bytes
 
--- ends that were told are told by each image that agrees
-pub still-told : (plan : Plan) (n used : ℕ) (events : List Event) (bytes image : List ℕ) → EndWithin used events → Agrees used bytes image → AreTold plan n events bytes → AreTold plan n events image
-still-told plan n used events bytes image within agrees told = λ i id o x from here.
-    let was : IsTold plan bytes id o x = told i id o x from here in
+-- texts that were held are held by each image that agrees
+pub still-stored : (plan : Plan) (n used : ℕ) (events : List Event) (bytes image : List ℕ) → EndWithin used events → Agrees used bytes image → AreStored plan n events bytes → AreStored plan n events image
+still-stored plan n used events bytes image within agrees stored = λ i id o x from here.
+    let was : IsStored plan bytes id o x = stored i id o x from here in
     record {
       report = was.report;
       text = was.text ∙ sym (same-text used x.offset x.length bytes image agrees (within i id o x here));
     }
 
 -- on a disk that stays
-pub disk-told : (plan : Plan) (n used : ℕ) (events : List Event) (old new : DiskState) → Stays old new → EndWithin used events → IfSome new.seen (λ bytes. (image : List ℕ) → new.may_leave image → Agrees used bytes image)
-    → IfSome old.seen (AreTold plan n events) → EachImage (AreTold plan n events) new
-disk-told plan n used events old new stays within on told =
-    if_some-both new.seen on (subst (λ (s : Option (List ℕ)). IfSome s (AreTold plan n events)) (sym stays.seen) told)
-    (λ bytes agree here image left. still-told plan n used events bytes image within (agree image left) here)
+pub disk-stored : (plan : Plan) (n used : ℕ) (events : List Event) (old new : DiskState) → Stays old new → EndWithin used events → IfSome new.seen (λ bytes. (image : List ℕ) → new.may_leave image → Agrees used bytes image)
+    → IfSome old.seen (AreStored plan n events) → EachImage (AreStored plan n events) new
+disk-stored plan n used events old new stays within on stored =
+    if_some-both new.seen on (subst (λ (s : Option (List ℕ)). IfSome s (AreStored plan n events)) (sym stays.seen) stored)
+    (λ bytes agree here image left. still-stored plan n used events bytes image within (agree image left) here)
 
 -- ---- the machine
 

@@ -9,7 +9,7 @@ use Rattle.conc_journal.specs.declared.journal.JournalState.TheVariants.{Begun}
 use Rattle.conc_spool.specs.Spools.{KeepsBelow}
 use Rattle.conc_run_state.specs.Handed.{Handed, IsTaken}
 use Rattle.conc_run_state.specs.Survival.{Survives}
-use Rattle.conc_run_state.specs.Told.{AreTold}
+use Rattle.conc_run_state.specs.Stored.{AreStored}
 use Rattle.conc_run_state.specs.Works.{AreReady, list_in}
 use Rattle.conc_run_state.specs.declared.work.Work.{Work}
 
@@ -22,8 +22,8 @@ abbrev pub LeavesOpening : Handed → List Event → Type 0
 LeavesOpening h found = LeavesOnly (λ image. h.journal_before.may_leave image ⊎ HasOpening h found image) h.journal_before h.journal_after
 
 -- where the spool held the texts of ends that were found, each image still does
-abbrev pub StillTold : Handed → List Event → Type 0
-StillTold h found = (from : ℕ) → IfSome h.spool_before.seen (AreTold h.plan from found) → EachImage (AreTold h.plan from found) h.spool_after
+abbrev pub StillStored : Handed → List Event → Type 0
+StillStored h found = (from : ℕ) → IfSome h.spool_before.seen (AreStored h.plan from found) → EachImage (AreStored h.plan from found) h.spool_after
 
 -- a life is begun: the list has the events found, with a resume behind them if there are any
 pub record IsBegun (h : Handed) (work : Work) : Type 0 where
@@ -33,7 +33,7 @@ pub record IsBegun (h : Handed) (work : Work) : Type 0 where
   pub ready : AreReady h.plan h.readings work h.journal_after h.spool_after
   pub state : state_of work.journal ≡ Begun h.digest
   pub left : LeavesOpening h found
-  pub told : StillTold h found
+  pub stored : StillStored h found
 
 -- the journal's disk failed while a life was begun: each image now of the journal has the events found, with the resume or
 -- without, and each of the spool the bytes of their texts
@@ -43,4 +43,4 @@ pub record IsGivenUp (h : Handed) : Type 0 where
   pub left : LeavesOpening h found
   pub journal : EachImage (HasOpening h found) h.journal_after
   pub spool : EachImage (KeepsBelow (used (reverse found)) h.spool_before) h.spool_after
-  pub told : StillTold h found
+  pub stored : StillStored h found

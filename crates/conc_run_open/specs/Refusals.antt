@@ -30,11 +30,11 @@ IsRefused plan len events broken history_fail.NoMemory = ⊤
 IsRefused plan len events broken _ = ⊥
 
 -- for this spool a record is bad, or its disk failed, or there is no memory
-abbrev pub IsUntold : Plan → List Event → Option ℕ → DiskState → DiskState → HistoryFail → Type 0
-IsUntold plan events broken old new (history_fail.Unlawful number) = IfSome old.seen (λ texts. IsBadRecord plan (length texts) events broken number)
-IsUntold plan events broken old new (history_fail.DiskFault which.Spool) = Rose old.faults new.faults
-IsUntold plan events broken old new history_fail.NoMemory = ⊤
-IsUntold plan events broken old new _ = ⊥
+abbrev pub IsUnreadable : Plan → List Event → Option ℕ → DiskState → DiskState → HistoryFail → Type 0
+IsUnreadable plan events broken old new (history_fail.Unlawful number) = IfSome old.seen (λ texts. IsBadRecord plan (length texts) events broken number)
+IsUnreadable plan events broken old new (history_fail.DiskFault which.Spool) = Rose old.faults new.faults
+IsUnreadable plan events broken old new history_fail.NoMemory = ⊤
+IsUnreadable plan events broken old new _ = ⊥
 
 -- there is no room for one more life, or no memory
 abbrev pub LacksRoom : Plan → List Reading → List Event → HistoryFail → Type 0

@@ -9,7 +9,7 @@ ghost use Rattle.conc_spool.specs.Spools.{IsOn as SpoolIsOn};
 ghost use Rattle.conc_run_state.specs.Handed.{IsOwnJournal};
 ghost use Rattle.conc_run_open.specs.Examined.{MayStart};
 ghost use Rattle.conc_run_open.specs.Extents.{counted};
-ghost use Rattle.conc_run_open.specs.Refusals.{IsUnopened, IsUntold};
+ghost use Rattle.conc_run_open.specs.Refusals.{IsUnopened, IsUnreadable};
 
 use crate::extents::count_bytes;
 use crate::judging::refuse_short;
@@ -62,7 +62,7 @@ pub(crate) fn open_texts<E: Disk>(
     ensures on { IfOk result (λ spool. SpoolIsOn spool (E.state disk.new)) }
     ensures used { IfOk result (λ spool. used_of spool ≡ counted events.now) }
     ensures long { OnOk result (Reaches (E.state disk.old) (counted events.now)) }
-    ensures untold { (broken : Option ℕ) → IfErr result (IsUntold plan.now events.now broken (E.state disk.old) (E.state disk.new)) }
+    ensures unreadable { (broken : Option ℕ) → IfErr result (IsUnreadable plan.now events.now broken (E.state disk.old) (E.state disk.new)) }
     ensures stays { Stays (E.state disk.old) (E.state disk.new) }
     ensures survives { LeavesOnly (E.state disk.old).may_leave (E.state disk.old) (E.state disk.new) }
 {

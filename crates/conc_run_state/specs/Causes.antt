@@ -44,7 +44,7 @@ HasCause h (history_fail.JournalFull len needed) = IsFull h len needed
 HasCause h (history_fail.DiskFault which) = Faulted h which
 HasCause h history_fail.NoMemory = ⊤
 
--- a refusal, which is told before anything is written
+-- a refusal, which comes before anything is written
 abbrev pub is_refusal : HistoryFail → Bool
 is_refusal (history_fail.DiskFault which) = false
 is_refusal history_fail.NoMemory = false

@@ -1,5 +1,5 @@
 pub mod Lists
-pub mod Told
+pub mod Stored
 pub mod Works
 pub mod Survival
 pub mod Disks

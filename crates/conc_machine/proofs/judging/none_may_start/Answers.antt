@@ -6,4 +6,4 @@ use Rattle.conc_machine.proofs.judging.none_may_start.Goals as goal
 pub returns : goal.returns
 returns c =
     other-of _ _ c.is_none.ensures
-    ∙ ap not (sym (some-map _ c.first_start.result) ∙ ap is_some c.first_start.ensures ∙ first_start-any c.args.plan.now c.args.kept.now.state)
+    ∙ ap not (sym (some-map _ c.first_start.result) ∙ ap is_some c.first_start.ensures ∙ first_start-any c.args.plan.now c.args.indexes.now.state)

@@ -7,4 +7,4 @@ use Rattle.conc_machine.proofs.judging.none_runs.Goals as goal
 pub returns : goal.returns
 returns c =
     other-of _ _ c.is_none.ensures
-    ∙ ap not (sym (some-map _ c.first.result) ∙ ap is_some c.first.ensures ∙ find-any (runs_somewhere c.args.kept.now.state) c.args.plan.now.requests)
+    ∙ ap not (sym (some-map _ c.first.result) ∙ ap is_some c.first.ensures ∙ find-any (runs_somewhere c.args.indexes.now.state) c.args.plan.now.requests)

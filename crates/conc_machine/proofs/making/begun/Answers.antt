@@ -5,8 +5,8 @@ use Rattle.conc_machine_steps.specs.Steps.{AreRunning, AreSteps}
 use Rattle.conc_machine.proofs.States.{all-facts, all-flags, first-command}
 use Rattle.conc_machine.proofs.making.begun.Goals as goal
 
-pub returns-clause-kept : goal.returns-clause-kept
-returns-clause-kept c =
+pub returns-clause-indexes : goal.returns-clause-indexes
+returns-clause-indexes c =
     let plan = c.args.plan.now in
     let none : _ = sym c.in_ok-begin.ensures in
     record {

@@ -4,7 +4,7 @@ use Rattle.conc_machine.proofs.taking.take_in.Goals as goal
 pub take_tick-requires : goal.take_tick-requires
 take_tick-requires c =
     let same = c.take_command.ensures in
-    AreParts-alike c.args.plan.now c.write_all.new.kept _
+    AreParts-alike c.args.plan.now c.write_all.new.indexes _
     (record {
       spans = same.parts.spans;
       classes = same.parts.classes;

@@ -5,7 +5,7 @@ use Rattle.conc_run_state.specs.Works.{list_in}
 use Rattle.conc_resolver.specs.Steps.{any_disk, plan_in, readings_in}
 use Rattle.conc_resolver.proofs.Coming.{lawful-past, text-fits, text-length, tied-kept, without-text}
 use Rattle.conc_resolver.proofs.Extents.{used-push}
-use Rattle.conc_resolver.proofs.Texts.{tells-fault, tells-text, tells-without}
+use Rattle.conc_resolver.proofs.Texts.{stores-fault, stores-text, stores-without}
 use Rattle.conc_resolver.proofs.keeping.keep.Goals as goal
 
 pub append-requires-clause-few : goal.append-requires-clause-few
@@ -29,14 +29,14 @@ pub returns-in-None-clause-kept : goal.returns-in-None-clause-kept
 returns-in-None-clause-kept g c =
     let work = c.args.work.now in
     let e = c.args.next.now.event in
-    let told = subst (HasItsText (plan_in work) e) c.in-None.is c.requires.text in
-    tied-kept (plan_in work) (readings_in work) e work work.spool any_disk (g.E.Disk.state c.args.spool.now) (g.E.Disk.state c.args.spool.now) c.requires.tied (omega (arith, without-text (plan_in work) e told)) c.requires.tied.spool_on
+    let stored = subst (HasItsText (plan_in work) e) c.in-None.is c.requires.text in
+    tied-kept (plan_in work) (readings_in work) e work work.spool any_disk (g.E.Disk.state c.args.spool.now) (g.E.Disk.state c.args.spool.now) c.requires.tied (omega (arith, without-text (plan_in work) e stored)) c.requires.tied.spool_on
 
-pub returns-in-None-clause-told : goal.returns-in-None-clause-told
-returns-in-None-clause-told g c =
+pub returns-in-None-clause-stored : goal.returns-in-None-clause-stored
+returns-in-None-clause-stored g c =
     let work = c.args.work.now in
     let e = c.args.next.now.event in
-    tells-without (plan_in work) (used_of work.spool) (list_in work) (g.E.Disk.state c.args.spool.now) (g.met.E.Disk.seen_is_left c.args.spool.now) c.requires.tied.spool_on e
+    stores-without (plan_in work) (used_of work.spool) (list_in work) (g.E.Disk.state c.args.spool.now) (g.met.E.Disk.seen_is_left c.args.spool.now) c.requires.tied.spool_on e
     (subst (HasItsText (plan_in work) e) c.in-None.is c.requires.text)
 
 pub returns-in-Ok-clause-kept : goal.returns-in-Ok-clause-kept
@@ -44,29 +44,29 @@ returns-in-Ok-clause-kept g c =
     let work = c.args.work.now in
     let e = c.args.next.now.event in
     let is : c.args.next.now.text ≡ Some c.as_slice.result.now = cc in
-    let told = subst (HasItsText (plan_in work) e) is c.requires.text in
+    let stored = subst (HasItsText (plan_in work) e) is c.requires.text in
     tied-kept (plan_in work) (readings_in work) e work c.append.new.self any_disk (g.E.Disk.state c.args.spool.now) (g.E.Disk.state c.append.new.disk) c.requires.tied
-    (omega (arith, c.in-Ok.ensures.used, text-length (plan_in work) e c.as_slice.result.now told)) c.append.ensures.on
+    (omega (arith, c.in-Ok.ensures.used, text-length (plan_in work) e c.as_slice.result.now stored)) c.append.ensures.on
 
-pub returns-in-Ok-clause-told : goal.returns-in-Ok-clause-told
-returns-in-Ok-clause-told g c =
+pub returns-in-Ok-clause-stored : goal.returns-in-Ok-clause-stored
+returns-in-Ok-clause-stored g c =
     let work = c.args.work.now in
     let plan = plan_in work in
     let list = list_in work in
     let e = c.args.next.now.event in
     let text = c.as_slice.result.now in
     let is : c.args.next.now.text ≡ Some text = cc in
-    let told = subst (HasItsText plan e) is c.requires.text in
+    let stored = subst (HasItsText plan e) is c.requires.text in
     let past = lawful-past plan work.machine (readings_in work) list c.requires.tied.readings_are c.requires.tied.lawful in
     let later = lawful-past plan work.machine (readings_in work) (list ++ e ∷ []) c.requires.tied.readings_are c.requires.may.lawful in
-    tells-text plan (used_of work.spool) (used_of c.append.new.self) list (g.E.Disk.state c.args.spool.now) (g.E.Disk.state c.append.new.disk) (g.met.E.Disk.seen_is_left c.args.spool.now)
-    c.append.ensures.survives c.append.ensures.before c.append.ensures.on (sym c.requires.tied.used_is) e text told past later
-    (omega (arith, c.in-Ok.ensures.used, c.requires.tied.used_is, text-length plan e text told, used-push list e)) c.in-Ok.ensures.text
+    stores-text plan (used_of work.spool) (used_of c.append.new.self) list (g.E.Disk.state c.args.spool.now) (g.E.Disk.state c.append.new.disk) (g.met.E.Disk.seen_is_left c.args.spool.now)
+    c.append.ensures.survives c.append.ensures.before c.append.ensures.on (sym c.requires.tied.used_is) e text stored past later
+    (omega (arith, c.in-Ok.ensures.used, c.requires.tied.used_is, text-length plan e text stored, used-push list e)) c.in-Ok.ensures.text
 
 pub returns-in-Err-clause-as_before : goal.returns-in-Err-clause-as_before
 returns-in-Err-clause-as_before g c =
     let work = c.args.work.now in
     let plan = plan_in work in
     let past = lawful-past plan work.machine (readings_in work) (list_in work) c.requires.tied.readings_are c.requires.tied.lawful in
-    tells-fault plan (used_of work.spool) (used_of c.append.new.self) (list_in work) (g.E.Disk.state c.args.spool.now) (g.E.Disk.state c.append.new.disk) (g.met.E.Disk.seen_is_left c.args.spool.now)
+    stores-fault plan (used_of work.spool) (used_of c.append.new.self) (list_in work) (g.E.Disk.state c.args.spool.now) (g.E.Disk.state c.append.new.disk) (g.met.E.Disk.seen_is_left c.args.spool.now)
     c.append.ensures.survives c.append.ensures.before c.append.ensures.on (sym c.requires.tied.used_is) past c.in-Err.ensures.unchanged

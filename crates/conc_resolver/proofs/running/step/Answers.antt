@@ -24,7 +24,7 @@ returns-in_err-log_event-in-Some-clause-went_on g c =
     let kept = c.in_ok-keep-in-Some.ensures in
     let logged = c.log_event.ensures in
     went-unlogged c.args.work.now c.keep.new.work (g.D.Disk.state c.args.journal.now) (g.E.Disk.state c.args.spool.now) (g.E.Disk.state c.keep.new.spool) c.requires.ready c.keep.ensures.machine c.keep.ensures.journal
-    c.log_event.new.work c.in-Some.next.event (g.D.Disk.state c.log_event.new.journal) next c.keep.ensures.may kept.kept kept.told logged.survives logged.plan logged.readings logged.spool
+    c.log_event.new.work c.in-Some.next.event (g.D.Disk.state c.log_event.new.journal) next c.keep.ensures.may kept.kept kept.stored logged.survives logged.plan logged.readings logged.spool
     c.in_err-log_event-in-Some.ensures.not_logged c.in_err-log_event-in-Some.ensures.as_before c.in_err-log_event-in-Some.ensures.failed
 
 pub returns-in-None-clause-finished : goal.returns-in-None-clause-finished
@@ -40,7 +40,7 @@ returns-in_ok-log_event-in-Some-clause-went_on g c =
     let logged = c.log_event.ensures in
     let done = c.in_ok-log_event-in-Some.ensures in
     went-logged c.args.work.now c.keep.new.work (g.D.Disk.state c.args.journal.now) (g.E.Disk.state c.args.spool.now) (g.E.Disk.state c.keep.new.spool) c.requires.ready c.keep.ensures.machine c.keep.ensures.journal
-    c.log_event.new.work c.in-Some.next.event (g.D.Disk.state c.log_event.new.journal) next c.keep.ensures.may kept.kept kept.told logged.survives logged.plan logged.readings logged.spool
+    c.log_event.new.work c.in-Some.next.event (g.D.Disk.state c.log_event.new.journal) next c.keep.ensures.may kept.kept kept.stored logged.survives logged.plan logged.readings logged.spool
     done.logged done.added done.state
 
 pub returns-in_ok-log_event-in-Some-clause-ready : goal.returns-in_ok-log_event-in-Some-clause-ready
@@ -50,7 +50,7 @@ returns-in_ok-log_event-in-Some-clause-ready g c =
     let logged = c.log_event.ensures in
     let done = c.in_ok-log_event-in-Some.ensures in
     ready-logged c.args.work.now c.keep.new.work (g.D.Disk.state c.args.journal.now) (g.E.Disk.state c.args.spool.now) (g.E.Disk.state c.keep.new.spool) c.requires.ready c.keep.ensures.machine c.keep.ensures.journal
-    c.log_event.new.work c.in-Some.next.event (g.D.Disk.state c.log_event.new.journal) next c.keep.ensures.may kept.kept kept.told logged.survives logged.plan logged.readings logged.spool
+    c.log_event.new.work c.in-Some.next.event (g.D.Disk.state c.log_event.new.journal) next c.keep.ensures.may kept.kept kept.stored logged.survives logged.plan logged.readings logged.spool
     done.logged done.added done.state done.room
 
 pub returns-in_ok-log_event-in-Some-clause-less : goal.returns-in_ok-log_event-in-Some-clause-less
@@ -60,5 +60,5 @@ returns-in_ok-log_event-in-Some-clause-less g c = λ _.
     let logged = c.log_event.ensures in
     let done = c.in_ok-log_event-in-Some.ensures in
     less-logged c.args.work.now c.keep.new.work (g.D.Disk.state c.args.journal.now) (g.E.Disk.state c.args.spool.now) (g.E.Disk.state c.keep.new.spool) c.requires.ready c.keep.ensures.machine c.keep.ensures.journal
-    c.log_event.new.work c.in-Some.next.event (g.D.Disk.state c.log_event.new.journal) next c.keep.ensures.may kept.kept kept.told logged.survives logged.plan logged.readings logged.spool
+    c.log_event.new.work c.in-Some.next.event (g.D.Disk.state c.log_event.new.journal) next c.keep.ensures.may kept.kept kept.stored logged.survives logged.plan logged.readings logged.spool
     done.logged done.added done.state

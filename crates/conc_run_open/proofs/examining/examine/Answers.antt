@@ -4,7 +4,7 @@ use Rattle.conc_types.specs.declared.event.Event.{Event}
 use Rattle.conc_disk.specs.Disk.{Reaches}
 use Rattle.conc_run_state.specs.Handed.{handed}
 use Rattle.conc_run_open.specs.Extents.{counted}
-use Rattle.conc_run_open.proofs.Finding.{found-untold}
+use Rattle.conc_run_open.proofs.Finding.{found-unreadable}
 use Rattle.conc_run_open.proofs.Preparing.{prepared, prepared-cause}
 use Rattle.conc_run_open.proofs.examining.examine.Goals as goal
 
@@ -14,7 +14,7 @@ returns-in_err-texts-clause-cause g c =
     let h = handed c.args.plan.now c.args.readings.now c.args.digest.now (g.D.Disk.state c.args.journal.now) (g.D.Disk.state c.open_own.new.disk) (g.E.Disk.state c.args.spool.now) (g.E.Disk.state c.open_texts.new.disk) in
     let opened = c.in_ok-opened.opened in
     let found = c.in_ok-opened.ensures in
-    rw (p.1, p.2) (found-untold h opened c.deref.result.now _ (record { own = found.own; found = found.found }) c.deref.ensures.value (c.in_err-texts.ensures.untold opened.broken))
+    rw (p.1, p.2) (found-unreadable h opened c.deref.result.now _ (record { own = found.own; found = found.found }) c.deref.ensures.value (c.in_err-texts.ensures.unreadable opened.broken))
 
 pub returns-clause-examined : goal.returns-clause-examined
 returns-clause-examined g c =

@@ -6,7 +6,7 @@ use Rattle.conc_law.specs.Law.{LawfulSoFar}
 use Rattle.conc_run_state.specs.Disks.{disks}
 use Rattle.conc_run_open.specs.Extents.{counted}
 use Rattle.conc_run_open.specs.Texts.{HasEnd, HasNoEnd}
-use Rattle.conc_run_open.proofs.Told.{read-within, refused-untold, rose-later, stays-twice, survives-twice, text-before, unopened-read, untold-read, whole-read}
+use Rattle.conc_run_open.proofs.Stored.{read-within, refused-unreadable, rose-later, stays-twice, survives-twice, text-before, unopened-read, unreadable-read, whole-read}
 use Rattle.conc_run_open.proofs.text.read_text.Goals as goal
 
 pub returns-in_err-opened-clause-cause : goal.returns-in_err-opened-clause-cause
@@ -21,7 +21,7 @@ returns-in_err-texts-clause-cause g c =
     let d = disks (g.D.Disk.state c.args.journal.now) (g.D.Disk.state c.open_own.new.disk) (g.E.Disk.state c.args.spool.now) (g.E.Disk.state c.open_texts.new.disk) in
     let opened = c.in_ok-opened.opened in
     let found = c.in_ok-opened.ensures in
-    rw (p.1, p.2) (untold-read c.args.plan.now c.args.digest.now d opened c.deref.result.now _ found.own found.found c.deref.ensures.value (c.in_err-texts.ensures.untold opened.broken))
+    rw (p.1, p.2) (unreadable-read c.args.plan.now c.args.digest.now d opened c.deref.result.now _ found.own found.found c.deref.ensures.value (c.in_err-texts.ensures.unreadable opened.broken))
 
 pub returns-in_err-resume_whole-clause-cause : goal.returns-in_err-resume_whole-clause-cause
 returns-in_err-resume_whole-clause-cause g c =
@@ -35,7 +35,7 @@ returns-in_err-resume_whole-clause-cause g c =
     let events = c.deref-2.result.now in
     let long = subst (λ (l : List Event). Reaches old (counted l)) (c.deref.ensures.value ∙ sym c.deref-2.ensures.value) c.in_ok-texts.ensures.long in
     rw (p.1, p.2)
-    (untold-read plan c.args.digest.now d opened events _ found.own found.found c.deref-2.ensures.value (refused-untold plan events opened.broken old mid _ long c.in_err-resume_whole.ensures.refused))
+    (unreadable-read plan c.args.digest.now d opened events _ found.own found.found c.deref-2.ensures.value (refused-unreadable plan events opened.broken old mid _ long c.in_err-resume_whole.ensures.refused))
 
 pub returns-in_default-clause-cause : goal.returns-in_default-clause-cause
 returns-in_default-clause-cause g c =

@@ -11,5 +11,5 @@ unfolding may_follow
 returns c = λ past stands.
     let machine = c.args.self.now in
     c.may_come.ensures
-    ∙ ap (λ next. may_come machine.plan.now machine.kept.state next c.args.event.now) (c.known_next.ensures past stands)
+    ∙ ap (λ next. may_come machine.plan.now machine.indexes.state next c.args.event.now) (c.known_next.ensures past stands)
     ∙ ap (λ s. may_come machine.plan.now s (option_map (λ readings. next_reading readings past) (readings_of machine)) c.args.event.now) stands.state

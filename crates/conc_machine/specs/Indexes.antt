@@ -7,7 +7,7 @@ use Rattle.conc_machine_release.specs.Lets.{AreLets}
 use Rattle.conc_machine_reach.specs.Spans.{AreSpans}
 use Rattle.conc_machine_starts.specs.Starts.{AreStarts}
 use Rattle.conc_machine_steps.specs.Steps.{AreRunning, AreSteps}
-use Rattle.conc_machine.specs.declared.kept.Kept.{Kept}
+use Rattle.conc_machine.specs.declared.indexes.Indexes.{Indexes}
 
 -- the place of the first command that is not done, from 0
 abbrev pub first_undone : List Bool → ℕ
@@ -16,23 +16,23 @@ first_undone (true ∷ done) = suc (first_undone done)
 first_undone (false ∷ done) = 0
 
 -- each part is that of what stands
-pub record AreParts (plan : Plan) (kept : Kept) : Type 0 where
-  pub all : length kept.state.facts ≡ length plan.requests
-  pub spans : AreSpans plan kept.spans
-  pub classes : AreClasses plan kept.classes
-  pub running : AreRunning plan kept.state kept.running
-  pub steps : AreSteps plan kept.state kept.steps
-  pub lets : AreLets plan kept.classes kept.state kept.lets
-  pub starts : AreStarts plan kept.state kept.starts
+pub record AreParts (plan : Plan) (indexes : Indexes) : Type 0 where
+  pub all : length indexes.state.facts ≡ length plan.requests
+  pub spans : AreSpans plan indexes.spans
+  pub classes : AreClasses plan indexes.classes
+  pub running : AreRunning plan indexes.state indexes.running
+  pub steps : AreSteps plan indexes.state indexes.steps
+  pub lets : AreLets plan indexes.classes indexes.state indexes.lets
+  pub starts : AreStarts plan indexes.state indexes.starts
 
 -- and the next command is the first that is not done
-pub record AreKept (plan : Plan) (kept : Kept) : Type 0 where
-  pub parts : AreParts plan kept
-  pub flags : length kept.state.done ≡ length plan.script.commands
-  pub command : kept.next_command ≡ first_undone kept.state.done
+pub record AreIndexes (plan : Plan) (indexes : Indexes) : Type 0 where
+  pub parts : AreParts plan indexes
+  pub flags : length indexes.state.done ≡ length plan.script.commands
+  pub command : indexes.next_command ≡ first_undone indexes.state.done
 
 -- all is kept as it was but the facts, which are these
-pub record AreFacts (before after : Kept) (all : List Facts) : Type 0 where
+pub record AreFacts (before after : Indexes) (all : List Facts) : Type 0 where
   pub facts : after.state.facts ≡ all
   pub empty : after.state.empty ≡ before.state.empty
   pub time : after.state.time ≡ before.state.time

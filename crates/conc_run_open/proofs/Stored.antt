@@ -19,7 +19,7 @@ use Rattle.conc_run_state.specs.declared.fail.HistoryFail.{HistoryFail}
 use Rattle.conc_run_state.specs.declared.fail.HistoryFail.TheVariants as history_fail
 use Rattle.conc_run_state.specs.declared.fail.DiskName.TheVariants as which
 use Rattle.conc_run_open.specs.Extents.{counted}
-use Rattle.conc_run_open.specs.Refusals.{IsRefused, IsUnopened, IsUntold}
+use Rattle.conc_run_open.specs.Refusals.{IsRefused, IsUnopened, IsUnreadable}
 use Rattle.conc_run_open.specs.Texts.{AreWhole, HasEnd, HasReadCause}
 use Rattle.conc_run_open.proofs.Counting.{counted-is, end-within}
 use Rattle.conc_run_open.proofs.Listed.{listed}
@@ -38,30 +38,30 @@ unopened-read plan digest d (history_fail.JournalFull len needed) is = absurd is
 unopened-read plan digest d (history_fail.DiskFault which.Spool) is = absurd is
 
 -- a record is bad, or the spool could not be read
-pub untold-read : (plan : Plan) (digest : List ℕ) (d : Disks) (opened : Opened) (events : List Event) (e : HistoryFail) → IfSome d.journal_before.seen (IsOwnJournal digest)
-    → IfSome d.journal_before.seen (λ image. IsFoundIn image opened) → events ≡ opened.events.items → IsUntold plan events opened.broken d.spool_before d.spool_after e → HasReadCause plan digest d e
-untold-read plan digest d opened events (history_fail.Unlawful number) own found same bad = record {
+pub unreadable-read : (plan : Plan) (digest : List ℕ) (d : Disks) (opened : Opened) (events : List Event) (e : HistoryFail) → IfSome d.journal_before.seen (IsOwnJournal digest)
+    → IfSome d.journal_before.seen (λ image. IsFoundIn image opened) → events ≡ opened.events.items → IsUnreadable plan events opened.broken d.spool_before d.spool_after e → HasReadCause plan digest d e
+unreadable-read plan digest d opened events (history_fail.Unlawful number) own found same bad = record {
   own = own;
   bad = IfSome_then d.journal_before.seen found (λ image is. IfSome_then d.spool_before.seen bad (λ texts here.
       subst (λ (l : List Event). IsBadRecord plan (length texts) l (broken_of image) number) (same ∙ is.events)
       (subst (λ (b : Option ℕ). IsBadRecord plan (length texts) events b number) is.broken here)));
 }
-untold-read plan digest d opened events (history_fail.DiskFault which.Spool) own found same bad = (own, bad)
-untold-read plan digest d opened events history_fail.NoMemory own found same bad = tt
-untold-read plan digest d opened events history_fail.NotJournal own found same bad = absurd bad
-untold-read plan digest d opened events (history_fail.OtherInput other) own found same bad = absurd bad
-untold-read plan digest d opened events (history_fail.JournalFull len needed) own found same bad = absurd bad
-untold-read plan digest d opened events (history_fail.DiskFault which.Journal) own found same bad = absurd bad
+unreadable-read plan digest d opened events (history_fail.DiskFault which.Spool) own found same bad = (own, bad)
+unreadable-read plan digest d opened events history_fail.NoMemory own found same bad = tt
+unreadable-read plan digest d opened events history_fail.NotJournal own found same bad = absurd bad
+unreadable-read plan digest d opened events (history_fail.OtherInput other) own found same bad = absurd bad
+unreadable-read plan digest d opened events (history_fail.JournalFull len needed) own found same bad = absurd bad
+unreadable-read plan digest d opened events (history_fail.DiskFault which.Journal) own found same bad = absurd bad
 
 -- a record is bad, where the spool has all extents
-pub refused-untold : (plan : Plan) (events : List Event) (broken : Option ℕ) (old new : DiskState) (e : HistoryFail) → Reaches old (counted events) → ((len : ℕ) → counted events ≤ len → IsRefused plan len events broken e)
-    → IsUntold plan events broken old new e
-refused-untold plan events broken old new (history_fail.Unlawful number) long refused = IfSome_then old.seen long (λ texts far. refused (length texts) far)
-refused-untold plan events broken old new history_fail.NoMemory long refused = tt
-refused-untold plan events broken old new history_fail.NotJournal long refused = absurd (refused (counted events) (le_refl (counted events)))
-refused-untold plan events broken old new (history_fail.OtherInput other) long refused = absurd (refused (counted events) (le_refl (counted events)))
-refused-untold plan events broken old new (history_fail.JournalFull len needed) long refused = absurd (refused (counted events) (le_refl (counted events)))
-refused-untold plan events broken old new (history_fail.DiskFault which) long refused = absurd (refused (counted events) (le_refl (counted events)))
+pub refused-unreadable : (plan : Plan) (events : List Event) (broken : Option ℕ) (old new : DiskState) (e : HistoryFail) → Reaches old (counted events) → ((len : ℕ) → counted events ≤ len → IsRefused plan len events broken e)
+    → IsUnreadable plan events broken old new e
+refused-unreadable plan events broken old new (history_fail.Unlawful number) long refused = IfSome_then old.seen long (λ texts far. refused (length texts) far)
+refused-unreadable plan events broken old new history_fail.NoMemory long refused = tt
+refused-unreadable plan events broken old new history_fail.NotJournal long refused = absurd (refused (counted events) (le_refl (counted events)))
+refused-unreadable plan events broken old new (history_fail.OtherInput other) long refused = absurd (refused (counted events) (le_refl (counted events)))
+refused-unreadable plan events broken old new (history_fail.JournalFull len needed) long refused = absurd (refused (counted events) (le_refl (counted events)))
+refused-unreadable plan events broken old new (history_fail.DiskFault which) long refused = absurd (refused (counted events) (le_refl (counted events)))
 
 -- ---- what is found
 

@@ -7,7 +7,7 @@ use conc_types::State;
 
 /// What a machine keeps: what stands, and of it what the next event is found by.
 #[derive(Drop)]
-pub(crate) struct Kept {
+pub(crate) struct Indexes {
     pub(crate) spans: Spans,
     pub(crate) classes: Classes,
     pub(crate) state: State,

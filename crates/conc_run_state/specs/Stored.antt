@@ -1,4 +1,4 @@
--- Ends whose reports the spool tells.
+-- Ends whose reports the spool holds.
 use Rattle.std.specs.Prelude.{◌≡◌, ℕ, ◌≤◌, List, take, drop, Some, slice_get}
 use Rattle.conc_types.specs.declared.event.Event.{Event}
 use Rattle.conc_types.specs.declared.event.Event.TheVariants as event
@@ -9,13 +9,13 @@ use Rattle.conc_types.specs.declared.plan.Plan.{Plan}
 use Rattle.conc_law.specs.Ends.{IsReported}
 
 -- the outcome is that of the request's report, and these bytes hold its text at the extent
-pub record IsTold (plan : Plan) (bytes : List ℕ) (id : RequestId) (outcome : Outcome) (extent : Extent) : Type 0 where
+pub record IsStored (plan : Plan) (bytes : List ℕ) (id : RequestId) (outcome : Outcome) (extent : Extent) : Type 0 where
   pub report : IsReported plan id outcome extent
   pub text : report.made.text ≡ take extent.length (drop extent.offset bytes)
 
--- from this position on, each end with an extent is told by these bytes. In a lawful list an end without one is that
+-- from this position on, these bytes hold the text of each end with an extent. In a lawful list an end without one is that
 -- of a request that was terminated
-abbrev pub AreTold : Plan → ℕ → List Event → List ℕ → Type 0
-AreTold plan n list bytes =
+abbrev pub AreStored : Plan → ℕ → List Event → List ℕ → Type 0
+AreStored plan n list bytes =
     (i : ℕ) (id : RequestId) (o : Outcome) (x : Extent) → n ≤ i
-    → slice_get list i ≡ Some (event.Ended id o (Some x)) → IsTold plan bytes id o x
+    → slice_get list i ≡ Some (event.Ended id o (Some x)) → IsStored plan bytes id o x
