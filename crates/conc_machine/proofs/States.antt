@@ -8,8 +8,8 @@ use Rattle.conc_types.specs.declared.plan.Plan.{Plan}
 use Rattle.conc_types.specs.declared.script.Order.{Order}
 use Rattle.conc_law.specs.Facts.{facts_of}
 use Rattle.conc_law.specs.State.{is_done, now, state}
-use Rattle.conc_machine_readings.specs.declared.life.Life.{Life}
-use Rattle.conc_machine_readings.specs.Life.{IsLife}
+use Rattle.conc_machine_readings.specs.declared.life.LifeReadings.{LifeReadings}
+use Rattle.conc_machine_readings.specs.LifeReadings.{AreLifeReadings}
 use Rattle.conc_machine.specs.Indexes.{first_undone}
 use Rattle.conc_machine.specs.StandsFor.{StandsFor}
 use Rattle.conc_machine.specs.declared.machine.Machine.{Machine}
@@ -44,5 +44,5 @@ unfolding state
 time-of machine past stands = ap (λ s. s.time) stands.state
 
 -- a life that begins
-pub begun-life : (past : List Event) (new life : Life) → IsLife new past → Some new ≡ Some life → IsLife life past
-begun-life past new life is same = let e : new ≡ life = cc in subst (λ l. IsLife l past) e is
+pub begun-life : (past : List Event) (new life : LifeReadings) → AreLifeReadings new past → Some new ≡ Some life → AreLifeReadings life past
+begun-life past new life is same = let e : new ≡ life = cc in subst (λ l. AreLifeReadings l past) e is

@@ -5,8 +5,8 @@ use Rattle.conc_types.specs.declared.event.Event.{Event}
 use Rattle.conc_types.specs.declared.plan.Plan.{Plan}
 use Rattle.conc_types.specs.declared.script.Reading.{Reading}
 use Rattle.conc_law.specs.State.{state}
-use Rattle.conc_machine_readings.specs.Life.{IsLife}
-use Rattle.conc_machine_readings.specs.declared.life.Life.{Life}
+use Rattle.conc_machine_readings.specs.LifeReadings.{AreLifeReadings}
+use Rattle.conc_machine_readings.specs.declared.life.LifeReadings.{LifeReadings}
 use Rattle.conc_machine.specs.declared.machine.Machine.{Machine}
 
 -- the plan of a machine
@@ -18,11 +18,11 @@ unfoldable pub readings_of : Machine → Option (List Reading)
 readings_of machine = option_map (λ life. life.readings.list) machine.life
 
 -- the readings of the life, where they are known, are those of the list's last life
-abbrev pub AreLived : Option Life → List Event → Type 0
-AreLived known past = (life : Life) → known ≡ Some life → IsLife life past
+abbrev pub FitLife : Option LifeReadings → List Event → Type 0
+FitLife known past = (life : LifeReadings) → known ≡ Some life → AreLifeReadings life past
 
 -- the machine stands for the list, which is given with the latest event first: what it keeps is what stands
 -- after the list
 pub record StandsFor (machine : Machine) (past : List Event) : Type 0 where
   pub state : machine.indexes.state ≡ state machine.plan.now past
-  pub life : AreLived machine.life past
+  pub life : FitLife machine.life past

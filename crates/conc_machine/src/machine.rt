@@ -1,7 +1,7 @@
 ghost use Rattle.conc_machine.specs.Indexes.{AreIndexes};
 
 use crate::indexes::Indexes;
-use conc_machine_readings::Life;
+use conc_machine_readings::LifeReadings;
 use conc_types::Plan;
 
 /// Stands for a list of events of a plan, of any length, and answers for it what the rules read from
@@ -11,6 +11,6 @@ use conc_types::Plan;
 pub struct Machine<'p> {
     pub(crate) plan: &'p Plan,
     pub(crate) indexes: Indexes,
-    pub(crate) life: Option<Life>,
+    pub(crate) life: Option<LifeReadings>,
     ghost are: { AreIndexes plan.now indexes },
 }

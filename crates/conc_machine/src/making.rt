@@ -4,7 +4,7 @@ ghost use Rattle.conc_types.specs.declared.event.Event.{Event};
 ghost use Rattle.conc_law.specs.Before.{last_life};
 ghost use Rattle.conc_law.specs.State.{now, state};
 ghost use Rattle.conc_machine.specs.Indexes.{AreIndexes};
-ghost use Rattle.conc_machine.specs.StandsFor.{AreLived, plan_of, readings_of, StandsFor};
+ghost use Rattle.conc_machine.specs.StandsFor.{FitLife, plan_of, readings_of, StandsFor};
 
 use crate::indexes::Indexes;
 use crate::machine::Machine;
@@ -12,7 +12,7 @@ use crate::taking::take_in;
 use conc_law_effects::begin;
 use conc_machine_classes::Classes;
 use conc_machine_reach::Spans;
-use conc_machine_readings::Life;
+use conc_machine_readings::LifeReadings;
 use conc_machine_release::Lets;
 use conc_machine_starts::Starts;
 use conc_machine_steps::{Running, Steps};
@@ -38,9 +38,9 @@ fn begun(alloc: Global, plan: &Plan) -> Result<Indexes, NoMemory>
 }
 
 // Takes one more event into a life, if its readings are known. The last tick came at a moment.
-fn live_on(life: &mut Option<Life>, e: Event, time: Option<Moment>)
+fn live_on(life: &mut Option<LifeReadings>, e: Event, time: Option<Moment>)
     ensures readings { option_map (λ life. life.readings.list) life.new ≡ option_map (λ life. life.readings.list) life.old }
-    ensures lives { (past : List Event) → time ≡ now past → AreLived life.old past → AreLived life.new (e ∷ past) }
+    ensures lives { (past : List Event) → time ≡ now past → FitLife life.old past → FitLife life.new (e ∷ past) }
 {
     if let Some(life) = life {
         life.take_in(e, time);
@@ -71,7 +71,7 @@ impl<'p> Machine<'p> {
         ensures stands { OnOk result ((past : List Event) → last_life past ≡ [] → StandsFor self.old past → StandsFor self.new past) }
         ensures err { OnErr result (self.new ≡ self.old) }
     {
-        let life = Life::new(alloc, readings, self.indexes.state.time)?;
+        let life = LifeReadings::new(alloc, readings, self.indexes.state.time)?;
         self.life = Some(life);
         Ok(())
     }

@@ -15,8 +15,8 @@ use Rattle.conc_law.specs.Kinds.{tick_of}
 use Rattle.conc_law.specs.Before.{earlier_lives, last_life}
 use Rattle.conc_law.specs.Readings.{life_readings, next_reading, ticks}
 use Rattle.conc_law.specs.State.{is_not_earlier, now}
-use Rattle.conc_machine_readings.specs.declared.life.Life.{Life}
-use Rattle.conc_machine_readings.specs.Life.{IsLife}
+use Rattle.conc_machine_readings.specs.declared.life.LifeReadings.{LifeReadings}
+use Rattle.conc_machine_readings.specs.LifeReadings.{AreLifeReadings}
 
 -- where a life begins, the last tick came before it
 begins-now : (past : List Event) → last_life past ≡ [] → now (earlier_lives past) ≡ now past
@@ -26,9 +26,9 @@ begins-now (event.Resume ∷ past) none = refl
 begins-now (_ ∷ past) none = cc
 
 -- a life begins with the readings behind those that are earlier than the last tick
-pub life_begins : (life : Life) (past : List Event) (time : Option Moment) → time ≡ now past → last_life past ≡ []
+pub life_begins : (life : LifeReadings) (past : List Event) (time : Option Moment) → time ≡ now past → last_life past ≡ []
     → life.next ≤ length life.readings.list
-    → filter (λ q. is_not_earlier time q.moment) life.readings.list ≡ drop life.next life.readings.list → IsLife life past
+    → filter (λ q. is_not_earlier time q.moment) life.readings.list ≡ drop life.next life.readings.list → AreLifeReadings life past
 unfolding life_readings ticks
 life_begins life past time same none few behind =
     let taken : length (filter_map tick_of (last_life past)) ≡ 0 = ap (λ l. length (filter_map tick_of l)) none in
@@ -39,14 +39,14 @@ life_begins life past time same none few behind =
     }
 
 -- a resume begins one
-pub life_resumed : (life : Life) (past : List Event) (time : Option Moment) → time ≡ now past → life.next ≤ length life.readings.list
-    → filter (λ q. is_not_earlier time q.moment) life.readings.list ≡ drop life.next life.readings.list → IsLife life (event.Resume ∷ past)
+pub life_resumed : (life : LifeReadings) (past : List Event) (time : Option Moment) → time ≡ now past → life.next ≤ length life.readings.list
+    → filter (λ q. is_not_earlier time q.moment) life.readings.list ≡ drop life.next life.readings.list → AreLifeReadings life (event.Resume ∷ past)
 unfolding now last_life
 life_resumed life past time same few behind = life_begins life (event.Resume ∷ past) time same refl few behind
 
 -- a tick takes one reading, if one is left
-pub life_ticked : (life : Life) (n : ℕ) (t : Moment) (past : List Event) → n ≡ min (life.next + 1) (length life.readings.list)
-    → IsLife life past → IsLife record { readings = life.readings; next = n } (event.Tick t ∷ past)
+pub life_ticked : (life : LifeReadings) (n : ℕ) (t : Moment) (past : List Event) → n ≡ min (life.next + 1) (length life.readings.list)
+    → AreLifeReadings life past → AreLifeReadings record { readings = life.readings; next = n } (event.Tick t ∷ past)
 unfolding life_readings ticks earlier_lives last_life
 life_ticked life n t past is before = record {
   skipped = before.skipped;
@@ -55,8 +55,8 @@ life_ticked life n t past is before = record {
 }
 
 -- any other event takes none
-pub life_same : (life : Life) (e : Event) (past : List Event) → ((t : Moment) → e ≡ event.Tick t → ⊥) → (e ≡ event.Resume → ⊥) → IsLife life past
-    → IsLife life (e ∷ past)
+pub life_same : (life : LifeReadings) (e : Event) (past : List Event) → ((t : Moment) → e ≡ event.Tick t → ⊥) → (e ≡ event.Resume → ⊥) → AreLifeReadings life past
+    → AreLifeReadings life (e ∷ past)
 unfolding life_readings ticks earlier_lives last_life
 life_same life (event.Tick t) past no_tick no_resume before = absurd (no_tick t refl)
 life_same life event.Resume past no_tick no_resume before = absurd (no_resume refl)
@@ -78,7 +78,7 @@ slice_get-min xs i = elim (cases_lt i (length xs)) [
 ]
 
 -- the next reading stands where the life says
-pub life_next : (life : Life) (past : List Event) → IsLife life past → slice_get life.readings.list life.next ≡ next_reading life.readings.list past
+pub life_next : (life : LifeReadings) (past : List Event) → AreLifeReadings life past → slice_get life.readings.list life.next ≡ next_reading life.readings.list past
 unfolding next_reading
 life_next life past is =
     ap (slice_get life.readings.list) is.next

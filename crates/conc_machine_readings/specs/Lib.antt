@@ -1,1 +1,1 @@
-pub mod Life
+pub mod LifeReadings

@@ -3,4 +3,4 @@
 
 mod life;
 
-pub use life::Life;
+pub use life::LifeReadings;

@@ -4,28 +4,28 @@ ghost use Rattle.conc_types.specs.declared.event.Event.{Event};
 ghost use Rattle.conc_law.specs.Before.{last_life};
 ghost use Rattle.conc_law.specs.Readings.{next_reading};
 ghost use Rattle.conc_law.specs.State.{is_not_earlier, now};
-ghost use Rattle.conc_machine_readings.specs.Life.{IsLife};
+ghost use Rattle.conc_machine_readings.specs.LifeReadings.{AreLifeReadings};
 
 use conc_types::{Event, Moment, NoMemory, Reading, Readings, Seq};
 use std::alloc::Global;
 
 /// The readings of a clock, and the next one of this life.
 #[derive(Drop)]
-pub struct Life {
+pub struct LifeReadings {
     readings: Readings,
     // How many of the readings come before the next one.
     next: usize,
 }
 
-impl Life {
+impl LifeReadings {
     /// A life that begins, where the last tick before it came at this moment. It takes all the memory that
     /// the other calls need.
-    pub fn new(alloc: Global, readings: &Readings, time: Option<Moment>) -> Result<Life, NoMemory>
+    pub fn new(alloc: Global, readings: &Readings, time: Option<Moment>) -> Result<LifeReadings, NoMemory>
         ensures readings { IfOk result (λ life. life.readings ≡ readings.now) }
-        ensures begins { IfOk result (λ life. (past : List Event) → time ≡ now past → last_life past ≡ [] → IsLife life past) }
+        ensures begins { IfOk result (λ life. (past : List Event) → time ≡ now past → last_life past ≡ [] → AreLifeReadings life past) }
     {
         let list = Seq::from_vec(readings.list.as_slice().to_vec(alloc)?);
-        Ok(Life {
+        Ok(LifeReadings {
             readings: Readings { list },
             next: count_earlier(readings, time),
         })
@@ -33,7 +33,7 @@ impl Life {
 
     /// The next reading, if one is left.
     pub fn next_reading(&self) -> Option<Reading>
-        ensures { (past : List Event) → IsLife self.now past → result ≡ next_reading self.now.readings.list past }
+        ensures { (past : List Event) → AreLifeReadings self.now past → result ≡ next_reading self.now.readings.list past }
     {
         self.readings.list.as_slice().get(self.next).copied()
     }
@@ -42,7 +42,7 @@ impl Life {
     #[tactic(auto, using(crate::proofs::Lives::life_ticked, crate::proofs::Lives::life_same))]
     pub fn take_in(&mut self, e: Event, time: Option<Moment>)
         ensures readings { self.new.readings ≡ self.old.readings }
-        ensures life { (past : List Event) → time ≡ now past → IsLife self.old past → IsLife self.new (e ∷ past) }
+        ensures life { (past : List Event) → time ≡ now past → AreLifeReadings self.old past → AreLifeReadings self.new (e ∷ past) }
     {
         match e {
             Event::Tick { .. } => {

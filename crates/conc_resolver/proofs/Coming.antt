@@ -29,7 +29,7 @@ use Rattle.conc_law.proofs.AloneLawful.{IsGood, next_alone-follows, report-good}
 use Rattle.conc_law.proofs.LawfulSoFar.{lawful_is_lawful_so_far}
 use Rattle.conc_law.proofs.Options.{and_then-some, map-some}
 use Rattle.conc_law.proofs.Positions.{reverse-push}
-use Rattle.conc_machine_readings.specs.declared.life.Life.{Life}
+use Rattle.conc_machine_readings.specs.declared.life.LifeReadings.{LifeReadings}
 use Rattle.conc_history_lines.specs.Lines.{has_line, is_small}
 use Rattle.conc_history_lines.proofs.LawfulLines.{history_lines}
 use Rattle.conc_machine.specs.StandsFor.{readings_of}
@@ -55,7 +55,7 @@ use Rattle.conc_resolver.proofs.Extents.{used-below, used-push}
 taken : (machine : Machine) (readings : List Reading) → readings_of machine ≡ Some readings → (r : Readings) × (r.list ≡ readings)
 unfolding readings_of
 taken machine readings known =
-    let life = map-some (λ (l : Life). l.readings.list) machine.life readings known in
+    let life = map-some (λ (l : LifeReadings). l.readings.list) machine.life readings known in
     (life.0.readings, life.2)
 
 pub lawful-past : (plan : Plan) (machine : Machine) (readings : List Reading) (list : List Event) → readings_of machine ≡ Some readings → Lawful plan readings list → LawfulSoFar plan list

@@ -1,6 +1,6 @@
 use Rattle.std.proofs.Common.{◌≡◌, rules, sym}
 use Rattle.conc_machine_readings.proofs.Lives.{life_begins}
-use Rattle.conc_machine_readings.proofs.life.Life.new.Goals as goal
+use Rattle.conc_machine_readings.proofs.life.LifeReadings.new.Goals as goal
 
 pub returns-clause-begins : goal.returns-clause-begins
 returns-clause-begins c = λ past same none.

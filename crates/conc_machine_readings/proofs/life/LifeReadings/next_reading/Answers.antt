@@ -1,6 +1,6 @@
 use Rattle.std.proofs.Common.{◌∙◌}
 use Rattle.conc_machine_readings.proofs.Lives.{life_next, copied_at}
-use Rattle.conc_machine_readings.proofs.life.Life.next_reading.Goals as goal
+use Rattle.conc_machine_readings.proofs.life.LifeReadings.next_reading.Goals as goal
 
 pub returns : goal.returns
 returns c = λ past is.

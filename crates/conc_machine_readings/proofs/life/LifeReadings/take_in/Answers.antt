@@ -1,6 +1,6 @@
 use Rattle.std.proofs.Common.{rules}
 use Rattle.conc_machine_readings.proofs.Lives.{life_resumed}
-use Rattle.conc_machine_readings.proofs.life.Life.take_in.Goals as goal
+use Rattle.conc_machine_readings.proofs.life.LifeReadings.take_in.Goals as goal
 
 pub returns-in-Resume-clause-life : goal.returns-in-Resume-clause-life
 returns-in-Resume-clause-life c = λ past same is.
