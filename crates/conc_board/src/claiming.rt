@@ -3,7 +3,8 @@ ghost use Rattle.std.specs.Option.{option_copied};
 ghost use Rattle.conc_board_seats.specs.Places.{has};
 ghost use Rattle.conc_board_seats.specs.Words.{count_of_requests, IsPlace, IsRequest};
 ghost use Rattle.conc_board_seats.specs.declared.views.Doing.TheVariants as does;
-ghost use Rattle.conc_board.specs.Claims.{admits_at, admits_request as admits_request_of, ClaimsAt, ClaimsOne, FindsNone, FollowsHint, LooksNextAtHint, manager_at as manager_at_of, MissesAll, MissesOne, MissesSome};
+ghost use Rattle.conc_board.specs.Claims as spec;
+ghost use Rattle.conc_board.specs.Claims.{admits_at, ClaimsAt, ClaimsOne, FindsNone, FollowsHint, LooksNextAtHint, MissesAll, MissesOne, MissesSome};
 ghost use Rattle.conc_board.specs.Seats.{doing_of, IsHandOf, places_of_hand, plan_of};
 
 use crate::numbers::{RELEASED, claimed, request_word};
@@ -14,7 +15,7 @@ use conc_time::place_of;
 use conc_types::{Manager, PlaceId, Plan, RequestId};
 
 fn manager_at(plan: &Plan, place: PlaceId) -> Option<&Manager>
-    ensures { option_copied result ≡ manager_at_of plan.now place }
+    ensures { option_copied result ≡ spec.manager_at plan.now place }
 {
     match place_of(plan, place) {
         Some((_, manager, _)) => Some(manager),
@@ -24,7 +25,7 @@ fn manager_at(plan: &Plan, place: PlaceId) -> Option<&Manager>
 
 // Whether the manager admits the request with this number.
 fn admits_request(plan: &Plan, r: RequestId, manager: &Manager) -> bool
-    ensures { result ≡ admits_request_of plan.now r manager.now }
+    ensures { result ≡ spec.admits_request plan.now r manager.now }
 {
     match plan.request(r) {
         Some(request) => admits(manager, request),
@@ -97,7 +98,7 @@ impl Board {
         requires idle { doing_of hand.old ≡ does.Idle }
         requires place { IsPlace plan.now place }
         requires own { IsTrue (has (places_of_hand hand.old) place) }
-        requires manager { manager_at_of plan.now place ≡ Some manager.now }
+        requires manager { spec.manager_at plan.now place ≡ Some manager.now }
         ensures claimed { IfSome result (λ claim. ClaimsAt self.now place hand.old hand.new claim) }
         ensures none { IfNone result (MissesSome self.now hand.old hand.new) }
         ensures hint { LooksNextAtHint plan.now place hint hand.old hand.new }
@@ -122,7 +123,7 @@ impl Board {
         requires idle { doing_of hand.old ≡ does.Idle }
         requires place { IsPlace plan.now place }
         requires own { IsTrue (has (places_of_hand hand.old) place) }
-        requires manager { manager_at_of plan.now place ≡ Some manager.now }
+        requires manager { spec.manager_at plan.now place ≡ Some manager.now }
         ensures claimed { IfSome result (λ claim. ClaimsAt self.now place hand.old hand.new claim) }
         ensures none { IfNone result (MissesAll self.now place hand.old hand.new) }
     {

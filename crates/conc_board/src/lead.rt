@@ -38,7 +38,8 @@ pub struct NotYet;
 impl Board {
     ghost use Rattle.std.specs.Prelude.{◌<◌, ◌≤◌, ◌+◌, ◌++◌, ℕ, Bool, IfOk, IsFalse, OnErr, OnOk, false};
     ghost use Rattle.conc_board_seats.specs.Stages.{IsGone, IsLet, IsLetOrGone};
-    ghost use Rattle.conc_board_seats.specs.Words.{end_word, IsPlace, IsRequest, place_word, request_word as request_word_of};
+    ghost use Rattle.conc_board_seats.specs.Words as spec;
+    ghost use Rattle.conc_board_seats.specs.Words.{end_word, IsPlace, IsRequest, place_word};
     ghost use Rattle.conc_board_seats.specs.declared.views.Stage.TheVariants as stage;
     ghost use Rattle.conc_board.specs.Looks.{SeesStage, Shows};
     ghost use Rattle.conc_board.specs.Seats.{Changes, FindsFitting, IsApart, IsFlag, IsLeadOf, IsLeftFor, KeepsStages, LeadFinds, plan_of, stage_of};
@@ -68,7 +69,7 @@ impl Board {
         requires stage { IsLetOrGone (stage_of lead.old r) }
         ensures lead { Changes self.now r lead.old lead.new }
         ensures stage { SeesStage self.now r result lead.old lead.new }
-        ensures found { LeadFinds (request_word_of r) (Shows result) lead.old lead.new }
+        ensures found { LeadFinds (spec.request_word r) (Shows result) lead.old lead.new }
     {
         let word = self
             .table

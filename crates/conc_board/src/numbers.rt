@@ -1,6 +1,6 @@
 // The words of requests by their numbers, and what they hold.
 ghost use Rattle.std.specs.Prelude.{◌≡◌, ◌≤◌, ◌<◌, ◌+◌, ◌%◌};
-ghost use Rattle.conc_board_seats.specs.Words.{claimed as claimed_of, ended as ended_of, request_word as request_word_of, running as running_of, stopping as stopping_of};
+ghost use Rattle.conc_board_seats.specs.Words as spec;
 
 use conc_types::{PlaceId, RequestId};
 
@@ -15,31 +15,31 @@ pub(crate) const STATE: u64 = 256;
 
 pub(crate) fn request_word(r: RequestId) -> usize
     requires { 1 ≤ r.number }
-    ensures { result ≡ request_word_of r }
+    ensures { result ≡ spec.request_word r }
 {
     r.number as usize - 1
 }
 
 pub(crate) fn claimed(p: PlaceId) -> u64
-    ensures { result ≡ claimed_of p }
+    ensures { result ≡ spec.claimed p }
 {
     STATE + u64::from(p.index)
 }
 
 pub(crate) fn running(p: PlaceId) -> u64
-    ensures { result ≡ running_of p }
+    ensures { result ≡ spec.running p }
 {
     2 * STATE + u64::from(p.index)
 }
 
 pub(crate) fn stopping(p: PlaceId) -> u64
-    ensures { result ≡ stopping_of p }
+    ensures { result ≡ spec.stopping p }
 {
     3 * STATE + u64::from(p.index)
 }
 
 pub(crate) fn ended(p: PlaceId) -> u64
-    ensures { result ≡ ended_of p }
+    ensures { result ≡ spec.ended p }
 {
     4 * STATE + u64::from(p.index)
 }

@@ -2,7 +2,7 @@ ghost use Rattle.std.specs.Prelude.{◌≡◌, ◌++◌, ◌∷◌, [], IfOk, On
 ghost use Rattle.std.specs.Fmt.{decimal};
 ghost use Rattle.std.specs.List.{join_with_byte};
 ghost use Rattle.conc_law.specs.Moments.{moment_text};
-ghost use Rattle.conc_law.specs.Text.{item_name as item_name_of};
+ghost use Rattle.conc_law.specs.Text as spec;
 ghost use Rattle.conc_history.specs.Listing.{listed, listing, parent_word};
 
 use crate::words::{item_name, put_bytes};
@@ -41,7 +41,7 @@ fn put_member(out: &mut Vec<u8>, r: &Req) -> Result<(), NoMemory>
 
 // Its domain, its user and its name, and the end of the line.
 fn put_names(out: &mut Vec<u8>, plan: &Plan, r: &Req) -> Result<(), NoMemory>
-    ensures { OnOk result (out.new.items ≡ out.old.items ++ (join_with_byte 9 (r.now.domain ∷ r.now.user ∷ item_name_of plan.now r.now.item ∷ []) ++ 10 ∷ [])) }
+    ensures { OnOk result (out.new.items ≡ out.old.items ++ (join_with_byte 9 (r.now.domain ∷ r.now.user ∷ spec.item_name plan.now r.now.item ∷ []) ++ 10 ∷ [])) }
 {
     put_bytes(out, r.domain.as_bytes())?;
     put_bytes(out, b"\t")?;

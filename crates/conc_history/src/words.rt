@@ -1,6 +1,7 @@
 ghost use Rattle.std.specs.Prelude.{◌≡◌, ◌++◌, codes, OnOk};
 ghost use Rattle.std.specs.Fmt.{decimal};
-ghost use Rattle.conc_law.specs.Text.{item_name as item_name_of, outcome_word, phase_word, place_word, status_word};
+ghost use Rattle.conc_law.specs.Text as spec;
+ghost use Rattle.conc_law.specs.Text.{outcome_word, phase_word, place_word, status_word};
 
 use conc_time::place_of;
 use conc_types::{Item, NoMemory, Outcome, Phase, PlaceId, Plan, Status, put_decimal};
@@ -51,7 +52,7 @@ pub(crate) fn status_bytes(status: Status) -> &'static [u8]
 // The name of a program or set of the plan.
 #[tactic(auto, unfolding(conc_law::specs::Text::item_name))]
 pub(crate) fn item_name(plan: &Plan, item: Item) -> &[u8]
-    ensures { result.now ≡ item_name_of plan.now item }
+    ensures { result.now ≡ spec.item_name plan.now item }
 {
     match item {
         Item::Program(n) => match plan.setup.programs.as_slice().get(n as usize) {

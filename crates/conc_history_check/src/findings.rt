@@ -1,9 +1,10 @@
 ghost use Rattle.std.specs.Prelude.{◌≡◌, ◌∷◌, ◌+◌, ◌<◌, ◌^◌, [], Bool, IfOk, List, false, length, map, reverse};
 ghost use Rattle.conc_types.specs.declared.event.Event.{Event};
 ghost use Rattle.conc_types.specs.declared.facts.Facts.{Facts};
-ghost use Rattle.conc_law.specs.State.{no_facts as no_facts_of, state as state_of};
+ghost use Rattle.conc_law.specs.State as state_spec;
 ghost use Rattle.conc_machine_reach.specs.Spans.{AreSpans};
-ghost use Rattle.conc_history_check.specs.Findings.{AreFindings, earlier_after as earlier_after_of, HasRoom, HasTaken, ticks_after as ticks_after_of};
+ghost use Rattle.conc_history_check.specs.Findings as findings_spec;
+ghost use Rattle.conc_history_check.specs.Findings.{AreFindings, HasRoom, HasTaken};
 ghost use Rattle.conc_history_check.specs.Prepared.{IsPrepared};
 
 use crate::live::{note_live, room_for_live};
@@ -29,7 +30,7 @@ pub(crate) struct Findings {
 // ---- no events
 
 fn clear_facts(facts: &mut Seq<Facts>)
-    ensures { facts.new ≡ map (λ (own : Facts). no_facts_of) facts.old }
+    ensures { facts.new ≡ map (λ (own : Facts). state_spec.no_facts) facts.old }
 {
     for i in 0..facts.len() {
         facts.set(i, Facts::NONE);
@@ -48,7 +49,7 @@ fn clear_flags(flags: &mut Seq<bool>)
 
 // The last tick of the earlier lives, where the last tick of all came at this moment.
 fn earlier_after(now: Option<Moment>, earlier: Option<Moment>, e: Event) -> Option<Moment>
-    ensures { result ≡ earlier_after_of now earlier e }
+    ensures { result ≡ findings_spec.earlier_after now earlier e }
 {
     match e {
         Event::Resume => now,
@@ -58,7 +59,7 @@ fn earlier_after(now: Option<Moment>, earlier: Option<Moment>, e: Event) -> Opti
 
 fn ticks_after(ticks: usize, e: Event) -> usize
     requires { ticks + 1 < 2 ^ 64 }
-    ensures { result ≡ ticks_after_of ticks e }
+    ensures { result ≡ findings_spec.ticks_after ticks e }
 {
     match e {
         Event::Tick { .. } => ticks + 1,

@@ -1,9 +1,10 @@
 ghost use Rattle.std.specs.Prelude.{◌≡◌};
-ghost use Rattle.conc_law.specs.Next.{forced as forced_of, forced_step as forced_step_of};
+ghost use Rattle.conc_law.specs.Next as next_spec;
 ghost use Rattle.conc_machine_reach.specs.Spans.{AreSpans};
 ghost use Rattle.conc_history_check.specs.Live.{AreLive};
 ghost use Rattle.conc_history_check.specs.Prepared.{IsPrepared};
-ghost use Rattle.conc_history_check.specs.Steps.{own_step as own_step_of, step_among};
+ghost use Rattle.conc_history_check.specs.Steps as steps_spec;
+ghost use Rattle.conc_history_check.specs.Steps.{step_among};
 
 use crate::lets::forced_let;
 use crate::prepared::Prepared;
@@ -17,7 +18,7 @@ use conc_types::{Event, Plan, Req, RequestId, Seq, State};
 #[tactic(auto, unfolding(crate::specs::Steps::own_step))]
 fn own_step(plan: &Plan, spans: &Spans, state: &State, r: &Req) -> Option<Event>
     requires { AreSpans plan.now spans.now }
-    ensures { result ≡ own_step_of plan.now state.now r.now }
+    ensures { result ≡ steps_spec.own_step plan.now state.now r.now }
 {
     if !facts_at(state, r).opened {
         return None;
@@ -28,7 +29,7 @@ fn own_step(plan: &Plan, spans: &Spans, state: &State, r: &Req) -> Option<Event>
 #[tactic(auto, unfolding(conc_law::specs::Next::forced_step, crate::specs::Steps::step_among))]
 fn forced_step(plan: &Plan, spans: &Spans, state: &State) -> Option<Event>
     requires { AreSpans plan.now spans.now }
-    ensures { result ≡ forced_step_of plan.now state.now }
+    ensures { result ≡ next_spec.forced_step plan.now state.now }
 {
     for r in plan.requests.as_slice() {
         match own_step(plan, spans, state, r) {
@@ -51,7 +52,7 @@ pub(crate) fn forced(
 ) -> Option<Event>
     requires prepared { IsPrepared plan.now prepared.now }
     requires live { AreLive plan.now prepared.now.classes state.now live.now }
-    ensures { result ≡ forced_of plan.now state.now }
+    ensures { result ≡ next_spec.forced plan.now state.now }
 {
     if let Some(e) = forced_interrupt(plan, state) {
         return Some(e);

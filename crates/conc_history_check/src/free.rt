@@ -1,11 +1,13 @@
 ghost use Rattle.std.specs.Prelude.{◌≡◌, IsFalse, IsTrue, is_some};
 ghost use Rattle.std.specs.List.{find};
 ghost use Rattle.std.specs.Option.{option_copied};
-ghost use Rattle.conc_law.specs.Next.{is_free as is_free_of};
-ghost use Rattle.conc_law.specs.State.{facts_at, is_live as is_live_of};
+ghost use Rattle.conc_law.specs.Next as next_spec;
+ghost use Rattle.conc_law.specs.State as state_spec;
+ghost use Rattle.conc_law.specs.State.{facts_at};
 ghost use Rattle.conc_law.specs.Words.{Has};
 ghost use Rattle.conc_machine_classes.specs.Classes.{AreClasses, rivals_at};
-ghost use Rattle.conc_history_check.specs.Live.{AreLive, noted as noted_of, rival_noted as rival_noted_of};
+ghost use Rattle.conc_history_check.specs.Live as live_spec;
+ghost use Rattle.conc_history_check.specs.Live.{AreLive};
 
 use crate::live::noted;
 use conc_law_decisions::blocks;
@@ -17,7 +19,7 @@ fn first_noted<'a>(
     live: &Seq<Option<RequestId>>,
     class: u32,
 ) -> Option<&'a u32>
-    ensures { option_copied result ≡ find (λ d. is_some (noted_of live.now d)) (rivals_at classes.now class) }
+    ensures { option_copied result ≡ find (λ d. is_some (live_spec.noted live.now d)) (rivals_at classes.now class) }
 {
     classes
         .rivals(class)
@@ -28,7 +30,7 @@ fn first_noted<'a>(
 // A live request whose class excludes the class, if there is one.
 #[tactic(auto, unfolding(crate::specs::Live::rival_noted))]
 fn rival_noted(classes: &Classes, live: &Seq<Option<RequestId>>, class: u32) -> Option<RequestId>
-    ensures { result ≡ rival_noted_of classes.now live.now class }
+    ensures { result ≡ live_spec.rival_noted classes.now live.now class }
 {
     match first_noted(classes, live, class) {
         Some(d) => noted(live, *d),
@@ -38,7 +40,7 @@ fn rival_noted(classes: &Classes, live: &Seq<Option<RequestId>>, class: u32) -> 
 
 // Whether the request with this number is live and excludes r.
 fn blocks_by_id(plan: &Plan, state: &State, r: &Req, id: RequestId) -> bool
-    ensures { IsTrue result → IsFalse (is_free_of plan.now state.now r.now) }
+    ensures { IsTrue result → IsFalse (next_spec.is_free plan.now state.now r.now) }
 {
     match plan.request(id) {
         Some(q) => blocks(plan, state, r, q),
@@ -49,7 +51,7 @@ fn blocks_by_id(plan: &Plan, state: &State, r: &Req, id: RequestId) -> bool
 // Whether no live request excludes r. It looks first at the one with this number.
 #[tactic(auto, unfolding(conc_law::specs::Next::is_free))]
 fn is_free_of_all(plan: &Plan, state: &State, r: &Req, first: RequestId) -> bool
-    ensures { result ≡ is_free_of plan.now state.now r.now }
+    ensures { result ≡ next_spec.is_free plan.now state.now r.now }
 {
     !blocks_by_id(plan, state, r, first) && conc_law_decisions::is_free(plan, state, r)
 }
@@ -66,8 +68,8 @@ pub(crate) fn is_free(
     requires classes { AreClasses plan.now classes.now }
     requires live { AreLive plan.now classes.now state.now live.now }
     requires own { Has plan.now.requests r.now }
-    requires idle { IsFalse (is_live_of (facts_at state.now r.now)) }
-    ensures { result ≡ is_free_of plan.now state.now r.now }
+    requires idle { IsFalse (state_spec.is_live (facts_at state.now r.now)) }
+    ensures { result ≡ next_spec.is_free plan.now state.now r.now }
 {
     let class = classes.class(r);
     match rival_noted(classes, live, class) {

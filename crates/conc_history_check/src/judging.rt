@@ -1,6 +1,7 @@
 ghost use Rattle.std.specs.Prelude.{◌≡◌, ◌+◌, ◌<◌, ◌^◌, map};
 ghost use Rattle.std.specs.List.{list_any, range_with_len};
-ghost use Rattle.conc_law.specs.Next.{is_allowed as is_allowed_of, is_at_rest as is_at_rest_of, may_come as may_come_of, may_start as may_start_of, may_start_somewhere, may_take as may_take_of, may_tick as may_tick_of};
+ghost use Rattle.conc_law.specs.Next as spec;
+ghost use Rattle.conc_law.specs.Next.{may_start_somewhere};
 ghost use Rattle.conc_history_check.specs.Live.{AreLive};
 ghost use Rattle.conc_history_check.specs.Prepared.{IsPrepared};
 
@@ -16,7 +17,7 @@ use conc_types::{Event, Moment, PlaceId, Plan, Reading, Req, RequestId, Seq, Sta
 // ---- rest
 
 fn one_may_start(plan: &Plan, state: &State, place: PlaceId) -> bool
-    ensures { result ≡ list_any (λ r. may_start_of plan.now state.now r place) plan.now.requests }
+    ensures { result ≡ list_any (λ r. spec.may_start plan.now state.now r place) plan.now.requests }
 {
     plan.requests
         .as_slice()
@@ -26,7 +27,7 @@ fn one_may_start(plan: &Plan, state: &State, place: PlaceId) -> bool
 
 // Whether a request may start at the place. It looks at the requests only where the place is usable.
 fn one_may_start_at(plan: &Plan, state: &State, place: PlaceId) -> bool
-    ensures { result ≡ list_any (λ r. may_start_of plan.now state.now r place) plan.now.requests }
+    ensures { result ≡ list_any (λ r. spec.may_start plan.now state.now r place) plan.now.requests }
 {
     is_usable_now(plan, state, place) && one_may_start(plan, state, place)
 }
@@ -34,7 +35,7 @@ fn one_may_start_at(plan: &Plan, state: &State, place: PlaceId) -> bool
 // Whether a request may start at one of so many places from an index on.
 fn one_may_start_among(plan: &Plan, state: &State, from: u32, count: u32) -> bool
     requires { from + count < 2 ^ 32 }
-    ensures { result ≡ list_any (λ p. list_any (λ r. may_start_of plan.now state.now r p) plan.now.requests) (map (λ index. record { index = index }) (range_with_len from count)) }
+    ensures { result ≡ list_any (λ p. list_any (λ r. spec.may_start plan.now state.now r p) plan.now.requests) (map (λ index. record { index = index }) (range_with_len from count)) }
 {
     count > 0
         && (one_may_start_at(plan, state, PlaceId { index: from })
@@ -57,7 +58,7 @@ pub(crate) fn is_at_rest(
 ) -> bool
     requires prepared { IsPrepared plan.now prepared.now }
     requires live { AreLive plan.now prepared.now.classes state.now live.now }
-    ensures { result ≡ is_at_rest_of plan.now state.now }
+    ensures { result ≡ spec.is_at_rest plan.now state.now }
 {
     forced(plan, prepared, state, live).is_none()
         && !one_runs(plan, state)
@@ -74,7 +75,7 @@ fn may_take(
 ) -> bool
     requires prepared { IsPrepared plan.now prepared.now }
     requires live { AreLive plan.now prepared.now.classes state.now live.now }
-    ensures { result ≡ may_take_of plan.now state.now reading }
+    ensures { result ≡ spec.may_take plan.now state.now reading }
 {
     reading.early || is_at_rest(plan, prepared, state, live)
 }
@@ -92,7 +93,7 @@ fn may_tick(
 ) -> bool
     requires prepared { IsPrepared plan.now prepared.now }
     requires live { AreLive plan.now prepared.now.classes state.now live.now }
-    ensures { result ≡ may_tick_of plan.now state.now next t }
+    ensures { result ≡ spec.may_tick plan.now state.now next t }
 {
     match next {
         Some(Some(reading)) => {
@@ -114,7 +115,7 @@ fn is_allowed(
 ) -> bool
     requires prepared { IsPrepared plan.now prepared.now }
     requires live { AreLive plan.now prepared.now.classes state.now live.now }
-    ensures { result ≡ is_allowed_of plan.now state.now next e }
+    ensures { result ≡ spec.is_allowed plan.now state.now next e }
 {
     match e {
         Event::Started { request, place } => may_start_by_id(plan, state, request, place),
@@ -141,7 +142,7 @@ pub(crate) fn may_come(
 ) -> bool
     requires prepared { IsPrepared plan.now prepared.now }
     requires live { AreLive plan.now prepared.now.classes state.now live.now }
-    ensures { result ≡ may_come_of plan.now state.now next e }
+    ensures { result ≡ spec.may_come plan.now state.now next e }
 {
     if is_resume(e) {
         return !state.empty;

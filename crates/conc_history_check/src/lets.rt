@@ -2,11 +2,13 @@ ghost use Rattle.std.specs.Prelude.{◌≡◌, false, unwrap_or};
 ghost use Rattle.std.specs.Bool.{then_some};
 ghost use Rattle.std.specs.Option.{option_and_then, option_map};
 ghost use Rattle.conc_types.specs.Words.{numbered};
-ghost use Rattle.conc_law.specs.Next.{can_run, forced_let as forced_let_of, is_ready as is_ready_of, let_event as let_event_of, may_let as may_let_of};
+ghost use Rattle.conc_law.specs.Next as next_spec;
+ghost use Rattle.conc_law.specs.Next.{can_run};
 ghost use Rattle.conc_law.specs.Words.{Has};
 ghost use Rattle.conc_machine_queue.specs.Least.{least, lesser};
-ghost use Rattle.conc_machine_queue.specs.Turns.{request_at_turn as request_at_turn_of, turn as turn_of, turns_of};
-ghost use Rattle.conc_history_check.specs.Lets.{comes_before as comes_before_of};
+ghost use Rattle.conc_machine_queue.specs.Turns as turns_spec;
+ghost use Rattle.conc_machine_queue.specs.Turns.{turns_of};
+ghost use Rattle.conc_history_check.specs.Lets as lets_spec;
 ghost use Rattle.conc_history_check.specs.Live.{AreLive};
 ghost use Rattle.conc_history_check.specs.Prepared.{IsPrepared};
 
@@ -43,7 +45,7 @@ fn is_runnable(_plan: &Plan, prepared: &Prepared, r: &Req) -> bool
 fn is_ready(plan: &Plan, prepared: &Prepared, state: &State, r: &Req) -> bool
     requires prepared { IsPrepared plan.now prepared.now }
     requires own { Has plan.now.requests r.now }
-    ensures { result ≡ is_ready_of plan.now state.now r.now }
+    ensures { result ≡ next_spec.is_ready plan.now state.now r.now }
 {
     let facts = facts_at(state, r);
     facts.entered
@@ -57,7 +59,7 @@ fn is_ready(plan: &Plan, prepared: &Prepared, state: &State, r: &Req) -> bool
 
 // Whether the turn comes before the best one so far.
 fn comes_before(turn: u64, best: Option<u64>) -> bool
-    ensures { result ≡ comes_before_of turn best }
+    ensures { result ≡ lets_spec.comes_before turn best }
 {
     match best {
         Some(b) => turn < b,
@@ -77,7 +79,7 @@ fn better(
     requires prepared { IsPrepared plan.now prepared.now }
     requires live { AreLive plan.now prepared.now.classes state.now live.now }
     requires own { Has plan.now.requests r.now }
-    ensures { result ≡ lesser best (then_some (may_let_of plan.now state.now r.now) (turn_of r.now)) }
+    ensures { result ≡ lesser best (then_some (next_spec.may_let plan.now state.now r.now) (turns_spec.turn r.now)) }
 {
     if !is_ready(plan, prepared, state, r) {
         return best;
@@ -101,7 +103,7 @@ fn least_turn(
 ) -> Option<u64>
     requires prepared { IsPrepared plan.now prepared.now }
     requires live { AreLive plan.now prepared.now.classes state.now live.now }
-    ensures { result ≡ least (turns_of (may_let_of plan.now state.now) plan.now.requests) }
+    ensures { result ≡ least (turns_of (next_spec.may_let plan.now state.now) plan.now.requests) }
 {
     let mut best = None;
     for r in plan.requests.as_slice() {
@@ -111,7 +113,7 @@ fn least_turn(
 }
 
 fn event_at(plan: &Plan, turn: Option<u64>) -> Option<Event>
-    ensures { result ≡ option_map let_event_of (option_and_then (request_at_turn_of plan.now) turn) }
+    ensures { result ≡ option_map next_spec.let_event (option_and_then (turns_spec.request_at_turn plan.now) turn) }
 {
     match turn {
         Some(turn) => match request_at_turn(plan, turn) {
@@ -132,7 +134,7 @@ pub(crate) fn forced_let(
 ) -> Option<Event>
     requires prepared { IsPrepared plan.now prepared.now }
     requires live { AreLive plan.now prepared.now.classes state.now live.now }
-    ensures { result ≡ forced_let_of plan.now state.now }
+    ensures { result ≡ next_spec.forced_let plan.now state.now }
 {
     event_at(plan, least_turn(plan, prepared, state, live))
 }

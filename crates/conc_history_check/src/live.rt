@@ -1,7 +1,8 @@
 ghost use Rattle.std.specs.Prelude.{◌≡◌, ◌<◌, IfOk, None, Option, length, map, suc};
 ghost use Rattle.conc_types.specs.declared.event.RequestId.{RequestId};
 ghost use Rattle.conc_machine_classes.specs.Classes.{AreClasses};
-ghost use Rattle.conc_history_check.specs.Live.{AreLive, AreLiveTo, noted as noted_of};
+ghost use Rattle.conc_history_check.specs.Live as spec;
+ghost use Rattle.conc_history_check.specs.Live.{AreLive, AreLiveTo};
 
 use conc_law_decisions::{facts_at, is_live};
 use conc_machine_classes::Classes;
@@ -29,7 +30,7 @@ fn clear(live: &mut Seq<Option<RequestId>>)
 /// The request that is noted for a class.
 #[tactic(auto, unfolding(crate::specs::Live::noted))]
 pub(crate) fn noted(live: &Seq<Option<RequestId>>, class: u32) -> Option<RequestId>
-    ensures { result ≡ noted_of live.now class }
+    ensures { result ≡ spec.noted live.now class }
 {
     live.as_slice().get(class as usize).copied().flatten()
 }

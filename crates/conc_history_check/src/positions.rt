@@ -2,10 +2,11 @@ ghost use Rattle.std.specs.Prelude.{◌≡◌, ◌+◌, ◌<◌, List, length, r
 ghost use Rattle.std.specs.List.{list_any};
 ghost use Rattle.std.specs.Option.{option_map};
 ghost use Rattle.conc_types.specs.declared.event.Event.{Event};
-ghost use Rattle.conc_law.specs.Kinds.{is_resume as is_resume_of};
-ghost use Rattle.conc_law.specs.Readings.{next_reading as next_reading_of};
+ghost use Rattle.conc_law.specs.Kinds as kinds_spec;
+ghost use Rattle.conc_law.specs.Readings as readings_spec;
 ghost use Rattle.conc_history_check.specs.Findings.{AreFindings, HasTaken};
-ghost use Rattle.conc_history_check.specs.Positions.{is_lawful_at as is_lawful_at_of, known_before};
+ghost use Rattle.conc_history_check.specs.Positions as positions_spec;
+ghost use Rattle.conc_history_check.specs.Positions.{known_before};
 ghost use Rattle.conc_history_check.specs.Prepared.{IsPrepared};
 
 use crate::findings::Findings;
@@ -16,7 +17,7 @@ use conc_law_decisions::is_resume;
 use conc_types::{Event, Plan, Reading, Readings};
 
 fn has_resume(events: &[Event]) -> bool
-    ensures { result ≡ list_any is_resume_of events.now }
+    ensures { result ≡ list_any kinds_spec.is_resume events.now }
 {
     events.iter().any(|e| is_resume(*e))
 }
@@ -30,7 +31,7 @@ fn known_next(
     findings: &Findings,
     later: &[Event],
 ) -> Option<Option<Reading>>
-    ensures { (past : List Event) → HasTaken plan.now past findings.now → result ≡ option_map (λ known. next_reading_of known past) (known_before readings.now.list later.now) }
+    ensures { (past : List Event) → HasTaken plan.now past findings.now → result ≡ option_map (λ known. readings_spec.next_reading known past) (known_before readings.now.list later.now) }
 {
     if has_resume(later) {
         return None;
@@ -50,7 +51,7 @@ pub(crate) fn is_lawful_at(
     requires prepared { IsPrepared plan.now prepared.now }
     requires within { i < length events.now }
     requires read { AreFindings plan.now prepared.now (reverse (take i events.now)) findings.now }
-    ensures { result ≡ is_lawful_at_of plan.now readings.now.list events.now (i + 1) }
+    ensures { result ≡ positions_spec.is_lawful_at plan.now readings.now.list events.now (i + 1) }
 {
     let next = known_next(plan, readings, findings, &events[i + 1..]);
     may_come(

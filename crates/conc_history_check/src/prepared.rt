@@ -1,5 +1,5 @@
 ghost use Rattle.std.specs.Prelude.{◌≡◌, IfOk, map};
-ghost use Rattle.conc_law.specs.Next.{can_run as can_run_of};
+ghost use Rattle.conc_law.specs.Next as spec;
 ghost use Rattle.conc_history_check.specs.Prepared.{IsPrepared};
 
 use conc_machine_classes::Classes;
@@ -19,7 +19,7 @@ pub(crate) struct Prepared {
 }
 
 fn all_runnable(alloc: Global, plan: &Plan) -> Result<Seq<bool>, NoMemory>
-    ensures { IfOk result (λ all. all ≡ map (can_run_of plan.now) plan.now.requests) }
+    ensures { IfOk result (λ all. all ≡ map (spec.can_run plan.now) plan.now.requests) }
 {
     let mut all = Vec::with_capacity(alloc, plan.requests.len())?;
     for r in plan.requests.as_slice() {

@@ -1,8 +1,8 @@
 ghost use Rattle.std.specs.Prelude.{◌≡◌, List, slice_get};
 ghost use Rattle.std.specs.List.{filter};
 ghost use Rattle.conc_types.specs.declared.event.Event.{Event};
-ghost use Rattle.conc_law.specs.Readings.{next_reading as next_reading_of};
-ghost use Rattle.conc_law.specs.State.{is_not_earlier as is_not_earlier_of};
+ghost use Rattle.conc_law.specs.Readings as readings_spec;
+ghost use Rattle.conc_law.specs.State as state_spec;
 ghost use Rattle.conc_history_check.specs.Findings.{HasTaken};
 
 use crate::findings::Findings;
@@ -11,7 +11,7 @@ use conc_types::{Moment, Plan, Reading, Readings};
 
 // The reading with this index among those that are not earlier than the moment.
 fn reading_from(readings: &[Reading], earlier: Option<Moment>, index: usize) -> Option<Reading>
-    ensures { result ≡ slice_get (filter (λ q. is_not_earlier_of earlier q.moment) readings.now) index }
+    ensures { result ≡ slice_get (filter (λ q. state_spec.is_not_earlier earlier q.moment) readings.now) index }
 {
     let mut left = index;
     for q in readings {
@@ -32,7 +32,7 @@ pub(crate) fn next_reading(
     readings: &Readings,
     findings: &Findings,
 ) -> Option<Reading>
-    ensures { (past : List Event) → HasTaken _plan.now past findings.now → result ≡ next_reading_of readings.now.list past }
+    ensures { (past : List Event) → HasTaken _plan.now past findings.now → result ≡ readings_spec.next_reading readings.now.list past }
 {
     reading_from(readings.list.as_slice(), findings.earlier, findings.ticks)
 }

@@ -1,5 +1,6 @@
 ghost use Rattle.std.specs.Prelude.{◌≡◌};
-ghost use Rattle.conc_history_lines.specs.EventLines.{bare_event as bare_event_of, event_of_line, long_event as long_event_of, report_event as report_event_of, short_event as short_event_of};
+ghost use Rattle.conc_history_lines.specs.EventLines as spec;
+ghost use Rattle.conc_history_lines.specs.EventLines.{event_of_line};
 
 use crate::words::{extent_of, id_of, number_of, outcome_of, place_of, split_word, stage_of};
 use conc_time::read_moment;
@@ -8,7 +9,7 @@ use conc_types::{Event, Outcome};
 // The event of a word alone.
 #[tactic(auto, unfolding(crate::specs::EventLines::bare_event))]
 fn bare_event(word: &[u8]) -> Option<Event>
-    ensures { result ≡ bare_event_of word.now }
+    ensures { result ≡ spec.bare_event word.now }
 {
     if word == b"resume".as_slice() {
         Some(Event::Resume)
@@ -20,7 +21,7 @@ fn bare_event(word: &[u8]) -> Option<Event>
 // The event of a word and what it is about.
 #[tactic(auto, unfolding(crate::specs::EventLines::short_event))]
 fn short_event(word: &[u8], what: &[u8]) -> Option<Event>
-    ensures { result ≡ short_event_of word.now what.now }
+    ensures { result ≡ spec.short_event word.now what.now }
 {
     if word == b"tick".as_slice() {
         let moment = read_moment(what)?;
@@ -45,7 +46,7 @@ fn short_event(word: &[u8], what: &[u8]) -> Option<Event>
 // The event of a word, a request or a set, and how it goes on.
 #[tactic(auto, unfolding(crate::specs::EventLines::long_event))]
 fn long_event(starts: &[u32], word: &[u8], what: &[u8], how: &[u8]) -> Option<Event>
-    ensures { result ≡ long_event_of starts.now word.now what.now how.now }
+    ensures { result ≡ spec.long_event starts.now word.now what.now how.now }
 {
     if word == b"stage".as_slice() {
         let set = id_of(what)?;
@@ -74,7 +75,7 @@ fn long_event(starts: &[u32], word: &[u8], what: &[u8], how: &[u8]) -> Option<Ev
 // The event of an end with an extent.
 #[tactic(auto, unfolding(crate::specs::EventLines::report_event))]
 fn report_event(word: &[u8], what: &[u8], how: &[u8], offset: &[u8], length: &[u8]) -> Option<Event>
-    ensures { result ≡ report_event_of word.now what.now how.now offset.now length.now }
+    ensures { result ≡ spec.report_event word.now what.now how.now offset.now length.now }
 {
     if word != b"end".as_slice() {
         return None;

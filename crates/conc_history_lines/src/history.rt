@@ -1,5 +1,6 @@
 ghost use Rattle.std.specs.Prelude.{◌≡◌, ◌+◌, ◌<◌, ◌^◌, [], ◌∷◌, length, unwrap_or, IfOk, IfSome, MatchOption};
-ghost use Rattle.conc_history_lines.specs.History.{bad_at, history_in, is_last as is_last_of, offset_after as offset_after_of, whole_lines};
+ghost use Rattle.conc_history_lines.specs.History as spec;
+ghost use Rattle.conc_history_lines.specs.History.{bad_at, history_in, whole_lines};
 
 use crate::event::event_of;
 use crate::split::split_once;
@@ -20,7 +21,7 @@ pub struct Lines {
 
 // Whether the line is the one that ends the events.
 fn is_last(line: &[u8]) -> bool
-    ensures { result ≡ is_last_of line.now }
+    ensures { result ≡ spec.is_last line.now }
 {
     line == b"--".as_slice()
 }
@@ -48,7 +49,7 @@ fn bad_line(text: &[u8], number: u64) -> Option<u64>
 // at an offset.
 fn offset_after(mut offset: usize, mut text: &[u8]) -> usize
     requires { offset + length text.now < 2 ^ 64 }
-    ensures { result ≡ unwrap_or (offset_after_of offset (whole_lines text.now)) (offset + length text.now) }
+    ensures { result ≡ unwrap_or (spec.offset_after offset (whole_lines text.now)) (offset + length text.now) }
 {
     while let Some((line, after)) = split_line(text) {
         offset += line.len() + 1;

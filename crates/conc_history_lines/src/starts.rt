@@ -1,7 +1,7 @@
 ghost use Rattle.std.specs.Prelude.{◌≡◌, IfOk, map, max};
 ghost use Rattle.std.specs.List.{reduce};
-ghost use Rattle.conc_types.specs.Shifts.{most_places as most_places_of};
-ghost use Rattle.conc_history_lines.specs.Places.{starts_of as starts_of_plan};
+ghost use Rattle.conc_types.specs.Shifts as shifts_spec;
+ghost use Rattle.conc_history_lines.specs.Places as places_spec;
 
 use conc_types::{Manager, NoMemory, Plan, Shift};
 use std::alloc::Global;
@@ -16,7 +16,7 @@ fn greatest_shift(shifts: &[Shift]) -> Option<u32>
 // The places of a manager in all.
 #[tactic(auto, using(crate::proofs::Tables::most_from))]
 fn most_places(manager: &Manager) -> u32
-    ensures { result ≡ most_places_of manager.now.shifts }
+    ensures { result ≡ shifts_spec.most_places manager.now.shifts }
 {
     greatest_shift(manager.shifts.as_slice()).unwrap_or(1)
 }
@@ -25,7 +25,7 @@ fn most_places(manager: &Manager) -> u32
 /// count of all places.
 #[tactic(auto, unfolding(crate::specs::Places::starts_of))]
 pub fn starts_of(alloc: Global, plan: &Plan) -> Result<Vec<u32>, NoMemory>
-    ensures { IfOk result (λ starts. starts.items ≡ starts_of_plan plan.now) }
+    ensures { IfOk result (λ starts. starts.items ≡ places_spec.starts_of plan.now) }
 {
     let mut starts = Vec::new(alloc);
     let mut first = 0;

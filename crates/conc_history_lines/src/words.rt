@@ -1,8 +1,8 @@
 ghost use Rattle.std.specs.Prelude.{◌≡◌, ◌==◌, [], ◌∷◌, MatchOption};
 ghost use Rattle.std.specs.List.{slice_split};
 ghost use Rattle.conc_history_lines.specs.EventLines.{words_of};
-ghost use Rattle.conc_history_lines.specs.Numbers.{extent_of as extent_of_words, id_of as id_of_word, number_of as number_of_word, outcome_of as outcome_of_word, stage_of as stage_of_word};
-ghost use Rattle.conc_history_lines.specs.Places.{place_at as place_at_of, place_of as place_of_word};
+ghost use Rattle.conc_history_lines.specs.Numbers as numbers_spec;
+ghost use Rattle.conc_history_lines.specs.Places as places_spec;
 
 use crate::split::split_once;
 use conc_types::{Extent, Outcome, PlaceId, RequestId, read_decimal};
@@ -19,13 +19,13 @@ pub(crate) fn split_word(line: &[u8]) -> (&[u8], Option<&[u8]>)
 
 #[tactic(auto, unfolding(crate::specs::Numbers::number_of))]
 pub(crate) fn number_of(word: &[u8]) -> Option<u32>
-    ensures { result ≡ number_of_word word.now }
+    ensures { result ≡ numbers_spec.number_of word.now }
 {
     u32::try_from(read_decimal(word)?).ok()
 }
 
 pub(crate) fn id_of(word: &[u8]) -> Option<RequestId>
-    ensures { result ≡ id_of_word word.now }
+    ensures { result ≡ numbers_spec.id_of word.now }
 {
     let number = number_of(word)?;
     Some(RequestId { number })
@@ -34,7 +34,7 @@ pub(crate) fn id_of(word: &[u8]) -> Option<RequestId>
 /// The number of a stage, from 1.
 #[tactic(auto, unfolding(crate::specs::Numbers::stage_of))]
 pub(crate) fn stage_of(word: &[u8]) -> Option<u32>
-    ensures { result ≡ stage_of_word word.now }
+    ensures { result ≡ numbers_spec.stage_of word.now }
 {
     let stage = number_of(word)?;
     if 1 <= stage { Some(stage) } else { None }
@@ -43,7 +43,7 @@ pub(crate) fn stage_of(word: &[u8]) -> Option<u32>
 /// The outcome of a set, or of a request that was not terminated.
 #[tactic(auto, unfolding(crate::specs::Numbers::outcome_of))]
 pub(crate) fn outcome_of(word: &[u8]) -> Option<Outcome>
-    ensures { result ≡ outcome_of_word word.now }
+    ensures { result ≡ numbers_spec.outcome_of word.now }
 {
     if word == b"Normal".as_slice() {
         Some(Outcome::Normal)
@@ -58,7 +58,7 @@ pub(crate) fn outcome_of(word: &[u8]) -> Option<Outcome>
 
 #[tactic(auto, unfolding(crate::specs::Numbers::extent_of))]
 pub(crate) fn extent_of(offset: &[u8], length: &[u8]) -> Option<Extent>
-    ensures { result ≡ extent_of_words offset.now length.now }
+    ensures { result ≡ numbers_spec.extent_of offset.now length.now }
 {
     let offset = read_decimal(offset)?;
     let length = number_of(length)?;
@@ -68,7 +68,7 @@ pub(crate) fn extent_of(offset: &[u8], length: &[u8]) -> Option<Extent>
 // Place n of manager m, both from 1.
 #[tactic(auto, unfolding(crate::specs::Places::place_at))]
 fn place_at(starts: &[u32], m: u64, n: u64) -> Option<PlaceId>
-    ensures { result ≡ place_at_of starts.now m n }
+    ensures { result ≡ places_spec.place_at starts.now m n }
 {
     let first = u64::from(*starts.get(m.checked_sub(1)? as usize)?);
     let next = u64::from(*starts.get(m as usize)?);
@@ -85,7 +85,7 @@ fn place_at(starts: &[u32], m: u64, n: u64) -> Option<PlaceId>
 /// The place that a word names as `M.N`, by the table of places.
 #[tactic(auto, unfolding(crate::specs::Places::place_of))]
 pub(crate) fn place_of(starts: &[u32], word: &[u8]) -> Option<PlaceId>
-    ensures { result ≡ place_of_word starts.now word.now }
+    ensures { result ≡ places_spec.place_of starts.now word.now }
 {
     let (manager, place) = split_once(word, b'.')?;
     place_at(starts, read_decimal(manager)?, read_decimal(place)?)

@@ -1,7 +1,7 @@
 ghost use Rattle.std.specs.Prelude.{◌≡◌, ◌∷◌, IfOk, List, reverse, slice_get};
 ghost use Rattle.conc_types.specs.declared.event.Event.{Event};
 ghost use Rattle.conc_law_effects.specs.Advance.{all_after, IsAfter, one_by};
-ghost use Rattle.conc_law.specs.State.{state as state_of};
+ghost use Rattle.conc_law.specs.State as spec;
 ghost use Rattle.conc_machine_reach.specs.Spans.{AreSpans, LeavesOthers};
 
 use conc_law_effects::{begin, facts_after, mark_done, named_facts, tick_of, used_after};
@@ -46,7 +46,7 @@ pub fn take_in(plan: &Plan, spans: &Spans, state: &mut State, e: Event)
 // Takes one more event: what stood after some events becomes what stands after these and the event.
 fn advance(plan: &Plan, spans: &Spans, state: &mut State, e: Event)
     requires { AreSpans plan.now spans.now }
-    ensures { (past : List Event) → state.old ≡ state_of plan.now past → state.new ≡ state_of plan.now (e ∷ past) }
+    ensures { (past : List Event) → state.old ≡ spec.state plan.now past → state.new ≡ spec.state plan.now (e ∷ past) }
 {
     take_in(plan, spans, state, e);
 }
@@ -54,7 +54,7 @@ fn advance(plan: &Plan, spans: &Spans, state: &mut State, e: Event)
 /// What stands after these events of the plan, which stand in the order in which they came. Each event
 /// costs a step for each request whose facts it can change.
 pub fn state_after(alloc: Global, plan: &Plan, events: &[Event]) -> Result<State, NoMemory>
-    ensures { IfOk result (λ s. s ≡ state_of plan.now (reverse events.now)) }
+    ensures { IfOk result (λ s. s ≡ spec.state plan.now (reverse events.now)) }
 {
     let spans = Spans::new(alloc, plan)?;
     let mut state = begin(alloc, plan)?;

@@ -1,9 +1,9 @@
 ghost use Rattle.std.specs.Prelude.{◌≡◌, ◌&&◌, ◌+◌, ◌<◌, ◌^◌, not, length, unwrap_or, false};
 ghost use Rattle.std.specs.List.{enumerate_from, find, list_any};
 ghost use Rattle.std.specs.Option.{option_copied, option_map};
-ghost use Rattle.conc_types.specs.Words.{numbered as numbered_of};
-ghost use Rattle.conc_law.specs.Next.{blocks as blocks_of, forced as forced_of, forced_command as forced_command_of, forced_interrupt as forced_interrupt_of, forced_let as forced_let_of, forced_step as forced_step_of, has_step as has_step_of, is_due as is_due_of, is_free as is_free_of, is_left_running as is_left_running_of, is_ready as is_ready_of, let_event as let_event_of, may_let as may_let_of};
-ghost use Rattle.conc_law.specs.Plans.{precedes as precedes_of};
+ghost use Rattle.conc_types.specs.Words as words_spec;
+ghost use Rattle.conc_law.specs.Next as next_spec;
+ghost use Rattle.conc_law.specs.Plans as plans_spec;
 ghost use Rattle.conc_law.specs.Words.{first_by};
 ghost use Rattle.conc_law_decisions.specs.Members.{AreMembers};
 
@@ -17,14 +17,14 @@ use conc_types::{Event, Order, Plan, Req, State, numbered};
 /// Whether r ran at the stop of the system: it runs, and was not started since.
 #[tactic(auto, unfolding(conc_law::specs::Next::is_left_running))]
 pub fn is_left_running(state: &State, r: &Req) -> bool
-    ensures { result ≡ is_left_running_of state.now r.now }
+    ensures { result ≡ next_spec.is_left_running state.now r.now }
 {
     let facts = facts_at(state, r);
     is_running(facts) && !facts.started
 }
 
 fn first_left_running<'a>(plan: &'a Plan, state: &State) -> Option<&'a Req>
-    ensures { option_copied result ≡ find (is_left_running_of state.now) plan.now.requests }
+    ensures { option_copied result ≡ find (next_spec.is_left_running state.now) plan.now.requests }
 {
     plan.requests
         .as_slice()
@@ -35,7 +35,7 @@ fn first_left_running<'a>(plan: &'a Plan, state: &State) -> Option<&'a Req>
 /// The interrupt that is forced, if one is due: that of the first request that ran at the stop.
 #[tactic(auto, unfolding(conc_law::specs::Next::forced_interrupt))]
 pub fn forced_interrupt(plan: &Plan, state: &State) -> Option<Event>
-    ensures { result ≡ forced_interrupt_of plan.now state.now }
+    ensures { result ≡ next_spec.forced_interrupt plan.now state.now }
 {
     match first_left_running(plan, state) {
         Some(r) => Some(Event::Interrupt { request: r.number }),
@@ -46,7 +46,7 @@ pub fn forced_interrupt(plan: &Plan, state: &State) -> Option<Event>
 // ---- commands
 
 fn is_done(state: &State, number: u32) -> bool
-    ensures { result ≡ unwrap_or (numbered_of state.now.done number) false }
+    ensures { result ≡ unwrap_or (words_spec.numbered state.now.done number) false }
 {
     numbered(state.done.as_slice(), number)
         .copied()
@@ -56,7 +56,7 @@ fn is_done(state: &State, number: u32) -> bool
 /// Whether a command, which is given with its number, is due: it is not done, and its moment has come.
 #[tactic(auto, unfolding(conc_law::specs::Next::is_due))]
 pub fn is_due(state: &State, number: u32, order: &Order) -> bool
-    ensures { result ≡ is_due_of state.now (number, order.now) }
+    ensures { result ≡ next_spec.is_due state.now (number, order.now) }
 {
     !is_done(state, number) && has_come(state.time, order.at)
 }
@@ -64,7 +64,7 @@ pub fn is_due(state: &State, number: u32, order: &Order) -> bool
 // The number of the first command that is due, of those from this number on.
 fn first_due(state: &State, orders: &[Order], number: u32) -> Option<u32>
     requires { number + length orders.now < 2 ^ 32 }
-    ensures { result ≡ option_map (λ order. order.0) (find (is_due_of state.now) (enumerate_from number orders.now)) }
+    ensures { result ≡ option_map (λ order. order.0) (find (next_spec.is_due state.now) (enumerate_from number orders.now)) }
 {
     match orders.split_first() {
         None => None,
@@ -76,7 +76,7 @@ fn first_due(state: &State, orders: &[Order], number: u32) -> Option<u32>
 /// The command that is forced, if one is due.
 #[tactic(auto, unfolding(conc_law::specs::Next::forced_command))]
 pub fn forced_command(plan: &Plan, state: &State) -> Option<Event>
-    ensures { result ≡ forced_command_of plan.now state.now }
+    ensures { result ≡ next_spec.forced_command plan.now state.now }
 {
     match first_due(state, plan.script.commands.as_slice(), 1) {
         Some(number) => Some(Event::Command { number }),
@@ -91,14 +91,14 @@ pub fn forced_command(plan: &Plan, state: &State) -> Option<Event>
 #[tactic(auto, unfolding(conc_law::specs::Next::has_step))]
 pub fn has_step(plan: &Plan, state: &State, r: &Req, members: &[Req]) -> bool
     requires { AreMembers plan.now r.now.number members.now }
-    ensures { result ≡ has_step_of plan.now state.now r.now }
+    ensures { result ≡ next_spec.has_step plan.now state.now r.now }
 {
     facts_at(state, r).opened && set_step(plan, state, r, members).is_some()
 }
 
 #[tactic(auto, unfolding(conc_law::specs::Plans::members))]
 fn first_with_step<'a>(plan: &'a Plan, state: &State) -> Option<&'a Req>
-    ensures { option_copied result ≡ find (has_step_of plan.now state.now) plan.now.requests }
+    ensures { option_copied result ≡ find (next_spec.has_step plan.now state.now) plan.now.requests }
 {
     plan.requests
         .as_slice()
@@ -108,7 +108,7 @@ fn first_with_step<'a>(plan: &'a Plan, state: &State) -> Option<&'a Req>
 
 #[tactic(auto, unfolding(conc_law::specs::Next::forced_step, conc_law::specs::Plans::members))]
 fn forced_step(plan: &Plan, state: &State) -> Option<Event>
-    ensures { result ≡ forced_step_of plan.now state.now }
+    ensures { result ≡ next_spec.forced_step plan.now state.now }
 {
     match first_with_step(plan, state) {
         Some(r) => set_step(plan, state, r, plan.requests.as_slice()),
@@ -121,13 +121,13 @@ fn forced_step(plan: &Plan, state: &State) -> Option<Event>
 /// Whether q is live and excludes r.
 #[tactic(auto, unfolding(conc_law::specs::Next::blocks))]
 pub fn blocks(plan: &Plan, state: &State, r: &Req, q: &Req) -> bool
-    ensures { result ≡ blocks_of plan.now state.now r.now q.now }
+    ensures { result ≡ next_spec.blocks plan.now state.now r.now q.now }
 {
     is_live(facts_at(state, q)) && are_exclusive(plan, q, r)
 }
 
 fn is_blocked(plan: &Plan, state: &State, r: &Req) -> bool
-    ensures { result ≡ list_any (blocks_of plan.now state.now r.now) plan.now.requests }
+    ensures { result ≡ list_any (next_spec.blocks plan.now state.now r.now) plan.now.requests }
 {
     plan.requests
         .as_slice()
@@ -138,7 +138,7 @@ fn is_blocked(plan: &Plan, state: &State, r: &Req) -> bool
 /// Whether no live request excludes r.
 #[tactic(auto, unfolding(conc_law::specs::Next::is_free))]
 pub fn is_free(plan: &Plan, state: &State, r: &Req) -> bool
-    ensures { result ≡ is_free_of plan.now state.now r.now }
+    ensures { result ≡ next_spec.is_free plan.now state.now r.now }
 {
     !is_blocked(plan, state, r)
 }
@@ -146,7 +146,7 @@ pub fn is_free(plan: &Plan, state: &State, r: &Req) -> bool
 /// Whether r can be let out, or opened, unless a live request excludes it.
 #[tactic(auto, unfolding(conc_law::specs::Next::is_ready))]
 pub fn is_ready(plan: &Plan, state: &State, r: &Req) -> bool
-    ensures { result ≡ is_ready_of plan.now state.now r.now }
+    ensures { result ≡ next_spec.is_ready plan.now state.now r.now }
 {
     let facts = facts_at(state, r);
     facts.entered
@@ -160,19 +160,19 @@ pub fn is_ready(plan: &Plan, state: &State, r: &Req) -> bool
 
 #[tactic(auto, unfolding(conc_law::specs::Next::may_let))]
 fn may_let(plan: &Plan, state: &State, r: &Req) -> bool
-    ensures { result ≡ may_let_of plan.now state.now r.now }
+    ensures { result ≡ next_spec.may_let plan.now state.now r.now }
 {
     is_ready(plan, state, r) && is_free(plan, state, r)
 }
 
 fn stands_before(plan: &Plan, state: &State, r: &Req, q: &Req) -> bool
-    ensures { result ≡ (may_let_of plan.now state.now q.now && precedes_of q.now r.now) }
+    ensures { result ≡ (next_spec.may_let plan.now state.now q.now && plans_spec.precedes q.now r.now) }
 {
     may_let(plan, state, q) && precedes(q, r)
 }
 
 fn is_behind(plan: &Plan, state: &State, r: &Req) -> bool
-    ensures { result ≡ list_any (λ q. may_let_of plan.now state.now q && precedes_of q r.now) plan.now.requests }
+    ensures { result ≡ list_any (λ q. next_spec.may_let plan.now state.now q && plans_spec.precedes q r.now) plan.now.requests }
 {
     plan.requests
         .as_slice()
@@ -181,13 +181,13 @@ fn is_behind(plan: &Plan, state: &State, r: &Req) -> bool
 }
 
 fn is_first(plan: &Plan, state: &State, r: &Req) -> bool
-    ensures { result ≡ (may_let_of plan.now state.now r.now && not (list_any (λ q. may_let_of plan.now state.now q && precedes_of q r.now) plan.now.requests)) }
+    ensures { result ≡ (next_spec.may_let plan.now state.now r.now && not (list_any (λ q. next_spec.may_let plan.now state.now q && plans_spec.precedes q r.now) plan.now.requests)) }
 {
     may_let(plan, state, r) && !is_behind(plan, state, r)
 }
 
 fn first_to_let<'a>(plan: &'a Plan, state: &State) -> Option<&'a Req>
-    ensures { option_copied result ≡ first_by precedes_of (may_let_of plan.now state.now) plan.now.requests }
+    ensures { option_copied result ≡ first_by plans_spec.precedes (next_spec.may_let plan.now state.now) plan.now.requests }
 {
     plan.requests
         .as_slice()
@@ -197,7 +197,7 @@ fn first_to_let<'a>(plan: &'a Plan, state: &State) -> Option<&'a Req>
 
 /// The let of a request, or the open where it is a set.
 pub fn let_event(r: &Req) -> Event
-    ensures { result ≡ let_event_of r.now }
+    ensures { result ≡ next_spec.let_event r.now }
 {
     if is_set(r.item) {
         Event::OpenSet { set: r.number }
@@ -208,7 +208,7 @@ pub fn let_event(r: &Req) -> Event
 
 #[tactic(auto, unfolding(conc_law::specs::Next::forced_let))]
 fn forced_let(plan: &Plan, state: &State) -> Option<Event>
-    ensures { result ≡ forced_let_of plan.now state.now }
+    ensures { result ≡ next_spec.forced_let plan.now state.now }
 {
     match first_to_let(plan, state) {
         Some(r) => Some(let_event(r)),
@@ -223,7 +223,7 @@ fn forced_let(plan: &Plan, state: &State) -> Option<Event>
 /// one; or the let, or open, of the first request in precedence that can be let out.
 #[tactic(auto, unfolding(conc_law::specs::Next::forced))]
 pub fn forced(plan: &Plan, state: &State) -> Option<Event>
-    ensures { result ≡ forced_of plan.now state.now }
+    ensures { result ≡ next_spec.forced plan.now state.now }
 {
     if let Some(e) = forced_interrupt(plan, state) {
         return Some(e);

@@ -1,5 +1,5 @@
 ghost use Rattle.std.specs.Prelude.{◌≡◌};
-ghost use Rattle.conc_law.specs.State.{facts_at as facts_at_of, has_come as has_come_of, is_completed as is_completed_of, is_live as is_live_of, is_not_earlier as is_not_earlier_of, is_running as is_running_of, is_stopping as is_stopping_of, is_waiting as is_waiting_of};
+ghost use Rattle.conc_law.specs.State as spec;
 
 use conc_rules::parent;
 use conc_types::{Facts, Moment, Plan, Req, State, numbered};
@@ -7,7 +7,7 @@ use conc_types::{Facts, Moment, Plan, Req, State, numbered};
 /// The facts of a request.
 #[tactic(auto, unfolding(conc_law::specs::State::facts_at))]
 pub fn facts_at(state: &State, r: &Req) -> Facts
-    ensures { result ≡ facts_at_of state.now r.now }
+    ensures { result ≡ spec.facts_at state.now r.now }
 {
     numbered(state.facts.as_slice(), r.number.number)
         .copied()
@@ -15,27 +15,27 @@ pub fn facts_at(state: &State, r: &Req) -> Facts
 }
 
 pub(crate) fn is_running(facts: Facts) -> bool
-    ensures { result ≡ is_running_of facts }
+    ensures { result ≡ spec.is_running facts }
 {
     facts.place.is_some()
 }
 
 pub(crate) fn is_stopping(facts: Facts) -> bool
-    ensures { result ≡ is_stopping_of facts }
+    ensures { result ≡ spec.is_stopping facts }
 {
     is_running(facts) && facts.terminated
 }
 
 /// Whether a request with these facts is live: let out, or an open set.
 pub fn is_live(facts: Facts) -> bool
-    ensures { result ≡ is_live_of facts }
+    ensures { result ≡ spec.is_live facts }
 {
     facts.let_out || facts.opened
 }
 
 /// Whether a request with these facts is completed.
 pub fn is_completed(facts: Facts) -> bool
-    ensures { result ≡ is_completed_of facts }
+    ensures { result ≡ spec.is_completed facts }
 {
     facts.outcome.is_some()
 }
@@ -43,7 +43,7 @@ pub fn is_completed(facts: Facts) -> bool
 /// Whether r is a member whose stage has not begun.
 #[tactic(auto, unfolding(conc_law::specs::State::is_waiting))]
 pub fn is_waiting(plan: &Plan, state: &State, r: &Req) -> bool
-    ensures { result ≡ is_waiting_of plan.now state.now r.now }
+    ensures { result ≡ spec.is_waiting plan.now state.now r.now }
 {
     match parent(plan, r) {
         Some(set) => !facts_at(state, set).begun.contains(r.stage),
@@ -54,7 +54,7 @@ pub fn is_waiting(plan: &Plan, state: &State, r: &Req) -> bool
 /// Whether a moment has come: it is not after the last tick.
 #[tactic(auto, unfolding(conc_law::specs::State::has_come))]
 pub fn has_come(now: Option<Moment>, t: Moment) -> bool
-    ensures { result ≡ has_come_of now t }
+    ensures { result ≡ spec.has_come now t }
 {
     match now {
         Some(n) => t.seconds <= n.seconds,
@@ -65,7 +65,7 @@ pub fn has_come(now: Option<Moment>, t: Moment) -> bool
 /// Whether a moment is not earlier than the last tick.
 #[tactic(auto, unfolding(conc_law::specs::State::is_not_earlier))]
 pub fn is_not_earlier(now: Option<Moment>, t: Moment) -> bool
-    ensures { result ≡ is_not_earlier_of now t }
+    ensures { result ≡ spec.is_not_earlier now t }
 {
     match now {
         Some(n) => n.seconds <= t.seconds,

@@ -1,10 +1,10 @@
 ghost use Rattle.std.specs.Prelude.{◌≡◌, ◌+◌, ◌<◌, ◌^◌, map};
 ghost use Rattle.std.specs.List.{list_any, range_with_len};
-ghost use Rattle.conc_types.specs.Plans.{request as request_of};
+ghost use Rattle.conc_types.specs.Plans as plans_spec;
 ghost use Rattle.conc_types.specs.Words.{some_and};
-ghost use Rattle.conc_law.specs.Kinds.{is_resume as is_resume_of};
-ghost use Rattle.conc_law.specs.Next.{is_allowed as is_allowed_of, is_at_rest as is_at_rest_of, is_next_extent as is_next_extent_of, is_report_outcome as is_report_outcome_of, is_vacant as is_vacant_of, may_come as may_come_of, may_end as may_end_of, may_start as may_start_of, may_start_somewhere as may_start_somewhere_of, may_take as may_take_of, may_tick as may_tick_of, runs_at as runs_at_of, runs_somewhere as runs_somewhere_of};
-ghost use Rattle.conc_law.specs.Places.{is_usable as is_usable_of};
+ghost use Rattle.conc_law.specs.Kinds as kinds_spec;
+ghost use Rattle.conc_law.specs.Next as next_spec;
+ghost use Rattle.conc_law.specs.Places as places_spec;
 
 use crate::equality::is_same_event;
 use crate::forcing::forced;
@@ -18,7 +18,7 @@ use conc_types::{
 
 #[tactic(auto, unfolding(conc_law::specs::Next::runs_at))]
 fn runs_at(state: &State, place: PlaceId, r: &Req) -> bool
-    ensures { result ≡ runs_at_of state.now place r.now }
+    ensures { result ≡ next_spec.runs_at state.now place r.now }
 {
     match facts_at(state, r).place {
         Some(p) => p.index == place.index,
@@ -27,7 +27,7 @@ fn runs_at(state: &State, place: PlaceId, r: &Req) -> bool
 }
 
 fn is_taken(plan: &Plan, state: &State, place: PlaceId) -> bool
-    ensures { result ≡ list_any (runs_at_of state.now place) plan.now.requests }
+    ensures { result ≡ list_any (next_spec.runs_at state.now place) plan.now.requests }
 {
     plan.requests
         .as_slice()
@@ -37,14 +37,14 @@ fn is_taken(plan: &Plan, state: &State, place: PlaceId) -> bool
 
 #[tactic(auto, unfolding(conc_law::specs::Next::is_vacant))]
 fn is_vacant(plan: &Plan, state: &State, place: PlaceId) -> bool
-    ensures { result ≡ is_vacant_of plan.now state.now place }
+    ensures { result ≡ next_spec.is_vacant plan.now state.now place }
 {
     !is_taken(plan, state, place)
 }
 
 /// Whether the place is usable at the last tick.
 pub fn is_usable_now(plan: &Plan, state: &State, place: PlaceId) -> bool
-    ensures { result ≡ some_and (λ t. is_usable_of plan.now t place) state.now.time }
+    ensures { result ≡ some_and (λ t. places_spec.is_usable plan.now t place) state.now.time }
 {
     match state.time {
         Some(t) => is_usable(plan, t, place),
@@ -56,7 +56,7 @@ pub fn is_usable_now(plan: &Plan, state: &State, place: PlaceId) -> bool
 /// it, the place is usable at the last tick, and no request runs there.
 #[tactic(auto, unfolding(conc_law::specs::Next::may_start))]
 pub fn may_start(plan: &Plan, state: &State, r: &Req, place: PlaceId) -> bool
-    ensures { result ≡ may_start_of plan.now state.now r.now place }
+    ensures { result ≡ next_spec.may_start plan.now state.now r.now place }
 {
     let facts = facts_at(state, r);
     facts.let_out
@@ -69,7 +69,7 @@ pub fn may_start(plan: &Plan, state: &State, r: &Req, place: PlaceId) -> bool
 // Whether r may start at one of so many places from an index on.
 fn may_start_among(plan: &Plan, state: &State, r: &Req, from: u32, count: u32) -> bool
     requires { from + count < 2 ^ 32 }
-    ensures { result ≡ list_any (may_start_of plan.now state.now r.now) (map (λ index. record { index = index }) (range_with_len from count)) }
+    ensures { result ≡ list_any (next_spec.may_start plan.now state.now r.now) (map (λ index. record { index = index }) (range_with_len from count)) }
 {
     count > 0
         && (may_start(plan, state, r, PlaceId { index: from })
@@ -78,7 +78,7 @@ fn may_start_among(plan: &Plan, state: &State, r: &Req, from: u32, count: u32) -
 
 #[tactic(auto, unfolding(conc_law::specs::Next::may_start_somewhere, conc_law::specs::Places::all_places))]
 pub(crate) fn may_start_somewhere(plan: &Plan, state: &State, r: &Req) -> bool
-    ensures { result ≡ may_start_somewhere_of plan.now state.now r.now }
+    ensures { result ≡ next_spec.may_start_somewhere plan.now state.now r.now }
 {
     may_start_among(plan, state, r, 0, place_count(plan))
 }
@@ -87,7 +87,7 @@ pub(crate) fn may_start_somewhere(plan: &Plan, state: &State, r: &Req) -> bool
 
 #[tactic(auto, unfolding(conc_law::specs::Next::is_next_extent))]
 fn is_next_extent(state: &State, extent: Extent) -> bool
-    ensures { result ≡ is_next_extent_of state.now extent }
+    ensures { result ≡ next_spec.is_next_extent state.now extent }
 {
     match state.used {
         Some(used) => extent.offset == used && extent.length > 0,
@@ -96,7 +96,7 @@ fn is_next_extent(state: &State, extent: Extent) -> bool
 }
 
 fn is_report_outcome(outcome: Outcome) -> bool
-    ensures { result ≡ is_report_outcome_of outcome }
+    ensures { result ≡ next_spec.is_report_outcome outcome }
 {
     matches!(outcome, Outcome::Normal | Outcome::Warning | Outcome::Error)
 }
@@ -105,7 +105,7 @@ fn is_report_outcome(outcome: Outcome) -> bool
 /// Normal, Warning or Error with an extent that is not empty and begins where all earlier ones end.
 #[tactic(auto, unfolding(conc_law::specs::Next::may_end))]
 pub fn may_end(state: &State, r: &Req, outcome: Outcome, extent: Option<Extent>) -> bool
-    ensures { result ≡ may_end_of state.now r.now outcome extent }
+    ensures { result ≡ next_spec.may_end state.now r.now outcome extent }
 {
     let facts = facts_at(state, r);
     if !is_running(facts) {
@@ -125,14 +125,14 @@ pub fn may_end(state: &State, r: &Req, outcome: Outcome, extent: Option<Extent>)
 /// Whether r runs.
 #[tactic(auto, unfolding(conc_law::specs::Next::runs_somewhere))]
 pub fn runs_somewhere(state: &State, r: &Req) -> bool
-    ensures { result ≡ runs_somewhere_of state.now r.now }
+    ensures { result ≡ next_spec.runs_somewhere state.now r.now }
 {
     is_running(facts_at(state, r))
 }
 
 /// Whether a request runs.
 pub fn one_runs(plan: &Plan, state: &State) -> bool
-    ensures { result ≡ list_any (runs_somewhere_of state.now) plan.now.requests }
+    ensures { result ≡ list_any (next_spec.runs_somewhere state.now) plan.now.requests }
 {
     plan.requests
         .as_slice()
@@ -141,7 +141,7 @@ pub fn one_runs(plan: &Plan, state: &State) -> bool
 }
 
 fn one_may_start(plan: &Plan, state: &State) -> bool
-    ensures { result ≡ list_any (may_start_somewhere_of plan.now state.now) plan.now.requests }
+    ensures { result ≡ list_any (next_spec.may_start_somewhere plan.now state.now) plan.now.requests }
 {
     plan.requests
         .as_slice()
@@ -152,7 +152,7 @@ fn one_may_start(plan: &Plan, state: &State) -> bool
 /// Whether the system is at rest: nothing is forced, no request runs, and none may start.
 #[tactic(auto, unfolding(conc_law::specs::Next::is_at_rest))]
 pub fn is_at_rest(plan: &Plan, state: &State) -> bool
-    ensures { result ≡ is_at_rest_of plan.now state.now }
+    ensures { result ≡ next_spec.is_at_rest plan.now state.now }
 {
     forced(plan, state).is_none() && !one_runs(plan, state) && !one_may_start(plan, state)
 }
@@ -160,14 +160,14 @@ pub fn is_at_rest(plan: &Plan, state: &State) -> bool
 /// Whether the reading may be taken: at rest, or at any time if it is early.
 #[tactic(auto, unfolding(conc_law::specs::Next::may_take))]
 pub fn may_take(plan: &Plan, state: &State, reading: Reading) -> bool
-    ensures { result ≡ may_take_of plan.now state.now reading }
+    ensures { result ≡ next_spec.may_take plan.now state.now reading }
 {
     reading.early || is_at_rest(plan, state)
 }
 
 #[tactic(auto, unfolding(conc_law::specs::Next::may_tick))]
 fn may_tick(plan: &Plan, state: &State, next: Option<Option<Reading>>, t: Moment) -> bool
-    ensures { result ≡ may_tick_of plan.now state.now next t }
+    ensures { result ≡ next_spec.may_tick plan.now state.now next t }
 {
     match next {
         Some(Some(reading)) => {
@@ -182,7 +182,7 @@ fn may_tick(plan: &Plan, state: &State, next: Option<Option<Reading>>, t: Moment
 
 /// Whether the plan has this request, and it may start at the place.
 pub fn may_start_by_id(plan: &Plan, state: &State, id: RequestId, place: PlaceId) -> bool
-    ensures { result ≡ some_and (λ q. may_start_of plan.now state.now q place) (request_of plan.now id) }
+    ensures { result ≡ some_and (λ q. next_spec.may_start plan.now state.now q place) (plans_spec.request plan.now id) }
 {
     match plan.request(id) {
         Some(r) => may_start(plan, state, r, place),
@@ -198,7 +198,7 @@ pub fn may_end_by_id(
     outcome: Outcome,
     extent: Option<Extent>,
 ) -> bool
-    ensures { result ≡ some_and (λ q. may_end_of state.now q outcome extent) (request_of plan.now id) }
+    ensures { result ≡ some_and (λ q. next_spec.may_end state.now q outcome extent) (plans_spec.request plan.now id) }
 {
     match plan.request(id) {
         Some(r) => may_end(state, r, outcome, extent),
@@ -208,7 +208,7 @@ pub fn may_end_by_id(
 
 #[tactic(auto, unfolding(conc_law::specs::Next::is_allowed))]
 fn is_allowed(plan: &Plan, state: &State, next: Option<Option<Reading>>, e: Event) -> bool
-    ensures { result ≡ is_allowed_of plan.now state.now next e }
+    ensures { result ≡ next_spec.is_allowed plan.now state.now next e }
 {
     match e {
         Event::Started { request, place } => may_start_by_id(plan, state, request, place),
@@ -224,7 +224,7 @@ fn is_allowed(plan: &Plan, state: &State, next: Option<Option<Reading>>, e: Even
 
 /// Whether the event is a resume.
 pub fn is_resume(e: Event) -> bool
-    ensures { result ≡ is_resume_of e }
+    ensures { result ≡ kinds_spec.is_resume e }
 {
     matches!(e, Event::Resume)
 }
@@ -234,7 +234,7 @@ pub fn is_resume(e: Event) -> bool
 /// None in an earlier life, whose readings are not known.
 #[tactic(auto, unfolding(conc_law::specs::Next::may_come))]
 pub fn may_come(plan: &Plan, state: &State, next: Option<Option<Reading>>, e: Event) -> bool
-    ensures { result ≡ may_come_of plan.now state.now next e }
+    ensures { result ≡ next_spec.may_come plan.now state.now next e }
 {
     if is_resume(e) {
         return !state.empty;

@@ -1,8 +1,9 @@
 ghost use Rattle.std.specs.Prelude.{◌≡◌, ◌+◌, ◌<◌, ◌^◌, [], ◌∷◌, IfSome, length, map};
 ghost use Rattle.std.specs.List.{enumerate_from, filter, filter_map, list_all};
 ghost use Rattle.conc_types.specs.Words.{greatest, is_empty};
-ghost use Rattle.conc_law.specs.Plans.{is_member as is_member_of};
-ghost use Rattle.conc_law.specs.Stages.{completed_at as completed_at_of, counts_for_set as counts_for_set_of, link as link_of, next_stage as next_stage_of, of_severity as of_severity_of, outcome_at as outcome_at_of, set_outcome as set_outcome_of, set_step as set_step_of, severity as severity_of, worst};
+ghost use Rattle.conc_law.specs.Plans as plans_spec;
+ghost use Rattle.conc_law.specs.Stages as stages_spec;
+ghost use Rattle.conc_law.specs.Stages.{worst};
 ghost use Rattle.conc_law_decisions.specs.Members.{AreMembers, worst_among};
 
 use crate::lookup::{facts_at, is_completed};
@@ -10,7 +11,7 @@ use conc_rules::{is_member, stages_of};
 use conc_types::{Event, Facts, Outcome, Plan, Req, RequestId, Stage, State};
 
 fn severity(outcome: Outcome) -> u32
-    ensures { result ≡ severity_of outcome }
+    ensures { result ≡ stages_spec.severity outcome }
 {
     match outcome {
         Outcome::Normal => 0,
@@ -20,7 +21,7 @@ fn severity(outcome: Outcome) -> u32
 }
 
 fn of_severity(severity: u32) -> Outcome
-    ensures { result ≡ of_severity_of severity }
+    ensures { result ≡ stages_spec.of_severity severity }
 {
     match severity {
         0 => Outcome::Normal,
@@ -31,21 +32,21 @@ fn of_severity(severity: u32) -> Outcome
 
 #[tactic(auto, unfolding(conc_law::specs::Stages::completed_at))]
 fn is_completed_at(state: &State, r: &Req) -> bool
-    ensures { result ≡ completed_at_of state.now r.now }
+    ensures { result ≡ stages_spec.completed_at state.now r.now }
 {
     is_completed(facts_at(state, r))
 }
 
 #[tactic(auto, unfolding(conc_law::specs::Stages::outcome_at))]
 fn outcome_at(state: &State, r: &Req) -> Option<Outcome>
-    ensures { result ≡ outcome_at_of state.now r.now }
+    ensures { result ≡ stages_spec.outcome_at state.now r.now }
 {
     facts_at(state, r).outcome
 }
 
 // Whether those of the requests that are members of the stage are completed.
 fn are_members_completed(state: &State, set: RequestId, stage: u32, requests: &[Req]) -> bool
-    ensures { result ≡ list_all (completed_at_of state.now) (filter (is_member_of set stage) requests.now) }
+    ensures { result ≡ list_all (stages_spec.completed_at state.now) (filter (plans_spec.is_member set stage) requests.now) }
 {
     requests
         .iter()
@@ -80,13 +81,13 @@ fn worst_member(state: &State, set: RequestId, stage: u32, requests: &[Req]) -> 
 // The worst outcome among those of the requests that are members of the stage.
 #[tactic(auto, unfolding(conc_law::specs::Stages::worst))]
 fn worst_outcome(state: &State, set: RequestId, stage: u32, requests: &[Req]) -> Outcome
-    ensures { result ≡ worst (filter_map (outcome_at_of state.now) (filter (is_member_of set stage) requests.now)) }
+    ensures { result ≡ worst (filter_map (stages_spec.outcome_at state.now) (filter (plans_spec.is_member set stage) requests.now)) }
 {
     of_severity(worst_member(state, set, stage, requests))
 }
 
 fn link(stage: &Stage, outcome: Outcome) -> Option<u32>
-    ensures link { result ≡ link_of stage.now outcome }
+    ensures link { result ≡ stages_spec.link stage.now outcome }
     ensures bound { IfSome result (λ place. place < 64) }
 {
     match outcome {
@@ -105,7 +106,7 @@ fn next_stage(
     members: &[Req],
 ) -> Option<u32>
     requires { AreMembers plan.now set.now.number members.now }
-    ensures { result ≡ next_stage_of plan.now state.now set.now stage }
+    ensures { result ≡ stages_spec.next_stage plan.now state.now set.now stage }
 {
     if stage == 0 {
         return None;
@@ -121,7 +122,7 @@ fn next_stage(
 
 #[tactic(auto, unfolding(conc_law::specs::Stages::counts_for_set))]
 fn counts_for_set(facts: Facts, number: u32, stage: &Stage) -> bool
-    ensures { result ≡ counts_for_set_of facts (number, stage.now) }
+    ensures { result ≡ stages_spec.counts_for_set facts (number, stage.now) }
 {
     stage.critical && facts.begun.contains(number)
 }
@@ -129,7 +130,7 @@ fn counts_for_set(facts: Facts, number: u32, stage: &Stage) -> bool
 // Whether none of the stages, the first of which has this number, is critical and ran.
 fn none_counts(facts: Facts, stages: &[Stage], number: u32) -> bool
     requires { number + length stages.now < 2 ^ 32 }
-    ensures { result ≡ is_empty (filter (counts_for_set_of facts) (enumerate_from number stages.now)) }
+    ensures { result ≡ is_empty (filter (stages_spec.counts_for_set facts) (enumerate_from number stages.now)) }
 {
     match stages.split_first() {
         None => true,
@@ -149,7 +150,7 @@ fn worst_critical(
     members: &[Req],
 ) -> u32
     requires { number + length stages.now < 2 ^ 32 }
-    ensures { result ≡ greatest (map severity_of (map (λ stage. worst (filter_map (outcome_at_of state.now) (filter (is_member_of set stage.0) members.now))) (filter (counts_for_set_of facts) (enumerate_from number stages.now)))) }
+    ensures { result ≡ greatest (map stages_spec.severity (map (λ stage. worst (filter_map (stages_spec.outcome_at state.now) (filter (plans_spec.is_member set stage.0) members.now))) (filter (stages_spec.counts_for_set facts) (enumerate_from number stages.now)))) }
 {
     match stages.split_first() {
         None => 0,
@@ -166,7 +167,7 @@ fn worst_critical(
 
 fn set_outcome(plan: &Plan, state: &State, set: &Req, last: u32, members: &[Req]) -> Outcome
     requires { AreMembers plan.now set.now.number members.now }
-    ensures { result ≡ set_outcome_of plan.now state.now set.now last }
+    ensures { result ≡ stages_spec.set_outcome plan.now state.now set.now last }
 {
     let facts = facts_at(state, set);
     let stages = stages_of(plan, set);
@@ -182,7 +183,7 @@ fn set_outcome(plan: &Plan, state: &State, set: &Req, last: u32, members: &[Req]
 #[tactic(auto, unfolding(conc_law::specs::Stages::set_step, conc_law::specs::Stages::has_ended))]
 pub fn set_step(plan: &Plan, state: &State, set: &Req, members: &[Req]) -> Option<Event>
     requires { AreMembers plan.now set.now.number members.now }
-    ensures { result ≡ set_step_of plan.now state.now set.now }
+    ensures { result ≡ stages_spec.set_step plan.now state.now set.now }
 {
     match facts_at(state, set).stage {
         None => Some(Event::Stage {

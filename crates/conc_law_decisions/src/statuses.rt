@@ -1,5 +1,6 @@
 ghost use Rattle.std.specs.Prelude.{◌≡◌};
-ghost use Rattle.conc_law.specs.Status.{open_status as open_status_of, status_of, status_of_outcome, waiting_status as waiting_status_of};
+ghost use Rattle.conc_law.specs.Status as spec;
+ghost use Rattle.conc_law.specs.Status.{status_of, status_of_outcome};
 
 use crate::lookup::{facts_at, has_come, is_running, is_stopping, is_waiting};
 use conc_rules::{is_admitted, is_enabled, is_set};
@@ -19,7 +20,7 @@ fn of_outcome(outcome: Outcome) -> Status
 
 #[tactic(auto, unfolding(conc_law::specs::Status::waiting_status))]
 fn waiting_status(plan: &Plan, state: &State, r: &Req, facts: Facts) -> (Phase, Status)
-    ensures { result ≡ waiting_status_of plan.now state.now r.now facts }
+    ensures { result ≡ spec.waiting_status plan.now state.now r.now facts }
 {
     if is_waiting(plan, state, r) {
         (Phase::Pending, Status::Waiting)
@@ -34,7 +35,7 @@ fn waiting_status(plan: &Plan, state: &State, r: &Req, facts: Facts) -> (Phase, 
 
 #[tactic(auto, unfolding(conc_law::specs::Status::open_status))]
 fn open_status(plan: &Plan, state: &State, r: &Req, facts: Facts) -> (Phase, Status)
-    ensures { result ≡ open_status_of plan.now state.now r.now facts }
+    ensures { result ≡ spec.open_status plan.now state.now r.now facts }
 {
     if is_running(facts) {
         if is_stopping(facts) {

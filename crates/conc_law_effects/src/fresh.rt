@@ -1,13 +1,14 @@
 ghost use Rattle.std.specs.Prelude.{◌≡◌, [], Bool, IfOk, List, false, map};
 ghost use Rattle.conc_types.specs.declared.script.Order.{Order};
 ghost use Rattle.conc_law.specs.Facts.{facts_of};
-ghost use Rattle.conc_law.specs.State.{no_facts as no_facts_of, state};
+ghost use Rattle.conc_law.specs.State as spec;
+ghost use Rattle.conc_law.specs.State.{state};
 
 use conc_types::{Facts, NoMemory, Order, Plan, Req, Seq, State};
 use std::alloc::Global;
 
 fn all_facts(alloc: Global, requests: &[Req]) -> Result<Seq<Facts>, NoMemory>
-    ensures { IfOk result (λ all. all ≡ map (λ (r : Req). no_facts_of) requests.now) }
+    ensures { IfOk result (λ all. all ≡ map (λ (r : Req). spec.no_facts) requests.now) }
 {
     let mut all = Vec::with_capacity(alloc, requests.len())?;
     for r in requests {

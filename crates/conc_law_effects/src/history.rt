@@ -1,11 +1,12 @@
 ghost use Rattle.std.specs.Prelude.{◌≡◌};
-ghost use Rattle.conc_law_effects.specs.Advance.{done_after, named_by as named_by_of, named_facts as named_facts_of, used_after as used_after_of};
+ghost use Rattle.conc_law_effects.specs.Advance as spec;
+ghost use Rattle.conc_law_effects.specs.Advance.{done_after};
 
 use crate::kinds::{act, extent_length};
 use conc_types::{Act, Event, Facts, Plan, RequestId, Seq, numbered};
 
 fn named_by(plan: &Plan, e: Event) -> Option<RequestId>
-    ensures { result ≡ named_by_of plan.now e }
+    ensures { result ≡ spec.named_by plan.now e }
 {
     match e {
         Event::CloseSet { set, .. } => Some(set),
@@ -20,7 +21,7 @@ fn named_by(plan: &Plan, e: Event) -> Option<RequestId>
 /// The facts of the request that a cancel or a close names, and none for any other event.
 #[tactic(auto, unfolding(crate::specs::Advance::named_facts))]
 pub fn named_facts(plan: &Plan, facts: &[Facts], e: Event) -> Facts
-    ensures { result ≡ named_facts_of facts.now (named_by_of plan.now e) }
+    ensures { result ≡ spec.named_facts facts.now (spec.named_by plan.now e) }
 {
     match named_by(plan, e) {
         Some(id) => numbered(facts, id.number).copied().unwrap_or(Facts::NONE),
@@ -41,7 +42,7 @@ pub fn mark_done(done: &mut Seq<bool>, e: Event)
 
 /// How many bytes of the spool the extents take after one more event, where 64 bits hold it.
 pub fn used_after(used: Option<u64>, e: Event) -> Option<u64>
-    ensures { result ≡ used_after_of used e }
+    ensures { result ≡ spec.used_after used e }
 {
     match used {
         Some(n) => n.checked_add(u64::from(extent_length(e))),

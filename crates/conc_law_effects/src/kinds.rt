@@ -1,19 +1,20 @@
 ghost use Rattle.std.specs.Prelude.{◌≡◌, ◌<◌, ◌^◌};
 ghost use Rattle.std.specs.Option.{option_copied};
 ghost use Rattle.conc_types.specs.Words.{some_and};
-ghost use Rattle.conc_law.specs.Kinds.{act_of, closes as closes_of, extent_length as extent_length_of, is_cancel, is_command as is_command_of, is_hold, is_resume as is_resume_of, is_terminate, is_unhold, lets as lets_of, opens as opens_of, stage_begun_by as stage_begun_by_of, start_place as start_place_of, starts as starts_of, stops as stops_of, tick_of as tick_of_of};
+ghost use Rattle.conc_law.specs.Kinds as spec;
+ghost use Rattle.conc_law.specs.Kinds.{act_of, is_cancel, is_hold, is_terminate, is_unhold};
 
 use conc_types::{Act, Event, Moment, PlaceId, Plan, RequestId, numbered};
 
 pub(crate) fn is_resume(e: Event) -> bool
-    ensures { result ≡ is_resume_of e }
+    ensures { result ≡ spec.is_resume e }
 {
     matches!(e, Event::Resume)
 }
 
 /// The moment of a tick.
 pub fn tick_of(e: Event) -> Option<Moment>
-    ensures { result ≡ tick_of_of e }
+    ensures { result ≡ spec.tick_of e }
 {
     match e {
         Event::Tick { moment } => Some(moment),
@@ -22,7 +23,7 @@ pub fn tick_of(e: Event) -> Option<Moment>
 }
 
 pub(crate) fn is_command(number: u32, e: Event) -> bool
-    ensures { result ≡ is_command_of number e }
+    ensures { result ≡ spec.is_command number e }
 {
     match e {
         Event::Command { number: n } => n == number,
@@ -31,7 +32,7 @@ pub(crate) fn is_command(number: u32, e: Event) -> bool
 }
 
 pub(crate) fn opens(set: RequestId, e: Event) -> bool
-    ensures { result ≡ opens_of set e }
+    ensures { result ≡ spec.opens set e }
 {
     match e {
         Event::OpenSet { set: s } => s.number == set.number,
@@ -40,7 +41,7 @@ pub(crate) fn opens(set: RequestId, e: Event) -> bool
 }
 
 pub(crate) fn closes(set: RequestId, e: Event) -> bool
-    ensures { result ≡ closes_of set e }
+    ensures { result ≡ spec.closes set e }
 {
     match e {
         Event::CloseSet { set: s, .. } => s.number == set.number,
@@ -49,7 +50,7 @@ pub(crate) fn closes(set: RequestId, e: Event) -> bool
 }
 
 pub(crate) fn lets(r: RequestId, e: Event) -> bool
-    ensures { result ≡ lets_of r e }
+    ensures { result ≡ spec.lets r e }
 {
     match e {
         Event::LetOut { request } => request.number == r.number,
@@ -58,7 +59,7 @@ pub(crate) fn lets(r: RequestId, e: Event) -> bool
 }
 
 pub(crate) fn starts(r: RequestId, e: Event) -> bool
-    ensures { result ≡ starts_of r e }
+    ensures { result ≡ spec.starts r e }
 {
     match e {
         Event::Started { request, .. } => request.number == r.number,
@@ -67,7 +68,7 @@ pub(crate) fn starts(r: RequestId, e: Event) -> bool
 }
 
 pub(crate) fn start_place(r: RequestId, e: Event) -> Option<PlaceId>
-    ensures { result ≡ start_place_of r e }
+    ensures { result ≡ spec.start_place r e }
 {
     match e {
         Event::Started { request, place } if request.number == r.number => Some(place),
@@ -76,7 +77,7 @@ pub(crate) fn start_place(r: RequestId, e: Event) -> Option<PlaceId>
 }
 
 pub(crate) fn stops(r: RequestId, e: Event) -> bool
-    ensures { result ≡ stops_of r e }
+    ensures { result ≡ spec.stops r e }
 {
     match e {
         Event::Ended { request, .. } | Event::Interrupt { request } => request.number == r.number,
@@ -85,7 +86,7 @@ pub(crate) fn stops(r: RequestId, e: Event) -> bool
 }
 
 pub(crate) fn stage_begun_by(set: RequestId, e: Event) -> Option<u32>
-    ensures { result ≡ stage_begun_by_of set e }
+    ensures { result ≡ spec.stage_begun_by set e }
 {
     match e {
         Event::Stage { set: s, stage } if s.number == set.number => Some(stage),
@@ -94,7 +95,7 @@ pub(crate) fn stage_begun_by(set: RequestId, e: Event) -> Option<u32>
 }
 
 pub(crate) fn extent_length(e: Event) -> u32
-    ensures { result ≡ extent_length_of e }
+    ensures { result ≡ spec.extent_length e }
 {
     match e {
         Event::Ended {

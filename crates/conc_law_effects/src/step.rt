@@ -1,7 +1,7 @@
 ghost use Rattle.std.specs.Prelude.{◌≡◌};
 ghost use Rattle.conc_types.specs.Words.{some_and};
 ghost use Rattle.conc_law.specs.Words.{id_eq};
-ghost use Rattle.conc_law_effects.specs.Step.{begun_after as begun_after_of, cancelled_by as cancelled_by_of, cancels_set as cancels_set_of, entered_after as entered_after_of, facts_after as facts_after_of, held_after as held_after_of, held_by as held_by_of, idle as idle_of, let_after as let_after_of, opened_after as opened_after_of, outcome_by as outcome_by_of, place_after as place_after_of, stage_after as stage_after_of, started_after as started_after_of, terminated_after as terminated_after_of, unheld_by as unheld_by_of, unlet_by as unlet_by_of, waits_in as waits_in_of};
+ghost use Rattle.conc_law_effects.specs.Step as spec;
 
 use crate::kinds::{
     closes, is_cancel_of, is_command, is_hold_of, is_resume, is_terminate_of, is_unhold_of, lets,
@@ -13,35 +13,35 @@ use conc_types::{Event, Facts, Outcome, PlaceId, Plan, Req, RequestId, StageSet}
 // Whether the request with these facts can be held or cancelled.
 #[tactic(auto, unfolding(crate::specs::Step::idle))]
 fn is_idle(own: Facts) -> bool
-    ensures { result ≡ idle_of own }
+    ensures { result ≡ spec.idle own }
 {
     own.entered && own.place.is_none() && !own.opened && own.outcome.is_none()
 }
 
 #[tactic(auto, unfolding(crate::specs::Step::cancelled_by))]
 fn is_cancelled_by(plan: &Plan, r: &Req, e: Event, own: Facts) -> bool
-    ensures { result ≡ cancelled_by_of plan.now r.now e own }
+    ensures { result ≡ spec.cancelled_by plan.now r.now e own }
 {
     is_cancel_of(plan, r.number, e) && is_idle(own)
 }
 
 #[tactic(auto, unfolding(crate::specs::Step::held_by))]
 fn is_held_by(plan: &Plan, r: &Req, e: Event, own: Facts) -> bool
-    ensures { result ≡ held_by_of plan.now r.now e own }
+    ensures { result ≡ spec.held_by plan.now r.now e own }
 {
     is_hold_of(plan, r.number, e) && is_idle(own)
 }
 
 #[tactic(auto, unfolding(crate::specs::Step::unheld_by))]
 fn is_unheld_by(plan: &Plan, r: &Req, e: Event, own: Facts) -> bool
-    ensures { result ≡ unheld_by_of plan.now r.now e own }
+    ensures { result ≡ spec.unheld_by plan.now r.now e own }
 {
     is_unhold_of(plan, r.number, e) && own.outcome.is_none()
 }
 
 #[tactic(auto, unfolding(crate::specs::Step::cancels_set))]
 fn cancels_set(plan: &Plan, r: &Req, e: Event) -> bool
-    ensures { result ≡ cancels_set_of plan.now r.now e }
+    ensures { result ≡ spec.cancels_set plan.now r.now e }
 {
     match parent(plan, r) {
         Some(set) => is_cancel_of(plan, set.number, e),
@@ -51,7 +51,7 @@ fn cancels_set(plan: &Plan, r: &Req, e: Event) -> bool
 
 #[tactic(auto, unfolding(crate::specs::Step::waits_in))]
 fn waits_in(plan: &Plan, named: Facts, r: &Req) -> bool
-    ensures { result ≡ waits_in_of plan.now named r.now }
+    ensures { result ≡ spec.waits_in plan.now named r.now }
 {
     match parent(plan, r) {
         Some(_) => !named.begun.contains(r.stage),
@@ -70,7 +70,7 @@ fn is_member_of(r: &Req, set: RequestId) -> bool
 
 #[tactic(auto, unfolding(crate::specs::Step::outcome_by))]
 fn outcome_by(plan: &Plan, named: Facts, r: &Req, e: Event, own: Facts) -> Option<Outcome>
-    ensures { result ≡ outcome_by_of plan.now named r.now e own }
+    ensures { result ≡ spec.outcome_by plan.now named r.now e own }
 {
     match e {
         Event::Ended {
@@ -99,35 +99,35 @@ fn outcome_by(plan: &Plan, named: Facts, r: &Req, e: Event, own: Facts) -> Optio
 
 #[tactic(auto, unfolding(crate::specs::Step::entered_after))]
 fn entered_after(r: &Req, e: Event, own: Facts) -> bool
-    ensures { result ≡ entered_after_of r.now e own }
+    ensures { result ≡ spec.entered_after r.now e own }
 {
     is_command(r.command, e) || own.entered
 }
 
 #[tactic(auto, unfolding(crate::specs::Step::held_after))]
 fn held_after(plan: &Plan, r: &Req, e: Event, own: Facts) -> bool
-    ensures { result ≡ held_after_of plan.now r.now e own }
+    ensures { result ≡ spec.held_after plan.now r.now e own }
 {
     is_held_by(plan, r, e, own) || (!is_unheld_by(plan, r, e, own) && own.held)
 }
 
 #[tactic(auto, unfolding(crate::specs::Step::opened_after))]
 fn opened_after(r: &Req, e: Event, own: Facts) -> bool
-    ensures { result ≡ opened_after_of r.now e own }
+    ensures { result ≡ spec.opened_after r.now e own }
 {
     (is_set(r.item) && opens(r.number, e)) || (!closes(r.number, e) && own.opened)
 }
 
 #[tactic(auto, unfolding(crate::specs::Step::stage_after))]
 fn stage_after(r: &Req, e: Event, own: Facts) -> Option<u32>
-    ensures { result ≡ stage_after_of r.now e own }
+    ensures { result ≡ spec.stage_after r.now e own }
 {
     stage_begun_by(r.number, e).or(own.stage)
 }
 
 #[tactic(auto, unfolding(crate::specs::Step::begun_after))]
 fn begun_after(r: &Req, e: Event, own: Facts) -> StageSet
-    ensures { result.bits ≡ begun_after_of r.now e own }
+    ensures { result.bits ≡ spec.begun_after r.now e own }
 {
     match stage_begun_by(r.number, e) {
         Some(stage) => own.begun.with(stage),
@@ -137,21 +137,21 @@ fn begun_after(r: &Req, e: Event, own: Facts) -> StageSet
 
 #[tactic(auto, unfolding(crate::specs::Step::unlet_by))]
 fn is_unlet_by(plan: &Plan, r: &Req, e: Event, own: Facts) -> bool
-    ensures { result ≡ unlet_by_of plan.now r.now e own }
+    ensures { result ≡ spec.unlet_by plan.now r.now e own }
 {
     stops(r.number, e) || is_held_by(plan, r, e, own) || is_cancelled_by(plan, r, e, own)
 }
 
 #[tactic(auto, unfolding(crate::specs::Step::let_after))]
 fn let_after(plan: &Plan, r: &Req, e: Event, own: Facts) -> bool
-    ensures { result ≡ let_after_of plan.now r.now e own }
+    ensures { result ≡ spec.let_after plan.now r.now e own }
 {
     lets(r.number, e) || (!is_unlet_by(plan, r, e, own) && own.let_out)
 }
 
 #[tactic(auto, unfolding(crate::specs::Step::place_after))]
 fn place_after(r: &Req, e: Event, own: Facts) -> Option<PlaceId>
-    ensures { result ≡ place_after_of r.now e own }
+    ensures { result ≡ spec.place_after r.now e own }
 {
     let kept = if stops(r.number, e) { None } else { own.place };
     start_place(r.number, e).or(kept)
@@ -159,14 +159,14 @@ fn place_after(r: &Req, e: Event, own: Facts) -> Option<PlaceId>
 
 #[tactic(auto, unfolding(crate::specs::Step::started_after))]
 fn started_after(r: &Req, e: Event, own: Facts) -> bool
-    ensures { result ≡ started_after_of r.now e own }
+    ensures { result ≡ spec.started_after r.now e own }
 {
     !is_resume(e) && (starts(r.number, e) || own.started)
 }
 
 #[tactic(auto, unfolding(crate::specs::Step::terminated_after))]
 fn terminated_after(plan: &Plan, r: &Req, e: Event, own: Facts) -> bool
-    ensures { result ≡ terminated_after_of plan.now r.now e own }
+    ensures { result ≡ spec.terminated_after plan.now r.now e own }
 {
     (is_terminate_of(plan, r.number, e) && own.place.is_some())
         || (!starts(r.number, e) && own.terminated)
@@ -176,7 +176,7 @@ fn terminated_after(plan: &Plan, r: &Req, e: Event, own: Facts) -> bool
 /// close names, before the event.
 #[tactic(auto, unfolding(crate::specs::Step::facts_after))]
 pub fn facts_after(plan: &Plan, named: Facts, e: Event, r: &Req, own: Facts) -> Facts
-    ensures { result ≡ facts_after_of plan.now named e r.now own }
+    ensures { result ≡ spec.facts_after plan.now named e r.now own }
 {
     Facts {
         entered: entered_after(r, e, own),

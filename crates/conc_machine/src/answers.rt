@@ -5,14 +5,16 @@ ghost use Rattle.conc_types.specs.declared.event.Event.{Event};
 ghost use Rattle.conc_types.specs.declared.event.Event.TheVariants as event;
 ghost use Rattle.conc_types.specs.declared.event.RequestId.{RequestId};
 ghost use Rattle.conc_types.specs.declared.event.PlaceId.{PlaceId};
-ghost use Rattle.conc_types.specs.Plans.{request as request_of};
+ghost use Rattle.conc_types.specs.Plans as plans_spec;
 ghost use Rattle.conc_types.specs.Words.{some_and};
-ghost use Rattle.conc_law.specs.Alone.{first_start as first_start_of};
+ghost use Rattle.conc_law.specs.Alone as alone_spec;
 ghost use Rattle.conc_law.specs.Law.{may_follow};
-ghost use Rattle.conc_law.specs.Next.{forced as forced_of, is_at_rest as is_at_rest_of, may_start as may_start_of, may_take as may_take_of, runs_somewhere};
-ghost use Rattle.conc_law.specs.Places.{is_usable as is_usable_of};
-ghost use Rattle.conc_law.specs.Readings.{next_reading as next_reading_of};
-ghost use Rattle.conc_law.specs.State.{facts_at as facts_at_of, is_stopping, now, state};
+ghost use Rattle.conc_law.specs.Next as next_spec;
+ghost use Rattle.conc_law.specs.Next.{runs_somewhere};
+ghost use Rattle.conc_law.specs.Places as places_spec;
+ghost use Rattle.conc_law.specs.Readings as readings_spec;
+ghost use Rattle.conc_law.specs.State as state_spec;
+ghost use Rattle.conc_law.specs.State.{is_stopping, now, state};
 ghost use Rattle.conc_law.specs.Status.{status_of};
 ghost use Rattle.conc_machine.specs.StandsFor.{plan_of, readings_of, StandsFor};
 
@@ -26,7 +28,7 @@ use conc_types::{Event, Phase, PlaceId, Reading, RequestId, Status};
 impl<'p> Machine<'p> {
     // The next reading of this life, where its readings are known.
     fn known_next(&self) -> Option<Option<Reading>>
-        ensures { (past : List Event) → StandsFor self.now past → result ≡ option_map (λ readings. next_reading_of readings past) (readings_of self.now) }
+        ensures { (past : List Event) → StandsFor self.now past → result ≡ option_map (λ readings. readings_spec.next_reading readings past) (readings_of self.now) }
     {
         match &self.life {
             Some(life) => Some(life.next_reading()),
@@ -43,7 +45,7 @@ impl<'p> Machine<'p> {
 
     /// The event that is forced, if one is due.
     pub fn forced(&self) -> Option<Event>
-        ensures { (past : List Event) → StandsFor self.now past → result ≡ forced_of (plan_of self.now) (state (plan_of self.now) past) }
+        ensures { (past : List Event) → StandsFor self.now past → result ≡ next_spec.forced (plan_of self.now) (state (plan_of self.now) past) }
     {
         forced(self.plan, &self.indexes)
     }
@@ -51,7 +53,7 @@ impl<'p> Machine<'p> {
     /// Whether a request may start at a place, where nothing is forced.
     pub fn may_start(&self, request: RequestId, place: PlaceId) -> bool
         ensures { (past : List Event) → StandsFor self.now past →
-            result ≡ some_and (λ r. may_start_of (plan_of self.now) (state (plan_of self.now) past) r place) (request_of (plan_of self.now) request) }
+            result ≡ some_and (λ r. next_spec.may_start (plan_of self.now) (state (plan_of self.now) past) r place) (plans_spec.request (plan_of self.now) request) }
     {
         may_start(self.plan, &self.indexes, request, place)
     }
@@ -59,7 +61,7 @@ impl<'p> Machine<'p> {
     /// The first let request in precedence that has an allowed place, with the first such place.
     pub fn first_start(&self) -> Option<(RequestId, PlaceId)>
         ensures { (past : List Event) → StandsFor self.now past →
-            option_map (λ (start : RequestId × PlaceId). event.Started start.0 start.1) result ≡ first_start_of (plan_of self.now) (state (plan_of self.now) past) }
+            option_map (λ (start : RequestId × PlaceId). event.Started start.0 start.1) result ≡ alone_spec.first_start (plan_of self.now) (state (plan_of self.now) past) }
     {
         self.indexes.starts.first_start(self.plan, &self.indexes.state)
     }
@@ -77,7 +79,7 @@ impl<'p> Machine<'p> {
 
     /// The next reading of this life, if one is left. Without readings there is none.
     pub fn next_reading(&self) -> Option<Reading>
-        ensures { (past : List Event) → StandsFor self.now past → result ≡ option_and_then (λ readings. next_reading_of readings past) (readings_of self.now) }
+        ensures { (past : List Event) → StandsFor self.now past → result ≡ option_and_then (λ readings. readings_spec.next_reading readings past) (readings_of self.now) }
     {
         match &self.life {
             Some(life) => life.next_reading(),
@@ -88,7 +90,7 @@ impl<'p> Machine<'p> {
     /// Whether the next reading may be taken: one is left, and it is early or the system is at rest.
     pub fn may_tick(&self) -> bool
         ensures { (past : List Event) → StandsFor self.now past →
-            result ≡ some_and (may_take_of (plan_of self.now) (state (plan_of self.now) past)) (option_and_then (λ readings. next_reading_of readings past) (readings_of self.now)) }
+            result ≡ some_and (next_spec.may_take (plan_of self.now) (state (plan_of self.now) past)) (option_and_then (λ readings. readings_spec.next_reading readings past) (readings_of self.now)) }
     {
         match self.next_reading() {
             Some(reading) => may_take(self.plan, &self.indexes, reading),
@@ -98,7 +100,7 @@ impl<'p> Machine<'p> {
 
     /// Whether the system is at rest: nothing is forced, no request runs, and none may start.
     pub fn at_rest(&self) -> bool
-        ensures { (past : List Event) → StandsFor self.now past → result ≡ is_at_rest_of (plan_of self.now) (state (plan_of self.now) past) }
+        ensures { (past : List Event) → StandsFor self.now past → result ≡ next_spec.is_at_rest (plan_of self.now) (state (plan_of self.now) past) }
     {
         is_at_rest(self.plan, &self.indexes)
     }
@@ -112,7 +114,7 @@ impl<'p> Machine<'p> {
 
     /// Whether a place may be used at the last tick. Before the first tick none may.
     pub fn usable(&self, place: PlaceId) -> bool
-        ensures { (past : List Event) → StandsFor self.now past → result ≡ some_and (λ t. is_usable_of (plan_of self.now) t place) (now past) }
+        ensures { (past : List Event) → StandsFor self.now past → result ≡ some_and (λ t. places_spec.is_usable (plan_of self.now) t place) (now past) }
     {
         match self.indexes.state.time {
             Some(t) => is_usable(self.plan, t, place),
@@ -123,7 +125,7 @@ impl<'p> Machine<'p> {
     /// Whether a request has to stop: it runs, and was terminated.
     pub fn must_stop(&self, request: RequestId) -> bool
         ensures { (past : List Event) → StandsFor self.now past →
-            result ≡ some_and (λ r. is_stopping (facts_at_of (state (plan_of self.now) past) r)) (request_of (plan_of self.now) request) }
+            result ≡ some_and (λ r. is_stopping (state_spec.facts_at (state (plan_of self.now) past) r)) (plans_spec.request (plan_of self.now) request) }
     {
         match self.plan.request(request) {
             Some(r) => {
@@ -137,7 +139,7 @@ impl<'p> Machine<'p> {
     /// The phase and status of a request; None exactly where it is not submitted.
     pub fn status(&self, request: RequestId) -> Option<(Phase, Status)>
         ensures { (past : List Event) → StandsFor self.now past →
-            result ≡ option_and_then (status_of (plan_of self.now) (state (plan_of self.now) past)) (request_of (plan_of self.now) request) }
+            result ≡ option_and_then (status_of (plan_of self.now) (state (plan_of self.now) past)) (plans_spec.request (plan_of self.now) request) }
     {
         match self.plan.request(request) {
             Some(r) => status(self.plan, &self.indexes.state, r),

@@ -3,8 +3,8 @@ ghost use Rattle.std.specs.List.{list_all};
 ghost use Rattle.std.specs.Bool.{then_some};
 ghost use Rattle.std.specs.Option.{option_and_then};
 ghost use Rattle.conc_types.specs.declared.event.Event.TheVariants.{Command as command};
-ghost use Rattle.conc_law.specs.Next.{forced_command as forced_command_of, is_due as is_due_of};
-ghost use Rattle.conc_machine.specs.Indexes.{first_undone as first_undone_of};
+ghost use Rattle.conc_law.specs.Next as next_spec;
+ghost use Rattle.conc_machine.specs.Indexes as indexes_spec;
 
 use conc_law_decisions::is_due;
 use conc_types::{Event, Plan, State};
@@ -13,7 +13,7 @@ use conc_types::{Event, Plan, State};
 pub(crate) fn first_undone(done: &[bool], from: usize) -> usize
     requires before { IsTrue (list_all (λ d. d) (take from done.now)) }
     requires inside { from ≤ length done.now }
-    ensures { result ≡ first_undone_of done.now }
+    ensures { result ≡ indexes_spec.first_undone done.now }
 {
     let mut next = from;
     while next < done.len() && done[next] {
@@ -24,7 +24,7 @@ pub(crate) fn first_undone(done: &[bool], from: usize) -> usize
 
 // The command at a place, from 0, if it is due.
 fn due_at(plan: &Plan, state: &State, place: usize) -> Option<Event>
-    ensures { result ≡ option_and_then (λ order. then_some (is_due_of state.now (place + 1, order)) (command (place + 1))) (slice_get plan.now.script.commands place) }
+    ensures { result ≡ option_and_then (λ order. then_some (next_spec.is_due state.now (place + 1, order)) (command (place + 1))) (slice_get plan.now.script.commands place) }
 {
     let order = plan.script.commands.as_slice().get(place)?;
     let number = place as u32 + 1;
@@ -38,8 +38,8 @@ fn due_at(plan: &Plan, state: &State, place: usize) -> Option<Event>
 /// The first command that is due, where the first that is not done stands at a place.
 pub(crate) fn forced_command(plan: &Plan, state: &State, next: usize) -> Option<Event>
     requires flags { length state.now.done ≡ length plan.now.script.commands }
-    requires next { next ≡ first_undone_of state.now.done }
-    ensures { result ≡ forced_command_of plan.now state.now }
+    requires next { next ≡ indexes_spec.first_undone state.now.done }
+    ensures { result ≡ next_spec.forced_command plan.now state.now }
 {
     due_at(plan, state, next)
 }

@@ -1,5 +1,5 @@
 ghost use Rattle.std.specs.Prelude.{◌≡◌};
-ghost use Rattle.conc_law.specs.Next.{forced as forced_of};
+ghost use Rattle.conc_law.specs.Next as spec;
 ghost use Rattle.conc_machine.specs.Indexes.{AreIndexes};
 
 use crate::commands::forced_command;
@@ -10,7 +10,7 @@ use conc_types::{Event, Plan};
 #[tactic(auto, unfolding(conc_law::specs::Next::forced))]
 pub(crate) fn forced(plan: &Plan, indexes: &Indexes) -> Option<Event>
     requires { AreIndexes plan.now indexes.now }
-    ensures { result ≡ forced_of plan.now indexes.now.state }
+    ensures { result ≡ spec.forced plan.now indexes.now.state }
 {
     if let Some(e) = indexes.running.forced_interrupt(plan, &indexes.state) {
         return Some(e);

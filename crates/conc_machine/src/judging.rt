@@ -1,8 +1,9 @@
 ghost use Rattle.std.specs.Prelude.{◌≡◌, not};
 ghost use Rattle.std.specs.List.{list_any};
-ghost use Rattle.conc_types.specs.Plans.{request as request_of};
+ghost use Rattle.conc_types.specs.Plans as plans_spec;
 ghost use Rattle.conc_types.specs.Words.{some_and};
-ghost use Rattle.conc_law.specs.Next.{is_allowed as is_allowed_of, is_at_rest as is_at_rest_of, may_come as may_come_of, may_start as may_start_of, may_start_somewhere, may_take as may_take_of, may_tick as may_tick_of, runs_somewhere};
+ghost use Rattle.conc_law.specs.Next as next_spec;
+ghost use Rattle.conc_law.specs.Next.{may_start_somewhere, runs_somewhere};
 ghost use Rattle.conc_machine.specs.Indexes.{AreIndexes};
 
 use crate::forcing::forced;
@@ -30,7 +31,7 @@ fn none_may_start(plan: &Plan, indexes: &Indexes) -> bool
 #[tactic(auto, unfolding(conc_law::specs::Next::is_at_rest))]
 pub(crate) fn is_at_rest(plan: &Plan, indexes: &Indexes) -> bool
     requires { AreIndexes plan.now indexes.now }
-    ensures { result ≡ is_at_rest_of plan.now indexes.now.state }
+    ensures { result ≡ next_spec.is_at_rest plan.now indexes.now.state }
 {
     forced(plan, indexes).is_none() && none_runs(plan, indexes) && none_may_start(plan, indexes)
 }
@@ -39,7 +40,7 @@ pub(crate) fn is_at_rest(plan: &Plan, indexes: &Indexes) -> bool
 #[tactic(auto, unfolding(conc_law::specs::Next::may_take))]
 pub(crate) fn may_take(plan: &Plan, indexes: &Indexes, reading: Reading) -> bool
     requires { AreIndexes plan.now indexes.now }
-    ensures { result ≡ may_take_of plan.now indexes.now.state reading }
+    ensures { result ≡ next_spec.may_take plan.now indexes.now.state reading }
 {
     reading.early || is_at_rest(plan, indexes)
 }
@@ -49,7 +50,7 @@ pub(crate) fn may_take(plan: &Plan, indexes: &Indexes, reading: Reading) -> bool
 #[tactic(auto, unfolding(conc_law::specs::Next::may_tick))]
 fn may_tick(plan: &Plan, indexes: &Indexes, next: Option<Option<Reading>>, t: Moment) -> bool
     requires { AreIndexes plan.now indexes.now }
-    ensures { result ≡ may_tick_of plan.now indexes.now.state next t }
+    ensures { result ≡ next_spec.may_tick plan.now indexes.now.state next t }
 {
     match next {
         Some(Some(reading)) => {
@@ -63,7 +64,7 @@ fn may_tick(plan: &Plan, indexes: &Indexes, next: Option<Option<Reading>>, t: Mo
 /// Whether the request with this number may start at a place.
 pub(crate) fn may_start(plan: &Plan, indexes: &Indexes, id: RequestId, place: PlaceId) -> bool
     requires { AreIndexes plan.now indexes.now }
-    ensures { result ≡ some_and (λ q. may_start_of plan.now indexes.now.state q place) (request_of plan.now id) }
+    ensures { result ≡ some_and (λ q. next_spec.may_start plan.now indexes.now.state q place) (plans_spec.request plan.now id) }
 {
     match plan.request(id) {
         Some(r) => indexes.starts.may_start(plan, &indexes.state, r, place),
@@ -74,7 +75,7 @@ pub(crate) fn may_start(plan: &Plan, indexes: &Indexes, id: RequestId, place: Pl
 #[tactic(auto, unfolding(conc_law::specs::Next::is_allowed))]
 fn is_allowed(plan: &Plan, indexes: &Indexes, next: Option<Option<Reading>>, e: Event) -> bool
     requires { AreIndexes plan.now indexes.now }
-    ensures { result ≡ is_allowed_of plan.now indexes.now.state next e }
+    ensures { result ≡ next_spec.is_allowed plan.now indexes.now.state next e }
 {
     match e {
         Event::Started { request, place } => may_start(plan, indexes, request, place),
@@ -93,7 +94,7 @@ fn is_allowed(plan: &Plan, indexes: &Indexes, next: Option<Option<Reading>>, e: 
 #[tactic(auto, unfolding(conc_law::specs::Next::may_come))]
 pub(crate) fn may_come(plan: &Plan, indexes: &Indexes, next: Option<Option<Reading>>, e: Event) -> bool
     requires { AreIndexes plan.now indexes.now }
-    ensures { result ≡ may_come_of plan.now indexes.now.state next e }
+    ensures { result ≡ next_spec.may_come plan.now indexes.now.state next e }
 {
     if is_resume(e) {
         return !indexes.state.empty;

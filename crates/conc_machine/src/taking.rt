@@ -1,6 +1,7 @@
 ghost use Rattle.std.specs.Prelude.{◌≡◌};
 ghost use Rattle.conc_law_effects.specs.Advance.{IsAfter};
-ghost use Rattle.conc_machine.specs.Indexes.{AreIndexes, AreParts, first_undone as first_undone_of};
+ghost use Rattle.conc_machine.specs.Indexes as spec;
+ghost use Rattle.conc_machine.specs.Indexes.{AreIndexes, AreParts};
 ghost use Rattle.conc_machine.specs.Taken.{HasCommand, HasTick};
 
 use crate::commands::first_undone;
@@ -11,7 +12,7 @@ use conc_types::{Event, Plan};
 
 // Takes in the command of an event, if it is one.
 fn take_command(indexes: &mut Indexes, e: Event)
-    requires { indexes.old.next_command ≡ first_undone_of indexes.old.state.done }
+    requires { indexes.old.next_command ≡ spec.first_undone indexes.old.state.done }
     ensures { HasCommand indexes.old indexes.new e }
 {
     mark_done(&mut indexes.state.done, e);

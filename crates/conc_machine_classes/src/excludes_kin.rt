@@ -1,12 +1,13 @@
 ghost use Rattle.std.specs.Prelude.{◌≡◌, [], IfOk, slice_get, slice_set, true, unwrap_or};
-ghost use Rattle.conc_machine_classes.specs.ExcludesKin.{AreKinMarked, MarksKin, are_row_rivals, parent_class as parent_class_of, rival_parent as rival_parent_of};
+ghost use Rattle.conc_machine_classes.specs.ExcludesKin as spec;
+ghost use Rattle.conc_machine_classes.specs.ExcludesKin.{AreKinMarked, MarksKin, are_row_rivals};
 
 use conc_types::{NoMemory, Plan, Req, RequestId, Seq, numbered};
 use std::alloc::Global;
 
 #[tactic(auto, unfolding(crate::specs::ExcludesKin::parent_class))]
 fn parent_class(classes: &[u32], r: &Req) -> Option<u32>
-    ensures { result ≡ parent_class_of classes.now r.now }
+    ensures { result ≡ spec.parent_class classes.now r.now }
 {
     match r.parent {
         Some(id) => numbered(classes, id.number).copied(),
@@ -33,7 +34,7 @@ fn are_rivals(rows: &[Seq<u32>], c: u32, d: u32) -> bool
 // The class of a request's parent, if it excludes the request's own class.
 #[tactic(auto, unfolding(crate::specs::ExcludesKin::rival_parent))]
 fn rival_parent(classes: &[u32], rows: &[Seq<u32>], r: &Req, class: u32) -> Option<u32>
-    ensures { result ≡ rival_parent_of classes.now rows.now r.now class }
+    ensures { result ≡ spec.rival_parent classes.now rows.now r.now class }
 {
     match parent_class(classes, r) {
         Some(parent) => {

@@ -1,5 +1,6 @@
 ghost use Rattle.std.specs.Prelude.{◌≡◌, Some, slice_get};
-ghost use Rattle.conc_machine_classes.specs.Kinds.{domain_at, kind_at, kind_eq, kind_of, one_domain as one_domain_of, parent_eq};
+ghost use Rattle.conc_machine_classes.specs.Kinds as spec;
+ghost use Rattle.conc_machine_classes.specs.Kinds.{domain_at, kind_at, kind_eq, kind_of, parent_eq};
 
 use conc_rules::{is_same_item, parent_item};
 use conc_types::{Item, Plan, Req};
@@ -36,7 +37,7 @@ fn domain(plan: &Plan, index: u32) -> &[u8]
 
 #[tactic(auto, unfolding(crate::specs::Kinds::kind_at, crate::specs::Kinds::one_domain))]
 pub(crate) fn are_in_one_domain(plan: &Plan, a: Head, b: Head) -> bool
-    ensures { result ≡ one_domain_of (kind_at plan.now a) (kind_at plan.now b) }
+    ensures { result ≡ spec.one_domain (kind_at plan.now a) (kind_at plan.now b) }
 {
     domain(plan, a.first) == domain(plan, b.first)
 }

@@ -1,7 +1,9 @@
 ghost use Rattle.std.specs.Prelude.{◌≡◌, ◌≤◌, ◌&&◌, IfOk, length};
 ghost use Rattle.std.specs.List.{filter, list_any};
-ghost use Rattle.conc_machine_classes.specs.Kinds.{covers_item, owns as owns_of, reaches as reaches_of};
-ghost use Rattle.conc_machine_classes.specs.Rivals.{IsClaim, claimed_by, claims as claims_of, either_claims as either_claims_of, heads_clash as heads_clash_of, row_of, rows_of};
+ghost use Rattle.conc_machine_classes.specs.Kinds as kinds_spec;
+ghost use Rattle.conc_machine_classes.specs.Kinds.{covers_item};
+ghost use Rattle.conc_machine_classes.specs.Rivals as rivals_spec;
+ghost use Rattle.conc_machine_classes.specs.Rivals.{IsClaim, claimed_by, row_of, rows_of};
 
 use crate::kinds::{Head, are_in_one_domain};
 use conc_rules::{is_same_item, runs_alone};
@@ -22,7 +24,7 @@ struct Claim {
 
 #[tactic(auto, unfolding(crate::specs::Kinds::owns))]
 fn owns(item: Item, entry: Entry) -> bool
-    ensures { result ≡ owns_of item entry }
+    ensures { result ≡ kinds_spec.owns item entry }
 {
     is_same_item(entry.owner, item)
 }
@@ -42,13 +44,13 @@ fn covers(item: Item, parent: Option<Item>, entry: Entry) -> bool
 
 #[tactic(auto, unfolding(crate::specs::Kinds::reaches))]
 fn reaches(same_domain: bool, entry: Entry) -> bool
-    ensures { result ≡ reaches_of same_domain entry }
+    ensures { result ≡ kinds_spec.reaches same_domain entry }
 {
     matches!(entry.reach, Reach::Global) || same_domain
 }
 
 fn entries_of(alloc: Global, entries: &[Entry], item: Item) -> Result<Vec<Entry>, NoMemory>
-    ensures { IfOk result (λ all. all.items ≡ filter (owns_of item) entries.now) }
+    ensures { IfOk result (λ all. all.items ≡ filter (kinds_spec.owns item) entries.now) }
 {
     Ok(
         entries
@@ -84,7 +86,7 @@ fn claim_of(alloc: Global, plan: &Plan, head: Head) -> Result<Claim, NoMemory>
 }
 
 fn some_covers(owned: &[Entry], other: Head, same_domain: bool) -> bool
-    ensures { result ≡ list_any (λ entry. covers_item other.item other.parent entry && reaches_of same_domain entry) owned.now }
+    ensures { result ≡ list_any (λ entry. covers_item other.item other.parent entry && kinds_spec.reaches same_domain entry) owned.now }
 {
     owned.iter().any(|entry| {
         covers(other.item, other.parent, *entry) && reaches(same_domain, *entry)
@@ -92,14 +94,14 @@ fn some_covers(owned: &[Entry], other: Head, same_domain: bool) -> bool
 }
 
 fn some_is_owned(covering: &[Entry], other: Head, same_domain: bool) -> bool
-    ensures { result ≡ list_any (λ entry. owns_of other.item entry && reaches_of same_domain entry) covering.now }
+    ensures { result ≡ list_any (λ entry. kinds_spec.owns other.item entry && kinds_spec.reaches same_domain entry) covering.now }
 {
     covering.iter().any(|entry| owns(other.item, *entry) && reaches(same_domain, *entry))
 }
 
 #[tactic(auto, unfolding(crate::specs::Rivals::claims))]
 fn claims(claim: &Claim, other: Head, same_domain: bool) -> bool
-    ensures { result ≡ claims_of claim.now other same_domain }
+    ensures { result ≡ rivals_spec.claims claim.now other same_domain }
 {
     some_covers(claim.owned.as_slice(), other, same_domain) || (claim.alone && same_domain)
 }
@@ -114,7 +116,7 @@ fn is_claimed_by(plan: &Plan, claim: &Claim, other: Head, same_domain: bool) -> 
 
 #[tactic(auto, unfolding(crate::specs::Rivals::either_claims))]
 fn either_claims(plan: &Plan, claim: &Claim, other: Head, same_domain: bool) -> bool
-    ensures { result ≡ either_claims_of plan.now claim.now other same_domain }
+    ensures { result ≡ rivals_spec.either_claims plan.now claim.now other same_domain }
 {
     claims(claim, other, same_domain) || is_claimed_by(plan, claim, other, same_domain)
 }
@@ -122,7 +124,7 @@ fn either_claims(plan: &Plan, claim: &Claim, other: Head, same_domain: bool) -> 
 // Whether requests of two classes exclude each other, unless they are one or kin.
 fn clashes(plan: &Plan, claim: &Claim, other: Head) -> bool
     requires { IsClaim plan.now claim.now.head claim.now }
-    ensures { result ≡ heads_clash_of plan.now claim.now.head other }
+    ensures { result ≡ rivals_spec.heads_clash plan.now claim.now.head other }
 {
     let same_domain = are_in_one_domain(plan, claim.head, other);
     either_claims(plan, claim, other, same_domain)

@@ -1,5 +1,6 @@
 ghost use Rattle.std.specs.Prelude.{◌≡◌, ◌↔◌, ◌+◌, ◌*◌, ◌/◌, ◌<◌, [], IfOk, IsTrue, true, drop, length, slice_set};
-ghost use Rattle.conc_machine_queue.specs.Least.{least as least_of, lesser as lesser_of, vacant};
+ghost use Rattle.conc_machine_queue.specs.Least as spec;
+ghost use Rattle.conc_machine_queue.specs.Least.{vacant};
 ghost use Rattle.conc_machine_queue.specs.Tournament.{IsTournament, IsTournamentBut, played};
 
 use conc_types::NoMemory;
@@ -57,7 +58,7 @@ impl Queue {
     /// The least key. It takes the same time at any number of slots.
     #[tactic(auto, using(crate::proofs::Tournaments::first_least, crate::proofs::Tournaments::none_least))]
     pub fn least(&self) -> Option<u64>
-        ensures { result ≡ least_of self.now }
+        ensures { result ≡ spec.least self.now }
     {
         if self.slots == 0 {
             return None;
@@ -83,7 +84,7 @@ impl Queue {
 
 /// The lesser of two keys, where both are there, and else the one that is.
 pub fn lesser(a: Option<u64>, b: Option<u64>) -> Option<u64>
-    ensures { result ≡ lesser_of a b }
+    ensures { result ≡ spec.lesser a b }
 {
     match (a, b) {
         (None, _) => b,

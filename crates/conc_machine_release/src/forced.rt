@@ -2,11 +2,12 @@ ghost use Rattle.std.specs.Prelude.{◌≡◌};
 ghost use Rattle.std.specs.Bool.{then_some};
 ghost use Rattle.std.specs.Option.{option_and_then, option_map};
 ghost use Rattle.conc_types.specs.Words.{some_and};
-ghost use Rattle.conc_law.specs.Next.{let_event as let_event_of};
-ghost use Rattle.conc_machine_queue.specs.Least.{least as least_of};
-ghost use Rattle.conc_machine_queue.specs.Turns.{request_at_turn as request_at_turn_of, turn as turn_of, turns_of};
+ghost use Rattle.conc_law.specs.Next as next_spec;
+ghost use Rattle.conc_machine_queue.specs.Least as least_spec;
+ghost use Rattle.conc_machine_queue.specs.Turns as turns_spec;
+ghost use Rattle.conc_machine_queue.specs.Turns.{turns_of};
 ghost use Rattle.conc_machine_reach.specs.Spans.{AreSpans};
-ghost use Rattle.conc_machine_release.specs.Forced.{has_only_kin_rivals as has_only_kin_rivals_of};
+ghost use Rattle.conc_machine_release.specs.Forced as forced_spec;
 
 use crate::kin::{live_members, live_parents};
 use conc_law_decisions::{is_ready, let_event};
@@ -27,7 +28,7 @@ fn has_only_kin_rivals(
     r: &Req,
 ) -> bool
     requires { AreSpans plan.now spans.now }
-    ensures { result ≡ has_only_kin_rivals_of plan.now classes.now state.now class rivals r.now }
+    ensures { result ≡ forced_spec.has_only_kin_rivals plan.now classes.now state.now class rivals r.now }
 {
     classes.class(r) == class
         && is_ready(plan, state, r)
@@ -46,7 +47,7 @@ fn turn_if_only_kin_rivals(
     r: &Req,
 ) -> Option<u64>
     requires { AreSpans plan.now spans.now }
-    ensures { result ≡ then_some (has_only_kin_rivals_of plan.now classes.now state.now class rivals r.now) (turn_of r.now) }
+    ensures { result ≡ then_some (forced_spec.has_only_kin_rivals plan.now classes.now state.now class rivals r.now) (turns_spec.turn r.now) }
 {
     has_only_kin_rivals(plan, classes, spans, state, class, rivals, r).then_some(turn(r))
 }
@@ -62,7 +63,7 @@ pub(crate) fn has_turn_only_kin_rivals(
     turn: u64,
 ) -> bool
     requires { AreSpans plan.now spans.now }
-    ensures { result ≡ some_and (has_only_kin_rivals_of plan.now classes.now state.now class rivals) (request_at_turn_of plan.now turn) }
+    ensures { result ≡ some_and (forced_spec.has_only_kin_rivals plan.now classes.now state.now class rivals) (turns_spec.request_at_turn plan.now turn) }
 {
     match request_at_turn(plan, turn) {
         Some(r) => has_only_kin_rivals(plan, classes, spans, state, class, rivals, r),
@@ -80,7 +81,7 @@ pub(crate) fn least_with_only_kin_rivals(
     rivals: u32,
 ) -> Option<u64>
     requires { AreSpans plan.now spans.now }
-    ensures { result ≡ least_of (turns_of (has_only_kin_rivals_of plan.now classes.now state.now class rivals) plan.now.requests) }
+    ensures { result ≡ least_spec.least (turns_of (forced_spec.has_only_kin_rivals plan.now classes.now state.now class rivals) plan.now.requests) }
 {
     let mut best = None;
     for r in plan.requests.as_slice() {
@@ -94,7 +95,7 @@ pub(crate) fn least_with_only_kin_rivals(
 
 /// The let, or open, of the request that has this turn.
 pub(crate) fn event_at(plan: &Plan, turn: Option<u64>) -> Option<Event>
-    ensures { result ≡ option_map let_event_of (option_and_then (request_at_turn_of plan.now) turn) }
+    ensures { result ≡ option_map next_spec.let_event (option_and_then (turns_spec.request_at_turn plan.now) turn) }
 {
     match turn {
         Some(turn) => match request_at_turn(plan, turn) {

@@ -1,8 +1,8 @@
 ghost use Rattle.std.specs.Prelude.{◌≡◌, ◌≤◌, length};
-ghost use Rattle.conc_machine_classes.specs.Classes.{are_rivals as are_rivals_of};
+ghost use Rattle.conc_machine_classes.specs.Classes as classes_spec;
 ghost use Rattle.conc_machine_reach.specs.Spans.{AreSpans};
-ghost use Rattle.conc_machine_release.specs.Forced.{is_child as is_child_of, is_live_member as is_live_member_of, is_live_outside as is_live_outside_of, live_members as live_members_of, live_parents as live_parents_of};
-ghost use Rattle.conc_machine_release.specs.Lets.{is_live_rival as is_live_rival_of};
+ghost use Rattle.conc_machine_release.specs.Forced as forced_spec;
+ghost use Rattle.conc_machine_release.specs.Lets as lets_spec;
 
 use conc_law_decisions::{facts_at, is_live};
 use conc_machine_classes::Classes;
@@ -12,20 +12,20 @@ use conc_types::{Plan, Req, RequestId, State};
 
 #[tactic(auto, unfolding(conc_machine_classes::specs::Classes::are_rivals))]
 fn are_rivals(classes: &Classes, a: u32, b: u32) -> bool
-    ensures { result ≡ are_rivals_of classes.now a b }
+    ensures { result ≡ classes_spec.are_rivals classes.now a b }
 {
     classes.rivals(a).iter().any(|x| *x == b)
 }
 
 #[tactic(auto, unfolding(crate::specs::Lets::is_live_rival))]
 fn is_live_rival(classes: &Classes, state: &State, class: u32, q: &Req) -> bool
-    ensures { result ≡ is_live_rival_of classes.now state.now class q.now }
+    ensures { result ≡ lets_spec.is_live_rival classes.now state.now class q.now }
 {
     is_live(facts_at(state, q)) && are_rivals(classes, classes.class(q), class)
 }
 
 fn is_child(set: RequestId, q: &Req) -> bool
-    ensures { result ≡ is_child_of set q.now }
+    ensures { result ≡ forced_spec.is_child set q.now }
 {
     match q.parent {
         Some(parent) => set.number == parent.number,
@@ -35,14 +35,14 @@ fn is_child(set: RequestId, q: &Req) -> bool
 
 #[tactic(auto, unfolding(crate::specs::Forced::is_live_member))]
 fn is_live_member(classes: &Classes, state: &State, class: u32, r: &Req, q: &Req) -> bool
-    ensures { result ≡ is_live_member_of classes.now state.now class r.now q.now }
+    ensures { result ≡ forced_spec.is_live_member classes.now state.now class r.now q.now }
 {
     is_live_rival(classes, state, class, q) && is_child(r.number, q)
 }
 
 #[tactic(auto, unfolding(crate::specs::Forced::is_live_outside))]
 fn is_live_outside(classes: &Classes, state: &State, class: u32, r: &Req, q: &Req) -> bool
-    ensures { result ≡ is_live_outside_of classes.now state.now class r.now q.now }
+    ensures { result ≡ forced_spec.is_live_outside classes.now state.now class r.now q.now }
 {
     is_live_rival(classes, state, class, q) && !is_child(r.number, q)
 }
@@ -58,7 +58,7 @@ pub(crate) fn live_members(
     r: &Req,
 ) -> usize
     requires { AreSpans plan.now spans.now }
-    ensures exact { result ≡ live_members_of plan.now classes.now state.now class r.now }
+    ensures exact { result ≡ forced_spec.live_members plan.now classes.now state.now class r.now }
     ensures few { result ≤ length plan.now.requests }
 {
     let span = spans.span_of_members(r.number);
@@ -81,7 +81,7 @@ pub(crate) fn live_parents(
     class: u32,
     r: &Req,
 ) -> usize
-    ensures exact { result ≡ live_parents_of plan.now classes.now state.now class r.now }
+    ensures exact { result ≡ forced_spec.live_parents plan.now classes.now state.now class r.now }
     ensures few { result ≤ 1 }
 {
     match parent(plan, r) {

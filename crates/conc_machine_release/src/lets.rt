@@ -1,13 +1,14 @@
 ghost use Rattle.std.specs.Prelude.{◌≡◌, ◌<◌, [], IfOk, Some, length, slice_get, unwrap_or};
 ghost use Rattle.conc_types.specs.declared.facts.State.{State};
-ghost use Rattle.conc_law.specs.Next.{forced_let as forced_let_of, is_ready, may_let};
+ghost use Rattle.conc_law.specs.Next as next_spec;
+ghost use Rattle.conc_law.specs.Next.{is_ready, may_let};
 ghost use Rattle.conc_law.specs.State.{state};
 ghost use Rattle.conc_machine_classes.specs.Classes.{AreClasses, of_class};
 ghost use Rattle.conc_machine_queue.specs.Least.{least};
 ghost use Rattle.conc_machine_queue.specs.Turns.{turns_of};
 ghost use Rattle.conc_machine_queue.specs.Written.{IsWritten};
 ghost use Rattle.conc_machine_reach.specs.Spans.{AreSpans};
-ghost use Rattle.conc_machine_release.specs.Forced.{turn_in_class as turn_in_class_of};
+ghost use Rattle.conc_machine_release.specs.Forced as forced_spec;
 ghost use Rattle.conc_machine_release.specs.Lets.{AreLets};
 
 use crate::forced::{event_at, has_turn_only_kin_rivals, least_with_only_kin_rivals};
@@ -108,7 +109,7 @@ impl Lets {
         requires stands { AreLets plan.now classes.now state.now self.now }
         requires within { class < length classes.now.sizes }
         requires first { least (turns_of (is_ready plan.now state.now) (of_class plan.now classes.now class)) ≡ Some first }
-        ensures { result ≡ turn_in_class_of plan.now classes.now state.now class }
+        ensures { result ≡ forced_spec.turn_in_class plan.now classes.now state.now class }
     {
         let rivals = self.rival_count(class as usize);
         if rivals == 0 {
@@ -158,7 +159,7 @@ impl Lets {
         requires classes { AreClasses plan.now classes.now }
         requires spans { AreSpans plan.now spans.now }
         requires stands { AreLets plan.now classes.now state.now self.now }
-        ensures { result ≡ forced_let_of plan.now state.now }
+        ensures { result ≡ next_spec.forced_let plan.now state.now }
     {
         event_at(plan, self.least_turn(plan, classes, spans, state))
     }

@@ -1,5 +1,6 @@
 ghost use Rattle.std.specs.Prelude.{◌≡◌, ◌-◌, ◌≤◌, length, slice_get};
-ghost use Rattle.conc_machine_release.specs.Refresh.{key as key_of, put_in as put_in_of, refreshed, refreshed_all, refreshed_at};
+ghost use Rattle.conc_machine_release.specs.Refresh as spec;
+ghost use Rattle.conc_machine_release.specs.Refresh.{refreshed, refreshed_all, refreshed_at};
 
 use conc_law_decisions::is_ready;
 use conc_machine_classes::Classes;
@@ -9,7 +10,7 @@ use conc_types::{Plan, Req, State};
 
 // Gives a slot in the queue of a class this key, or none.
 fn put_in(queues: &mut Vec<Queue>, class: usize, slot: usize, key: Option<u64>)
-    ensures { queues.new.items ≡ put_in_of queues.old.items class slot key }
+    ensures { queues.new.items ≡ spec.put_in queues.old.items class slot key }
 {
     if class < queues.len() {
         if slot < queues[class].len() {
@@ -20,7 +21,7 @@ fn put_in(queues: &mut Vec<Queue>, class: usize, slot: usize, key: Option<u64>)
 
 // The key of a request: its turn, where it is ready.
 fn key(plan: &Plan, state: &State, r: &Req) -> Option<u64>
-    ensures { result ≡ key_of plan.now state.now r.now }
+    ensures { result ≡ spec.key plan.now state.now r.now }
 {
     is_ready(plan, state, r).then_some(turn(r))
 }

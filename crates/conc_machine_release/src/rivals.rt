@@ -1,11 +1,12 @@
 ghost use Rattle.std.specs.Prelude.{◌≡◌, slice_get};
-ghost use Rattle.conc_machine_release.specs.Rivals.{counted as counted_of, counted_all, counted_at};
+ghost use Rattle.conc_machine_release.specs.Rivals as spec;
+ghost use Rattle.conc_machine_release.specs.Rivals.{counted_all, counted_at};
 
 use conc_types::Seq;
 
 // One more, or one less.
 fn counted(count: u32, more: bool) -> u32
-    ensures { result ≡ counted_of more count }
+    ensures { result ≡ spec.counted more count }
 {
     if more {
         count.saturating_add(1)

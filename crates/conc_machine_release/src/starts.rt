@@ -1,5 +1,6 @@
 ghost use Rattle.std.specs.Prelude.{◌≡◌};
-ghost use Rattle.conc_machine_release.specs.Starts.{earlier as earlier_of, is_in_window, window_at, next_from};
+ghost use Rattle.conc_machine_release.specs.Starts as spec;
+ghost use Rattle.conc_machine_release.specs.Starts.{is_in_window, window_at, next_from};
 
 use conc_types::{Moment, Plan};
 
@@ -12,7 +13,7 @@ pub(crate) struct StartWindow {
 
 // The earlier of two starts, where this one is after the moment.
 fn earlier(now: u64, best: u64, start: u64) -> u64
-    ensures { result ≡ earlier_of now best start }
+    ensures { result ≡ spec.earlier now best start }
 {
     if now < start && start < best {
         start

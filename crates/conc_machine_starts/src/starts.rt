@@ -5,17 +5,19 @@ ghost use Rattle.conc_types.specs.declared.event.Event.TheVariants as event;
 ghost use Rattle.conc_types.specs.declared.facts.State.{State};
 ghost use Rattle.conc_types.specs.declared.plan.Plan.{Plan};
 ghost use Rattle.conc_types.specs.Words.{some_and};
-ghost use Rattle.conc_law.specs.Alone.{first_start as first_start_of};
-ghost use Rattle.conc_law.specs.Managers.{admits as admits_of};
-ghost use Rattle.conc_law.specs.Next.{may_start as may_start_of, may_start_somewhere};
+ghost use Rattle.conc_law.specs.Alone as alone_spec;
+ghost use Rattle.conc_law.specs.Managers as managers_spec;
+ghost use Rattle.conc_law.specs.Next as next_spec;
+ghost use Rattle.conc_law.specs.Next.{may_start_somewhere};
 ghost use Rattle.conc_law.specs.Plans.{precedes};
 ghost use Rattle.conc_law.specs.State.{is_running, state};
 ghost use Rattle.conc_law.specs.Words.{first_by};
-ghost use Rattle.conc_machine_queue.specs.Least.{least as least_of};
+ghost use Rattle.conc_machine_queue.specs.Least as least_spec;
 ghost use Rattle.conc_machine_queue.specs.Turns.{turns_of};
 ghost use Rattle.conc_machine_queue.specs.Written.{IsWritten};
-ghost use Rattle.conc_machine_starts.specs.Starts.{AreStarts, owner_of as owner_of_of};
-ghost use Rattle.conc_machine_starts.specs.Updates.{is_open as is_open_of, manager_at as manager_at_of, queue_at as queue_at_of};
+ghost use Rattle.conc_machine_starts.specs.Starts as starts_spec;
+ghost use Rattle.conc_machine_starts.specs.Starts.{AreStarts};
+ghost use Rattle.conc_machine_starts.specs.Updates as updates_spec;
 
 use crate::updates::{enter, leave, refresh, renew};
 use conc_law_decisions::facts_at;
@@ -40,7 +42,7 @@ pub struct Starts {
 
 #[tactic(auto, unfolding(crate::specs::Starts::owner_of))]
 fn owner_of(plan: &Plan, place: PlaceId) -> u32
-    ensures { result ≡ owner_of_of plan.now place }
+    ensures { result ≡ starts_spec.owner_of plan.now place }
 {
     match place_of(plan, place) {
         Some((owner, _, _)) => owner.saturating_sub(1),
@@ -105,7 +107,7 @@ impl Starts {
     // Whether the place may be used, and none runs there.
     #[tactic(auto, unfolding(crate::specs::Updates::is_open))]
     fn is_open(&self, place: PlaceId) -> bool
-        ensures { result ≡ is_open_of self.now place }
+        ensures { result ≡ updates_spec.is_open self.now place }
     {
         let index = place.index as usize;
         let usable = self.usable.as_slice().get(index).copied().unwrap_or(false);
@@ -118,7 +120,7 @@ impl Starts {
     // The manager that has the place.
     #[tactic(auto, unfolding(crate::specs::Updates::manager_at))]
     fn manager_at<'a>(&self, plan: &'a Plan, place: PlaceId) -> Option<&'a Manager>
-        ensures { option_copied result ≡ manager_at_of plan.now self.now place }
+        ensures { option_copied result ≡ updates_spec.manager_at plan.now self.now place }
     {
         let owner = *self.owners.as_slice().get(place.index as usize)?;
         plan.setup.managers.as_slice().get(owner as usize)
@@ -126,7 +128,7 @@ impl Starts {
 
     // Whether the manager that has the place admits the request.
     fn is_admitted_at(&self, plan: &Plan, place: PlaceId, r: &Req) -> bool
-        ensures { result ≡ some_and (λ manager. admits_of manager r.now) (manager_at_of plan.now self.now place) }
+        ensures { result ≡ some_and (λ manager. managers_spec.admits manager r.now) (updates_spec.manager_at plan.now self.now place) }
     {
         match self.manager_at(plan, place) {
             Some(manager) => admits(manager, r),
@@ -137,7 +139,7 @@ impl Starts {
     // The queue of the manager that has the place.
     #[tactic(auto, unfolding(crate::specs::Updates::queue_at))]
     fn queue_at(&self, place: PlaceId) -> Option<&Queue>
-        ensures { option_copied result ≡ queue_at_of self.now place }
+        ensures { option_copied result ≡ updates_spec.queue_at self.now place }
     {
         let owner = *self.owners.as_slice().get(place.index as usize)?;
         self.queues.as_slice().get(owner as usize)
@@ -145,7 +147,7 @@ impl Starts {
 
     // Whether a request with these facts may start at a place.
     fn may_start_by(&self, plan: &Plan, facts: Facts, r: &Req, place: PlaceId) -> bool
-        ensures { result ≡ (facts.let_out && (not (is_running facts) && (is_open_of self.now place && some_and (λ manager. admits_of manager r.now) (manager_at_of plan.now self.now place)))) }
+        ensures { result ≡ (facts.let_out && (not (is_running facts) && (updates_spec.is_open self.now place && some_and (λ manager. managers_spec.admits manager r.now) (updates_spec.manager_at plan.now self.now place)))) }
     {
         facts.let_out
             && facts.place.is_none()
@@ -156,14 +158,14 @@ impl Starts {
     /// Whether a request may start at a place.
     pub fn may_start(&self, plan: &Plan, state: &State, r: &Req, place: PlaceId) -> bool
         requires { AreStarts plan.now state.now self.now }
-        ensures { result ≡ may_start_of plan.now state.now r.now place }
+        ensures { result ≡ next_spec.may_start plan.now state.now r.now place }
     {
         self.may_start_by(plan, facts_at(state, r), r, place)
     }
 
     // The least turn of the requests that may start at the place.
     fn least_turn_at(&self, place: PlaceId) -> Option<u64>
-        ensures { (plan : Plan) (s : State) → AreStarts plan s self.now → result ≡ least_of (turns_of (λ r. may_start_of plan s r place) plan.requests) }
+        ensures { (plan : Plan) (s : State) → AreStarts plan s self.now → result ≡ least_spec.least (turns_of (λ r. next_spec.may_start plan s r place) plan.requests) }
     {
         if self.is_open(place) {
             self.queue_at(place)?.least()
@@ -175,7 +177,7 @@ impl Starts {
     // The least turn of the requests that may start at one of so many places from an index on.
     fn least_turn(&self, from: u32, count: u32) -> Option<u64>
         requires { from + count < 2 ^ 32 }
-        ensures { (plan : Plan) (s : State) → AreStarts plan s self.now → result ≡ least_of (turns_of (λ r. list_any (may_start_of plan s r) (map (λ index. record { index = index }) (range_with_len from count))) plan.requests) }
+        ensures { (plan : Plan) (s : State) → AreStarts plan s self.now → result ≡ least_spec.least (turns_of (λ r. list_any (next_spec.may_start plan s r) (map (λ index. record { index = index }) (range_with_len from count))) plan.requests) }
     {
         if count == 0 {
             return None;
@@ -197,7 +199,7 @@ impl Starts {
     ) -> Option<PlaceId>
         requires stands { AreStarts plan.now state.now self.now }
         requires few { from + count < 2 ^ 32 }
-        ensures { result ≡ find (may_start_of plan.now state.now r.now) (map (λ index. record { index = index }) (range_with_len from count)) }
+        ensures { result ≡ find (next_spec.may_start plan.now state.now r.now) (map (λ index. record { index = index }) (range_with_len from count)) }
     {
         if count == 0 {
             return None;
@@ -220,7 +222,7 @@ impl Starts {
     #[tactic(auto, unfolding(conc_law::specs::Alone::first_start, conc_law::specs::Places::all_places))]
     pub fn first_start(&self, plan: &Plan, state: &State) -> Option<(RequestId, PlaceId)>
         requires { AreStarts plan.now state.now self.now }
-        ensures { option_map (λ start. event.Started start.0 start.1) result ≡ first_start_of plan.now state.now }
+        ensures { option_map (λ start. event.Started start.0 start.1) result ≡ alone_spec.first_start plan.now state.now }
     {
         let r = self.first_request(plan)?;
         let place = self.first_place(plan, state, r, 0, place_count(plan))?;

@@ -1,8 +1,9 @@
 ghost use Rattle.std.specs.Prelude.{◌≡◌, ℕ, List, Option, length, map, slice_set};
 ghost use Rattle.conc_types.specs.declared.manager.Manager.{Manager};
 ghost use Rattle.conc_law.specs.Places.{all_places, count_of_places};
-ghost use Rattle.conc_machine_starts.specs.Starts.{is_usable_now as is_usable_now_of};
-ghost use Rattle.conc_machine_starts.specs.Updates.{key_of as key_of_of, with_one, without_one};
+ghost use Rattle.conc_machine_starts.specs.Starts as starts_spec;
+ghost use Rattle.conc_machine_starts.specs.Updates as updates_spec;
+ghost use Rattle.conc_machine_starts.specs.Updates.{with_one, without_one};
 
 use conc_machine_queue::{Queue, turn};
 use conc_rules::admits;
@@ -13,7 +14,7 @@ use conc_types::{Facts, Manager, PlaceId, Plan, Req, Seq, State};
 
 #[tactic(auto, unfolding(crate::specs::Updates::key_of))]
 fn key_of(facts: Facts, manager: &Manager, r: &Req) -> Option<u64>
-    ensures { result ≡ key_of_of facts manager.now r.now }
+    ensures { result ≡ updates_spec.key_of facts manager.now r.now }
 {
     if facts.let_out && facts.place.is_none() && admits(manager, r) {
         Some(turn(r))
@@ -39,7 +40,7 @@ pub(crate) fn refresh(
     r: &Req,
     facts: Facts,
 )
-    ensures { (slots : Manager → List (Option ℕ)) → queues.old ≡ map slots managers.now → queues.new ≡ map (λ manager. slice_set (slots manager) slot (key_of_of facts manager r.now)) managers.now }
+    ensures { (slots : Manager → List (Option ℕ)) → queues.old ≡ map slots managers.now → queues.new ≡ map (λ manager. slice_set (slots manager) slot (updates_spec.key_of facts manager r.now)) managers.now }
 {
     let Some((queue, queues)) = queues.split_first_mut() else {
         return;
@@ -81,7 +82,7 @@ pub(crate) fn enter(running: &mut Seq<u32>, place: Option<PlaceId>)
 
 #[tactic(auto, unfolding(crate::specs::Starts::is_usable_now))]
 fn is_usable_now(plan: &Plan, state: &State, place: PlaceId) -> bool
-    ensures { result ≡ is_usable_now_of plan.now state.now place }
+    ensures { result ≡ starts_spec.is_usable_now plan.now state.now place }
 {
     match state.time {
         Some(t) => is_usable(plan, t, place),
@@ -91,7 +92,7 @@ fn is_usable_now(plan: &Plan, state: &State, place: PlaceId) -> bool
 
 /// Marks each place as usable at the last tick or not.
 pub(crate) fn renew(usable: &mut Seq<bool>, plan: &Plan, state: &State)
-    ensures { length usable.old ≡ count_of_places plan.now → usable.new ≡ map (is_usable_now_of plan.now state.now) (all_places plan.now) }
+    ensures { length usable.old ≡ count_of_places plan.now → usable.new ≡ map (starts_spec.is_usable_now plan.now state.now) (all_places plan.now) }
 {
     for index in 0..place_count(plan) {
         if (index as usize) < usable.len() {

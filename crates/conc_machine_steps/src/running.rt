@@ -2,7 +2,7 @@ ghost use Rattle.std.specs.Prelude.{◌≡◌, [], IfOk};
 ghost use Rattle.std.specs.List.{find};
 ghost use Rattle.std.specs.Option.{option_copied};
 ghost use Rattle.conc_types.specs.declared.facts.State.{State};
-ghost use Rattle.conc_law.specs.Next.{forced_interrupt as forced_interrupt_of, is_left_running as is_left_running_of, runs_somewhere as runs_somewhere_of};
+ghost use Rattle.conc_law.specs.Next as spec;
 ghost use Rattle.conc_law.specs.State.{state};
 ghost use Rattle.conc_machine_queue.specs.Written.{IsWritten};
 ghost use Rattle.conc_machine_steps.specs.Steps.{AreRunning};
@@ -47,7 +47,7 @@ impl Running {
     #[tactic(auto, using(crate::proofs::Firsts::first_running))]
     pub fn first<'a>(&self, plan: &'a Plan, _state: &State) -> Option<&'a Req>
         requires { AreRunning plan.now _state.now self.now }
-        ensures { option_copied result ≡ find (runs_somewhere_of _state.now) plan.now.requests }
+        ensures { option_copied result ≡ find (spec.runs_somewhere _state.now) plan.now.requests }
     {
         least_request(&self.all, plan)
     }
@@ -55,7 +55,7 @@ impl Running {
     #[tactic(auto, using(crate::proofs::Firsts::first_left))]
     fn first_left<'a>(&self, plan: &'a Plan, _state: &State) -> Option<&'a Req>
         requires { AreRunning plan.now _state.now self.now }
-        ensures { option_copied result ≡ find (is_left_running_of _state.now) plan.now.requests }
+        ensures { option_copied result ≡ find (spec.is_left_running _state.now) plan.now.requests }
     {
         least_request(&self.left, plan)
     }
@@ -64,7 +64,7 @@ impl Running {
     #[tactic(auto, unfolding(conc_law::specs::Next::forced_interrupt))]
     pub fn forced_interrupt(&self, plan: &Plan, state: &State) -> Option<Event>
         requires { AreRunning plan.now state.now self.now }
-        ensures { result ≡ forced_interrupt_of plan.now state.now }
+        ensures { result ≡ spec.forced_interrupt plan.now state.now }
     {
         match self.first_left(plan, state) {
             Some(r) => Some(Event::Interrupt { request: r.number }),

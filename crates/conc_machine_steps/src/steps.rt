@@ -2,7 +2,7 @@ ghost use Rattle.std.specs.Prelude.{◌≡◌, [], IfOk};
 ghost use Rattle.std.specs.List.{find};
 ghost use Rattle.std.specs.Option.{option_copied};
 ghost use Rattle.conc_types.specs.declared.facts.State.{State};
-ghost use Rattle.conc_law.specs.Next.{forced_step as forced_step_of, has_step as has_step_of};
+ghost use Rattle.conc_law.specs.Next as spec;
 ghost use Rattle.conc_law.specs.State.{state};
 ghost use Rattle.conc_machine_queue.specs.Written.{IsWritten};
 ghost use Rattle.conc_machine_reach.specs.Spans.{AreSpans};
@@ -37,7 +37,7 @@ impl Steps {
     // Decides anew whether a request is an open set that has something to do.
     fn refresh(&mut self, plan: &Plan, spans: &Spans, state: &State, r: &Req)
         requires { AreSpans plan.now spans.now }
-        ensures { self.new.due ≡ refreshed self.old.due r.now (has_step_of plan.now state.now r.now) }
+        ensures { self.new.due ≡ refreshed self.old.due r.now (spec.has_step plan.now state.now r.now) }
     {
         let due = has_step(plan, state, r, spans.members(plan, r.number));
         refresh(&mut self.due, r, due);
@@ -59,7 +59,7 @@ impl Steps {
     #[tactic(auto, using(crate::proofs::Firsts::first_due))]
     fn first_due<'a>(&self, plan: &'a Plan, _state: &State) -> Option<&'a Req>
         requires { AreSteps plan.now _state.now self.now }
-        ensures { option_copied result ≡ find (has_step_of plan.now _state.now) plan.now.requests }
+        ensures { option_copied result ≡ find (spec.has_step plan.now _state.now) plan.now.requests }
     {
         least_request(&self.due, plan)
     }
@@ -69,7 +69,7 @@ impl Steps {
     pub fn forced_step(&self, plan: &Plan, spans: &Spans, state: &State) -> Option<Event>
         requires spans { AreSpans plan.now spans.now }
         requires stands { AreSteps plan.now state.now self.now }
-        ensures { result ≡ forced_step_of plan.now state.now }
+        ensures { result ≡ spec.forced_step plan.now state.now }
     {
         match self.first_due(plan, state) {
             Some(set) => set_step(plan, state, set, spans.members(plan, set.number)),

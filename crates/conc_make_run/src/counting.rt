@@ -1,18 +1,19 @@
 ghost use Rattle.std.specs.Prelude.{◌≡◌, ◌++◌, OnOk};
 ghost use Rattle.std.specs.List.{concat};
-ghost use Rattle.conc_make_run.specs.Summary.{count_completed as count_completed_of, is_completed_with as is_completed_with_of, line, outcome_lines};
+ghost use Rattle.conc_make_run.specs.Summary as spec;
+ghost use Rattle.conc_make_run.specs.Summary.{line, outcome_lines};
 
 use conc_types::{Facts, NoMemory, Outcome, State, put_decimal};
 
 fn is_completed_with(outcome: Outcome, facts: &Facts) -> bool
-    ensures { result ≡ is_completed_with_of outcome facts.now }
+    ensures { result ≡ spec.is_completed_with outcome facts.now }
 {
     facts.outcome == Some(outcome)
 }
 
 // How many requests are completed with an outcome, sets among them.
 fn count_completed(outcome: Outcome, state: &State) -> u64
-    ensures { result ≡ count_completed_of outcome state.now }
+    ensures { result ≡ spec.count_completed outcome state.now }
 {
     let facts = state.facts.as_slice();
     facts
@@ -40,7 +41,7 @@ fn put_outcome(
     outcome: Outcome,
     state: &State,
 ) -> Result<(), NoMemory>
-    ensures { OnOk result (out.new.items ≡ out.old.items ++ line word.now (count_completed_of outcome state.now)) }
+    ensures { OnOk result (out.new.items ≡ out.old.items ++ line word.now (spec.count_completed outcome state.now)) }
 {
     put_line(out, word, count_completed(outcome, state))
 }

@@ -3,7 +3,7 @@ ghost use Rattle.std.specs.List.{find};
 ghost use Rattle.std.specs.Option.{option_copied};
 ghost use Rattle.std.specs.Str.{bytes_eq};
 ghost use Rattle.conc_types.specs.Words.{are_distinct};
-ghost use Rattle.conc_outside.specs.Files.{file_named as file_named_of};
+ghost use Rattle.conc_outside.specs.Files as spec;
 ghost use Rattle.conc_outside.specs.Told.{told};
 
 use crate::shelf::MOST_BYTES;
@@ -52,7 +52,7 @@ fn row_named<'a>(files: &'a [(Name, Vec<u8>)], name: &Name) -> Option<&'a (Name,
 
 /// The bytes of the file with this name.
 fn file_named<'a>(files: &'a [(Name, Vec<u8>)], name: &Name) -> Option<&'a [u8]>
-    ensures { option_copied result ≡ file_named_of (told files.now) name.now }
+    ensures { option_copied result ≡ spec.file_named (told files.now) name.now }
 {
     match row_named(files, name) {
         Some(file) => Some(file.1.as_slice()),

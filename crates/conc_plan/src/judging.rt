@@ -1,14 +1,15 @@
 ghost use Rattle.std.specs.Prelude.{◌≡◌, length};
 ghost use Rattle.std.specs.List.{list_all};
 ghost use Rattle.conc_types.specs.Faults.{first_fault};
-ghost use Rattle.conc_types.specs.Tables.{has_column as has_column_of, has_columns as has_columns_of};
+ghost use Rattle.conc_types.specs.Tables as tables_spec;
 ghost use Rattle.conc_types.specs.Words.{none_or};
-ghost use Rattle.conc_plan.specs.Faults.{kind_for as kind_for_of, program_kind};
+ghost use Rattle.conc_plan.specs.Faults as faults_spec;
+ghost use Rattle.conc_plan.specs.Faults.{program_kind};
 
 use conc_types::{Filter, Job, Name, Program, Setup, Table};
 
 fn has_column(table: &Table, name: &[u8]) -> bool
-    ensures { result ≡ has_column_of table.now name.now }
+    ensures { result ≡ tables_spec.has_column table.now name.now }
 {
     table
         .columns()
@@ -17,7 +18,7 @@ fn has_column(table: &Table, name: &[u8]) -> bool
 }
 
 fn may_have_column(table: &Table, name: &Option<Name>) -> bool
-    ensures { result ≡ none_or (has_column_of table.now) name.now }
+    ensures { result ≡ none_or (tables_spec.has_column table.now) name.now }
 {
     match name {
         Some(name) => has_column(table, name.as_bytes()),
@@ -26,7 +27,7 @@ fn may_have_column(table: &Table, name: &Option<Name>) -> bool
 }
 
 fn has_filtered(filters: &[Filter], table: &Table) -> bool
-    ensures { result ≡ list_all (λ f. has_column_of table.now f.column) filters.now }
+    ensures { result ≡ list_all (λ f. tables_spec.has_column table.now f.column) filters.now }
 {
     filters
         .iter()
@@ -34,7 +35,7 @@ fn has_filtered(filters: &[Filter], table: &Table) -> bool
 }
 
 fn has_columns(job: &Job, table: &Table) -> bool
-    ensures { result ≡ has_columns_of job.now table.now }
+    ensures { result ≡ tables_spec.has_columns job.now table.now }
 {
     has_filtered(job.filters.as_slice(), table)
         && may_have_column(table, &job.group)
@@ -44,7 +45,7 @@ fn has_columns(job: &Job, table: &Table) -> bool
 // The kind of the first rule that the program breaks.
 #[tactic(auto, unfolding(crate::specs::Faults::kind_for))]
 fn kind_for(setup: &Setup, tables: &[Table], program: &Program) -> Option<u8>
-    ensures { result ≡ kind_for_of setup.now tables.now program.now }
+    ensures { result ≡ faults_spec.kind_for setup.now tables.now program.now }
 {
     match setup.table_named(tables, &program.job.table) {
         None => Some(40),

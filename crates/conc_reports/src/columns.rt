@@ -1,6 +1,7 @@
 ghost use Rattle.std.specs.Prelude.{◌≡◌, ◌<◌, length};
 ghost use Rattle.std.specs.Option.{option_map};
-ghost use Rattle.conc_reports.specs.Columns.{cell_in, cells_at, place_if_named as place_if_named_of, place_named, value_in};
+ghost use Rattle.conc_reports.specs.Columns as spec;
+ghost use Rattle.conc_reports.specs.Columns.{cell_in, cells_at, place_named, value_in};
 
 use crate::numbers::whole_number;
 use conc_types::{Name, Table};
@@ -25,7 +26,7 @@ pub fn place_of(table: &Table, name: &[u8]) -> Place
 
 /// The place of a column, if one is named.
 pub fn place_if_named(table: &Table, name: &Option<Name>) -> Option<Place>
-    ensures { option_map (λ place. place.index) result ≡ place_if_named_of table.now name.now }
+    ensures { option_map (λ place. place.index) result ≡ spec.place_if_named table.now name.now }
 {
     match name {
         Some(name) => Some(place_of(table, name.as_bytes())),

@@ -1,7 +1,9 @@
 ghost use Rattle.std.specs.Prelude.{◌≡◌, ◌<◌, ℕ, List, IfOk, length};
 ghost use Rattle.std.specs.List.{list_all};
-ghost use Rattle.conc_law.specs.Report.{Row, filter_value as filter_value_of, passes as passes_of, passes_filter, passes_test};
-ghost use Rattle.conc_reports.specs.Checks.{holds, is_less as is_less_of, meets as meets_of};
+ghost use Rattle.conc_law.specs.Report as report_spec;
+ghost use Rattle.conc_law.specs.Report.{Row, passes_filter, passes_test};
+ghost use Rattle.conc_reports.specs.Checks as checks_spec;
+ghost use Rattle.conc_reports.specs.Checks.{holds};
 ghost use Rattle.conc_reports.specs.Columns.{cells_at};
 
 use crate::columns::{Place, cell_at, place_of};
@@ -28,7 +30,7 @@ pub struct Condition<'a> {
 }
 
 fn check_of<'a>(test: Test, value: &'a [u8]) -> Check<'a>
-    ensures { (cell : List ℕ) → meets_of result cell ≡ passes_test test cell value.now }
+    ensures { (cell : List ℕ) → checks_spec.meets result cell ≡ passes_test test cell value.now }
 {
     match test {
         Test::Is => Check::Is(value),
@@ -42,7 +44,7 @@ fn check_of<'a>(test: Test, value: &'a [u8]) -> Check<'a>
 // The value of a filter; `$` alone stands for the argument.
 #[tactic(auto, unfolding(conc_law::specs::Report::filter_value))]
 fn filter_value<'a>(argument: &'a [u8], filter: &'a Filter) -> &'a [u8]
-    ensures { result.now ≡ filter_value_of argument.now filter.now }
+    ensures { result.now ≡ report_spec.filter_value argument.now filter.now }
 {
     if filter.value.as_slice() == b"$".as_slice() {
         argument
@@ -69,7 +71,7 @@ pub fn conditions<'a>(
     argument: &'a [u8],
     table: &Table,
 ) -> Result<Vec<Condition<'a>>, NoMemory>
-    ensures { IfOk result (λ conditions. (row : Row) → list_all (holds row.1) conditions.items ≡ passes_of job.now argument.now table.now row) }
+    ensures { IfOk result (λ conditions. (row : Row) → list_all (holds row.1) conditions.items ≡ report_spec.passes job.now argument.now table.now row) }
 {
     let mut conditions = Vec::with_capacity(alloc, job.filters.len())?;
     for filter in job.filters.as_slice() {
@@ -80,7 +82,7 @@ pub fn conditions<'a>(
 
 // Whether both numbers are there, and the first is less.
 fn is_less(a: Option<i64>, b: Option<i64>) -> bool
-    ensures { result ≡ is_less_of a b }
+    ensures { result ≡ checks_spec.is_less a b }
 {
     match (a, b) {
         (Some(m), Some(n)) => m < n,
@@ -89,7 +91,7 @@ fn is_less(a: Option<i64>, b: Option<i64>) -> bool
 }
 
 fn meets(check: Check<'_>, cell: &[u8]) -> bool
-    ensures { result ≡ meets_of check.entry cell.now }
+    ensures { result ≡ checks_spec.meets check.entry cell.now }
 {
     match check {
         Check::Is(value) => cell == value,

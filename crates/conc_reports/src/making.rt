@@ -4,9 +4,11 @@ ghost use Rattle.std.specs.Cmp.Lexicographic.{slice_cmp};
 ghost use Rattle.std.specs.Fmt.{decimal, signed_decimal};
 ghost use Rattle.std.specs.Option.{option_map_or};
 ghost use Rattle.std.specs.Ordering.{nat_cmp};
-ghost use Rattle.conc_law.specs.Report.{exceeds as exceeds_of, header as header_of, quoted, report as report_of};
+ghost use Rattle.conc_law.specs.Report as report_spec;
+ghost use Rattle.conc_law.specs.Report.{quoted};
 ghost use Rattle.conc_reports.specs.Figures.{shown};
-ghost use Rattle.conc_reports.specs.Texts.{figures_line, group_of, groups_text, outcome_by_count as outcome_by_count_of, tally_report, tally_text as tally_text_of};
+ghost use Rattle.conc_reports.specs.Texts as texts_spec;
+ghost use Rattle.conc_reports.specs.Texts.{figures_line, group_of, groups_text, tally_report};
 
 use crate::figures::Figures;
 use crate::groups::Groups;
@@ -86,7 +88,7 @@ fn put_groups(out: &mut Vec<u8>, job: &Job, groups: &Groups<'_>) -> Result<(), N
 
 #[tactic(auto, unfolding(conc_law::specs::Report::header))]
 fn header(job: &Job) -> &'static [u8]
-    ensures { result.now ≡ header_of job.now }
+    ensures { result.now ≡ report_spec.header job.now }
 {
     match &job.sum {
         Some(_) => b"key,count,sum\n",
@@ -104,7 +106,7 @@ fn room_for(keys: usize) -> usize {
 
 #[tactic(auto, unfolding(crate::specs::Texts::tally_text))]
 fn tally_text(alloc: Global, job: &Job, tally: &Tally<'_>) -> Result<Vec<u8>, NoMemory>
-    ensures text { IfOk result (λ text. text.items ≡ tally_text_of job.now (shown tally.now.total) (map group_of tally.now.groups.entries)) }
+    ensures text { IfOk result (λ text. text.items ≡ texts_spec.tally_text job.now (shown tally.now.total) (map group_of tally.now.groups.entries)) }
     ensures ordered { OnOk result (IsOrdered (λ x y. slice_cmp nat_cmp x.now y.now) tally.now.groups) }
 {
     let mut text = Vec::with_capacity(alloc, room_for(tally.groups.len()))?;
@@ -118,7 +120,7 @@ fn tally_text(alloc: Global, job: &Job, tally: &Tally<'_>) -> Result<Vec<u8>, No
 // ---- outcomes
 
 fn exceeds(count: u64, limit: Option<u64>) -> bool
-    ensures { result ≡ exceeds_of count limit }
+    ensures { result ≡ report_spec.exceeds count limit }
 {
     match limit {
         Some(most) => count > most,
@@ -128,7 +130,7 @@ fn exceeds(count: u64, limit: Option<u64>) -> bool
 
 #[tactic(auto, unfolding(crate::specs::Texts::outcome_by_count))]
 fn outcome_by_count(job: &Job, count: u64) -> Outcome
-    ensures { result ≡ outcome_by_count_of job.now count }
+    ensures { result ≡ texts_spec.outcome_by_count job.now count }
 {
     if exceeds(count, job.error_over) {
         Outcome::Error
@@ -188,8 +190,8 @@ fn report_by_rows(
     argument: &[u8],
     table: &Table,
 ) -> Result<Made, NoMemory>
-    ensures outcome { IfOk result (λ made. made.outcome ≡ (report_of job.now argument.now table.now).outcome) }
-    ensures text { IfOk result (λ made. made.text ≡ (report_of job.now argument.now table.now).text) }
+    ensures outcome { IfOk result (λ made. made.outcome ≡ (report_spec.report job.now argument.now table.now).outcome) }
+    ensures text { IfOk result (λ made. made.text ≡ (report_spec.report job.now argument.now table.now).text) }
 {
     match tally_rows(alloc, job, argument, table)? {
         Tallied::Bad(number) => bad_row(alloc, number),
@@ -200,9 +202,9 @@ fn report_by_rows(
 /// The report of a job on a table. A filter value `$` stands for the argument. The text is 1 to
 /// 1,048,576 bytes.
 pub fn report(alloc: Global, job: &Job, argument: &[u8], table: &Table) -> Result<Made, NoMemory>
-    ensures outcome { IfOk result (λ made. made.outcome ≡ (report_of job.now argument.now table.now).outcome) }
+    ensures outcome { IfOk result (λ made. made.outcome ≡ (report_spec.report job.now argument.now table.now).outcome) }
     ensures short { IfOk result (λ made. length made.text ≤ 1048576) }
-    ensures text { IfOk result (λ made. made.text ≡ (report_of job.now argument.now table.now).text) }
+    ensures text { IfOk result (λ made. made.text ≡ (report_spec.report job.now argument.now table.now).text) }
 {
     report_is_short();
     report_by_rows(alloc, job, argument, table)

@@ -1,10 +1,11 @@
 ghost use Rattle.std.specs.Prelude.{◌≡◌};
 ghost use Rattle.std.specs.Bool.{then_some};
 ghost use Rattle.std.specs.Str.Parse.{digits_value};
-ghost use Rattle.conc_law.specs.Numbers.{are_digits, is_digit as is_digit_of, negative as negative_of, not_negative as not_negative_of, whole_number as whole_number_of};
+ghost use Rattle.conc_law.specs.Numbers as spec;
+ghost use Rattle.conc_law.specs.Numbers.{are_digits};
 
 fn is_digit(byte: u8) -> bool
-    ensures { result ≡ is_digit_of byte }
+    ensures { result ≡ spec.is_digit byte }
 {
     48 <= byte && byte <= 57
 }
@@ -27,7 +28,7 @@ fn value_of(bytes: &[u8]) -> Option<u64>
 }
 
 fn not_negative(digits: &[u8]) -> Option<i64>
-    ensures { result ≡ not_negative_of digits.now }
+    ensures { result ≡ spec.not_negative digits.now }
 {
     match value_of(digits) {
         Some(value) => 0i64.checked_add_unsigned(value),
@@ -36,7 +37,7 @@ fn not_negative(digits: &[u8]) -> Option<i64>
 }
 
 fn negative(digits: &[u8]) -> Option<i64>
-    ensures { result ≡ negative_of digits.now }
+    ensures { result ≡ spec.negative digits.now }
 {
     match value_of(digits) {
         Some(value) => 0i64.checked_sub_unsigned(value),
@@ -48,7 +49,7 @@ fn negative(digits: &[u8]) -> Option<i64>
 /// hold. It is None exactly where the cell spells none.
 #[tactic(auto, unfolding(conc_law::specs::Numbers::whole_number))]
 pub fn whole_number(cell: &[u8]) -> Option<i64>
-    ensures { result ≡ whole_number_of cell.now }
+    ensures { result ≡ spec.whole_number cell.now }
 {
     match cell.split_first() {
         None => None,

@@ -1,5 +1,5 @@
 ghost use Rattle.std.specs.Prelude.{◌≡◌, ◌++◌, ◌==◌, ◌||◌, ◌∷◌, [], OnOk};
-ghost use Rattle.conc_law.specs.Report.{doubled as doubled_of, needs_quotes as needs_quotes_of, quoted as quoted_of};
+ghost use Rattle.conc_law.specs.Report as spec;
 
 use conc_types::NoMemory;
 
@@ -10,14 +10,14 @@ fn calls_for_quotes(byte: u8) -> bool
 }
 
 fn needs_quotes(key: &[u8]) -> bool
-    ensures { result ≡ needs_quotes_of key.now }
+    ensures { result ≡ spec.needs_quotes key.now }
 {
     key.iter().any(|byte| calls_for_quotes(*byte))
 }
 
 // A quote is written twice.
 fn put_doubled_byte(out: &mut Vec<u8>, byte: u8) -> Result<(), NoMemory>
-    ensures { OnOk result (out.new.items ≡ out.old.items ++ doubled_of (byte ∷ [])) }
+    ensures { OnOk result (out.new.items ≡ out.old.items ++ spec.doubled (byte ∷ [])) }
 {
     if byte == b'"' {
         out.extend_from_slice(b"\"\"")?;
@@ -29,7 +29,7 @@ fn put_doubled_byte(out: &mut Vec<u8>, byte: u8) -> Result<(), NoMemory>
 }
 
 fn put_doubled(out: &mut Vec<u8>, key: &[u8]) -> Result<(), NoMemory>
-    ensures { OnOk result (out.new.items ≡ out.old.items ++ doubled_of key.now) }
+    ensures { OnOk result (out.new.items ≡ out.old.items ++ spec.doubled key.now) }
 {
     for byte in key {
         put_doubled_byte(out, *byte)?;
@@ -40,7 +40,7 @@ fn put_doubled(out: &mut Vec<u8>, key: &[u8]) -> Result<(), NoMemory>
 /// Appends a key, in quotes with its quotes doubled if it holds a comma, a quote or an end of line.
 #[tactic(auto, unfolding(conc_law::specs::Report::quoted))]
 pub fn put_quoted(out: &mut Vec<u8>, key: &[u8]) -> Result<(), NoMemory>
-    ensures { OnOk result (out.new.items ≡ out.old.items ++ quoted_of key.now) }
+    ensures { OnOk result (out.new.items ≡ out.old.items ++ spec.quoted key.now) }
 {
     if needs_quotes(key) {
         out.push(b'"')?;

@@ -5,9 +5,11 @@ ghost use Rattle.conc_types.specs.declared.event.Event.{Event};
 ghost use Rattle.conc_types.specs.declared.event.Event.TheVariants as event;
 ghost use Rattle.conc_types.specs.declared.event.Outcome.TheVariants as outcome;
 ghost use Rattle.conc_types.specs.declared.script.Reading.{Reading};
-ghost use Rattle.conc_law.specs.Alone.{end_with, first_end as first_end_of, first_start as first_start_of, next_alone, next_tick as next_tick_of, report_of as report_of_of};
-ghost use Rattle.conc_law.specs.Next.{forced as forced_of, runs_somewhere};
-ghost use Rattle.conc_law.specs.Readings.{next_reading as next_reading_of};
+ghost use Rattle.conc_law.specs.Alone as alone_spec;
+ghost use Rattle.conc_law.specs.Alone.{end_with, next_alone};
+ghost use Rattle.conc_law.specs.Next as next_spec;
+ghost use Rattle.conc_law.specs.Next.{runs_somewhere};
+ghost use Rattle.conc_law.specs.Readings as readings_spec;
 ghost use Rattle.conc_law.specs.State.{state};
 ghost use Rattle.conc_machine.specs.StandsFor.{plan_of, readings_of, StandsFor};
 ghost use Rattle.conc_types.specs.Plans.{request};
@@ -30,7 +32,7 @@ pub struct Next {
 // The report of a request of a program.
 #[tactic(auto, unfolding(conc_law::specs::Alone::report_of))]
 fn report_of(alloc: Global, plan: &Plan, r: &Req) -> Result<Option<Made>, NoMemory>
-    ensures made { IfOk result (λ made. option_map as_report made ≡ report_of_of plan.now r.now) }
+    ensures made { IfOk result (λ made. option_map as_report made ≡ alone_spec.report_of plan.now r.now) }
     ensures short { IfOk result (λ made. ForSome made (λ m. length m.text ≤ 1048576)) }
 {
     match program_of(plan, r) {
@@ -87,7 +89,7 @@ fn end_by(
     stopping: bool,
     used: Option<u64>,
 ) -> Result<Option<Next>, NoMemory>
-    ensures event { IfOk result (λ next. option_map event_of next ≡ (if stopping then Some (event.Ended r.now.number outcome.Terminated None) else option_and_then (λ made. option_map (end_with r.now made) used) (report_of_of plan.now r.now))) }
+    ensures event { IfOk result (λ next. option_map event_of next ≡ (if stopping then Some (event.Ended r.now.number outcome.Terminated None) else option_and_then (λ made. option_map (end_with r.now made) used) (alone_spec.report_of plan.now r.now))) }
     ensures text { request plan.now r.now.number ≡ Some r.now → IfOk result (λ next. ForSome next (λ n. HasItsText plan.now n.event n.text)) }
 {
     if stopping {
@@ -113,7 +115,7 @@ fn running<'a>(plan: &'a Plan, machine: &Machine) -> Option<&'a Req>
 // The end of the request that runs.
 fn first_end(alloc: Global, plan: &Plan, machine: &Machine) -> Result<Option<Next>, NoMemory>
     requires { plan_of machine.now ≡ plan.now }
-    ensures event { IfOk result (λ next. (past : List Event) → StandsFor machine.now past → option_map event_of next ≡ first_end_of plan.now (state plan.now past)) }
+    ensures event { IfOk result (λ next. (past : List Event) → StandsFor machine.now past → option_map event_of next ≡ alone_spec.first_end plan.now (state plan.now past)) }
     ensures text { IfOk result (λ next. (past : List Event) → StandsFor machine.now past → ForSome next (λ n. HasItsText plan.now n.event n.text)) }
 {
     match running(plan, machine) {
@@ -128,7 +130,7 @@ fn first_end(alloc: Global, plan: &Plan, machine: &Machine) -> Result<Option<Nex
 // The event that is forced, if one is due.
 fn forced(plan: &Plan, machine: &Machine) -> Option<Event>
     requires { plan_of machine.now ≡ plan.now }
-    ensures { (past : List Event) → StandsFor machine.now past → result ≡ forced_of plan.now (state plan.now past) }
+    ensures { (past : List Event) → StandsFor machine.now past → result ≡ next_spec.forced plan.now (state plan.now past) }
 {
     machine.forced()
 }
@@ -136,7 +138,7 @@ fn forced(plan: &Plan, machine: &Machine) -> Option<Event>
 // The start that comes first, if one may come.
 fn first_start(plan: &Plan, machine: &Machine) -> Option<Event>
     requires { plan_of machine.now ≡ plan.now }
-    ensures event { (past : List Event) → StandsFor machine.now past → result ≡ first_start_of plan.now (state plan.now past) }
+    ensures event { (past : List Event) → StandsFor machine.now past → result ≡ alone_spec.first_start plan.now (state plan.now past) }
     ensures text { ForSome result (λ e. HasItsText plan.now e None) }
 {
     match machine.first_start() {
@@ -149,7 +151,7 @@ fn first_start(plan: &Plan, machine: &Machine) -> Option<Event>
 fn next_tick(plan: &Plan, machine: &Machine) -> Option<Event>
     requires { plan_of machine.now ≡ plan.now }
     ensures event { (readings : List Reading) (past : List Event) → readings_of machine.now ≡ Some readings → StandsFor machine.now past →
-        result ≡ next_tick_of plan.now (state plan.now past) (next_reading_of readings past) }
+        result ≡ alone_spec.next_tick plan.now (state plan.now past) (readings_spec.next_reading readings past) }
     ensures text { ForSome result (λ e. HasItsText plan.now e None) }
 {
     match machine.next_reading() {
@@ -164,7 +166,7 @@ fn next_tick(plan: &Plan, machine: &Machine) -> Option<Event>
 fn start_or_tick(plan: &Plan, machine: &Machine) -> Option<Event>
     requires { plan_of machine.now ≡ plan.now }
     ensures event { (readings : List Reading) (past : List Event) → readings_of machine.now ≡ Some readings → StandsFor machine.now past →
-        result ≡ option_or (first_start_of plan.now (state plan.now past)) (next_tick_of plan.now (state plan.now past) (next_reading_of readings past)) }
+        result ≡ option_or (alone_spec.first_start plan.now (state plan.now past)) (alone_spec.next_tick plan.now (state plan.now past) (readings_spec.next_reading readings past)) }
     ensures text { ForSome result (λ e. HasItsText plan.now e None) }
 {
     match first_start(plan, machine) {

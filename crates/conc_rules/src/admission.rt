@@ -1,13 +1,13 @@
 ghost use Rattle.std.specs.Prelude.{◌≡◌};
 ghost use Rattle.std.specs.List.{list_any};
-ghost use Rattle.conc_law.specs.Managers.{admits as admits_of, matches as matches_of};
+ghost use Rattle.conc_law.specs.Managers as spec;
 
 use crate::items::{is_same_item, is_set};
 use conc_types::{Item, Manager, Req, Rule};
 
 #[tactic(auto, unfolding(conc_law::specs::Managers::matches))]
 fn matches(r: &Req, rule: &Rule) -> bool
-    ensures { result ≡ matches_of r.now rule.now }
+    ensures { result ≡ spec.matches r.now rule.now }
 {
     if let Some(program) = rule.program {
         if !is_same_item(Item::Program(program), r.item) {
@@ -26,7 +26,7 @@ fn matches(r: &Req, rule: &Rule) -> bool
 }
 
 fn some_rule_matches(rules: &[Rule], r: &Req) -> bool
-    ensures { result ≡ list_any (matches_of r.now) rules.now }
+    ensures { result ≡ list_any (spec.matches r.now) rules.now }
 {
     rules.iter().any(|rule| matches(r, rule))
 }
@@ -35,7 +35,7 @@ fn some_rule_matches(rules: &[Rule], r: &Req) -> bool
 /// matches, and no Exclude rule matches. It takes no memory.
 #[tactic(auto, unfolding(conc_law::specs::Managers::admits))]
 pub fn admits(manager: &Manager, r: &Req) -> bool
-    ensures { result ≡ admits_of manager.now r.now }
+    ensures { result ≡ spec.admits manager.now r.now }
 {
     !is_set(r.item)
         && (manager.include.is_empty() || some_rule_matches(manager.include.as_slice(), r))

@@ -1,6 +1,7 @@
 ghost use Rattle.std.specs.Prelude.{◌≡◌};
 ghost use Rattle.std.specs.List.{list_any};
-ghost use Rattle.conc_law.specs.Exclusion.{covers, entry_excludes, excludes as excludes_of, excludes_from, is_kin, runs_alone as runs_alone_of, same_domain};
+ghost use Rattle.conc_law.specs.Exclusion as spec;
+ghost use Rattle.conc_law.specs.Exclusion.{covers, entry_excludes, excludes_from, is_kin, same_domain};
 
 use crate::items::{is_id, is_same_item};
 use conc_types::{Entry, Item, Reach, Req, Scope, Setup};
@@ -35,7 +36,7 @@ fn entry_covers(entry: Entry, y: &Req, parent: Option<Item>) -> bool
 /// Whether the item is a program that never runs beside another request of its domain.
 #[tactic(auto, unfolding(conc_law::specs::Exclusion::runs_alone))]
 pub fn runs_alone(setup: &Setup, item: Item) -> bool
-    ensures { result ≡ runs_alone_of setup.now item }
+    ensures { result ≡ spec.runs_alone setup.now item }
 {
     match item {
         Item::Program(n) => match setup.programs.as_slice().get(n as usize) {
@@ -80,7 +81,7 @@ fn excludes_one_way(setup: &Setup, x: &Req, y: &Req, parent: Option<Item>) -> bo
 /// the parents of `x` and `y`. It takes no memory.
 #[tactic(auto, unfolding(conc_law::specs::Exclusion::excludes))]
 pub fn excludes(setup: &Setup, x: &Req, y: &Req, parents: (Option<Item>, Option<Item>)) -> bool
-    ensures { result ≡ excludes_of setup.now x.now y.now parents.0 parents.1 }
+    ensures { result ≡ spec.excludes setup.now x.now y.now parents.0 parents.1 }
 {
     x.number.number != y.number.number
         && !are_kin(x, y)

@@ -1,12 +1,13 @@
 ghost use Rattle.std.specs.Prelude.{◌≡◌};
 ghost use Rattle.conc_types.specs.Words.{some_and};
-ghost use Rattle.conc_law.specs.Words.{id_eq, is_set as is_set_of, item_eq};
+ghost use Rattle.conc_law.specs.Words as spec;
+ghost use Rattle.conc_law.specs.Words.{id_eq, item_eq};
 
 use conc_types::{Item, RequestId};
 
 /// Whether the item is a set.
 pub fn is_set(item: Item) -> bool
-    ensures { result ≡ is_set_of item }
+    ensures { result ≡ spec.is_set item }
 {
     matches!(item, Item::Set(_))
 }

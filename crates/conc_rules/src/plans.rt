@@ -1,7 +1,7 @@
 ghost use Rattle.std.specs.Prelude.{◌≡◌, ◌≤◌, length};
 ghost use Rattle.std.specs.Option.{option_copied};
-ghost use Rattle.conc_law.specs.Next.{can_run as can_run_of};
-ghost use Rattle.conc_law.specs.Plans.{are_exclusive as are_exclusive_of, has_restart as has_restart_of, is_admitted as is_admitted_of, is_enabled as is_enabled_of, is_member as is_member_of, parent as parent_of, parent_item as parent_item_of, precedes as precedes_of, program_of as program_of_of, set_at as set_at_of, stages_of as stages_of_of};
+ghost use Rattle.conc_law.specs.Next as next_spec;
+ghost use Rattle.conc_law.specs.Plans as plans_spec;
 
 use crate::admission::admits;
 use crate::exclusion::excludes;
@@ -11,7 +11,7 @@ use conc_types::{Item, Plan, Program, Req, RequestId, SetDef, Stage};
 /// The request of the set whose member `r` is.
 #[tactic(auto, unfolding(conc_law::specs::Plans::parent))]
 pub fn parent<'a>(plan: &'a Plan, r: &Req) -> Option<&'a Req>
-    ensures { option_copied result ≡ parent_of plan.now r.now }
+    ensures { option_copied result ≡ plans_spec.parent plan.now r.now }
 {
     match r.parent {
         Some(id) => plan.request(id),
@@ -22,7 +22,7 @@ pub fn parent<'a>(plan: &'a Plan, r: &Req) -> Option<&'a Req>
 /// The set of which the request is a member, as an item.
 #[tactic(auto, unfolding(conc_law::specs::Plans::parent_item))]
 pub fn parent_item(plan: &Plan, r: &Req) -> Option<Item>
-    ensures { result ≡ parent_item_of plan.now r.now }
+    ensures { result ≡ plans_spec.parent_item plan.now r.now }
 {
     match parent(plan, r) {
         Some(set) => Some(set.item),
@@ -33,7 +33,7 @@ pub fn parent_item(plan: &Plan, r: &Req) -> Option<Item>
 /// The program of a request that is no set.
 #[tactic(auto, unfolding(conc_law::specs::Plans::program_of, conc_law::specs::Plans::program_at))]
 pub fn program_of<'a>(plan: &'a Plan, r: &Req) -> Option<&'a Program>
-    ensures { option_copied result ≡ program_of_of plan.now r.now }
+    ensures { option_copied result ≡ plans_spec.program_of plan.now r.now }
 {
     match r.item {
         Item::Program(n) => plan.setup.programs.as_slice().get(n as usize),
@@ -44,7 +44,7 @@ pub fn program_of<'a>(plan: &'a Plan, r: &Req) -> Option<&'a Program>
 /// Whether the request's program is enabled. A set has none.
 #[tactic(auto, unfolding(conc_law::specs::Plans::is_enabled))]
 pub fn is_enabled(plan: &Plan, r: &Req) -> bool
-    ensures { result ≡ is_enabled_of plan.now r.now }
+    ensures { result ≡ plans_spec.is_enabled plan.now r.now }
 {
     match program_of(plan, r) {
         Some(program) => program.enabled,
@@ -55,7 +55,7 @@ pub fn is_enabled(plan: &Plan, r: &Req) -> bool
 /// Whether the request's program has the mark for restart.
 #[tactic(auto, unfolding(conc_law::specs::Plans::has_restart))]
 pub fn has_restart(plan: &Plan, r: &Req) -> bool
-    ensures { result ≡ has_restart_of plan.now r.now }
+    ensures { result ≡ plans_spec.has_restart plan.now r.now }
 {
     match program_of(plan, r) {
         Some(program) => program.restart,
@@ -66,7 +66,7 @@ pub fn has_restart(plan: &Plan, r: &Req) -> bool
 /// Whether some manager admits the request.
 #[tactic(auto, unfolding(conc_law::specs::Plans::is_admitted))]
 pub fn is_admitted(plan: &Plan, r: &Req) -> bool
-    ensures { result ≡ is_admitted_of plan.now r.now }
+    ensures { result ≡ plans_spec.is_admitted plan.now r.now }
 {
     plan.setup
         .managers
@@ -78,7 +78,7 @@ pub fn is_admitted(plan: &Plan, r: &Req) -> bool
 /// Whether the request is a set, or of an enabled program and admitted by some manager.
 #[tactic(auto, unfolding(conc_law::specs::Next::can_run))]
 pub fn can_run(plan: &Plan, r: &Req) -> bool
-    ensures { result ≡ can_run_of plan.now r.now }
+    ensures { result ≡ next_spec.can_run plan.now r.now }
 {
     is_set(r.item) || (is_enabled(plan, r) && is_admitted(plan, r))
 }
@@ -86,7 +86,7 @@ pub fn can_run(plan: &Plan, r: &Req) -> bool
 /// Whether two requests of the plan never run at the same time.
 #[tactic(auto, unfolding(conc_law::specs::Plans::are_exclusive))]
 pub fn are_exclusive(plan: &Plan, x: &Req, y: &Req) -> bool
-    ensures { result ≡ are_exclusive_of plan.now x.now y.now }
+    ensures { result ≡ plans_spec.are_exclusive plan.now x.now y.now }
 {
     excludes(
         &plan.setup,
@@ -100,7 +100,7 @@ pub fn are_exclusive(plan: &Plan, x: &Req, y: &Req) -> bool
 /// start, then the lower request number.
 #[tactic(auto, unfolding(conc_law::specs::Plans::precedes))]
 pub fn precedes(x: &Req, y: &Req) -> bool
-    ensures { result ≡ precedes_of x.now y.now }
+    ensures { result ≡ plans_spec.precedes x.now y.now }
 {
     if x.priority != y.priority {
         return x.priority < y.priority;
@@ -114,14 +114,14 @@ pub fn precedes(x: &Req, y: &Req) -> bool
 /// Whether `r` is a member of this stage, from 1, of the set's request.
 #[tactic(auto, unfolding(conc_law::specs::Plans::is_member))]
 pub fn is_member(set: RequestId, stage: u32, r: &Req) -> bool
-    ensures { result ≡ is_member_of set stage r.now }
+    ensures { result ≡ plans_spec.is_member set stage r.now }
 {
     is_id(r.parent, set) && r.stage == stage
 }
 
 #[tactic(auto, unfolding(conc_law::specs::Plans::set_at))]
 fn set_at(plan: &Plan, item: Item) -> Option<&SetDef>
-    ensures { option_copied result ≡ set_at_of plan.now item }
+    ensures { option_copied result ≡ plans_spec.set_at plan.now item }
 {
     match item {
         Item::Program(_) => None,
@@ -132,7 +132,7 @@ fn set_at(plan: &Plan, item: Item) -> Option<&SetDef>
 /// The stages of the set of a request; none where it is no set.
 #[tactic(auto, unfolding(conc_law::specs::Plans::stages_of))]
 pub fn stages_of<'a>(plan: &'a Plan, set: &Req) -> &'a [Stage]
-    ensures stages { result.now ≡ stages_of_of plan.now set.now }
+    ensures stages { result.now ≡ plans_spec.stages_of plan.now set.now }
     ensures few { length result.now ≤ 64 }
 {
     match set_at(plan, set.item) {

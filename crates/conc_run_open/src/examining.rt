@@ -2,7 +2,7 @@ ghost use Rattle.std.specs.Prelude.{◌≡◌, IfErr, IfOk, IfSome, None, OnOk, 
 ghost use Rattle.conc_journal.specs.Journals.{list_of, room_of, state_of};
 ghost use Rattle.conc_law.specs.Alone.{opening};
 ghost use Rattle.conc_machine.specs.StandsFor.{plan_of, readings_of, StandsFor};
-ghost use Rattle.conc_restart.specs.Need.{need as need_of};
+ghost use Rattle.conc_restart.specs.Need as spec;
 ghost use Rattle.conc_spool.specs.Spools.{used_of};
 ghost use Rattle.conc_run_state.specs.Causes.{HasCause};
 ghost use Rattle.conc_run_state.specs.Handed.{handed, IsUntouched};
@@ -34,7 +34,7 @@ pub(crate) struct Examined<'p> {
 // Takes room for one more life, where the journal can have as much.
 fn make_room(plan: &Plan, readings: &Readings, journal: &mut Journal) -> Result<(), HistoryFail>
     requires { room_of journal.old ≡ 0 }
-    ensures room { OnOk result (room_of journal.new ≡ need_of plan.now readings.now.list) }
+    ensures room { OnOk result (room_of journal.new ≡ spec.need plan.now readings.now.list) }
     ensures list { list_of journal.new ≡ list_of journal.old }
     ensures state { state_of journal.new ≡ state_of journal.old }
     ensures lacks_room { IfErr result (LacksRoom plan.now readings.now.list (list_of journal.old)) }

@@ -2,7 +2,8 @@ ghost use Rattle.std.specs.Prelude.{◌≡◌, Some, length, IfErr, IfOk};
 ghost use Rattle.std.specs.Result.{result_err};
 ghost use Rattle.conc_types.specs.declared.refusal.FileKind.TheVariants as kind;
 ghost use Rattle.conc_types.specs.Faults.{first_broken, first_fault, IsFailure};
-ghost use Rattle.conc_script.specs.Clock.{clock_fault, is_earlier as is_earlier_of, line_kind, lines_of, reading_of, SpellsClock};
+ghost use Rattle.conc_script.specs.Clock as spec;
+ghost use Rattle.conc_script.specs.Clock.{clock_fault, line_kind, lines_of, reading_of, SpellsClock};
 ghost use Rattle.conc_script.specs.Readings.{line_rules, ReadsLines};
 
 use crate::lines::split_line;
@@ -31,7 +32,7 @@ fn read_reading(line: &[u8]) -> Option<Reading>
 }
 
 fn is_earlier(reading: Reading, before: Option<Reading>) -> bool
-    ensures { result ≡ is_earlier_of (Some reading) before }
+    ensures { result ≡ spec.is_earlier (Some reading) before }
 {
     before.is_some_and(|before| reading.moment.seconds < before.moment.seconds)
 }

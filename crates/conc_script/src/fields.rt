@@ -1,10 +1,11 @@
 ghost use Rattle.std.specs.Prelude.{◌≡◌, true, false, MatchOption};
 ghost use Rattle.std.specs.List.{list_all};
-ghost use Rattle.std.specs.Str.{is_utf8 as is_utf8_of};
+ghost use Rattle.std.specs.Str as str_spec;
 ghost use Rattle.csv.specs.Records.{fields_of};
 ghost use Rattle.conc_types.specs.Words.{has_length};
 ghost use Rattle.conc_script.specs.Fields.{list_of};
-ghost use Rattle.conc_script.specs.Script.{field as field_of, header, is_record, same_fields};
+ghost use Rattle.conc_script.specs.Script as script_spec;
+ghost use Rattle.conc_script.specs.Script.{header, is_record, same_fields};
 
 use conc_records::ByteRecord;
 use conc_types::is_utf8;
@@ -24,7 +25,7 @@ pub(crate) struct Fields<'a> {
 
 // The field at a place, from 0, and nothing where there is none.
 fn field(row: &ByteRecord, place: usize) -> &[u8]
-    ensures { result.now ≡ field_of place (fields_of row.now) }
+    ensures { result.now ≡ script_spec.field place (fields_of row.now) }
 {
     row.get(place).unwrap_or(&[])
 }
@@ -50,7 +51,7 @@ fn eight(row: &ByteRecord) -> Option<Fields<'_>>
 
 // Whether each field is UTF-8.
 fn are_text(fields: &Fields) -> bool
-    ensures { result ≡ list_all is_utf8_of (list_of fields.now) }
+    ensures { result ≡ list_all str_spec.is_utf8 (list_of fields.now) }
 {
     is_utf8(fields.at)
         && is_utf8(fields.word)

@@ -7,10 +7,12 @@ ghost use Rattle.conc_types.specs.Scripts.{entered_by, is_act};
 ghost use Rattle.conc_types.specs.Texts.{is_text};
 ghost use Rattle.conc_types.specs.Words.{is_between};
 ghost use Rattle.conc_law.specs.Calendar.{moment_of};
-ghost use Rattle.conc_script.specs.Actions.{act_by, submit_by, verb_of as verb_of_word};
+ghost use Rattle.conc_script.specs.Actions as actions_spec;
+ghost use Rattle.conc_script.specs.Actions.{act_by, submit_by};
 ghost use Rattle.conc_script.specs.Fields.{list_of};
 ghost use Rattle.conc_script.specs.Rules.{bare_form, action_rules, record_rules, request_rules, submission_by, submit_form, submit_rules};
-ghost use Rattle.conc_script.specs.Script.{act_of, at_field, entered_by_record, is_earlier as is_earlier_of, is_submit as is_submit_of, item_named as item_named_of, order_of, submission_of};
+ghost use Rattle.conc_script.specs.Script as script_spec;
+ghost use Rattle.conc_script.specs.Script.{act_of, at_field, entered_by_record, order_of, submission_of};
 
 use crate::actions::{Action, Submission, Verb};
 use crate::fields::{Fields, fields_in};
@@ -53,7 +55,7 @@ fn form<'a>(at: Moment, item: Item, fields: &Fields<'a>) -> Option<Submission<'a
 fn submission<'a>(setup: &Setup, at: Moment, fields: &Fields<'a>) -> Result<Submission<'a>, u8>
     ensures rules { first_broken (submit_rules setup.now (list_of fields.now)) ≡ result_err result }
     ensures said { IfOk result (λ s. submission_of setup.now at (list_of fields.now) ≡ Some (submit_by s)) }
-    ensures item { IfOk result (λ s. item_named_of setup.now fields.now.what.now ≡ Some s.item) }
+    ensures item { IfOk result (λ s. script_spec.item_named setup.now fields.now.what.now ≡ Some s.item) }
     ensures fits { IfOk result (λ s. (next : ℕ) → IsTrue (is_act setup.now next (submit_by s))) }
 {
     let item = item_named(setup, fields.what).ok_or(rule::NAME)?;
@@ -61,7 +63,7 @@ fn submission<'a>(setup: &Setup, at: Moment, fields: &Fields<'a>) -> Result<Subm
 }
 
 fn verb_of(word: &[u8]) -> Option<Verb>
-    ensures { result ≡ verb_of_word word.now }
+    ensures { result ≡ actions_spec.verb_of word.now }
 {
     if word == b"hold".as_slice() {
         Some(Verb::Hold)
@@ -107,7 +109,7 @@ fn request(entered: u64, fields: &Fields) -> Result<RequestId, u8>
 }
 
 fn is_submit(fields: &Fields) -> bool
-    ensures { result ≡ is_submit_of (list_of fields.now) }
+    ensures { result ≡ script_spec.is_submit (list_of fields.now) }
 {
     fields.word == b"submit".as_slice()
 }
@@ -131,7 +133,7 @@ fn action<'a>(setup: &Setup, at: Moment, entered: u64, fields: &Fields<'a>) -> R
 }
 
 fn is_earlier(at: Moment, before: Option<Moment>) -> bool
-    ensures { result ≡ is_earlier_of (Some at) before }
+    ensures { result ≡ script_spec.is_earlier (Some at) before }
 {
     before.is_some_and(|before| at.seconds < before.seconds)
 }
@@ -149,7 +151,7 @@ pub(crate) fn judge<'a>(
     ensures rules { first_broken (record_rules setup.now number entered before (fields_of row.now)) ≡ result_err result }
     ensures said { IfOk result (λ p. order_of setup.now (fields_of row.now) ≡ Some (record { at = p.0; act = act_by p.1 })) }
     ensures at { IfOk result (λ p. moment_of (at_field (fields_of row.now)) ≡ Some p.0) }
-    ensures later { IfOk result (λ p. is_earlier_of (Some p.0) before ≡ false) }
+    ensures later { IfOk result (λ p. script_spec.is_earlier (Some p.0) before ≡ false) }
     ensures fits { IfOk result (λ p. IsTrue (is_act setup.now (entered + 1) (act_by p.1))) }
     ensures enters { IfOk result (λ p. entered_by_record setup.now (fields_of row.now) ≡ entered_by setup.now (act_by p.1)) }
 {

@@ -1,6 +1,6 @@
 ghost use Rattle.std.specs.Prelude.{◌≡◌, ◌==◌, ◌<◌, [], ◌∷◌, length, position, IfSome, MatchOption};
 ghost use Rattle.conc_script.specs.Clock.{lines_of};
-ghost use Rattle.conc_script.specs.Lines.{without_return as without_return_of};
+ghost use Rattle.conc_script.specs.Lines as spec;
 
 fn line_feed(bytes: &[u8]) -> Option<usize>
     ensures { result ≡ position (λ byte. byte == 10) bytes.now }
@@ -9,7 +9,7 @@ fn line_feed(bytes: &[u8]) -> Option<usize>
 }
 
 fn without_return(line: &[u8]) -> &[u8]
-    ensures { result.now ≡ without_return_of line.now }
+    ensures { result.now ≡ spec.without_return line.now }
 {
     line.strip_suffix(b"\r").unwrap_or(line)
 }

@@ -1,10 +1,10 @@
 ghost use Rattle.std.specs.Prelude.{◌≡◌, ◌<◌, ◌≤◌, length, position, IfSome, IsTrue};
 ghost use Rattle.std.specs.Option.{option_copied};
 ghost use Rattle.std.specs.Str.{bytes_eq};
-ghost use Rattle.conc_types.specs.Texts.{is_name as is_name_of};
+ghost use Rattle.conc_types.specs.Texts as texts_spec;
 ghost use Rattle.conc_types.specs.Setups.{is_item};
 ghost use Rattle.conc_types.specs.Words.{is_between};
-ghost use Rattle.conc_script.specs.Script.{domain_of as domain_of_bytes, item_named as item_named_of, priority_of as priority_of_bytes, start_of as start_of_bytes};
+ghost use Rattle.conc_script.specs.Script as script_spec;
 
 use conc_time::read_moment;
 use conc_types::{Item, Moment, Program, SetDef, Setup, is_name, read_decimal};
@@ -26,7 +26,7 @@ fn set_named(sets: &[SetDef], name: &[u8]) -> Option<usize>
 /// The program or set of a setup with this name, if there is one.
 #[tactic(auto, unfolding(crate::specs::Script::item_named))]
 pub(crate) fn item_named(setup: &Setup, name: &[u8]) -> Option<Item>
-    ensures value { result ≡ item_named_of setup.now name.now }
+    ensures value { result ≡ script_spec.item_named setup.now name.now }
     ensures there { IfSome result (λ item. IsTrue (is_item setup.now.programs setup.now.sets item)) }
 {
     match program_named(setup.programs.as_slice(), name) {
@@ -41,7 +41,7 @@ pub(crate) fn item_named(setup: &Setup, name: &[u8]) -> Option<Item>
 /// The priority that a field says, 1 to 99, or 50 where it is empty.
 #[tactic(auto, unfolding(crate::specs::Script::priority_of))]
 pub(crate) fn priority_of(bytes: &[u8]) -> Option<u8>
-    ensures value { result ≡ priority_of_bytes bytes.now }
+    ensures value { result ≡ script_spec.priority_of bytes.now }
     ensures within { IfSome result (λ priority. IsTrue (is_between 1 99 priority)) }
 {
     if bytes.is_empty() {
@@ -58,7 +58,7 @@ pub(crate) fn priority_of(bytes: &[u8]) -> Option<u8>
 /// The start that a field says, or the moment of the command where it is empty.
 #[tactic(auto, unfolding(crate::specs::Script::start_of))]
 pub(crate) fn start_of(at: Moment, bytes: &[u8]) -> Option<Moment>
-    ensures { result ≡ start_of_bytes at bytes.now }
+    ensures { result ≡ script_spec.start_of at bytes.now }
 {
     if bytes.is_empty() {
         return Some(at);
@@ -69,8 +69,8 @@ pub(crate) fn start_of(at: Moment, bytes: &[u8]) -> Option<Moment>
 /// The domain that a field says, or `Standard` where it is empty.
 #[tactic(auto, using(crate::proofs::Forms::is_name_standard), unfolding(crate::specs::Script::domain_of))]
 pub(crate) fn domain_of(bytes: &[u8]) -> Option<&[u8]>
-    ensures value { option_copied result ≡ domain_of_bytes bytes.now }
-    ensures named { IfSome result (λ domain. IsTrue (is_name_of domain.now)) }
+    ensures value { option_copied result ≡ script_spec.domain_of bytes.now }
+    ensures named { IfSome result (λ domain. IsTrue (texts_spec.is_name domain.now)) }
 {
     if bytes.is_empty() {
         return Some(b"Standard");

@@ -1,6 +1,6 @@
 ghost use Rattle.std.specs.Prelude.{◌≡◌, IfOk, Option};
 ghost use Rattle.std.specs.Option.{option_map};
-ghost use Rattle.conc_setup_fields.specs.Fields.{keys_kind as keys_kind_of};
+ghost use Rattle.conc_setup_fields.specs.Fields as fields_spec;
 ghost use Rattle.conc_setup_fields.specs.Kinds.{judged};
 ghost use Rattle.conc_setup.specs.Documents as spec;
 ghost use Rattle.toml.specs.Parse.{parse_document};
@@ -47,7 +47,7 @@ impl<F: Form, const MOST: usize> Form for EntriesForm<F, MOST> {
 }
 
 fn top_keys(file: &Table) -> Option<u8>
-    ensures { result ≡ keys_kind_of spec.top_keys (table_view file.now) }
+    ensures { result ≡ fields_spec.keys_kind spec.top_keys (table_view file.now) }
 {
     keys_kind(
         &["tables", "program", "incompatible", "manager", "set"],

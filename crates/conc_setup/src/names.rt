@@ -1,8 +1,8 @@
 ghost use Rattle.std.specs.Prelude.{◌≡◌, ◌<◌, IfSome, List, ℕ, length, map};
 ghost use Rattle.std.specs.List.{position};
 ghost use Rattle.std.specs.Str.{bytes_eq};
-ghost use Rattle.conc_types.specs.Words.{are_distinct as are_distinct_by};
-ghost use Rattle.conc_setup.specs.SecondPass.{is_among as is_among_of};
+ghost use Rattle.conc_types.specs.Words as words_spec;
+ghost use Rattle.conc_setup.specs.SecondPass as second_pass_spec;
 
 use conc_setup_entries::{RawManager, RawSet, RawStage};
 use conc_types::{Name, Program};
@@ -58,7 +58,7 @@ impl Named for RawStage {
 
 /// Whether the name is that of one of the items.
 pub(crate) fn is_among<T: Named>(items: &[T], name: &Name) -> bool
-    ensures { result ≡ is_among_of (map T.name_of items.now) name.now }
+    ensures { result ≡ second_pass_spec.is_among (map T.name_of items.now) name.now }
 {
     match items.split_first() {
         None => false,
@@ -68,7 +68,7 @@ pub(crate) fn is_among<T: Named>(items: &[T], name: &Name) -> bool
 
 /// Whether no two of the items have one name.
 pub(crate) fn are_distinct<T: Named>(items: &[T]) -> bool
-    ensures { result ≡ are_distinct_by bytes_eq (map T.name_of items.now) }
+    ensures { result ≡ words_spec.are_distinct bytes_eq (map T.name_of items.now) }
 {
     match items.split_first() {
         None => true,

@@ -1,8 +1,8 @@
 ghost use Rattle.std.specs.Prelude.{◌≡◌, ◌≤◌, ◌*◌, length, map};
-ghost use Rattle.conc_types.specs.Shifts.{most_places as most_places_of};
+ghost use Rattle.conc_types.specs.Shifts as shifts_spec;
 ghost use Rattle.conc_types.specs.Words.{greatest};
 ghost use Rattle.conc_setup_fields.specs.Arrays.{goods};
-ghost use Rattle.conc_setup.specs.Places.{places_in_all as places_in_all_of};
+ghost use Rattle.conc_setup.specs.Places as places_spec;
 
 use conc_setup_entries::RawManager;
 use conc_setup_fields::Counted;
@@ -18,7 +18,7 @@ fn greatest_shift(shifts: &[Shift]) -> u32
 }
 
 fn most_places(shifts: &[Shift]) -> u32
-    ensures { result ≡ most_places_of shifts.now }
+    ensures { result ≡ shifts_spec.most_places shifts.now }
 {
     if shifts.is_empty() {
         1
@@ -30,7 +30,7 @@ fn most_places(shifts: &[Shift]) -> u32
 #[tactic(auto, unfolding(conc_setup_fields::specs::Arrays::goods))]
 fn places_of(managers: &[Result<RawManager, u8>]) -> u64
     requires { length managers.now ≤ 64 }
-    ensures value { result ≡ places_in_all_of (goods managers.now) }
+    ensures value { result ≡ places_spec.places_in_all (goods managers.now) }
     ensures small { result ≤ 4294967296 * length managers.now }
 {
     match managers.split_first() {
@@ -44,7 +44,7 @@ fn places_of(managers: &[Result<RawManager, u8>]) -> u64
 
 /// How many places the managers with which nothing is wrong have together.
 pub(crate) fn places_in_all(managers: &Counted<Result<RawManager, u8>, 0, 64>) -> u64
-    ensures { result ≡ places_in_all_of (goods managers.now.list) }
+    ensures { result ≡ places_spec.places_in_all (goods managers.now.list) }
 {
     places_of(managers.list.as_slice())
 }

@@ -1,6 +1,6 @@
 ghost use Rattle.std.specs.Prelude.{◌≡◌, ◌≤◌, IfOk, List, Result, length, map, ℕ};
 ghost use Rattle.conc_types.specs.declared.program.Program.{Program};
-ghost use Rattle.conc_setup_fields.specs.Arrays.{all_good as all_good_of};
+ghost use Rattle.conc_setup_fields.specs.Arrays as arrays_spec;
 ghost use Rattle.conc_setup_entries.specs.declared.raw.RawSet.{RawSet};
 ghost use Rattle.conc_setup.specs.ThirdPass as spec;
 
@@ -88,7 +88,7 @@ pub(crate) fn resolve_good<T: Resolve>(
     items: &Items,
     values: &[T],
 ) -> Result<Result<Seq<T::Out>, u8>, NoMemory>
-    ensures value { IfOk result (λ r. r ≡ all_good_of (map (T.resolved items.now.programs.now items.now.sets.now) values.now)) }
+    ensures value { IfOk result (λ r. r ≡ arrays_spec.all_good (map (T.resolved items.now.programs.now items.now.sets.now) values.now)) }
     ensures count { IfOk result (λ r. IfOk r (λ all. length all ≡ length values.now)) }
 {
     let all = resolve_all(alloc, items, values)?;

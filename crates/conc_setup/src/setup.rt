@@ -1,11 +1,13 @@
 ghost use Rattle.std.specs.Prelude.{◌≡◌, IfErr, IfOk, Ok, Result};
 ghost use Rattle.conc_types.specs.declared.refusal.FileKind.TheVariants as kind;
 ghost use Rattle.conc_types.specs.Faults.{IsFailure};
-ghost use Rattle.conc_setup.specs.FirstPass.{first_pass as first_pass_of, IsFew};
+ghost use Rattle.conc_setup.specs.FirstPass as first_pass_spec;
+ghost use Rattle.conc_setup.specs.FirstPass.{IsFew};
 ghost use Rattle.conc_setup.specs.Lines.{passed};
-ghost use Rattle.conc_setup.specs.SecondPass.{second_pass as second_pass_of};
-ghost use Rattle.conc_setup.specs.Setups.{fault_in, setup_in as setup_in_bytes};
-ghost use Rattle.conc_setup.specs.ThirdPass.{third_pass as third_pass_of};
+ghost use Rattle.conc_setup.specs.SecondPass as second_pass_spec;
+ghost use Rattle.conc_setup.specs.Setups as setups_spec;
+ghost use Rattle.conc_setup.specs.Setups.{fault_in};
+ghost use Rattle.conc_setup.specs.ThirdPass as third_pass_spec;
 
 use crate::document::document_in;
 use crate::first_pass::first_pass;
@@ -19,7 +21,7 @@ use std::alloc::Global;
 #[tactic(auto, unfolding(crate::specs::SecondPass::second_pass))]
 fn pass_names(alloc: Global, raw: RawSetup) -> Result<Result<Setup, Fault>, NoMemory>
     requires { IsFew raw }
-    ensures { IfOk result (λ r. r ≡ passed third_pass_of (second_pass_of raw)) }
+    ensures { IfOk result (λ r. r ≡ passed third_pass_spec.third_pass (second_pass_spec.second_pass raw)) }
 {
     match second_pass(&raw) {
         Some(fault) => Ok(Err(fault)),
@@ -29,7 +31,7 @@ fn pass_names(alloc: Global, raw: RawSetup) -> Result<Result<Setup, Fault>, NoMe
 
 // What the three passes make of a document.
 fn pass_all(alloc: Global, document: Document) -> Result<Result<Setup, Fault>, NoMemory>
-    ensures { IfOk result (λ r. r ≡ passed third_pass_of (passed second_pass_of (first_pass_of document))) }
+    ensures { IfOk result (λ r. r ≡ passed third_pass_spec.third_pass (passed second_pass_spec.second_pass (first_pass_spec.first_pass document))) }
 {
     match first_pass(alloc, document)? {
         Ok(raw) => pass_names(alloc, raw),
@@ -40,7 +42,7 @@ fn pass_all(alloc: Global, document: Document) -> Result<Result<Setup, Fault>, N
 // The setup, or the first fault of the file.
 #[tactic(auto, unfolding(crate::specs::Setups::setup_in))]
 fn setup_in(alloc: Global, bytes: &[u8]) -> Result<Result<Setup, Fault>, NoMemory>
-    ensures { IfOk result (λ r. r ≡ setup_in_bytes bytes.now) }
+    ensures { IfOk result (λ r. r ≡ setups_spec.setup_in bytes.now) }
 {
     match document_in(alloc, bytes)? {
         Ok(document) => pass_all(alloc, document),
@@ -62,7 +64,7 @@ fn setup_in(alloc: Global, bytes: &[u8]) -> Result<Result<Setup, Fault>, NoMemor
 /// are not there (6) and links to the same or an earlier stage (9). Where memory lacks there is neither
 /// a setup nor a refusal.
 pub fn read_setup(alloc: Global, bytes: &[u8]) -> Result<Setup, ReadFail>
-    ensures value { IfOk result (λ setup. setup_in_bytes bytes.now ≡ Ok setup) }
+    ensures value { IfOk result (λ setup. setups_spec.setup_in bytes.now ≡ Ok setup) }
     ensures fault { IfErr result (IsFailure kind.Setup (fault_in bytes.now)) }
 {
     match setup_in(alloc, bytes)? {

@@ -1,5 +1,5 @@
 ghost use Rattle.std.specs.Prelude.{◌≡◌, IfOk, List, ℕ};
-ghost use Rattle.conc_setup_fields.specs.Fields.{keys_kind as keys_kind_of};
+ghost use Rattle.conc_setup_fields.specs.Fields as fields_spec;
 ghost use Rattle.conc_setup_fields.specs.Kinds.{good};
 ghost use Rattle.conc_setup_entries.specs.Entries as spec;
 ghost use Rattle.toml.specs.View.{table_view, view};
@@ -67,7 +67,7 @@ impl Form for ReachForm {
 }
 
 fn entry_keys(table: &Table) -> Option<u8>
-    ensures { result ≡ keys_kind_of spec.entry_keys (table_view table.now) }
+    ensures { result ≡ fields_spec.keys_kind spec.entry_keys (table_view table.now) }
 {
     keys_kind(&["program", "with", "scope", "type"], table)
 }

@@ -1,5 +1,5 @@
 ghost use Rattle.std.specs.Prelude.{◌≡◌, IfOk, List, ℕ};
-ghost use Rattle.conc_setup_fields.specs.Fields.{keys_kind as keys_kind_of};
+ghost use Rattle.conc_setup_fields.specs.Fields as fields_spec;
 ghost use Rattle.conc_setup_fields.specs.Kinds.{good};
 ghost use Rattle.conc_setup_entries.specs.Programs as spec;
 ghost use Rattle.toml.specs.View.{table_view, view};
@@ -47,7 +47,7 @@ impl Form for TestForm {
 }
 
 fn filter_keys(table: &Table) -> Option<u8>
-    ensures { result ≡ keys_kind_of spec.filter_keys (table_view table.now) }
+    ensures { result ≡ fields_spec.keys_kind spec.filter_keys (table_view table.now) }
 {
     keys_kind(&["column", "test", "value"], table)
 }
@@ -161,7 +161,7 @@ fn job_of(alloc: Global, table: &Table) -> Result<Result<Job, u8>, NoMemory>
 }
 
 fn program_keys(table: &Table) -> Option<u8>
-    ensures { result ≡ keys_kind_of spec.program_keys (table_view table.now) }
+    ensures { result ≡ fields_spec.keys_kind spec.program_keys (table_view table.now) }
 {
     keys_kind(
         &[

@@ -1,5 +1,5 @@
 ghost use Rattle.std.specs.Prelude.{◌≡◌, IfOk, List, Option, ℕ};
-ghost use Rattle.conc_setup_fields.specs.Fields.{keys_kind as keys_kind_of};
+ghost use Rattle.conc_setup_fields.specs.Fields as fields_spec;
 ghost use Rattle.conc_setup_fields.specs.Kinds.{judged};
 ghost use Rattle.conc_setup_entries.specs.Rules as spec;
 ghost use Rattle.toml.specs.View.{table_view, view};
@@ -13,7 +13,7 @@ use std::alloc::Global;
 use toml::{Table, Value};
 
 fn rule_keys(table: &Table) -> Option<u8>
-    ensures { result ≡ keys_kind_of spec.rule_keys (table_view table.now) }
+    ensures { result ≡ fields_spec.keys_kind spec.rule_keys (table_view table.now) }
 {
     keys_kind(&["program", "type", "user"], table)
 }

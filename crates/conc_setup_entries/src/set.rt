@@ -1,5 +1,5 @@
 ghost use Rattle.std.specs.Prelude.{◌≡◌, IfOk, List, Option, ℕ};
-ghost use Rattle.conc_setup_fields.specs.Fields.{keys_kind as keys_kind_of};
+ghost use Rattle.conc_setup_fields.specs.Fields as fields_spec;
 ghost use Rattle.conc_setup_fields.specs.Kinds.{good};
 ghost use Rattle.conc_setup_entries.specs.Sets as spec;
 ghost use Rattle.toml.specs.View.{table_view, view};
@@ -14,7 +14,7 @@ use std::alloc::Global;
 use toml::{Table, Value};
 
 fn stage_keys(table: &Table) -> Option<u8>
-    ensures { result ≡ keys_kind_of spec.stage_keys (table_view table.now) }
+    ensures { result ≡ fields_spec.keys_kind spec.stage_keys (table_view table.now) }
 {
     keys_kind(
         &[
@@ -91,7 +91,7 @@ impl Form for StageForm {
 }
 
 fn set_keys(table: &Table) -> Option<u8>
-    ensures { result ≡ keys_kind_of spec.set_keys (table_view table.now) }
+    ensures { result ≡ fields_spec.keys_kind spec.set_keys (table_view table.now) }
 {
     keys_kind(&["name", "stage"], table)
 }

@@ -1,8 +1,8 @@
 ghost use Rattle.std.specs.Prelude.{◌≡◌, IfOk, List, Option, ℕ};
-ghost use Rattle.conc_setup_fields.specs.Fields.{keys_kind as keys_kind_of};
+ghost use Rattle.conc_setup_fields.specs.Fields as fields_spec;
 ghost use Rattle.conc_setup_fields.specs.Kinds.{judged};
 ghost use Rattle.conc_setup_entries.specs.Shifts as spec;
-ghost use Rattle.conc_types.specs.Fields.{are_times as are_times_of, is_shift as is_shift_of};
+ghost use Rattle.conc_types.specs.Fields as types_fields_spec;
 ghost use Rattle.conc_types.specs.Words.{none_or};
 ghost use Rattle.toml.specs.View.{table_view, view};
 
@@ -16,7 +16,7 @@ use toml::{Table, Value};
 const DAYS: u32 = 3652059;
 
 fn shift_keys(table: &Table) -> Option<u8>
-    ensures { result ≡ keys_kind_of spec.shift_keys (table_view table.now) }
+    ensures { result ≡ fields_spec.keys_kind spec.shift_keys (table_view table.now) }
 {
     keys_kind(&["date", "days", "from", "to", "places"], table)
 }
@@ -32,14 +32,14 @@ fn times_of(from: Option<u32>, to: Option<u32>) -> Result<Option<(u32, u32)>, u8
 }
 
 fn are_times(times: (u32, u32)) -> bool
-    ensures { result ≡ are_times_of times }
+    ensures { result ≡ types_fields_spec.are_times times }
 {
     let (from, to) = times;
     from < to && (to <= 86400 && (from % 60 == 0 && to % 60 == 0))
 }
 
 fn is_shift(date: Option<u32>, days: u8, times: Option<(u32, u32)>, places: u32) -> bool
-    ensures { result ≡ is_shift_of date days times places }
+    ensures { result ≡ types_fields_spec.is_shift date days times places }
 {
     date.is_none_or(|date| date < DAYS)
         && ((date.is_none() || days == 0)

@@ -1,7 +1,7 @@
 ghost use Rattle.std.specs.Prelude.{◌≡◌, ◌≤◌, ◌==◌, ◌<◌, IfOk, IfSome, List, Option, Result, ℕ};
 ghost use Rattle.conc_setup_fields.specs.Kinds.{judged};
 ghost use Rattle.conc_setup_entries.specs.Shifts as spec;
-ghost use Rattle.conc_types.specs.Words.{are_distinct as are_distinct_of};
+ghost use Rattle.conc_types.specs.Words as words_spec;
 ghost use Rattle.toml.specs.View.{view};
 
 use conc_setup_fields::{Form, ListForm, WholeForm, kind};
@@ -144,7 +144,7 @@ fn has_day(day: u8, days: &[u8]) -> bool
 }
 
 fn are_distinct(days: &[u8]) -> bool
-    ensures { result ≡ are_distinct_of ◌==◌ days.now }
+    ensures { result ≡ words_spec.are_distinct ◌==◌ days.now }
 {
     match days.split_first() {
         None => true,

@@ -1,5 +1,6 @@
 ghost use Rattle.std.specs.Prelude.{◌≡◌, IfOk};
-ghost use Rattle.conc_setup_fields.specs.Arrays.{all_good as all_good_of, array_in, counted as counted_of, list_in, list_of as list_of_items, no_values as no_values_of, read_all as read_all_of};
+ghost use Rattle.conc_setup_fields.specs.Arrays as spec;
+ghost use Rattle.conc_setup_fields.specs.Arrays.{array_in, list_in};
 ghost use Rattle.toml.specs.View.{array_view, view};
 
 use crate::lines::{goods, worst};
@@ -14,7 +15,7 @@ pub fn read_all<F: Form>(
     alloc: Global,
     items: &Vec<Value>,
 ) -> Result<Seq<Result<F::Out, u8>>, NoMemory>
-    ensures { IfOk result (λ all. all ≡ read_all_of F.form (array_view items.now)) }
+    ensures { IfOk result (λ all. all ≡ spec.read_all F.form (array_view items.now)) }
 {
     let mut all = Vec::new(alloc);
     for item in items {
@@ -28,7 +29,7 @@ pub fn all_good<T: Drop>(
     alloc: Global,
     all: Seq<Result<T, u8>>,
 ) -> Result<Result<Seq<T>, u8>, NoMemory>
-    ensures { IfOk result (λ r. r ≡ all_good_of all) }
+    ensures { IfOk result (λ r. r ≡ spec.all_good all) }
 {
     match worst(all.as_slice()) {
         None => Ok(Ok(goods(alloc, all)?)),
@@ -38,7 +39,7 @@ pub fn all_good<T: Drop>(
 
 /// No values, where there need be none. It takes no memory.
 pub fn no_values<T: Drop, const MOST: usize>(alloc: Global) -> Counted<T, 0, MOST>
-    ensures { result ≡ no_values_of MOST }
+    ensures { result ≡ spec.no_values MOST }
 {
     Counted {
         list: Seq::from_vec(Vec::new(alloc)),
@@ -50,7 +51,7 @@ pub fn no_values<T: Drop, const MOST: usize>(alloc: Global) -> Counted<T, 0, MOS
 pub fn counted<T: Drop, const FEW: usize, const MOST: usize>(
     list: Seq<T>,
 ) -> Result<Counted<T, FEW, MOST>, u8>
-    ensures { result ≡ counted_of FEW MOST list }
+    ensures { result ≡ spec.counted FEW MOST list }
 {
     let count = list.len();
     if FEW <= count && count <= MOST {
@@ -63,7 +64,7 @@ pub fn counted<T: Drop, const FEW: usize, const MOST: usize>(
 }
 
 fn list_of<F: Form>(alloc: Global, items: &Vec<Value>) -> Result<Result<Seq<F::Out>, u8>, NoMemory>
-    ensures { IfOk result (λ r. r ≡ list_of_items F.form (array_view items.now)) }
+    ensures { IfOk result (λ r. r ≡ spec.list_of F.form (array_view items.now)) }
 {
     let all = read_all::<F>(alloc, items)?;
     all_good(alloc, all)

@@ -1,5 +1,5 @@
 ghost use Rattle.std.specs.Prelude.{◌≡◌, IfOk, option_map};
-ghost use Rattle.conc_setup_fields.specs.Fields.{default as default_of, optional as optional_of, required as required_of};
+ghost use Rattle.conc_setup_fields.specs.Fields as spec;
 ghost use Rattle.toml.specs.Data.{get_member};
 ghost use Rattle.toml.specs.View.{table_view, view};
 
@@ -22,7 +22,7 @@ pub fn required<F: Form>(
     table: &Table,
     key: &str,
 ) -> Result<Result<F::Out, u8>, NoMemory>
-    ensures { IfOk result (λ r. r ≡ required_of F.form (get_member key.now (table_view table.now))) }
+    ensures { IfOk result (λ r. r ≡ spec.required F.form (get_member key.now (table_view table.now))) }
 {
     match field(table, key) {
         None => Ok(Err(kind::MISSING)),
@@ -36,7 +36,7 @@ pub fn optional<F: Form>(
     table: &Table,
     key: &str,
 ) -> Result<Result<Option<F::Out>, u8>, NoMemory>
-    ensures { IfOk result (λ r. r ≡ optional_of F.form (get_member key.now (table_view table.now))) }
+    ensures { IfOk result (λ r. r ≡ spec.optional F.form (get_member key.now (table_view table.now))) }
 {
     match field(table, key) {
         None => Ok(Ok(None)),
@@ -54,7 +54,7 @@ pub fn default<F: Form>(
     table: &Table,
     key: &str,
 ) -> Result<Result<F::Out, u8>, NoMemory>
-    ensures { IfOk result (λ r. r ≡ default_of otherwise F.form (get_member key.now (table_view table.now))) }
+    ensures { IfOk result (λ r. r ≡ spec.default otherwise F.form (get_member key.now (table_view table.now))) }
 {
     match field(table, key) {
         None => Ok(Ok(otherwise)),

@@ -1,5 +1,6 @@
 ghost use Rattle.std.specs.Prelude.{◌≡◌, IfOk, List, Option, Result, ℕ};
-ghost use Rattle.conc_setup_fields.specs.Forms.{name_in, name_of as name_of_bytes, no_text as no_text_of, text_in, text_of as text_of_bytes, truth_in, whole_in, whole_of as whole_of_integer};
+ghost use Rattle.conc_setup_fields.specs.Forms as spec;
+ghost use Rattle.conc_setup_fields.specs.Forms.{name_in, text_in, truth_in, whole_in};
 ghost use Rattle.toml.specs.Data.{Data};
 ghost use Rattle.toml.specs.View.{view};
 
@@ -27,7 +28,7 @@ pub trait Form {
 pub struct NameForm;
 
 fn name_of(alloc: Global, bytes: &[u8]) -> Result<Result<Name, u8>, NoMemory>
-    ensures { IfOk result (λ r. r ≡ name_of_bytes bytes.now) }
+    ensures { IfOk result (λ r. r ≡ spec.name_of bytes.now) }
 {
     if is_name(bytes) {
         Ok(Ok(Name::from_vec(bytes.to_vec(alloc)?)))
@@ -54,7 +55,7 @@ pub struct TextForm<const MOST: usize>;
 
 /// The text of no bytes. It takes no memory.
 pub fn no_text<const MOST: usize>(alloc: Global) -> ShortText<MOST>
-    ensures { result ≡ no_text_of MOST }
+    ensures { result ≡ spec.no_text MOST }
 {
     ShortText {
         text: Seq::from_vec(Vec::new(alloc)),
@@ -65,7 +66,7 @@ fn text_of<const MOST: usize>(
     alloc: Global,
     bytes: &[u8],
 ) -> Result<Result<ShortText<MOST>, u8>, NoMemory>
-    ensures { IfOk result (λ r. r ≡ text_of_bytes MOST bytes.now) }
+    ensures { IfOk result (λ r. r ≡ spec.text_of MOST bytes.now) }
 {
     if is_text(MOST, bytes) {
         let text = Seq::from_vec(bytes.to_vec(alloc)?);
@@ -114,7 +115,7 @@ impl Form for TruthForm {
 pub struct WholeForm;
 
 fn whole_of(number: i64) -> Result<u64, u8>
-    ensures { result ≡ whole_of_integer number }
+    ensures { result ≡ spec.whole_of number }
 {
     if number < 0 {
         Err(kind::OUT_OF_RANGE)

@@ -1,7 +1,8 @@
 ghost use Rattle.std.specs.Prelude.{◌≡◌, map};
 ghost use Rattle.std.specs.List.{list_any};
 ghost use Rattle.std.specs.Str.{bytes_eq};
-ghost use Rattle.conc_setup_fields.specs.Fields.{is_known as is_known_of, keys_kind as keys_kind_of, only};
+ghost use Rattle.conc_setup_fields.specs.Fields as spec;
+ghost use Rattle.conc_setup_fields.specs.Fields.{only};
 ghost use Rattle.toml.specs.View.{table_view};
 
 use crate::kind;
@@ -20,7 +21,7 @@ fn is_among(keys: &[&str], key: &str) -> bool
 }
 
 fn is_known(keys: &[&str], key: &str) -> bool
-    ensures { result ≡ is_known_of (map (λ k. k.now) keys.now) key.now }
+    ensures { result ≡ spec.is_known (map (λ k. k.now) keys.now) key.now }
 {
     is_among(keys, key)
 }
@@ -40,7 +41,7 @@ fn has_only(keys: &[&str], table: &Table) -> bool
 
 /// What is wrong with the keys of a table: `UNKNOWN_KEY` where it has one that is not among these.
 pub fn keys_kind(keys: &[&str], table: &Table) -> Option<u8>
-    ensures { result ≡ keys_kind_of (map (λ k. k.now) keys.now) (table_view table.now) }
+    ensures { result ≡ spec.keys_kind (map (λ k. k.now) keys.now) (table_view table.now) }
 {
     if has_only(keys, table) {
         None

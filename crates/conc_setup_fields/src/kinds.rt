@@ -1,9 +1,9 @@
 ghost use Rattle.std.specs.Prelude.{◌≡◌};
-ghost use Rattle.conc_setup_fields.specs.Kinds.{beside as beside_of, both as both_of};
+ghost use Rattle.conc_setup_fields.specs.Kinds as spec;
 
 /// Both values, or the lesser kind of what is wrong with them.
 pub fn both<A: Drop, B: Drop>(a: Result<A, u8>, b: Result<B, u8>) -> Result<(A, B), u8>
-    ensures { result ≡ both_of a b }
+    ensures { result ≡ spec.both a b }
 {
     match (a, b) {
         (Ok(a), Ok(b)) => Ok((a, b)),
@@ -15,7 +15,7 @@ pub fn both<A: Drop, B: Drop>(a: Result<A, u8>, b: Result<B, u8>) -> Result<(A, 
 
 /// The value, or the lesser kind of what is wrong with it and beside it.
 pub fn beside<A: Drop>(kind: Option<u8>, value: Result<A, u8>) -> Result<A, u8>
-    ensures { result ≡ beside_of kind value }
+    ensures { result ≡ spec.beside kind value }
 {
     match (kind, value) {
         (None, value) => value,

@@ -1,12 +1,12 @@
 ghost use Rattle.std.specs.Prelude.{◌≡◌, ◌≤◌, ◌+◌, ◌-◌, ◌^◌, IfOk, IfSome, IsNone, Ok, length, map};
 ghost use Rattle.conc_setup_fields.specs.Faults.{IsFirstWrong};
-ghost use Rattle.conc_setup_fields.specs.Arrays.{first_wrong as first_wrong_of, goods as goods_of, lesser as lesser_of, worst as worst_of};
+ghost use Rattle.conc_setup_fields.specs.Arrays as spec;
 
 use conc_types::{NoMemory, Seq};
 use std::alloc::Global;
 
 fn lesser<T: Drop>(read: &Result<T, u8>, kind: Option<u8>) -> Option<u8>
-    ensures { result ≡ lesser_of read.now kind }
+    ensures { result ≡ spec.lesser read.now kind }
 {
     match (read, kind) {
         (Ok(_), kind) => kind,
@@ -17,7 +17,7 @@ fn lesser<T: Drop>(read: &Result<T, u8>, kind: Option<u8>) -> Option<u8>
 
 /// The least kind of what is wrong, if anything is.
 pub(crate) fn worst<T: Drop>(all: &[Result<T, u8>]) -> Option<u8>
-    ensures { result ≡ worst_of all.now }
+    ensures { result ≡ spec.worst all.now }
 {
     let mut least = None;
     let mut place = all.len();
@@ -31,7 +31,7 @@ pub(crate) fn worst<T: Drop>(all: &[Result<T, u8>]) -> Option<u8>
 /// The values of those with which nothing is wrong, in their order.
 #[tactic(auto, unfolding(crate::specs::Arrays::goods))]
 pub fn goods<T: Drop>(alloc: Global, all: Seq<Result<T, u8>>) -> Result<Seq<T>, NoMemory>
-    ensures { IfOk result (λ values. values ≡ goods_of all) }
+    ensures { IfOk result (λ values. values ≡ spec.goods all) }
 {
     let mut values = Vec::new(alloc);
     for read in all.into_vec() {
@@ -45,7 +45,7 @@ pub fn goods<T: Drop>(alloc: Global, all: Seq<Result<T, u8>>) -> Result<Seq<T>, 
 #[tactic(auto, unfolding(crate::specs::Arrays::first_wrong))]
 fn wrong_from<T: Drop>(line: u64, all: &[Result<T, u8>]) -> Option<(u64, u8)>
     requires { line + length all.now ≤ 2 ^ 64 - 1 }
-    ensures { result ≡ first_wrong_of line all.now }
+    ensures { result ≡ spec.first_wrong line all.now }
 {
     match all.split_first() {
         None => None,
@@ -58,9 +58,9 @@ fn wrong_from<T: Drop>(line: u64, all: &[Result<T, u8>]) -> Option<(u64, u8)>
 /// and its kind. None where nothing is wrong with any. It takes no memory.
 pub fn first_wrong<T: Drop>(line: u64, all: &[Result<T, u8>]) -> Option<(u64, u8)>
     requires { line + length all.now ≤ 2 ^ 64 - 1 }
-    ensures value { result ≡ first_wrong_of line all.now }
+    ensures value { result ≡ spec.first_wrong line all.now }
     ensures first { IfSome result (IsFirstWrong line all.now) }
-    ensures none { IsNone result → all.now ≡ map Ok (goods_of all.now) }
+    ensures none { IsNone result → all.now ≡ map Ok (spec.goods all.now) }
 {
     wrong_from(line, all)
 }

@@ -1,7 +1,7 @@
 ghost use Rattle.std.specs.Prelude.{◌≡◌, IfOk};
 ghost use Rattle.std.specs.Str.{bytes_eq};
 ghost use Rattle.csv.specs.Records.{fields_of};
-ghost use Rattle.conc_types.specs.Words.{are_distinct as are_distinct_of};
+ghost use Rattle.conc_types.specs.Words as spec;
 
 use conc_records::ByteRecord;
 use conc_types::{Bytes, NoMemory, Seq};
@@ -21,7 +21,7 @@ pub(crate) fn columns_of(alloc: Global, header: &ByteRecord) -> Result<Seq<Bytes
 
 /// Whether no two fields of a header are the same.
 pub(crate) fn are_distinct(alloc: Global, header: &ByteRecord) -> Result<bool, NoMemory>
-    ensures { IfOk result (λ distinct. distinct ≡ are_distinct_of bytes_eq (fields_of header.now)) }
+    ensures { IfOk result (λ distinct. distinct ≡ spec.are_distinct bytes_eq (fields_of header.now)) }
 {
     let mut seen = BTreeSet::new(alloc);
     for field in header.iter() {

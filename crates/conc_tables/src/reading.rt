@@ -3,7 +3,8 @@ ghost use Rattle.csv.specs.Records.{fields_of};
 ghost use Rattle.conc_types.specs.declared.refusal.FileKind.TheVariants as file;
 ghost use Rattle.conc_types.specs.Faults.{IsFailure};
 ghost use Rattle.conc_types.specs.Pieces.{concat};
-ghost use Rattle.conc_tables.specs.Rows.{row_fault as row_fault_of, rows_fault};
+ghost use Rattle.conc_tables.specs.Rows as spec;
+ghost use Rattle.conc_tables.specs.Rows.{rows_fault};
 ghost use Rattle.conc_tables.specs.Tables.{table_fault, SpellsTable};
 
 use crate::columns::{are_distinct, columns_of};
@@ -19,7 +20,7 @@ const LAST_LINE: u64 = 1_048_577;
 
 // The kind of the first rule that a row on this line breaks, with so many fields under so many columns.
 fn row_fault(width: usize, line: u64, fields: usize) -> Option<u8>
-    ensures { result ≡ row_fault_of width line fields }
+    ensures { result ≡ spec.row_fault width line fields }
 {
     if LAST_LINE < line {
         Some(33)

@@ -2,9 +2,9 @@ ghost use Rattle.std.specs.Prelude.{◌≡◌, ℕ, IfOk, IsFalse, IsTrue, not};
 ghost use Rattle.std.specs.List.{list_all};
 ghost use Rattle.std.specs.Option.{option_map};
 ghost use Rattle.conc_types.specs.declared.event.RequestId.{RequestId};
-ghost use Rattle.conc_law.specs.Plans.{are_exclusive as are_exclusive_of};
+ghost use Rattle.conc_law.specs.Plans as plans_spec;
 ghost use Rattle.conc_reports.specs.Reports.{as_report};
-ghost use Rattle.conc_board_seats.specs.Reports.{report_for as report_for_of};
+ghost use Rattle.conc_board_seats.specs.Reports as reports_spec;
 ghost use Rattle.conc_board_seats.specs.Rule.{exclude};
 ghost use Rattle.conc_board_seats.specs.Stages.{IsGone, IsLet};
 ghost use Rattle.conc_board_seats.specs.Words.{IsRequest};
@@ -20,7 +20,7 @@ use std::alloc::Global;
 
 // Whether the request excludes none of these.
 fn excludes_no_other(plan: &Plan, x: &Req, others: &[Req]) -> bool
-    ensures { result ≡ list_all (λ y. not (are_exclusive_of plan.now x.now y)) others.now }
+    ensures { result ≡ list_all (λ y. not (plans_spec.are_exclusive plan.now x.now y)) others.now }
 {
     others.iter().all(|y| !are_exclusive(plan, x, y))
 }
@@ -77,7 +77,7 @@ pub fn look_gone(board: &Board, lead: &mut Lead, r: RequestId) -> Looked
 /// The report of a request.
 #[tactic(auto, unfolding(conc_law::specs::Alone::report_of))]
 pub fn report_for(alloc: Global, plan: &Plan, r: RequestId) -> Result<Option<Made>, NoMemory>
-    ensures { IfOk result (λ made. option_map as_report made ≡ report_for_of plan.now r) }
+    ensures { IfOk result (λ made. option_map as_report made ≡ reports_spec.report_for plan.now r) }
 {
     let Some(request) = plan.request(r) else {
         return Ok(None);

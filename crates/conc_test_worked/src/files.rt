@@ -1,7 +1,7 @@
 ghost use Rattle.std.specs.Prelude.{◌≡◌, map};
 ghost use Rattle.std.specs.List.{list_any};
 ghost use Rattle.std.specs.Str.{bytes_eq};
-ghost use Rattle.conc_types.specs.Words.{are_distinct as are_distinct_of};
+ghost use Rattle.conc_types.specs.Words as spec;
 
 use conc_outside::MemShelf;
 use conc_types::{Name, NoMemory, is_name};
@@ -18,7 +18,7 @@ fn is_named(name: &Name, files: &[(Name, Vec<u8>)]) -> bool
 
 // Whether no two of the files have one name.
 fn are_distinct(files: &[(Name, Vec<u8>)]) -> bool
-    ensures { result ≡ are_distinct_of bytes_eq (map (λ f. f.0) files.now) }
+    ensures { result ≡ spec.are_distinct bytes_eq (map (λ f. f.0) files.now) }
 {
     match files.split_first() {
         None => true,

@@ -2,10 +2,11 @@ ghost use Rattle.std.specs.Prelude.{◌≡◌, ◌≤◌, ◌+◌, ◌<◌, ◌^
 ghost use Rattle.std.specs.List.{sum_by};
 ghost use Rattle.std.specs.Option.{option_map};
 ghost use Rattle.conc_types.specs.declared.manager.Manager.{Manager};
-ghost use Rattle.conc_types.specs.Shifts.{most_places as most_places_of};
+ghost use Rattle.conc_types.specs.Shifts as shifts_spec;
 ghost use Rattle.conc_types.specs.Words.{greatest, some_and};
-ghost use Rattle.conc_law.specs.Managers.{admits as admits_of};
-ghost use Rattle.conc_law.specs.Places.{count_of_places, is_usable as is_usable_of, place_from as place_from_of, place_of as place_of_of};
+ghost use Rattle.conc_law.specs.Managers as managers_spec;
+ghost use Rattle.conc_law.specs.Places as places_spec;
+ghost use Rattle.conc_law.specs.Places.{count_of_places};
 
 use crate::shifts::places;
 use conc_rules::admits;
@@ -22,7 +23,7 @@ fn greatest_shift(shifts: &[Shift]) -> u32
 
 // The places of a manager in all.
 fn most_places(manager: &Manager) -> u32
-    ensures { result ≡ most_places_of manager.now.shifts }
+    ensures { result ≡ shifts_spec.most_places manager.now.shifts }
 {
     if manager.shifts.is_empty() {
         1
@@ -35,7 +36,7 @@ fn most_places(manager: &Manager) -> u32
 // the number `owner`; this manager; and the place's number within it, from 1.
 fn place_among(managers: &[Manager], owner: u32, index: u32) -> Option<(u32, &Manager, u32)>
     requires { owner + length managers.now < 2 ^ 32 }
-    ensures { option_map {U = ℕ × Manager × ℕ} (λ p. (p.0, p.1.now, p.2)) result ≡ option_map {U = ℕ × Manager × ℕ} (λ p. (p.owner, p.manager, p.number)) (place_from_of owner managers.now index) }
+    ensures { option_map {U = ℕ × Manager × ℕ} (λ p. (p.0, p.1.now, p.2)) result ≡ option_map {U = ℕ × Manager × ℕ} (λ p. (p.owner, p.manager, p.number)) (places_spec.place_from owner managers.now index) }
 {
     let (manager, rest) = managers.split_first()?;
     let size = most_places(manager);
@@ -50,7 +51,7 @@ fn place_among(managers: &[Manager], owner: u32, index: u32) -> Option<(u32, &Ma
 /// number within it, from 1.
 #[tactic(auto, unfolding(conc_law::specs::Places::place_of))]
 pub fn place_of(plan: &Plan, place: PlaceId) -> Option<(u32, &Manager, u32)>
-    ensures { option_map {U = ℕ × Manager × ℕ} (λ p. (p.0, p.1.now, p.2)) result ≡ option_map {U = ℕ × Manager × ℕ} (λ p. (p.owner, p.manager, p.number)) (place_of_of plan.now place) }
+    ensures { option_map {U = ℕ × Manager × ℕ} (λ p. (p.0, p.1.now, p.2)) result ≡ option_map {U = ℕ × Manager × ℕ} (λ p. (p.owner, p.manager, p.number)) (places_spec.place_of plan.now place) }
 {
     place_among(plan.setup.managers.as_slice(), 1, place.index)
 }
@@ -58,7 +59,7 @@ pub fn place_of(plan: &Plan, place: PlaceId) -> Option<(u32, &Manager, u32)>
 /// Whether a place is usable at a moment: whether its number is within its manager's places then.
 #[tactic(auto, unfolding(conc_law::specs::Places::is_usable))]
 pub fn is_usable(plan: &Plan, t: Moment, place: PlaceId) -> bool
-    ensures { result ≡ is_usable_of plan.now t place }
+    ensures { result ≡ places_spec.is_usable plan.now t place }
 {
     match place_of(plan, place) {
         Some((_, manager, number)) => number <= places(manager, t),
@@ -68,7 +69,7 @@ pub fn is_usable(plan: &Plan, t: Moment, place: PlaceId) -> bool
 
 /// Whether the manager that has a place admits the request.
 pub fn is_admitted_at(plan: &Plan, place: PlaceId, r: &Req) -> bool
-    ensures { result ≡ some_and (λ p. admits_of p.manager r.now) (place_of_of plan.now place) }
+    ensures { result ≡ some_and (λ p. managers_spec.admits p.manager r.now) (places_spec.place_of plan.now place) }
 {
     match place_of(plan, place) {
         Some((_, manager, _)) => admits(manager, r),
@@ -78,8 +79,8 @@ pub fn is_admitted_at(plan: &Plan, place: PlaceId, r: &Req) -> bool
 
 // The places of these managers together.
 fn count(managers: &[Manager]) -> u32
-    requires { sum_by (λ m. most_places_of m.shifts) managers.now ≤ 64 }
-    ensures { result ≡ sum_by (λ m. most_places_of m.shifts) managers.now }
+    requires { sum_by (λ m. shifts_spec.most_places m.shifts) managers.now ≤ 64 }
+    ensures { result ≡ sum_by (λ m. shifts_spec.most_places m.shifts) managers.now }
 {
     match managers.split_first() {
         None => 0,

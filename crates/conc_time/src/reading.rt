@@ -1,8 +1,10 @@
 ghost use Rattle.std.specs.Prelude.{◌≡◌, ◌+◌, ◌<◌, ℕ, IfSome, IsNone, MatchOption, None, Option, Some, if◌then◌else◌, pos, ◌+ℤ◌, ◌<ℤ◌};
 ghost use Rattle.jiff.specs.Words.{epoch_day};
 ghost use Rattle.conc_types.specs.declared.event.Moment.{Moment};
-ghost use Rattle.conc_law.specs.Calendar.{days_before as days_before_of, is_civil, moment_of, seconds_of as seconds_of_of, SpellsMoment};
-ghost use Rattle.conc_time.specs.Fields.{civil, has_date, has_time, time as time_of_of, digit_at as digit_at_of, numbers_at as numbers_at_of, two_at};
+ghost use Rattle.conc_law.specs.Calendar as calendar_spec;
+ghost use Rattle.conc_law.specs.Calendar.{is_civil, moment_of, SpellsMoment};
+ghost use Rattle.conc_time.specs.Fields as fields_spec;
+ghost use Rattle.conc_time.specs.Fields.{civil, has_date, has_time, two_at};
 
 use crate::SECONDS_PER_DAY;
 use crate::civil::Civil;
@@ -11,7 +13,7 @@ use jiff::civil::{Date, date};
 
 // The digit at a place, or some digit where another byte or none stands there.
 fn digit_at(bytes: &[u8], place: usize) -> u8
-    ensures { result ≡ digit_at_of bytes.now place }
+    ensures { result ≡ fields_spec.digit_at bytes.now place }
 {
     let byte = bytes.get(place).copied().unwrap_or(0);
     byte.saturating_sub(b'0').min(9)
@@ -29,7 +31,7 @@ fn number_at(bytes: &[u8], place: usize) -> u8
 // are not the text of these numbers.
 #[tactic(auto, unfolding(crate::specs::Fields::numbers_at))]
 fn numbers_at(bytes: &[u8]) -> Civil
-    ensures { civil result ≡ numbers_at_of bytes.now }
+    ensures { civil result ≡ fields_spec.numbers_at bytes.now }
 {
     Civil {
         year: 100 * u16::from(number_at(bytes, 0)) + u16::from(number_at(bytes, 2)),
@@ -58,7 +60,7 @@ fn days_from_start(day: Date) -> Option<u64>
 // The days from 0001-01-01 to a date. None exactly where the calendar has no such date in a year
 // from 1 on.
 fn days_before(numbers: &Civil) -> Option<u64>
-    ensures days { result ≡ (if has_date (civil numbers.now) then Some (days_before_of (civil numbers.now)) else None) }
+    ensures days { result ≡ (if has_date (civil numbers.now) then Some (calendar_spec.days_before (civil numbers.now)) else None) }
     ensures few { IfSome result (λ days. days < 3652059) }
 {
     let Ok(day) = Date::new(numbers.year as i16, numbers.month as i8, numbers.day as i8) else {
@@ -70,7 +72,7 @@ fn days_before(numbers: &Civil) -> Option<u64>
 // The seconds from midnight. None exactly where a day has no such time.
 #[tactic(auto, unfolding(crate::specs::Fields::has_time))]
 fn time_of(numbers: &Civil) -> Option<u64>
-    ensures seconds { result ≡ (if has_time (civil numbers.now) then Some (time_of_of (civil numbers.now)) else None) }
+    ensures seconds { result ≡ (if has_time (civil numbers.now) then Some (fields_spec.time (civil numbers.now)) else None) }
     ensures few { IfSome result (λ seconds. seconds < 86400) }
 {
     if numbers.hour < 24 && numbers.minute < 60 && numbers.second < 60 {
@@ -88,7 +90,7 @@ fn time_of(numbers: &Civil) -> Option<u64>
 // from 1 on, or a day has no such time.
 #[tactic(auto, unfolding(conc_law::specs::Calendar::is_civil, conc_law::specs::Calendar::seconds_of, crate::specs::Fields::has_date, crate::specs::Fields::has_time))]
 fn seconds_of(numbers: &Civil) -> Option<u64>
-    ensures seconds { result ≡ (if is_civil (civil numbers.now) then Some (seconds_of_of (civil numbers.now)) else None) }
+    ensures seconds { result ≡ (if is_civil (civil numbers.now) then Some (calendar_spec.seconds_of (civil numbers.now)) else None) }
     ensures few { IfSome result (λ seconds. seconds < 315537897600) }
 {
     Some(SECONDS_PER_DAY * days_before(numbers)? + time_of(numbers)?)

@@ -2,9 +2,11 @@ ghost use Rattle.std.specs.Prelude.{◌≡◌, ◌%◌, ◌<◌, ◌==◌, map, 
 ghost use Rattle.std.specs.List.{filter};
 ghost use Rattle.conc_types.specs.Stages.{has_bit};
 ghost use Rattle.conc_types.specs.Words.{greatest};
-ghost use Rattle.jiff.specs.Words.{epoch_day, weekday_of as weekday_of_date};
+ghost use Rattle.jiff.specs.Words as words_spec;
+ghost use Rattle.jiff.specs.Words.{epoch_day};
 ghost use Rattle.jiff_core.specs.declared.civil.date.Date.{Date};
-ghost use Rattle.conc_law.specs.Managers.{level as level_of, places as places_of, shift_covers};
+ghost use Rattle.conc_law.specs.Managers as managers_spec;
+ghost use Rattle.conc_law.specs.Managers.{shift_covers};
 
 use crate::SECONDS_PER_DAY;
 use conc_types::{Manager, Moment, Shift};
@@ -13,7 +15,7 @@ use conc_types::{Manager, Moment, Shift};
 #[tactic(auto, using(crate::proofs::Calendars::weekday_same))]
 fn weekday_of(day: u64) -> u64
     ensures cycle { result ≡ day % 7 }
-    ensures calendar { (d : Date) → epoch_day d ≡ pos day -ℤ pos 719162 → weekday_of_date d ≡ result }
+    ensures calendar { (d : Date) → epoch_day d ≡ pos day -ℤ pos 719162 → words_spec.weekday_of d ≡ result }
 {
     day % 7
 }
@@ -49,7 +51,7 @@ fn covers(t: Moment, shift: &Shift) -> bool
 // The level of a shift; the strongest is the greatest.
 #[tactic(auto, unfolding(conc_law::specs::Managers::level))]
 fn level(shift: &Shift) -> u32
-    ensures { result ≡ level_of shift.now }
+    ensures { result ≡ managers_spec.level shift.now }
 {
     let day = if shift.date.is_some() {
         4
@@ -63,7 +65,7 @@ fn level(shift: &Shift) -> u32
 
 // The strongest level among the shifts that cover the moment, or 0.
 fn top_level(shifts: &[Shift], t: Moment) -> u32
-    ensures { result ≡ greatest (map level_of (filter (shift_covers t) shifts.now)) }
+    ensures { result ≡ greatest (map managers_spec.level (filter (shift_covers t) shifts.now)) }
 {
     match shifts.split_first() {
         None => 0,
@@ -74,7 +76,7 @@ fn top_level(shifts: &[Shift], t: Moment) -> u32
 
 // The most places among the shifts of this level that cover the moment, or 0.
 fn most_at_level(shifts: &[Shift], t: Moment, top: u32) -> u32
-    ensures { result ≡ greatest (map (λ shift. shift.places) (filter (λ shift. level_of shift == top) (filter (shift_covers t) shifts.now))) }
+    ensures { result ≡ greatest (map (λ shift. shift.places) (filter (λ shift. managers_spec.level shift == top) (filter (shift_covers t) shifts.now))) }
 {
     match shifts.split_first() {
         None => 0,
@@ -91,7 +93,7 @@ fn most_at_level(shifts: &[Shift], t: Moment, top: u32) -> u32
 /// times; days; times; neither. It takes no memory.
 #[tactic(auto, unfolding(conc_law::specs::Managers::places, conc_law::specs::Managers::covering, conc_law::specs::Managers::strongest))]
 pub fn places(manager: &Manager, t: Moment) -> u32
-    ensures { result ≡ places_of manager.now t }
+    ensures { result ≡ managers_spec.places manager.now t }
 {
     if manager.shifts.is_empty() {
         return 1;

@@ -2,7 +2,8 @@ ghost use Rattle.std.specs.Prelude.{◌≡◌, IfOk, Some};
 ghost use Rattle.conc_outside.specs.Files.{IsLater};
 ghost use Rattle.conc_top_inputs.specs.Given.{named};
 ghost use Rattle.conc_top.specs.Answers.{AnswersCheck, around};
-ghost use Rattle.conc_top.specs.Checks.{CheckEnds, finished_word as finished_word_of, verdict_text};
+ghost use Rattle.conc_top.specs.Checks as spec;
+ghost use Rattle.conc_top.specs.Checks.{CheckEnds, verdict_text};
 ghost use Rattle.conc_top.specs.Printing.{sunk};
 
 use crate::Exit;
@@ -16,7 +17,7 @@ use conc_types::{Name, NoMemory, Plan, Readings, put_decimal};
 use std::alloc::Global;
 
 fn finished_word(finished: bool) -> &'static [u8]
-    ensures { result.now ≡ finished_word_of finished }
+    ensures { result.now ≡ spec.finished_word finished }
 {
     if finished {
         b" finished\n"

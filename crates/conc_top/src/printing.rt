@@ -1,7 +1,7 @@
 ghost use Rattle.std.specs.Prelude.{◌≡◌, ◌≤◌};
 ghost use Rattle.conc_top.specs.Answers.{AnswersMake};
 ghost use Rattle.conc_top.specs.Printing.{sunk, Wrote};
-ghost use Rattle.conc_top.specs.Ways.{exit_for as exit_for_of};
+ghost use Rattle.conc_top.specs.Ways as spec;
 
 use crate::Exit;
 use conc_make_run::summarize;
@@ -23,7 +23,7 @@ pub(crate) fn write_text<O: Sink>(text: &[u8], out: &mut O) -> Exit
 /// The exit of a run that did not come to its end, or where nothing is read of its disks, whose files
 /// have this digest.
 pub(crate) fn exit_for(fail: HistoryFail, digest: &[u8; 32]) -> Exit
-    ensures { result ≡ exit_for_of digest.now fail }
+    ensures { result ≡ spec.exit_for digest.now fail }
 {
     match fail {
         HistoryFail::NotJournal => Exit::NotJournal,

@@ -7,7 +7,7 @@ ghost use Rattle.conc_run_state.specs.Disks.{AreUntouched, disks};
 ghost use Rattle.conc_top.specs.Answers.{AnswersOutput, AnswersPlan, AnswersStatus, around};
 ghost use Rattle.conc_top.specs.Printing.{Prints, sunk};
 ghost use Rattle.conc_top.specs.Shows.{IsDiskUntouched, OutputEnds, StatusEnds};
-ghost use Rattle.conc_top.specs.Ways.{exit_for_text as exit_for_text_of};
+ghost use Rattle.conc_top.specs.Ways as spec;
 
 use crate::Exit;
 use crate::printing::{exit_for, write_text};
@@ -99,7 +99,7 @@ pub(crate) fn show_table<F: Shelf, O: Sink, D: Disk>(
 
 // The exit where no text of this request's report is given.
 fn exit_for_text(fail: TextFail, digest: &[u8; 32], id: RequestId) -> Exit
-    ensures { result ≡ exit_for_text_of digest.now id fail }
+    ensures { result ≡ spec.exit_for_text digest.now id fail }
 {
     match fail {
         TextFail::NoHistory(history) => exit_for(history, digest),

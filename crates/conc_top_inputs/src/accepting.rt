@@ -8,7 +8,7 @@ ghost use Rattle.conc_top_inputs.specs.Accepting.{IsAccepted};
 ghost use Rattle.conc_top_inputs.specs.Given.{named, sources, Told, told_by};
 ghost use Rattle.conc_top_inputs.specs.Reading.{HasInputs};
 ghost use Rattle.conc_top_inputs.specs.Refusals.{name_of};
-ghost use Rattle.conc_top_inputs.specs.Ways.{fail_without_plan as fail_without_plan_of};
+ghost use Rattle.conc_top_inputs.specs.Ways as spec;
 
 use crate::InputFail;
 use crate::clocks::read_readings;
@@ -39,7 +39,7 @@ fn name_of(file: FileKind, setup: Name, script: Name) -> Name
 
 // The failure where the files with these names give no plan.
 fn fail_without_plan(fail: ReadFail, setup: Name, script: Name) -> InputFail
-    ensures { result ≡ fail_without_plan_of setup script fail }
+    ensures { result ≡ spec.fail_without_plan setup script fail }
 {
     match fail {
         ReadFail::Refused(refusal) => InputFail::Refused {

@@ -1,6 +1,7 @@
 ghost use Rattle.std.specs.Prelude.{◌≡◌, ◌∷◌, [], codes, IfErr, IfOk};
 ghost use Rattle.conc_outside.specs.Files.{IsLater};
-ghost use Rattle.conc_top_inputs.specs.Given.{IsShown, is_system as is_system_of, ReadsFrom, reading_at as reading_of, sources, told_by};
+ghost use Rattle.conc_top_inputs.specs.Given as spec;
+ghost use Rattle.conc_top_inputs.specs.Given.{IsShown, ReadsFrom, sources, told_by};
 ghost use Rattle.conc_top_inputs.specs.FileFails.{FailsAtClock, FailsUnshown};
 
 use crate::InputFail;
@@ -13,14 +14,14 @@ use std::alloc::Global;
 
 // Whether this name asks the clock of the system.
 fn is_system(name: &Name) -> bool
-    ensures { result ≡ is_system_of name.now }
+    ensures { result ≡ spec.is_system name.now }
 {
     name.as_bytes() == b"system".as_slice()
 }
 
 // The one reading of this moment.
 fn reading_at(alloc: Global, moment: Moment) -> Result<Readings, NoMemory>
-    ensures { IfOk result (λ readings. readings.list ≡ reading_of moment ∷ []) }
+    ensures { IfOk result (λ readings. readings.list ≡ spec.reading_at moment ∷ []) }
 {
     let mut list = Vec::new(alloc);
     list.push(Reading {
@@ -55,7 +56,7 @@ pub(crate) fn read_readings<F: Shelf, C: Clock>(
     name: &Name,
 ) -> Result<Readings, InputFail>
     ensures later { IsLater (F.state shelf.old) (F.state shelf.new) }
-    ensures ok { IfOk result (λ readings. ReadsFrom (told_by (sources (F.state shelf.old) (C.state clock.old)) (sources (F.state shelf.new) (C.state clock.new))) name.now readings (is_system_of name.now)) }
+    ensures ok { IfOk result (λ readings. ReadsFrom (told_by (sources (F.state shelf.old) (C.state clock.old)) (sources (F.state shelf.new) (C.state clock.new))) name.now readings (spec.is_system name.now)) }
     ensures err { IfErr result (FailsAtClock (sources (F.state shelf.old) (C.state clock.old)) (sources (F.state shelf.new) (C.state clock.new)) name.now) }
 {
     if is_system(name) {

@@ -2,7 +2,8 @@ ghost use Rattle.std.specs.Prelude.{◌≡◌, ◌∷◌, IfOk, OnOk, Some, map}
 ghost use Rattle.std.specs.Option.{option_map};
 ghost use Rattle.std.specs.String.{string_bytes};
 ghost use Rattle.conc_top_words.specs.Saying.{shown};
-ghost use Rattle.conc_top_words.specs.Words.{behind as behind_of, is_zero as is_zero_of, is_zero_once as is_zero_once_of, is_zero_or_absent as is_zero_or_absent_of, nothing_said, run_among as run_among_of, run_of, run_said as run_said_of, said as said_of, said_by as said_by_of, takes_next as takes_next_of, with_file as with_file_of, with_option as with_option_of, with_threads as with_threads_of, with_watch as with_watch_of};
+ghost use Rattle.conc_top_words.specs.Words as spec;
+ghost use Rattle.conc_top_words.specs.Words.{nothing_said, run_of};
 
 use crate::Command;
 use crate::words::{is, is_positional, own_name};
@@ -39,21 +40,21 @@ fn put_first<'a>(words: &mut Vec<&'a [u8]>, word: &'a [u8]) -> Result<(), NoMemo
 }
 
 fn with_threads<'a>(value: &'a [u8], mut said: Said<'a>) -> Result<Said<'a>, NoMemory>
-    ensures { IfOk result (λ s. shown s ≡ with_threads_of value.now (shown said.entry)) }
+    ensures { IfOk result (λ s. shown s ≡ spec.with_threads value.now (shown said.entry)) }
 {
     put_first(&mut said.threads, value)?;
     Ok(said)
 }
 
 fn with_watch<'a>(value: &'a [u8], mut said: Said<'a>) -> Result<Said<'a>, NoMemory>
-    ensures { IfOk result (λ s. shown s ≡ with_watch_of value.now (shown said.entry)) }
+    ensures { IfOk result (λ s. shown s ≡ spec.with_watch value.now (shown said.entry)) }
 {
     put_first(&mut said.watch, value)?;
     Ok(said)
 }
 
 fn with_file<'a>(word: &'a [u8], mut said: Said<'a>) -> Result<Said<'a>, NoMemory>
-    ensures { IfOk result (λ s. shown s ≡ with_file_of word.now (shown said.entry)) }
+    ensures { IfOk result (λ s. shown s ≡ spec.with_file word.now (shown said.entry)) }
 {
     put_first(&mut said.files, word)?;
     Ok(said)
@@ -61,14 +62,14 @@ fn with_file<'a>(word: &'a [u8], mut said: Said<'a>) -> Result<Said<'a>, NoMemor
 
 // What stands behind the beginning of a word, if it begins so.
 fn behind<'a>(text: &[u8], word: &'a [u8]) -> Option<&'a [u8]>
-    ensures { option_map (λ w. w.now) result ≡ behind_of text.now word.now }
+    ensures { option_map (λ w. w.now) result ≡ spec.behind text.now word.now }
 {
     word.strip_prefix(text)
 }
 
 // A word that is a file or an option with its value, before words that say more.
 fn said_by<'a>(word: &'a [u8], more: Said<'a>) -> Result<Option<Said<'a>>, NoMemory>
-    ensures { IfOk result (λ s. option_map shown s ≡ said_by_of word.now (Some (shown more.entry))) }
+    ensures { IfOk result (λ s. option_map shown s ≡ spec.said_by word.now (Some (shown more.entry))) }
 {
     if let Some(value) = behind(b"--threads=", word) {
         return Ok(Some(with_threads(value, more)?));
@@ -84,14 +85,14 @@ fn said_by<'a>(word: &'a [u8], more: Said<'a>) -> Result<Option<Said<'a>>, NoMem
 
 // Whether a word is an option whose value is the next word.
 fn takes_next(word: &[u8]) -> bool
-    ensures { result ≡ takes_next_of word.now }
+    ensures { result ≡ spec.takes_next word.now }
 {
     is(b"--threads", word) || is(b"--watch", word)
 }
 
 // An option with its value, before words that say more.
 fn with_option<'a>(option: &[u8], value: &'a [u8], more: Said<'a>) -> Result<Said<'a>, NoMemory>
-    ensures { IfOk result (λ s. shown s ≡ with_option_of option.now value.now (shown more.entry)) }
+    ensures { IfOk result (λ s. shown s ≡ spec.with_option option.now value.now (shown more.entry)) }
 {
     if is(b"--threads", option) {
         with_threads(value, more)
@@ -102,7 +103,7 @@ fn with_option<'a>(option: &[u8], value: &'a [u8], more: Said<'a>) -> Result<Sai
 
 // What words behind `run` say.
 fn read_said<'a>(alloc: Global, words: &'a [String]) -> Result<Option<Said<'a>>, NoMemory>
-    ensures { IfOk result (λ s. option_map shown s ≡ said_of (map string_bytes words.now)) }
+    ensures { IfOk result (λ s. option_map shown s ≡ spec.said (map string_bytes words.now)) }
 {
     let Some((word, rest)) = words.split_first() else {
         return Ok(Some(nothing(alloc)));
@@ -123,7 +124,7 @@ fn read_said<'a>(alloc: Global, words: &'a [String]) -> Result<Option<Said<'a>>,
 }
 
 fn is_zero(word: &[u8]) -> bool
-    ensures { result ≡ is_zero_of word.now }
+    ensures { result ≡ spec.is_zero word.now }
 {
     match read_decimal(word) {
         Some(number) => number == 0,
@@ -133,7 +134,7 @@ fn is_zero(word: &[u8]) -> bool
 
 // Whether the option is given once, and as 0.
 fn is_zero_once(values: &[&[u8]]) -> bool
-    ensures { result ≡ is_zero_once_of (map (λ w. w.now) values.now) }
+    ensures { result ≡ spec.is_zero_once (map (λ w. w.now) values.now) }
 {
     match values {
         [value] => is_zero(value),
@@ -143,14 +144,14 @@ fn is_zero_once(values: &[&[u8]]) -> bool
 
 // The same, or whether it is not given.
 fn is_zero_or_absent(values: &[&[u8]]) -> bool
-    ensures { result ≡ is_zero_or_absent_of (map (λ w. w.now) values.now) }
+    ensures { result ≡ spec.is_zero_or_absent (map (λ w. w.now) values.now) }
 {
     values.is_empty() || is_zero_once(values)
 }
 
 // A run, where these files are the names of its setup, its script and its clock.
 fn run_among(alloc: Global, files: &[&[u8]]) -> Result<Option<Command>, NoMemory>
-    ensures { IfOk result (λ command. command ≡ run_among_of (map (λ w. w.now) files.now)) }
+    ensures { IfOk result (λ command. command ≡ spec.run_among (map (λ w. w.now) files.now)) }
 {
     let [setup, script, clock] = files else {
         return Ok(None);
@@ -166,7 +167,7 @@ fn run_among(alloc: Global, files: &[&[u8]]) -> Result<Option<Command>, NoMemory
 }
 
 fn run_said(alloc: Global, said: &Said<'_>) -> Result<Option<Command>, NoMemory>
-    ensures { IfOk result (λ command. command ≡ run_said_of (shown said.now)) }
+    ensures { IfOk result (λ command. command ≡ spec.run_said (shown said.now)) }
 {
     if is_zero_once(said.threads.as_slice()) && is_zero_or_absent(said.watch.as_slice()) {
         run_among(alloc, said.files.as_slice())

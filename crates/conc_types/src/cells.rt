@@ -1,5 +1,5 @@
 ghost use Rattle.std.specs.Prelude.{◌≡◌, ◌++◌, ◌<◌, ◌∷◌, [], IfOk, OnErr, OnOk, length, option_map, slice_get};
-ghost use Rattle.conc_types.specs.Cells.{start_of as start_of_place};
+ghost use Rattle.conc_types.specs.Cells as spec;
 
 use crate::NoMemory;
 use std::alloc::Global;
@@ -27,7 +27,7 @@ impl Model for Cells {
 #[tactic(auto, using(crate::proofs::Places::starts))]
 fn start_of(ends: &[u32], index: usize) -> usize
     requires { index < length ends.now }
-    ensures { result ≡ start_of_place 0 ends.now index }
+    ensures { result ≡ spec.start_of 0 ends.now index }
 {
     if index == 0 {
         0

@@ -2,7 +2,8 @@ ghost use Rattle.std.specs.Prelude.{◌≡◌, ◌++◌, OnErr, OnOk};
 ghost use Rattle.std.specs.Char.{is_ascii_digit};
 ghost use Rattle.std.specs.Fmt.{decimal};
 ghost use Rattle.std.specs.List.{list_all};
-ghost use Rattle.conc_types.specs.Decimals.{decimal_value, is_decimal as is_decimal_of};
+ghost use Rattle.conc_types.specs.Decimals as spec;
+ghost use Rattle.conc_types.specs.Decimals.{decimal_value};
 
 use crate::NoMemory;
 use itoa::Buffer;
@@ -25,7 +26,7 @@ fn are_digits(bytes: &[u8]) -> bool
 }
 
 fn is_decimal(bytes: &[u8]) -> bool
-    ensures { result ≡ is_decimal_of bytes.now }
+    ensures { result ≡ spec.is_decimal bytes.now }
 {
     match bytes.split_first() {
         None => false,

@@ -1,5 +1,5 @@
 ghost use Rattle.std.specs.Prelude.{◌≡◌, IfOk, IsTrue};
-ghost use Rattle.conc_types.specs.Texts.{is_name as is_name_of};
+ghost use Rattle.conc_types.specs.Texts as spec;
 
 use crate::NoMemory;
 use crate::text::{are_printable, is_utf8};
@@ -27,7 +27,7 @@ impl Model for Name {
 impl Name {
     /// The name with these bytes, which `is_name` accepts. It takes no memory.
     pub fn from_vec(bytes: Vec<u8>) -> Self
-        requires { IsTrue (is_name_of bytes.items) }
+        requires { IsTrue (spec.is_name bytes.items) }
         ensures { result ≡ bytes.items }
     {
         Name { bytes }
@@ -52,7 +52,7 @@ impl Name {
 
 /// Whether these bytes are a name.
 pub fn is_name(bytes: &[u8]) -> bool
-    ensures { result ≡ is_name_of bytes.now }
+    ensures { result ≡ spec.is_name bytes.now }
 {
     1 <= bytes.len() && bytes.len() <= 80 && are_printable(bytes) && is_utf8(bytes)
 }

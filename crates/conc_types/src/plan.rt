@@ -41,12 +41,12 @@ pub struct Plan {
 
 impl Plan {
     ghost use Rattle.std.specs.Option.{option_copied};
-    ghost use Rattle.conc_types.specs.Plans.{request as request_of};
+    ghost use Rattle.conc_types.specs.Plans as spec;
 
     /// The request with this number, if there is one. It takes no memory.
     #[tactic(auto, unfolding(crate::specs::Plans::request))]
     pub fn request(&self, id: RequestId) -> Option<&Req>
-        ensures { option_copied result ≡ request_of self.now id }
+        ensures { option_copied result ≡ spec.request self.now id }
     {
         numbered(self.requests.as_slice(), id.number)
     }

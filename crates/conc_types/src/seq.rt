@@ -1,6 +1,6 @@
 ghost use Rattle.std.specs.Prelude.{◌≡◌, ◌<◌, ◌↔◌, [], length, slice_set, IsTrue};
 ghost use Rattle.std.specs.Option.{option_copied};
-ghost use Rattle.conc_types.specs.Words.{numbered as numbered_of};
+ghost use Rattle.conc_types.specs.Words as spec;
 
 use std::marker::Model;
 
@@ -67,7 +67,7 @@ impl<T: Copy> Seq<T> {
 
 /// The item that has this number, where the first one has number 1.
 pub fn numbered<T>(items: &[T], number: u32) -> Option<&T>
-    ensures { option_copied result ≡ numbered_of items.now number }
+    ensures { option_copied result ≡ spec.numbered items.now number }
 {
     if number == 0 {
         return None;

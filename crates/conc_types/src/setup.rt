@@ -35,7 +35,7 @@ fn place_of(names: &[Name], name: &Name) -> Option<usize>
 impl Setup {
     ghost use Rattle.std.specs.Option.{option_copied};
     ghost use Rattle.conc_types.specs.Scripts.{count_of};
-    ghost use Rattle.conc_types.specs.Tables.{table_named as table_named_of};
+    ghost use Rattle.conc_types.specs.Tables as spec;
 
     /// How many requests a submission of the item enters: one, and for a set one more for each of its
     /// members.
@@ -55,7 +55,7 @@ impl Setup {
     /// The table with this name, of tables that stand in the order of the setup's names. It takes no
     /// memory.
     pub fn table_named<'a>(&self, tables: &'a [Table], name: &Name) -> Option<&'a Table>
-        ensures { option_copied result ≡ table_named_of self.now tables.now name.now }
+        ensures { option_copied result ≡ spec.table_named self.now tables.now name.now }
     {
         match place_of(self.tables.as_slice(), name) {
             Some(place) => tables.get(place),
