@@ -1,4 +1,4 @@
--- The table of the requests, read from what stands at the end of a history.
+-- The table of the requests, read from the state at the end of a history.
 use Rattle.std.specs.Prelude.{ℕ, List, [], ◌∷◌, map}
 use Rattle.std.specs.List.{concat}
 use Rattle.std.specs.Option.{option_map_or}

@@ -27,7 +27,7 @@ ticks_after n (event.Tick t) = n + 1
 ticks_after n event.Resume = 0
 ticks_after n _ = n
 
--- this is what these events say, the latest of which is given first: what stands, the last tick of the
+-- this is what these events say, the latest of which is given first: the state, the last tick of the
 -- earlier lives, and how many ticks the last life has
 pub record HasTaken (plan : Plan) (past : List Event) (f : Findings) : Type 0 where
   pub state : f.state ≡ state plan past

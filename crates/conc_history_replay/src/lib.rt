@@ -1,4 +1,4 @@
-//! What stands after a list of events, each of which is taken in by the requests that it can change.
+//! The state after a list of events, each of which is taken in by the requests that it can change.
 #![tactic(auto)]
 
 mod replay;

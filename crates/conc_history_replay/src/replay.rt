@@ -30,7 +30,7 @@ fn step_within(plan: &Plan, named: Facts, e: Event, facts: &mut Seq<Facts>, span
     }
 }
 
-/// Takes one more event into what stands.
+/// Takes one more event into the state.
 pub fn take_in(plan: &Plan, spans: &Spans, state: &mut State, e: Event)
     requires { AreSpans plan.now spans.now }
     ensures { IsAfter plan.now state.old state.new e }
@@ -43,7 +43,7 @@ pub fn take_in(plan: &Plan, spans: &Spans, state: &mut State, e: Event)
     state.empty = false;
 }
 
-// Takes one more event: what stood after some events becomes what stands after these and the event.
+// Takes one more event: the state after some events becomes the state after these and the event.
 fn advance(plan: &Plan, spans: &Spans, state: &mut State, e: Event)
     requires { AreSpans plan.now spans.now }
     ensures { (past : List Event) → state.old ≡ spec.state plan.now past → state.new ≡ spec.state plan.now (e ∷ past) }
@@ -51,7 +51,7 @@ fn advance(plan: &Plan, spans: &Spans, state: &mut State, e: Event)
     take_in(plan, spans, state, e);
 }
 
-/// What stands after these events of the plan, which stand in the order in which they came. Each event
+/// The state after these events of the plan, which stand in the order in which they came. Each event
 /// costs a step for each request whose facts it can change.
 pub fn state_after(alloc: Global, plan: &Plan, events: &[Event]) -> Result<State, NoMemory>
     ensures { IfOk result (λ s. s ≡ spec.state plan.now (reverse events.now)) }

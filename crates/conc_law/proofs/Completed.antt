@@ -244,7 +244,7 @@ let_completes_not : (plan : Plan) (past : List Event) (r : Req) → is_some (com
 unfolding completes
 let_completes_not plan past r = refl
 
--- what stands at each position of a lawful history: a let request is not completed
+-- the state at each position of a lawful history: a let request is not completed
 pub let_not_completed : (plan : Plan) (past : List Event) (r : Req) → Has plan.requests r → is_lawful_so_far plan past ≡ true → is_let plan past r ≡ true
     → was_completed plan past r ≡ false
 unfolding is_lawful_so_far is_let

@@ -36,7 +36,7 @@ starts_alone plan past x y place hx hy h run =
     let here : runs_at s place y ≡ true = ap (some_and (λ p. p.index == place.index)) at ∙ eqb-refl place.index in
     both_ways _ (not-true _ vacant) (any-some (runs_at s place) plan.requests y hy here)
 
--- what stands at each position of a lawful history: two requests that run at one place are one
+-- the state at each position of a lawful history: two requests that run at one place are one
 pub one_at_place : (plan : Plan) (past : List Event) (x y : Req) (place : PlaceId) → Has plan.requests x → Has plan.requests y
     → is_lawful_so_far plan past ≡ true → running_place past x.number ≡ Some place → running_place past y.number ≡ Some place → x.number ≡ y.number
 unfolding is_lawful_so_far running_place

@@ -83,7 +83,7 @@ open_completes_not : (plan : Plan) (past : List Event) (r : Req) → is_some (co
 unfolding completes
 open_completes_not plan past r = refl
 
--- what stands at each position of a lawful history: an open set is not completed
+-- the state at each position of a lawful history: an open set is not completed
 pub open_not_completed : (plan : Plan) (past : List Event) (r : Req) → Has plan.requests r → is_lawful_so_far plan past ≡ true → is_open past r ≡ true
     → was_completed plan past r ≡ false
 unfolding is_lawful_so_far

@@ -65,7 +65,7 @@ runs_let_at plan (e ∷ past) r p hr lawful run =
           stays_let plan past r e (runs_let_at plan past r p hr l.0 on.1) (running_not_unlet plan past r e (place-runs past r.number p on.1) on.0)
     ]
 
--- what stands at each position of a lawful history: a request that runs is let
+-- the state at each position of a lawful history: a request that runs is let
 pub runs_let : (plan : Plan) (past : List Event) (r : Req) → Has plan.requests r → is_lawful_so_far plan past ≡ true → runs past r.number ≡ true
     → is_let plan past r ≡ true
 runs_let plan past r hr lawful run =

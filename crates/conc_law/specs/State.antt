@@ -1,4 +1,4 @@
--- What stands at a position: all that the law reads of the events before it, but for the readings.
+-- The state at a position: all that the law reads of the events before it, but for the readings.
 use Rattle.std.specs.Prelude.{ℕ, ◌^◌, Bool, false, not, ◌&&◌, ◌||◌, nat_le, nat_lt, List, map, Option, None, is_some, unwrap_or}
 use Rattle.std.specs.Bool.{then_some}
 use Rattle.std.specs.List.{enumerate_from, sum_by}
@@ -31,7 +31,7 @@ is_done past order = stands (is_command order.0) past
 abbrev pub fitting : ℕ → Option ℕ
 fitting n = then_some (nat_lt n (2 ^ 64)) n
 
--- what stands after these events
+-- the state after these events
 unfoldable pub state : Plan → List Event → State
 state plan past = record {
   empty = is_empty past;

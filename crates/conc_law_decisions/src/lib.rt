@@ -1,4 +1,4 @@
-//! What the law says at a position, decided from what stands there: the event that is forced, the
+//! What the law says at a position, decided from the state there: the event that is forced, the
 //! events that are allowed, whether the system is at rest, the status of each request, and what
 //! comes next where nothing is left to choice.
 #![tactic(auto)]

@@ -33,7 +33,7 @@ used-step past e = fitting-add (used past) (extent_length e) (used (e ∷ past))
 State-alike : (a b : State) → a.empty ≡ b.empty → a.time ≡ b.time → a.used ≡ b.used → a.done ≡ b.done → a.facts ≡ b.facts → a ≡ b
 State-alike a b e n u d f = grind arith
 
--- what is after an event is what stands after it
+-- what is after an event is the state after it
 pub state-next : (plan : Plan) (old new : State) (e : Event) (past : List Event) → IsAfter plan old new e → old ≡ state plan past
     → new ≡ state plan (e ∷ past)
 unfolding state now

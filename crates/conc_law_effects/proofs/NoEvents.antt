@@ -1,4 +1,4 @@
--- What stands after no events.
+-- The state after no events.
 use Rattle.std.proofs.Common.{◌≡◌, ℕ, ◌+◌, Bool, true, false, ◌&&◌, List, [], ◌∷◌, map, None, Some, refl, ◌∙◌, ap}
 use Rattle.std.specs.List.{enumerate_from}
 use Rattle.conc_types.specs.declared.facts.Facts.{Facts}

@@ -29,7 +29,7 @@ fn no_flags(alloc: Global, orders: &[Order]) -> Result<Seq<bool>, NoMemory>
     Ok(Seq::from_vec(flags))
 }
 
-/// What stands after no events. It takes all the memory that `advance` needs.
+/// The state after no events. It takes all the memory that `advance` needs.
 pub fn begin(alloc: Global, plan: &Plan) -> Result<State, NoMemory>
     ensures { IfOk result (λ s. s ≡ state plan.now []) }
 {

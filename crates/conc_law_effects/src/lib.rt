@@ -1,4 +1,4 @@
-//! What stands after no events, and the parts of what stands after one more event.
+//! The state after no events, and the parts of the state after one more event.
 #![tactic(auto)]
 
 mod fresh;

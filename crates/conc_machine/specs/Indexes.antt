@@ -1,4 +1,4 @@
--- What a machine keeps, against what stands.
+-- What a machine keeps, against the state.
 use Rattle.std.specs.Prelude.{◌≡◌, ℕ, suc, Bool, true, false, List, [], ◌∷◌, length}
 use Rattle.conc_types.specs.declared.facts.Facts.{Facts}
 use Rattle.conc_types.specs.declared.plan.Plan.{Plan}
@@ -15,7 +15,7 @@ first_undone [] = 0
 first_undone (true ∷ done) = suc (first_undone done)
 first_undone (false ∷ done) = 0
 
--- each part is that of what stands
+-- each part is that of the state
 pub record AreParts (plan : Plan) (indexes : Indexes) : Type 0 where
   pub all : length indexes.state.facts ≡ length plan.requests
   pub spans : AreSpans plan indexes.spans

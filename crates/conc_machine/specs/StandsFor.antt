@@ -21,7 +21,7 @@ readings_of machine = option_map (λ life. life.readings.list) machine.life
 abbrev pub FitLife : Option LifeReadings → List Event → Type 0
 FitLife known past = (life : LifeReadings) → known ≡ Some life → AreLifeReadings life past
 
--- the machine stands for the list, which is given with the latest event first: what it keeps is what stands
+-- the machine stands for the list, which is given with the latest event first: what it keeps is the state
 -- after the list
 pub record StandsFor (machine : Machine) (past : List Event) : Type 0 where
   pub state : machine.indexes.state ≡ state machine.plan.now past

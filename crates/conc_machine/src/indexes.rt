@@ -5,7 +5,7 @@ use conc_machine_starts::Starts;
 use conc_machine_steps::{Running, Steps};
 use conc_types::State;
 
-/// What a machine keeps: what stands, and of it what the next event is found by.
+/// What a machine keeps: the state, and of it what the next event is found by.
 #[derive(Drop)]
 pub(crate) struct Indexes {
     pub(crate) spans: Spans,

@@ -1,4 +1,4 @@
--- One write to what stands.
+-- One write to the state.
 use Rattle.std.specs.Prelude.{◌≡◌, ℕ, length, slice_set, slice_get, Some}
 use Rattle.conc_types.specs.declared.facts.Facts.{Facts}
 use Rattle.conc_types.specs.declared.facts.State.{State}

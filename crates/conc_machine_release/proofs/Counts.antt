@@ -137,7 +137,7 @@ counts-same plan classes before s i old w r at same counts is =
       sums : (a b n : ℕ) → b + n ≡ a + n → a ≡ b
       sums a b n e = omega arith
 
--- the counts after a write are those of what stands
+-- the counts after a write are those of the state
 pub recounted-is : (plan : Plan) (classes : Classes) → AreClasses plan classes → (before s : State) (i : ℕ) (old : Facts) → IsWritten plan before s i old
     → (counts : List ℕ) → counts ≡ map (live_rivals plan classes before) (all_classes classes)
     → recounted classes s old counts (slice_get plan.requests i) ≡ map (live_rivals plan classes s) (all_classes classes)

@@ -93,7 +93,7 @@ parent-outside plan spans are r q set has h out e =
     let to : k.0 < (span_of_members spans r.number).to = ltb-true _ _ w.1 in
     out (omega (arith, from, k.2), omega (arith, from, to, k.2))
 
--- the keys after the write are those of what stands
+-- the keys after the write are those of the state
 pub renewed-is : (plan : Plan) (classes : Classes) (spans : Spans) → AreClasses plan classes → AreSpans plan spans
     → (before s : State) (i : ℕ) (old : Facts) → IsWritten plan before s i old → (queues : List (List (Option ℕ))) → queues ≡ queues_of plan classes (is_ready plan before)
     → renewed plan classes spans s old queues (slice_get plan.requests i) ≡ queues_of plan classes (is_ready plan s)
@@ -139,7 +139,7 @@ renewed-is plan classes spans are stand before s i old w queues is = by (slice_g
 
 -- ---- all of them
 
--- once all keys are renewed, they are those of what stands
+-- once all keys are renewed, they are those of the state
 pub all-renewed : (plan : Plan) (classes : Classes) → AreClasses plan classes → (s : State) (f : Req → Bool) (n : ℕ) → n ≡ length plan.requests
     → (queues : List (List (Option ℕ))) → queues ≡ queues_of plan classes f → refreshed_all plan classes s n 0 queues ≡ queues_of plan classes (is_ready plan s)
 all-renewed plan classes are s f n all queues is =

@@ -24,7 +24,7 @@ live_rivals plan classes s c = length (filter (is_live_rival classes s c) plan.r
 abbrev pub all_classes : Classes → List ℕ
 all_classes classes = range_with_len 0 (length classes.sizes)
 
--- what is kept is what stands: for each class the turns of its requests that are ready, and how many live
+-- what is kept is what the state says: for each class the turns of its requests that are ready, and how many live
 -- requests exclude it, kin counted; at each moment of the window the same starts have come; 32 bits count the
 -- classes
 pub record AreLets (plan : Plan) (classes : Classes) (s : State) (lets : Lets) : Type 0 where

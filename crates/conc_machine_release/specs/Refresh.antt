@@ -23,7 +23,7 @@ queues_of plan classes test = map (λ c. turns_of test (of_class plan classes c)
 abbrev pub put_in : List (List (Option ℕ)) → ℕ → ℕ → Option ℕ → List (List (Option ℕ))
 put_in queues c slot key = slice_set queues c (slice_set (unwrap_or (slice_get queues c) []) slot key)
 
--- the key of a request is what stands
+-- the key of a request is what the state says
 abbrev pub refreshed_at : Plan → Classes → State → List (List (Option ℕ)) → Req → List (List (Option ℕ))
 refreshed_at plan classes s queues r = put_in queues (class_at classes r) (slot_at classes r) (key plan s r)
 

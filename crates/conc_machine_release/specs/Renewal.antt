@@ -13,12 +13,12 @@ use Rattle.conc_machine_reach.specs.declared.spans.Spans.{Spans}
 use Rattle.conc_machine_release.specs.Refresh.{refreshed_all, refreshed_at}
 use Rattle.conc_machine_release.specs.Rivals.{counted_all}
 
--- the keys within a span are what stands, unless the begun stages are the same
+-- the keys within a span are what the state says, unless the begun stages are the same
 abbrev pub renewed_within : Plan → Classes → State → Span → Bool → List (List (Option ℕ)) → List (List (Option ℕ))
 renewed_within plan classes s span true queues = queues
 renewed_within plan classes s span false queues = refreshed_all plan classes s (span.to - span.from) span.from queues
 
--- the key of the request that was written is what stands, and those of its members where its begun stages changed
+-- the key of the request that was written is what the state says, and those of its members where its begun stages changed
 abbrev pub renewed : Plan → Classes → Spans → State → Facts → List (List (Option ℕ)) → Option Req → List (List (Option ℕ))
 renewed plan classes spans s old queues None = queues
 renewed plan classes spans s old queues (Some r) =

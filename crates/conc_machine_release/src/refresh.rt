@@ -44,7 +44,7 @@ pub(crate) fn refresh_request(
     );
 }
 
-/// Makes the key of the request at an index what stands.
+/// Makes the key of the request at an index what the state says.
 pub(crate) fn refresh(
     queues: &mut Vec<Queue>,
     plan: &Plan,
@@ -59,7 +59,7 @@ pub(crate) fn refresh(
     }
 }
 
-/// Makes the keys of the requests within a span what stands.
+/// Makes the keys of the requests within a span what the state says.
 pub(crate) fn refresh_span(
     queues: &mut Vec<Queue>,
     plan: &Plan,

@@ -25,7 +25,7 @@ fn renew_within(
     }
 }
 
-/// Makes the key of the request at an index what stands, and those of its members where its stages
+/// Makes the key of the request at an index what the state says, and those of its members where its stages
 /// are others than before.
 pub(crate) fn renew(
     queues: &mut Vec<Queue>,

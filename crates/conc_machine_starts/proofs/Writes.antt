@@ -1,4 +1,4 @@
--- What one write to what stands changes of what is kept.
+-- What one write to the state changes of what is kept.
 use Rattle.std.proofs.Common.{◌≡◌, ℕ, ◌+◌, ◌-◌, ◌≤◌, ◌==◌, min, Bool, false, List, Option, None, Some, Vec, length, map, set, refl, sym, ◌∙◌, ap, arith}
 use Rattle.std.specs.Prelude.{slice_get}
 use Rattle.std.specs.Bool.{then_some}

@@ -31,7 +31,7 @@ running_at plan s place = length (filter (runs_at s place) plan.requests)
 unfoldable pub is_usable_now : Plan → State → PlaceId → Bool
 is_usable_now plan s place = some_and (λ t. is_usable plan t place) s.time
 
--- what is kept is what stands: for each manager the turns of the requests that may start under it, and
+-- what is kept is what the state says: for each manager the turns of the requests that may start under it, and
 -- for each place its manager, how many requests run there, and whether it may be used
 pub record AreStarts (plan : Plan) (s : State) (starts : Starts) : Type 0 where
   pub queues : starts.queues.items ≡ map (λ manager. turns_of (may_start_under s manager) plan.requests) plan.setup.managers

@@ -7,7 +7,7 @@ use Rattle.conc_machine_queue.specs.Turns.{numbers_of}
 use Rattle.conc_machine_steps.specs.declared.running.Running.{Running}
 use Rattle.conc_machine_steps.specs.declared.steps.Steps.{Steps}
 
--- what is kept is what stands: the numbers of the requests that run, and of those that an earlier life left running
+-- what is kept is what the state says: the numbers of the requests that run, and of those that an earlier life left running
 pub record AreRunning (plan : Plan) (s : State) (running : Running) : Type 0 where
   pub all : running.all ≡ numbers_of (runs_somewhere s) plan.requests
   pub left : running.left ≡ numbers_of (is_left_running s) plan.requests

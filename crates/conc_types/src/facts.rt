@@ -1,6 +1,6 @@
 use crate::{Moment, Outcome, PlaceId, Seq, StageSet};
 
-/// What stands of one request after some events.
+/// The facts of one request after some events.
 #[derive(Clone, Copy, Debug, PartialEq, Eq)]
 pub struct Facts {
     /// The command that submits it is done.
@@ -41,7 +41,7 @@ impl Facts {
     };
 }
 
-/// What stands after some events: all that the rules read of a history, but for its readings.
+/// The state after some events: all that the rules read of a history, but for its readings.
 #[derive(Drop)]
 pub struct State {
     /// There is no event.

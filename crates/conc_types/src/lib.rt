@@ -1,5 +1,5 @@
 //! The values of the batch system: what a setup, a script and a clock say, the events of a
-//! history, and what stands after them.
+//! history, and the state after them.
 #![tactic(auto)]
 
 mod cells;

@@ -1,4 +1,4 @@
--- Random lawful histories: what stands in them, which events may follow, and wrong lists.
+-- Random lawful histories: the state in them, which events may follow, and wrong lists.
 use Rattle.std.proofs.Common.{◌≡◌, true, false, List, [], ◌∷◌, map, None, Some, refl, lit≤}
 use Rattle.std.specs.Prelude.{codes}
 use Rattle.conc_types.specs.declared.event.Event.TheVariants as event

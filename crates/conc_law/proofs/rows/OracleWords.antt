@@ -32,7 +32,7 @@ state plan past = (
   (is_at_rest plan (state plan past), map (status_of plan (state plan past)) plan.requests),
 )
 
--- what stands of a request
+-- the facts of a request
 abbrev pub tests : Plan → State → Facts → Req → List Bool
 tests plan s f r =
     f.entered ∷ f.held ∷ f.opened ∷ f.let_out ∷ is_running f ∷ is_stopping f ∷ is_live f ∷ is_waiting plan s r
@@ -47,7 +47,7 @@ values f = ((f.outcome, f.stage), (f.place, f.begun.bits))
 abbrev pub more_facts : Plan → List Event → Req → (Option Outcome × Option ℕ) × (Option PlaceId × ℕ)
 more_facts plan past r = values (facts_at (state plan past) r)
 
--- what stands of no single request
+-- what the state says of no single request
 abbrev pub overall : Plan → List Event → (Bool × Option Moment) × (Option ℕ × List Bool)
 overall plan past =
     (((state plan past).empty, (state plan past).time), ((state plan past).used, (state plan past).done))
