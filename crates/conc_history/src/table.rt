@@ -36,12 +36,7 @@ fn put_line(
 
 // Appends the line of a request, if it is submitted.
 #[tactic(auto, unfolding(crate::specs::Table::line_at))]
-fn put_request_line(
-    out: &mut Vec<u8>,
-    plan: &Plan,
-    state: &State,
-    r: &Req,
-) -> Result<(), NoMemory>
+fn put_request_line(out: &mut Vec<u8>, plan: &Plan, state: &State, r: &Req) -> Result<(), NoMemory>
     ensures { OnOk result (out.new.items ≡ out.old.items ++ line_at plan.now state.now r.now) }
 {
     match status(plan, state, r) {

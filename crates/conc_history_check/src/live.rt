@@ -36,13 +36,7 @@ pub(crate) fn noted(live: &Seq<Option<RequestId>>, class: u32) -> Option<Request
 }
 
 // Notes the request at an index, if it is live.
-fn note(
-    plan: &Plan,
-    classes: &Classes,
-    state: &State,
-    live: &mut Seq<Option<RequestId>>,
-    i: usize,
-)
+fn note(plan: &Plan, classes: &Classes, state: &State, live: &mut Seq<Option<RequestId>>, i: usize)
     requires classes { AreClasses plan.now classes.now }
     requires within { i < length plan.now.requests }
     requires before { AreLiveTo plan.now classes.now state.now i live.old }

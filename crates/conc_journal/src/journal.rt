@@ -71,7 +71,10 @@ impl Journal {
     pub fn takes_events(&self) -> bool
         ensures { result ≡ takes_events (state_of self.now) }
     {
-        matches!(self.state, JournalState::Begun { .. } | JournalState::AppendFailed { .. })
+        matches!(
+            self.state,
+            JournalState::Begun { .. } | JournalState::AppendFailed { .. }
+        )
     }
 
     /// How many events it can take without memory.

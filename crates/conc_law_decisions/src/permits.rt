@@ -10,9 +10,7 @@ use crate::equality::is_same_event;
 use crate::forcing::forced;
 use crate::lookup::{facts_at, is_not_earlier, is_running, is_stopping};
 use conc_time::{is_admitted_at, is_usable, place_count};
-use conc_types::{
-    Event, Extent, Moment, Outcome, PlaceId, Plan, Reading, Req, RequestId, State,
-};
+use conc_types::{Event, Extent, Moment, Outcome, PlaceId, Plan, Reading, Req, RequestId, State};
 
 // ---- starts
 

@@ -98,13 +98,7 @@ fn link(stage: &Stage, outcome: Outcome) -> Option<u32>
 }
 
 #[tactic(auto, unfolding(conc_law::specs::Stages::next_stage, conc_law::specs::Stages::stage_outcome))]
-fn next_stage(
-    plan: &Plan,
-    state: &State,
-    set: &Req,
-    stage: u32,
-    members: &[Req],
-) -> Option<u32>
+fn next_stage(plan: &Plan, state: &State, set: &Req, stage: u32, members: &[Req]) -> Option<u32>
     requires { AreMembers plan.now set.now.number members.now }
     ensures { result ≡ stages_spec.next_stage plan.now state.now set.now stage }
 {

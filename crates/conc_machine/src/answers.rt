@@ -63,7 +63,9 @@ impl<'p> Machine<'p> {
         ensures { (past : List Event) → StandsFor self.now past →
             option_map (λ (start : RequestId × PlaceId). event.Started start.0 start.1) result ≡ alone_spec.first_start (plan_of self.now) (state (plan_of self.now) past) }
     {
-        self.indexes.starts.first_start(self.plan, &self.indexes.state)
+        self.indexes
+            .starts
+            .first_start(self.plan, &self.indexes.state)
     }
 
     /// The request with the least number of those that run at a place.

@@ -18,9 +18,13 @@ pub(crate) fn forced(plan: &Plan, indexes: &Indexes) -> Option<Event>
     if let Some(e) = forced_command(plan, &indexes.state, indexes.next_command) {
         return Some(e);
     }
-    if let Some(e) = indexes.steps.forced_step(plan, &indexes.spans, &indexes.state) {
+    if let Some(e) = indexes
+        .steps
+        .forced_step(plan, &indexes.spans, &indexes.state)
+    {
         return Some(e);
     }
-    indexes.lets
+    indexes
+        .lets
         .forced_let(plan, &indexes.classes, &indexes.spans, &indexes.state)
 }

@@ -92,7 +92,12 @@ fn is_allowed(plan: &Plan, indexes: &Indexes, next: Option<Option<Reading>>, e: 
 /// Whether the event may come next. `next` is the next reading of the last life, if one is left; it is
 /// None in an earlier life, whose readings are not known.
 #[tactic(auto, unfolding(conc_law::specs::Next::may_come))]
-pub(crate) fn may_come(plan: &Plan, indexes: &Indexes, next: Option<Option<Reading>>, e: Event) -> bool
+pub(crate) fn may_come(
+    plan: &Plan,
+    indexes: &Indexes,
+    next: Option<Option<Reading>>,
+    e: Event,
+) -> bool
     requires { AreIndexes plan.now indexes.now }
     ensures { result ≡ next_spec.may_come plan.now indexes.now.state next e }
 {

@@ -5,8 +5,8 @@
 mod answers;
 mod commands;
 mod forcing;
-mod judging;
 mod indexes;
+mod judging;
 mod machine;
 mod making;
 mod taking;

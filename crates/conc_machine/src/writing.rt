@@ -18,9 +18,17 @@ fn write(plan: &Plan, indexes: &mut Indexes, i: usize, own: Facts)
     let old = indexes.state.facts.as_slice()[i];
     indexes.state.facts.set(i, own);
     indexes.running.write(plan, &indexes.state, i, old);
-    indexes.steps.write(plan, &indexes.spans, &indexes.state, i, old);
-    indexes.lets
-        .write(plan, &indexes.classes, &indexes.spans, &indexes.state, i, old);
+    indexes
+        .steps
+        .write(plan, &indexes.spans, &indexes.state, i, old);
+    indexes.lets.write(
+        plan,
+        &indexes.classes,
+        &indexes.spans,
+        &indexes.state,
+        i,
+        old,
+    );
     indexes.starts.write(plan, &indexes.state, i, old);
 }
 

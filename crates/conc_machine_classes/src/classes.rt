@@ -2,9 +2,9 @@ ghost use Rattle.std.specs.Prelude.{◌≡◌, IfOk, length, slice_get};
 ghost use Rattle.std.specs.Option.{option_copied};
 ghost use Rattle.conc_machine_classes.specs.Classes.{AreClasses, class_at, rivals_at, slot_at, excludes_kin_at};
 
-use crate::rivals::all_rows;
-use crate::partition::partition_all;
 use crate::excludes_kin::all_excluding_kin;
+use crate::partition::partition_all;
+use crate::rivals::all_rows;
 use conc_types::{NoMemory, Plan, Req, Seq, numbered};
 use std::alloc::Global;
 
@@ -31,7 +31,12 @@ impl Classes {
     {
         let partition = partition_all(alloc, plan)?;
         let rivals = all_rows(alloc, plan, partition.heads.as_slice())?;
-        let excludes_kin = all_excluding_kin(alloc, plan, partition.classes.as_slice(), rivals.as_slice())?;
+        let excludes_kin = all_excluding_kin(
+            alloc,
+            plan,
+            partition.classes.as_slice(),
+            rivals.as_slice(),
+        )?;
         Ok(Classes {
             classes: Seq::from_vec(partition.classes),
             slots: Seq::from_vec(partition.slots),

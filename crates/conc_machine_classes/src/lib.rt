@@ -2,9 +2,9 @@
 #![tactic(auto)]
 
 mod classes;
-mod kinds;
-mod rivals;
-mod partition;
 mod excludes_kin;
+mod kinds;
+mod partition;
+mod rivals;
 
 pub use classes::Classes;

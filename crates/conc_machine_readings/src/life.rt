@@ -20,7 +20,11 @@ pub struct LifeReadings {
 impl LifeReadings {
     /// A life that begins, where the last tick before it came at this moment. It takes all the memory that
     /// the other calls need.
-    pub fn new(alloc: Global, readings: &Readings, time: Option<Moment>) -> Result<LifeReadings, NoMemory>
+    pub fn new(
+        alloc: Global,
+        readings: &Readings,
+        time: Option<Moment>,
+    ) -> Result<LifeReadings, NoMemory>
         ensures readings { IfOk result (λ life. life.readings ≡ readings.now) }
         ensures begins { IfOk result (λ life. (past : List Event) → time ≡ now past → last_life past ≡ [] → AreLifeReadings life past) }
     {

@@ -10,7 +10,7 @@ use conc_disk::Disk;
 use conc_law::lawful_is_lawful_so_far;
 use conc_resolver::run_alone;
 use conc_run_open::open;
-use conc_run_state::{RunFail, HistoryFail, DiskName, Work};
+use conc_run_state::{DiskName, HistoryFail, RunFail, Work};
 use conc_types::{Plan, Readings};
 use std::alloc::Global;
 

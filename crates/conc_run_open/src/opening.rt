@@ -9,7 +9,7 @@ use crate::examining::{Examined, examine};
 use crate::starting::start;
 use conc_disk::Disk;
 use conc_outside::Failed;
-use conc_run_state::{HistoryFail, DiskName, Work};
+use conc_run_state::{DiskName, HistoryFail, Work};
 use conc_types::{Plan, Readings};
 use std::alloc::Global;
 

@@ -15,7 +15,7 @@ use crate::extents::count_bytes;
 use crate::judging::refuse_short;
 use conc_disk::Disk;
 use conc_journal::{Journal, JournalFail, Opened};
-use conc_run_state::{HistoryFail, DiskName};
+use conc_run_state::{DiskName, HistoryFail};
 use conc_spool::{Spool, SpoolFail};
 use conc_types::{Event, Plan};
 use std::alloc::Global;

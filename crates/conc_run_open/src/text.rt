@@ -8,7 +8,7 @@ ghost use Rattle.conc_run_open.specs.declared.text.TextFail.TheVariants as text_
 use crate::judging::resume_whole;
 use crate::reading::{open_own, open_texts};
 use conc_disk::Disk;
-use conc_run_state::{HistoryFail, DiskName};
+use conc_run_state::{DiskName, HistoryFail};
 use conc_spool::ReadBack;
 use conc_types::{Event, Extent, Plan, RequestId};
 use std::alloc::Global;

@@ -5,5 +5,5 @@
 mod fail;
 mod work;
 
-pub use fail::{RunFail, HistoryFail, DiskName};
+pub use fail::{DiskName, HistoryFail, RunFail};
 pub use work::Work;

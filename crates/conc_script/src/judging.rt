@@ -116,7 +116,12 @@ fn is_submit(fields: &Fields) -> bool
 
 // What the fields say to do at a moment, after so many requests that were entered, or the rule that
 // they break.
-fn action<'a>(setup: &Setup, at: Moment, entered: u64, fields: &Fields<'a>) -> Result<Action<'a>, u8>
+fn action<'a>(
+    setup: &Setup,
+    at: Moment,
+    entered: u64,
+    fields: &Fields<'a>,
+) -> Result<Action<'a>, u8>
     requires { entered < 2 ^ 32 }
     ensures rules { first_broken (action_rules setup.now entered (list_of fields.now)) ≡ result_err result }
     ensures said { IfOk result (λ action. act_of setup.now at (list_of fields.now) ≡ Some (act_by action)) }

@@ -1,8 +1,8 @@
 //! The readers of the script and of the clock file.
 #![tactic(auto)]
 
-mod clock;
 mod actions;
+mod clock;
 mod fields;
 mod judging;
 mod lines;

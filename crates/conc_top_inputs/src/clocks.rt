@@ -5,8 +5,8 @@ ghost use Rattle.conc_top_inputs.specs.Given.{IsShown, ReadsFrom, sources, told_
 ghost use Rattle.conc_top_inputs.specs.FileFails.{FailsAtClock, FailsUnshown};
 
 use crate::InputFail;
-use crate::given::judge_clock;
 use crate::file_fail::fail_at;
+use crate::given::judge_clock;
 use conc_outside::Shelf;
 use conc_outside_clock::Clock;
 use conc_types::{Moment, Name, NoMemory, Reading, Readings, Seq};

@@ -5,10 +5,10 @@
 mod accepting;
 mod clocks;
 mod fail;
+mod file_fail;
 mod given;
 mod reading;
 mod single;
-mod file_fail;
 
 pub use accepting::{Accepted, accept, accept_timed};
 pub use fail::InputFail;
