@@ -43,7 +43,8 @@ fn begun<D: Disk>(alloc: Global, disk: &mut D, count: u64) -> Result<Journal, Fa
     ensures takes { IfOk result (λ journal. IsTrue (takes_events (state_of journal))) }
     ensures sound { IfOk result (λ journal. IsFalse (has_faulted (state_of journal))) }
     ensures room { IfOk result (λ journal. count ≤ room_of journal) }
-    ensures list { IfOk result (λ journal. IfSome (D.state disk.old).seen (λ image. list_of journal ≡ events_of image)) }
+    ensures list { IfOk result (λ journal. IfSome (D.state disk.old).seen
+        (λ image. list_of journal ≡ events_of image)) }
     ensures faults { (D.state disk.old).faults ≤ (D.state disk.new).faults }
     ensures cause { IfErr result (HasCause (D.state disk.old) (D.state disk.new) count) }
 {
@@ -71,7 +72,8 @@ fn begun<D: Disk>(alloc: Global, disk: &mut D, count: u64) -> Result<Journal, Fa
 
 // Appends so many ticks, and gives how many events the journal then has.
 fn append<D: Disk>(alloc: Global, disk: &mut D, count: u64) -> Result<usize, Fail>
-    ensures count { IfOk result (λ events. IfSome (D.state disk.old).seen (λ image. events ≡ length (events_of image) + count)) }
+    ensures count { IfOk result (λ events. IfSome (D.state disk.old).seen
+        (λ image. events ≡ length (events_of image) + count)) }
     ensures cause { IfErr result (HasCause (D.state disk.old) (D.state disk.new) count) }
 {
     let mut journal = begun(alloc, disk, count)?;

@@ -148,7 +148,8 @@ impl Board {
         requires idle { doing_of hand.old ≡ does.Idle }
         requires place { IsPlace (plan_of self.now) place }
         requires own { IsTrue (has (places_of_hand hand.old) place) }
-        ensures claimed { IfSome result (λ claim. ClaimsOne self.now r place hand.old hand.new claim) }
+        ensures claimed { IfSome result (λ claim. ClaimsOne self.now r place hand.old hand.new
+            claim) }
         ensures none { IfNone result (MissesOne self.now r hand.old hand.new) }
     {
         let word = self

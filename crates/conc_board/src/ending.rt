@@ -18,7 +18,9 @@ impl Model for Words {
 
     ghost view = { λ w. slots_items w.closed.words };
 
-    ghost invariant = { λ w. IsFull w.closed.words × ((k : ℕ) → k < slots_len w.closed.slots → slice_index_or (slots_filled w.closed.slots) k false ≡ false) };
+    ghost invariant = { λ w. IsFull w.closed.words
+        × ((k : ℕ) → k < slots_len w.closed.slots
+        → slice_index_or (slots_filled w.closed.slots) k false ≡ false) };
 }
 
 impl Drop for Words {

@@ -123,7 +123,8 @@ impl Board {
         requires permit { MayPost (plan_of self.now) hand.old permit posted }
         ensures hand { Stays self.now hand.old hand.new }
         ensures idle { doing_of hand.new ≡ does.Idle }
-        ensures found { FindsRunningAt (permit_request permit) (permit_place permit) hand.old hand.new }
+        ensures found { FindsRunningAt (permit_request permit) (permit_place permit) hand.old
+            hand.new }
     {
         let shared = &self.table.shared;
         let word = request_word(permit.request);
@@ -137,7 +138,8 @@ impl Board {
         requires hand { IsHandOf self.now hand.old }
         ensures hand { Stays self.now hand.old hand.new }
         ensures same { doing_of hand.new ≡ doing_of hand.old }
-        ensures found { HandFinds (end_word (plan_of self.now)) (IsFlagSeen result) hand.old hand.new }
+        ensures found { HandFinds (end_word (plan_of self.now)) (IsFlagSeen result) hand.old
+            hand.new }
     {
         let word = self.requests + self.places;
         self.table.shared.load::<Switches>(&mut hand.seat, word) == 1

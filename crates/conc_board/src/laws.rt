@@ -33,7 +33,8 @@ pub fn rule_has_points()
 /// The rule does not read what the seats found.
 pub fn rule_reads_no_finds()
     ensures { (plan : Plan) (s : BoardState) (others : List View) → Keep plan s →
-        DifferInFinds s.views others → Keep plan (record { words = s.words; homes = s.homes; views = others }) }
+        DifferInFinds s.views others → Keep plan
+            (record { words = s.words; homes = s.homes; views = others }) }
 {}
 
 /// A hand has the slot of the request that it has the permit for, and no other slot.
@@ -54,11 +55,13 @@ pub fn steps_are_recorded()
 pub fn reports_come_once()
     ensures goes { (stages : List Stage) → IsCourse NotLet stages →
         count_of_takes NotLet stages ≤ count_of_goes NotLet stages }
-    ensures once { (stages : List Stage) → IsCourse NotLet stages → count_of_goes NotLet stages ≤ 1 }
+    ensures once { (stages : List Stage) → IsCourse NotLet stages
+        → count_of_goes NotLet stages ≤ 1 }
 {}
 
 /// A mark stays.
 pub fn marks_stay()
-    ensures { (stage : Stage) (stages : List Stage) → IsCourse stage stages → IsTrue (is_marked stage) →
+    ensures { (stage : Stage) (stages : List Stage) → IsCourse stage stages
+        → IsTrue (is_marked stage) →
         AreMarked stages }
 {}

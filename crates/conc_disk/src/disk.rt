@@ -33,8 +33,10 @@ pub trait Disk {
     fn write_at(&mut self, at: u64, bytes: &[u8]) -> Result<(), Failed>
         requires { Reaches (state self.old) at }
         ensures later { IsLater (state self.old) (state self.new) }
-        ensures written { OnOk result ((state self.new).seen ≡ option_map (written at bytes.now) (state self.old).seen) }
-        ensures torn { OnErr result (SeenFollows (Torn at (length bytes.now)) (state self.old) (state self.new)) }
+        ensures written { OnOk result ((state self.new).seen
+            ≡ option_map (written at bytes.now) (state self.old).seen) }
+        ensures torn { OnErr result (SeenFollows (Torn at (length bytes.now)) (state self.old)
+            (state self.new)) }
         ensures images { Follows (Torn at (length bytes.now)) (state self.old) (state self.new) }
         ensures failed { OnErr result (Rose (state self.old).faults (state self.new).faults) };
 
@@ -42,8 +44,10 @@ pub trait Disk {
     fn cut(&mut self, len: u64) -> Result<(), Failed>
         requires { Reaches (state self.old) len }
         ensures later { IsLater (state self.old) (state self.new) }
-        ensures cut { OnOk result ((state self.new).seen ≡ option_map (λ bytes. take len bytes) (state self.old).seen) }
-        ensures torn { OnErr result (SeenFollows (Shortened len) (state self.old) (state self.new)) }
+        ensures cut { OnOk result ((state self.new).seen
+            ≡ option_map (λ bytes. take len bytes) (state self.old).seen) }
+        ensures torn { OnErr result (SeenFollows (Shortened len) (state self.old)
+            (state self.new)) }
         ensures images { Follows (Shortened len) (state self.old) (state self.new) }
         ensures failed { OnErr result (Rose (state self.old).faults (state self.new).faults) };
 
@@ -58,8 +62,10 @@ pub trait Disk {
     ghost seen_is_left: { (disk : Self) → IfSome (state disk).seen (state disk).may_leave };
 
     /// Now is one of the moments since an earlier one.
-    ghost now_counts: { (disk : Self) (t : ℕ) (c : List ℕ) → t ≤ (state disk).moment → (state disk).may_leave c → (state disk).left_since t c };
+    ghost now_counts: { (disk : Self) (t : ℕ) (c : List ℕ) → t ≤ (state disk).moment
+        → (state disk).may_leave c → (state disk).left_since t c };
 
     /// Since now there is no other moment.
-    ghost only_now: { (disk : Self) (c : List ℕ) → (state disk).left_since (state disk).moment c → (state disk).may_leave c };
+    ghost only_now: { (disk : Self) (c : List ℕ) → (state disk).left_since (state disk).moment c
+        → (state disk).may_leave c };
 }

@@ -139,7 +139,8 @@ impl<F: FileExt + OpenFile> Disk for FileDisk<F> {
         ensures later { IsLater (file_state self.old) (file_state self.new) }
         ensures length { IfOk result (λ n. HasLength (file_state self.old) n) }
         ensures stays { Stays (file_state self.old) (file_state self.new) }
-        ensures failed { OnErr result (Rose (file_state self.old).faults (file_state self.new).faults) }
+        ensures failed { OnErr result (Rose (file_state self.old).faults
+            (file_state self.new).faults) }
         ensures broken { IsTrue (is_broken self.old) → IsErr result }
         ensures stays_broken { is_broken self.new ≡ is_broken self.old }
     {
@@ -156,7 +157,8 @@ impl<F: FileExt + OpenFile> Disk for FileDisk<F> {
         ensures later { IsLater (file_state self.old) (file_state self.new) }
         ensures bytes { OnOk result (HasAt (file_state self.old) at into.new) }
         ensures stays { Stays (file_state self.old) (file_state self.new) }
-        ensures failed { OnErr result (Rose (file_state self.old).faults (file_state self.new).faults) }
+        ensures failed { OnErr result (Rose (file_state self.old).faults
+            (file_state self.new).faults) }
         ensures broken { IsTrue (is_broken self.old) → IsErr result }
         ensures stays_broken { is_broken self.new ≡ is_broken self.old }
     {
@@ -171,10 +173,14 @@ impl<F: FileExt + OpenFile> Disk for FileDisk<F> {
     fn write_at(&mut self, at: u64, bytes: &[u8]) -> Result<(), Failed>
         requires { Reaches (file_state self.old) at }
         ensures later { IsLater (file_state self.old) (file_state self.new) }
-        ensures written { OnOk result ((file_state self.new).seen ≡ option_map (written at bytes.now) (file_state self.old).seen) }
-        ensures torn { OnErr result (SeenFollows (Torn at (length bytes.now)) (file_state self.old) (file_state self.new)) }
-        ensures images { Follows (Torn at (length bytes.now)) (file_state self.old) (file_state self.new) }
-        ensures failed { OnErr result (Rose (file_state self.old).faults (file_state self.new).faults) }
+        ensures written { OnOk result ((file_state self.new).seen
+            ≡ option_map (written at bytes.now) (file_state self.old).seen) }
+        ensures torn { OnErr result (SeenFollows (Torn at (length bytes.now)) (file_state self.old)
+            (file_state self.new)) }
+        ensures images { Follows (Torn at (length bytes.now)) (file_state self.old)
+            (file_state self.new) }
+        ensures failed { OnErr result (Rose (file_state self.old).faults
+            (file_state self.new).faults) }
         ensures broken { IsTrue (is_broken self.old) → IsErr result }
         ensures stays_broken { is_broken self.new ≡ is_broken self.old }
     {
@@ -189,10 +195,13 @@ impl<F: FileExt + OpenFile> Disk for FileDisk<F> {
     fn cut(&mut self, len: u64) -> Result<(), Failed>
         requires { Reaches (file_state self.old) len }
         ensures later { IsLater (file_state self.old) (file_state self.new) }
-        ensures cut { OnOk result ((file_state self.new).seen ≡ option_map (λ bytes. take len bytes) (file_state self.old).seen) }
-        ensures torn { OnErr result (SeenFollows (Shortened len) (file_state self.old) (file_state self.new)) }
+        ensures cut { OnOk result ((file_state self.new).seen
+            ≡ option_map (λ bytes. take len bytes) (file_state self.old).seen) }
+        ensures torn { OnErr result (SeenFollows (Shortened len) (file_state self.old)
+            (file_state self.new)) }
         ensures images { Follows (Shortened len) (file_state self.old) (file_state self.new) }
-        ensures failed { OnErr result (Rose (file_state self.old).faults (file_state self.new).faults) }
+        ensures failed { OnErr result (Rose (file_state self.old).faults
+            (file_state self.new).faults) }
         ensures broken { IsTrue (is_broken self.old) → IsErr result }
         ensures stays_broken { is_broken self.new ≡ is_broken self.old }
     {
@@ -206,9 +215,11 @@ impl<F: FileExt + OpenFile> Disk for FileDisk<F> {
 
     fn sync(&mut self) -> Result<(), Failed>
         ensures later { IsLater (file_state self.old) (file_state self.new) }
-        ensures durable { OnOk result (LeavesWhatWasSeen (file_state self.old) (file_state self.new)) }
+        ensures durable { OnOk result (LeavesWhatWasSeen (file_state self.old)
+            (file_state self.new)) }
         ensures stays { Stays (file_state self.old) (file_state self.new) }
-        ensures failed { OnErr result (Rose (file_state self.old).faults (file_state self.new).faults) }
+        ensures failed { OnErr result (Rose (file_state self.old).faults
+            (file_state self.new).faults) }
         ensures broken { IsTrue (is_broken self.old) → IsErr result }
         ensures breaks { is_broken self.new ≡ is_err result }
     {

@@ -31,7 +31,8 @@ impl MemDisk {
     /// from 0, are to fail. It takes no memory.
     pub fn new(alloc: Global, bytes: Vec<u8>, fails: Vec<u64>) -> MemDisk
         ensures seen { (⟦<MemDisk as Disk>⟧.state result).seen ≡ Some bytes.items }
-        ensures nothing_pending { (image : List ℕ) → (⟦<MemDisk as Disk>⟧.state result).may_leave image → image ≡ bytes.items }
+        ensures nothing_pending { (image : List ℕ)
+            → (⟦<MemDisk as Disk>⟧.state result).may_leave image → image ≡ bytes.items }
         ensures moment { (⟦<MemDisk as Disk>⟧.state result).moment ≡ 0 }
         ensures faults { (⟦<MemDisk as Disk>⟧.state result).faults ≡ 0 }
         ensures fails { fails_of result ≡ fails.items }
@@ -59,7 +60,8 @@ impl MemDisk {
     pub fn image(&self, alloc: Global, calls: u64, choice: u64) -> Result<Vec<u8>, NoMemory>
         ensures in_call { IfOk result (λ image. MayLeaveIn self.now calls image.items) }
         ensures all { choice ≡ 1 → IfOk result (λ image. image.items ≡ seen_in self.now calls) }
-        ensures since_start { IfOk result (λ image. (⟦<MemDisk as Disk>⟧.state self.now).left_since 0 image.items) }
+        ensures since_start { IfOk result
+            (λ image. (⟦<MemDisk as Disk>⟧.state self.now).left_since 0 image.items) }
     {
         Ok(image_in_call(alloc, &self.trace, calls, choice)?)
     }
@@ -72,11 +74,14 @@ impl Disk for MemDisk {
 
     ghost state = { λ d. state_of d };
 
-    ghost seen_is_left = { λ d. seen-is-left d.trace.changes.items (start_of d.trace.first d.trace.bytes.items) d.trace.bytes.items d.trace.kept d.trace.fit };
+    ghost seen_is_left = { λ d. seen-is-left d.trace.changes.items
+        (start_of d.trace.first d.trace.bytes.items) d.trace.bytes.items d.trace.kept d.trace.fit };
 
-    ghost now_counts = { λ d t c before left. now-counts d.trace.changes.items (start_of d.trace.first d.trace.bytes.items) t c before left };
+    ghost now_counts = { λ d t c before left. now-counts d.trace.changes.items
+        (start_of d.trace.first d.trace.bytes.items) t c before left };
 
-    ghost only_now = { λ d c left. only-now d.trace.changes.items (start_of d.trace.first d.trace.bytes.items) c left };
+    ghost only_now = { λ d c left. only-now d.trace.changes.items
+        (start_of d.trace.first d.trace.bytes.items) c left };
 
     fn len(&mut self) -> Result<u64, Failed>
         ensures later { IsLater (state_of self.old) (state_of self.new) }
@@ -108,12 +113,16 @@ impl Disk for MemDisk {
     fn write_at(&mut self, at: u64, bytes: &[u8]) -> Result<(), Failed>
         requires { Reaches (state_of self.old) at }
         ensures later { IsLater (state_of self.old) (state_of self.new) }
-        ensures written { OnOk result ((state_of self.new).seen ≡ option_map (written at bytes.now) (state_of self.old).seen) }
-        ensures torn { OnErr result (SeenFollows (Torn at (length bytes.now)) (state_of self.old) (state_of self.new)) }
-        ensures images { Follows (Torn at (length bytes.now)) (state_of self.old) (state_of self.new) }
+        ensures written { OnOk result ((state_of self.new).seen
+            ≡ option_map (written at bytes.now) (state_of self.old).seen) }
+        ensures torn { OnErr result (SeenFollows (Torn at (length bytes.now)) (state_of self.old)
+            (state_of self.new)) }
+        ensures images { Follows (Torn at (length bytes.now)) (state_of self.old)
+            (state_of self.new) }
         ensures failed { OnErr result (Rose (state_of self.old).faults (state_of self.new).faults) }
         ensures exact { FailsAsListed self.old self.new result }
-        ensures traced { OnOk result ((kept : Vec ℕ Global) × (kept.items ≡ bytes.now) × Grows self.old.trace self.new.trace (calls_of self.old) (Write at kept)) }
+        ensures traced { OnOk result ((kept : Vec ℕ Global) × (kept.items ≡ bytes.now)
+            × Grows self.old.trace self.new.trace (calls_of self.old) (Write at kept)) }
         ensures unchanged { OnErr result (IsSame self.old.trace self.new.trace) }
     {
         let number = self.counts.begin()?;
@@ -126,12 +135,15 @@ impl Disk for MemDisk {
     fn cut(&mut self, len: u64) -> Result<(), Failed>
         requires { Reaches (state_of self.old) len }
         ensures later { IsLater (state_of self.old) (state_of self.new) }
-        ensures cut { OnOk result ((state_of self.new).seen ≡ option_map (λ bytes. take len bytes) (state_of self.old).seen) }
-        ensures torn { OnErr result (SeenFollows (Shortened len) (state_of self.old) (state_of self.new)) }
+        ensures cut { OnOk result ((state_of self.new).seen
+            ≡ option_map (λ bytes. take len bytes) (state_of self.old).seen) }
+        ensures torn { OnErr result (SeenFollows (Shortened len) (state_of self.old)
+            (state_of self.new)) }
         ensures images { Follows (Shortened len) (state_of self.old) (state_of self.new) }
         ensures failed { OnErr result (Rose (state_of self.old).faults (state_of self.new).faults) }
         ensures exact { FailsAsListed self.old self.new result }
-        ensures traced { OnOk result (Grows self.old.trace self.new.trace (calls_of self.old) (Cut len)) }
+        ensures traced { OnOk result (Grows self.old.trace self.new.trace (calls_of self.old)
+            (Cut len)) }
         ensures unchanged { OnErr result (IsSame self.old.trace self.new.trace) }
     {
         let number = self.counts.begin()?;
@@ -147,7 +159,8 @@ impl Disk for MemDisk {
         ensures stays { Stays (state_of self.old) (state_of self.new) }
         ensures failed { OnErr result (Rose (state_of self.old).faults (state_of self.new).faults) }
         ensures exact { FailsAsListed self.old self.new result }
-        ensures traced { OnOk result (Grows self.old.trace self.new.trace (calls_of self.old) Sync) }
+        ensures traced { OnOk result (Grows self.old.trace self.new.trace (calls_of self.old)
+            Sync) }
         ensures unchanged { OnErr result (IsSame self.old.trace self.new.trace) }
     {
         let number = self.counts.begin()?;

@@ -55,7 +55,9 @@ where
         call: C,
     ) -> Result<T, Failed>
         requires { C.IsAlwaysCallable call }
-        ensures handed_on { IfSome self.old.disk (λ before. IsSomeAnd self.new.disk (λ after. FnOnceReturnsAtMut C.FnOnce call before result after)) }
+        ensures handed_on { IfSome self.old.disk
+            (λ before. IsSomeAnd self.new.disk
+            (λ after. FnOnceReturnsAtMut C.FnOnce call before result after)) }
         ensures later { self.old.faults.count ≤ self.new.faults.count }
         ensures failed { OnErr result (Rose self.old.faults.count self.new.faults.count) }
     {
@@ -89,7 +91,8 @@ where
         ensures later { IsLater (path_state self.old) (path_state self.new) }
         ensures length { IfOk result (λ n. HasLength (path_state self.old) n) }
         ensures stays { Stays (path_state self.old) (path_state self.new) }
-        ensures failed { OnErr result (Rose (path_state self.old).faults (path_state self.new).faults) }
+        ensures failed { OnErr result (Rose (path_state self.old).faults
+            (path_state self.new).faults) }
         ensures broken { IsBroken self.old → IsErr result }
         ensures stays_broken { BreaksAs (λ broken. broken) self.old self.new }
     {
@@ -101,7 +104,8 @@ where
         ensures later { IsLater (path_state self.old) (path_state self.new) }
         ensures bytes { OnOk result (HasAt (path_state self.old) at into.new) }
         ensures stays { Stays (path_state self.old) (path_state self.new) }
-        ensures failed { OnErr result (Rose (path_state self.old).faults (path_state self.new).faults) }
+        ensures failed { OnErr result (Rose (path_state self.old).faults
+            (path_state self.new).faults) }
         ensures broken { IsBroken self.old → IsErr result }
         ensures stays_broken { BreaksAs (λ broken. broken) self.old self.new }
     {
@@ -111,10 +115,14 @@ where
     fn write_at(&mut self, at: u64, bytes: &[u8]) -> Result<(), Failed>
         requires { Reaches (path_state self.old) at }
         ensures later { IsLater (path_state self.old) (path_state self.new) }
-        ensures written { OnOk result ((path_state self.new).seen ≡ option_map (written at bytes.now) (path_state self.old).seen) }
-        ensures torn { OnErr result (SeenFollows (Torn at (length bytes.now)) (path_state self.old) (path_state self.new)) }
-        ensures images { Follows (Torn at (length bytes.now)) (path_state self.old) (path_state self.new) }
-        ensures failed { OnErr result (Rose (path_state self.old).faults (path_state self.new).faults) }
+        ensures written { OnOk result ((path_state self.new).seen
+            ≡ option_map (written at bytes.now) (path_state self.old).seen) }
+        ensures torn { OnErr result (SeenFollows (Torn at (length bytes.now)) (path_state self.old)
+            (path_state self.new)) }
+        ensures images { Follows (Torn at (length bytes.now)) (path_state self.old)
+            (path_state self.new) }
+        ensures failed { OnErr result (Rose (path_state self.old).faults
+            (path_state self.new).faults) }
         ensures broken { IsBroken self.old → IsErr result }
         ensures stays_broken { BreaksAs (λ broken. broken) self.old self.new }
     {
@@ -124,10 +132,13 @@ where
     fn cut(&mut self, len: u64) -> Result<(), Failed>
         requires { Reaches (path_state self.old) len }
         ensures later { IsLater (path_state self.old) (path_state self.new) }
-        ensures cut { OnOk result ((path_state self.new).seen ≡ option_map (λ bytes. take len bytes) (path_state self.old).seen) }
-        ensures torn { OnErr result (SeenFollows (Shortened len) (path_state self.old) (path_state self.new)) }
+        ensures cut { OnOk result ((path_state self.new).seen
+            ≡ option_map (λ bytes. take len bytes) (path_state self.old).seen) }
+        ensures torn { OnErr result (SeenFollows (Shortened len) (path_state self.old)
+            (path_state self.new)) }
         ensures images { Follows (Shortened len) (path_state self.old) (path_state self.new) }
-        ensures failed { OnErr result (Rose (path_state self.old).faults (path_state self.new).faults) }
+        ensures failed { OnErr result (Rose (path_state self.old).faults
+            (path_state self.new).faults) }
         ensures broken { IsBroken self.old → IsErr result }
         ensures stays_broken { BreaksAs (λ broken. broken) self.old self.new }
     {
@@ -136,9 +147,11 @@ where
 
     fn sync(&mut self) -> Result<(), Failed>
         ensures later { IsLater (path_state self.old) (path_state self.new) }
-        ensures durable { OnOk result (LeavesWhatWasSeen (path_state self.old) (path_state self.new)) }
+        ensures durable { OnOk result (LeavesWhatWasSeen (path_state self.old)
+            (path_state self.new)) }
         ensures stays { Stays (path_state self.old) (path_state self.new) }
-        ensures failed { OnErr result (Rose (path_state self.old).faults (path_state self.new).faults) }
+        ensures failed { OnErr result (Rose (path_state self.old).faults
+            (path_state self.new).faults) }
         ensures broken { IsBroken self.old → IsErr result }
         ensures breaks { BreaksAs (λ broken. is_err result) self.old self.new }
     {

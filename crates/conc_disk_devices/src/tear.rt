@@ -50,7 +50,8 @@ fn tear_write(
     number: u64,
 ) -> Result<(), AllocError>
     ensures torn { OnOk result (Torn at (length bytes.now) image.old.items image.new.items) }
-    ensures all { choice ≡ 1 → at ≤ length image.old.items → OnOk result (image.new.items ≡ written at bytes.now image.old.items) }
+    ensures all { choice ≡ 1 → at ≤ length image.old.items
+        → OnOk result (image.new.items ≡ written at bytes.now image.old.items) }
 {
     if at > image.len() {
         return Ok(());
@@ -85,7 +86,9 @@ fn tear(
     choice: u64,
 ) -> Result<(), AllocError>
     ensures left { OnOk result (ActLeaves change.now.act seen.now image.old.items image.new.items) }
-    ensures all { choice ≡ 1 → image.old.items ≡ seen.now → IsTrue (act_fits change.now.act seen.now) → OnOk result (image.new.items ≡ after_act change.now.act seen.now) }
+    ensures all { choice ≡ 1 → image.old.items ≡ seen.now
+        → IsTrue (act_fits change.now.act seen.now)
+        → OnOk result (image.new.items ≡ after_act change.now.act seen.now) }
 {
     match &change.act {
         Act::Write { at, bytes } => tear_write(alloc, image, *at, bytes, choice, change.number),

@@ -105,7 +105,8 @@ impl Trace {
         bytes: &[u8],
     ) -> Result<(), AllocError>
         requires { at ≤ length self.old.bytes.items }
-        ensures written { OnOk result ((v : Vec ℕ Global) × (v.items ≡ bytes.now) × Grows self.old self.new number (Write at v)) }
+        ensures written { OnOk result ((v : Vec ℕ Global) × (v.items ≡ bytes.now)
+            × Grows self.old self.new number (Write at v)) }
         ensures stays { OnErr result (IsSame self.old self.new) }
     {
         self.begin(alloc)?;

@@ -72,7 +72,8 @@ fn put_outcome(out: &mut Vec<u8>, request: RequestId, outcome: Outcome) -> Resul
 
 // The rest of the line, with the blank that parts it from the outcome.
 fn put_extent(out: &mut Vec<u8>, extent: Extent) -> Result<(), NoMemory>
-    ensures { OnOk result (out.new.items ≡ out.old.items ++ 32 ∷ line_of (decimal extent.offset ∷ decimal extent.length ∷ [])) }
+    ensures { OnOk result (out.new.items ≡ out.old.items ++ 32
+        ∷ line_of (decimal extent.offset ∷ decimal extent.length ∷ [])) }
 {
     put_bytes(out, b" ")?;
     put_decimal(out, extent.offset)?;

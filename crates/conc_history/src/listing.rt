@@ -21,7 +21,9 @@ fn number_or_zero(set: Option<RequestId>) -> u32
 
 // The number, the priority and the start of a request.
 fn put_order(out: &mut Vec<u8>, r: &Req) -> Result<(), NoMemory>
-    ensures { OnOk result (out.new.items ≡ out.old.items ++ join_with_byte 9 (decimal r.now.number.number ∷ decimal r.now.priority ∷ moment_text r.now.start ∷ [])) }
+    ensures { OnOk result (out.new.items ≡ out.old.items
+        ++ join_with_byte 9 (decimal r.now.number.number ∷ decimal r.now.priority
+        ∷ moment_text r.now.start ∷ [])) }
 {
     put_decimal(out, u64::from(r.number.number))?;
     put_bytes(out, b"\t")?;
@@ -32,7 +34,8 @@ fn put_order(out: &mut Vec<u8>, r: &Req) -> Result<(), NoMemory>
 
 // Its set and its stage.
 fn put_member(out: &mut Vec<u8>, r: &Req) -> Result<(), NoMemory>
-    ensures { OnOk result (out.new.items ≡ out.old.items ++ join_with_byte 9 (parent_word r.now.parent ∷ decimal r.now.stage ∷ [])) }
+    ensures { OnOk result (out.new.items ≡ out.old.items
+        ++ join_with_byte 9 (parent_word r.now.parent ∷ decimal r.now.stage ∷ [])) }
 {
     put_decimal(out, u64::from(number_or_zero(r.parent)))?;
     put_bytes(out, b"\t")?;
@@ -41,7 +44,9 @@ fn put_member(out: &mut Vec<u8>, r: &Req) -> Result<(), NoMemory>
 
 // Its domain, its user and its name, and the end of the line.
 fn put_names(out: &mut Vec<u8>, plan: &Plan, r: &Req) -> Result<(), NoMemory>
-    ensures { OnOk result (out.new.items ≡ out.old.items ++ (join_with_byte 9 (r.now.domain ∷ r.now.user ∷ spec.item_name plan.now r.now.item ∷ []) ++ 10 ∷ [])) }
+    ensures { OnOk result (out.new.items ≡ out.old.items
+        ++ (join_with_byte 9 (r.now.domain ∷ r.now.user ∷ spec.item_name plan.now r.now.item ∷ [])
+        ++ 10 ∷ [])) }
 {
     put_bytes(out, r.domain.as_bytes())?;
     put_bytes(out, b"\t")?;

@@ -10,7 +10,8 @@ use std::alloc::Global;
 
 // The line of a request as far as the status.
 fn put_status(out: &mut Vec<u8>, r: RequestId, phase: Phase, status: Status) -> Result<(), NoMemory>
-    ensures { OnOk result (out.new.items ≡ out.old.items ++ spaced (id_word r ∷ phase_word phase ∷ status_word status ∷ [])) }
+    ensures { OnOk result (out.new.items ≡ out.old.items
+        ++ spaced (id_word r ∷ phase_word phase ∷ status_word status ∷ [])) }
 {
     put_decimal(out, u64::from(r.number))?;
     put_bytes(out, b" ")?;
@@ -26,7 +27,8 @@ fn put_line(
     phase: Phase,
     status: Status,
 ) -> Result<(), NoMemory>
-    ensures { OnOk result (out.new.items ≡ out.old.items ++ line_with plan.now r.now (phase, status)) }
+    ensures { OnOk result (out.new.items ≡ out.old.items
+        ++ line_with plan.now r.now (phase, status)) }
 {
     put_status(out, r.number, phase, status)?;
     put_bytes(out, b" ")?;

@@ -24,7 +24,9 @@ fn first_bad(
 ) -> Option<u64>
     requires prepared { IsPrepared plan.now prepared.now }
     requires room { HasRoom plan.now prepared.now findings.old }
-    ensures first { MatchOption result (AreLawfulTo plan.now readings.now.list events.now (length events.now)) (IsFirstBad plan.now readings.now.list events.now) }
+    ensures first { MatchOption result
+        (AreLawfulTo plan.now readings.now.list events.now (length events.now))
+        (IsFirstBad plan.now readings.now.list events.now) }
     ensures room { HasRoom plan.now prepared.now findings.new }
 {
     for i in 0..events.len() {
@@ -62,8 +64,10 @@ pub fn check(
     events: &[Event],
 ) -> Result<bool, CheckFail>
     ensures lawful { IfOk result (λ finished. Lawful plan.now readings.now.list events.now) }
-    ensures finished { IfOk result (λ finished. IsTrue finished ↔ Finished plan.now readings.now.list events.now) }
-    ensures unlawful { (position : ℕ) → result ≡ Err (unlawful_at position) → IsFirstBad plan.now readings.now.list events.now position }
+    ensures finished { IfOk result (λ finished. IsTrue finished
+        ↔ Finished plan.now readings.now.list events.now) }
+    ensures unlawful { (position : ℕ) → result ≡ Err (unlawful_at position)
+        → IsFirstBad plan.now readings.now.list events.now position }
 {
     let prepared = Prepared::new(alloc, plan)?;
     let mut findings = Findings::new(alloc, plan, &prepared)?;

@@ -100,7 +100,8 @@ impl Findings {
     fn take_in(&mut self, plan: &Plan, spans: &Spans, e: Event)
         requires spans { AreSpans plan.now spans.now }
         requires few { self.old.ticks + 1 < 2 ^ 64 }
-        ensures read { (past : List Event) → HasTaken plan.now past self.old → HasTaken plan.now (e ∷ past) self.new }
+        ensures read { (past : List Event) → HasTaken plan.now past self.old
+            → HasTaken plan.now (e ∷ past) self.new }
         ensures live { self.new.live ≡ self.old.live }
     {
         self.earlier = earlier_after(self.state.time, self.earlier, e);

@@ -19,7 +19,8 @@ fn first_noted<'a>(
     live: &Seq<Option<RequestId>>,
     class: u32,
 ) -> Option<&'a u32>
-    ensures { option_copied result ≡ find (λ d. is_some (live_spec.noted live.now d)) (rivals_at classes.now class) }
+    ensures { option_copied result ≡ find (λ d. is_some (live_spec.noted live.now d))
+        (rivals_at classes.now class) }
 {
     classes
         .rivals(class)

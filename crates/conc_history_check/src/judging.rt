@@ -35,7 +35,8 @@ fn one_may_start_at(plan: &Plan, state: &State, place: PlaceId) -> bool
 // Whether a request may start at one of so many places from an index on.
 fn one_may_start_among(plan: &Plan, state: &State, from: u32, count: u32) -> bool
     requires { from + count < 2 ^ 32 }
-    ensures { result ≡ list_any (λ p. list_any (λ r. spec.may_start plan.now state.now r p) plan.now.requests) (map (λ index. record { index = index }) (range_with_len from count)) }
+    ensures { result ≡ list_any (λ p. list_any (λ r. spec.may_start plan.now state.now r p)
+        plan.now.requests) (map (λ index. record { index = index }) (range_with_len from count)) }
 {
     count > 0
         && (one_may_start_at(plan, state, PlaceId { index: from })

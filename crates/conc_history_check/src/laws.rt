@@ -9,5 +9,6 @@ ghost use Rattle.conc_history_check.specs.Positions.{is_lawful_at};
 /// contract is the law.
 pub fn lawful_at_each_position()
     ensures { (plan : Plan) (readings : List Reading) (history : List Event) →
-        Lawful plan readings history ↔ ((i : ℕ) → 1 ≤ i → i ≤ length history → IsTrue (is_lawful_at plan readings history i)) }
+        Lawful plan readings history ↔ ((i : ℕ) → 1 ≤ i → i ≤ length history
+            → IsTrue (is_lawful_at plan readings history i)) }
 {}

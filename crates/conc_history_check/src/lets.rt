@@ -79,7 +79,8 @@ fn better(
     requires prepared { IsPrepared plan.now prepared.now }
     requires live { AreLive plan.now prepared.now.classes state.now live.now }
     requires own { Has plan.now.requests r.now }
-    ensures { result ≡ lesser best (then_some (next_spec.may_let plan.now state.now r.now) (turns_spec.turn r.now)) }
+    ensures { result ≡ lesser best (then_some (next_spec.may_let plan.now state.now r.now)
+        (turns_spec.turn r.now)) }
 {
     if !is_ready(plan, prepared, state, r) {
         return best;
@@ -113,7 +114,8 @@ fn least_turn(
 }
 
 fn event_at(plan: &Plan, turn: Option<u64>) -> Option<Event>
-    ensures { result ≡ option_map next_spec.let_event (option_and_then (turns_spec.request_at_turn plan.now) turn) }
+    ensures { result ≡ option_map next_spec.let_event
+        (option_and_then (turns_spec.request_at_turn plan.now) turn) }
 {
     match turn {
         Some(turn) => match request_at_turn(plan, turn) {

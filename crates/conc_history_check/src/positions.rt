@@ -31,7 +31,9 @@ fn known_next(
     findings: &Findings,
     later: &[Event],
 ) -> Option<Option<Reading>>
-    ensures { (past : List Event) → HasTaken plan.now past findings.now → result ≡ option_map (λ known. readings_spec.next_reading known past) (known_before readings.now.list later.now) }
+    ensures { (past : List Event) → HasTaken plan.now past findings.now
+        → result ≡ option_map (λ known. readings_spec.next_reading known past)
+        (known_before readings.now.list later.now) }
 {
     if has_resume(later) {
         return None;

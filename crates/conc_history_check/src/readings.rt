@@ -11,7 +11,8 @@ use conc_types::{Moment, Plan, Reading, Readings};
 
 // The reading with this index among those that are not earlier than the moment.
 fn reading_from(readings: &[Reading], earlier: Option<Moment>, index: usize) -> Option<Reading>
-    ensures { result ≡ slice_get (filter (λ q. state_spec.is_not_earlier earlier q.moment) readings.now) index }
+    ensures { result ≡ slice_get (filter (λ q. state_spec.is_not_earlier earlier q.moment)
+        readings.now) index }
 {
     let mut left = index;
     for q in readings {
@@ -32,7 +33,8 @@ pub(crate) fn next_reading(
     readings: &Readings,
     findings: &Findings,
 ) -> Option<Reading>
-    ensures { (past : List Event) → HasTaken _plan.now past findings.now → result ≡ readings_spec.next_reading readings.now.list past }
+    ensures { (past : List Event) → HasTaken _plan.now past findings.now
+        → result ≡ readings_spec.next_reading readings.now.list past }
 {
     reading_from(readings.list.as_slice(), findings.earlier, findings.ticks)
 }

@@ -29,7 +29,8 @@ fn is_last(line: &[u8]) -> bool
 /// The first line that ends with LF, without it, and the text behind it. A text without LF has no such
 /// line.
 pub fn split_line(bytes: &[u8]) -> Option<(&[u8], &[u8])>
-    ensures lines { MatchOption result (whole_lines bytes.now ≡ []) (λ p. whole_lines bytes.now ≡ p.0.now ∷ whole_lines p.1.now) }
+    ensures lines { MatchOption result (whole_lines bytes.now ≡ [])
+        (λ p. whole_lines bytes.now ≡ p.0.now ∷ whole_lines p.1.now) }
     ensures length { IfSome result (λ p. length bytes.now ≡ length p.0.now + 1 + length p.1.now) }
 {
     split_once(bytes, b'\n')
@@ -49,7 +50,8 @@ fn bad_line(text: &[u8], number: u64) -> Option<u64>
 // at an offset.
 fn offset_after(mut offset: usize, mut text: &[u8]) -> usize
     requires { offset + length text.now < 2 ^ 64 }
-    ensures { result ≡ unwrap_or (spec.offset_after offset (whole_lines text.now)) (offset + length text.now) }
+    ensures { result ≡ unwrap_or (spec.offset_after offset (whole_lines text.now))
+        (offset + length text.now) }
 {
     while let Some((line, after)) = split_line(text) {
         offset += line.len() + 1;

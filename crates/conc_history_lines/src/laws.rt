@@ -19,18 +19,22 @@ pub fn event_lines_have_one_spelling()
 /// The line that is written for an event is read as this event.
 pub fn event_lines_are_read_back()
     ensures { (plan : Plan) (e : Event) →
-        IsTrue (has_line plan e) → event_of_line (starts_of plan) (spaced (event_words plan e)) ≡ Some e }
+        IsTrue (has_line plan e) → event_of_line (starts_of plan) (spaced (event_words plan e))
+            ≡ Some e }
 {}
 
 /// Each event of a lawful history has a line.
 pub fn lawful_events_have_lines()
-    ensures { (plan : Plan) (history : List Event) → LawfulSoFar plan history → IsTrue (list_all (has_line plan) history) }
+    ensures { (plan : Plan) (history : List Event) → LawfulSoFar plan history
+        → IsTrue (list_all (has_line plan) history) }
 {}
 
 /// A history is read back from its text, where each of its events has a line; so is a lawful one.
 pub fn texts_are_read_back()
-    ensures lines { (plan : Plan) (history : List Event) → IsTrue (list_all (has_line plan) history) → IsReadBack plan history }
-    ensures lawful { (plan : Plan) (history : List Event) → LawfulSoFar plan history → IsReadBack plan history }
+    ensures lines { (plan : Plan) (history : List Event) → IsTrue (list_all (has_line plan) history)
+        → IsReadBack plan history }
+    ensures lawful { (plan : Plan) (history : List Event) → LawfulSoFar plan history
+        → IsReadBack plan history }
 {}
 
 /// A text that is read without a bad line is the text of the events that are read, as far as the

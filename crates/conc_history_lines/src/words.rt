@@ -9,7 +9,8 @@ use conc_types::{Extent, Outcome, PlaceId, RequestId, read_decimal};
 
 /// The first word of a line, and the words behind it, if there are any.
 pub(crate) fn split_word(line: &[u8]) -> (&[u8], Option<&[u8]>)
-    ensures { MatchOption result.1 (words_of line.now ≡ result.0.now ∷ []) (λ rest. words_of line.now ≡ result.0.now ∷ words_of rest.now) }
+    ensures { MatchOption result.1 (words_of line.now ≡ result.0.now ∷ [])
+        (λ rest. words_of line.now ≡ result.0.now ∷ words_of rest.now) }
 {
     match split_once(line, b' ') {
         Some((word, rest)) => (word, Some(rest)),

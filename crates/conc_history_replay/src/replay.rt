@@ -11,7 +11,8 @@ use std::alloc::Global;
 
 // Makes the facts of the request at an index what they are after an event.
 fn step_at(plan: &Plan, named: Facts, e: Event, facts: &mut Seq<Facts>, i: usize)
-    ensures { facts.new ≡ one_by plan.now named e facts.old i (slice_get plan.now.requests i) (slice_get facts.old i) }
+    ensures { facts.new ≡ one_by plan.now named e facts.old i (slice_get plan.now.requests i)
+        (slice_get facts.old i) }
 {
     if let Some(r) = plan.requests.as_slice().get(i) {
         if let Some(own) = facts.as_slice().get(i).copied() {
@@ -46,7 +47,8 @@ pub fn take_in(plan: &Plan, spans: &Spans, state: &mut State, e: Event)
 // Takes one more event: the state after some events becomes the state after these and the event.
 fn advance(plan: &Plan, spans: &Spans, state: &mut State, e: Event)
     requires { AreSpans plan.now spans.now }
-    ensures { (past : List Event) → state.old ≡ spec.state plan.now past → state.new ≡ spec.state plan.now (e ∷ past) }
+    ensures { (past : List Event) → state.old ≡ spec.state plan.now past
+        → state.new ≡ spec.state plan.now (e ∷ past) }
 {
     take_in(plan, spans, state, e);
 }

@@ -5,7 +5,8 @@ use conc_history_lines::split_line;
 
 /// The text behind its first line, where this is that line.
 pub(crate) fn after_line<'a>(text: &'a [u8], line: &[u8]) -> Option<&'a [u8]>
-    ensures same { IfSome result (λ after. whole_lines text.now ≡ line.now ∷ whole_lines after.now) }
+    ensures same { IfSome result (λ after. whole_lines text.now ≡ line.now
+        ∷ whole_lines after.now) }
     ensures other { IfNone result (slice_get (whole_lines text.now) 0 ≡ Some line.now → ⊥) }
 {
     match split_line(text) {

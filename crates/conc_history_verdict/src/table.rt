@@ -11,7 +11,8 @@ use std::alloc::Global;
 // The number, from 1, of the first line of the table in whose place another stands in the text, or
 // none.
 fn first_other(mut table: &[u8], mut text: &[u8]) -> Option<u64>
-    ensures place { MatchOption result (BeginsWith (whole_lines table.now) (whole_lines text.now)) (IsFirstOther (whole_lines table.now) (whole_lines text.now)) }
+    ensures place { MatchOption result (BeginsWith (whole_lines table.now) (whole_lines text.now))
+        (IsFirstOther (whole_lines table.now) (whole_lines text.now)) }
     ensures few { IfSome result (λ number. number ≤ length table.now) }
 {
     let mut number = 1;
@@ -35,7 +36,8 @@ pub(crate) fn bad_line(
     bytes: &[u8],
 ) -> Result<Option<u64>, NoMemory>
     requires { lines.now ≡ read plan.now bytes.now }
-    ensures { IfOk result (λ line. MatchOption line (IsWhole plan.now bytes.now) (IsBadLine plan.now bytes.now)) }
+    ensures { IfOk result (λ line. MatchOption line (IsWhole plan.now bytes.now)
+        (IsBadLine plan.now bytes.now)) }
 {
     if lines.bad.is_some() {
         return Ok(lines.bad);

@@ -28,7 +28,8 @@ pub(crate) fn add_record<D: Disk>(disk: &mut D, at: u64, spelled: &[u8; 32]) -> 
     requires behind { Reaches (D.state disk.old) (at + 1) }
     ensures images { EachImage (AddedFrom (D.state disk.old) at spelled.now) (D.state disk.new) }
     ensures added { OnOk result (LeavesAdded at spelled.now (D.state disk.old) (D.state disk.new)) }
-    ensures survives { LeavesOnly (AddedFrom (D.state disk.old) at spelled.now) (D.state disk.old) (D.state disk.new) }
+    ensures survives { LeavesOnly (AddedFrom (D.state disk.old) at spelled.now) (D.state disk.old)
+        (D.state disk.new) }
     ensures failed { OnErr result (Rose (D.state disk.old).faults (D.state disk.new).faults) }
 {
     write_durable(disk, at + 1, spelled)?;

@@ -110,7 +110,8 @@ impl Journal {
         ensures list { list_of self.new ≡ list_of self.old }
         ensures empty { list_of self.new ≡ [] }
         ensures room { room_of self.new ≡ room_of self.old }
-        ensures survives { LeavesOnly (FitsState (BeginFailed digest.now) []) (D.state disk.old) (D.state disk.new) }
+        ensures survives { LeavesOnly (FitsState (BeginFailed digest.now) []) (D.state disk.old)
+            (D.state disk.new) }
     {
         match write_header(disk, digest) {
             Ok(()) => {
@@ -157,18 +158,22 @@ impl Journal {
         ensures room { OnOk result (room_of self.new + 1 ≡ room_of self.old) }
 
         // A fault.
-        ensures fault { IsErrOf result AppendFail.DiskFault → Rose (D.state disk.old).faults (D.state disk.new).faults }
-        ensures faulted { IsErrOf result AppendFail.DiskFault → state_of self.new ≡ after_fault event (state_of self.old) }
+        ensures fault { IsErrOf result AppendFail.DiskFault
+            → Rose (D.state disk.old).faults (D.state disk.new).faults }
+        ensures faulted { IsErrOf result AppendFail.DiskFault
+            → state_of self.new ≡ after_fault event (state_of self.old) }
         ensures list { OnErr result (list_of self.new ≡ list_of self.old) }
         ensures no_room_taken { OnErr result (room_of self.new ≡ room_of self.old) }
 
         // After a fault.
-        ensures failed { IsErrOf result AppendFail.Failed ↔ IsTrue (has_faulted (state_of self.old)) }
+        ensures failed { IsErrOf result AppendFail.Failed
+            ↔ IsTrue (has_faulted (state_of self.old)) }
         ensures same { IsErrOf result AppendFail.Failed → self.new ≡ self.old }
         ensures untouched { IsErrOf result AppendFail.Failed → disk.new ≡ disk.old }
 
         // A stop at any moment leaves the list with the event or without.
-        ensures survives { LeavesOnly (FitsState (after_fault event (state_of self.old)) (list_of self.old)) (D.state disk.old) (D.state disk.new) }
+        ensures survives { LeavesOnly (FitsState (after_fault event (state_of self.old))
+            (list_of self.old)) (D.state disk.old) (D.state disk.new) }
     {
         let JournalState::Begun { digest } = self.state else {
             return Err(AppendFail::Failed);

@@ -38,7 +38,8 @@ impl InputDigest {
     /// Takes in the next table, by its name and its bytes.
     #[tactic(auto, using(crate::proofs::Messages::message_more))]
     pub fn add_table(&mut self, name: &[u8], bytes: &[u8])
-        ensures { (setup script : List ℕ) (tables : List (List ℕ × List ℕ)) → HasTaken self.old setup script tables
+        ensures { (setup script : List ℕ) (tables : List (List ℕ × List ℕ))
+            → HasTaken self.old setup script tables
             → HasTaken self.new setup script (tables ++ (name.now, bytes.now) ∷ []) }
     {
         add_framed(&mut self.hasher, name);
@@ -47,7 +48,8 @@ impl InputDigest {
 
     /// The digest of what was taken in.
     pub fn finish(self) -> [u8; 32]
-        ensures { (setup script : List ℕ) (tables : List (List ℕ × List ℕ)) → HasTaken self setup script tables
+        ensures { (setup script : List ℕ) (tables : List (List ℕ × List ℕ))
+            → HasTaken self setup script tables
             → result ≡ input_digest setup script tables }
     {
         self.hasher.finalize()

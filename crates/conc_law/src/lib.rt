@@ -44,14 +44,16 @@ pub fn requests_are_numbered()
 
 /// The text of a report is short.
 pub fn report_is_short()
-    ensures { (job : Job) (argument : List ℕ) (table : Table) → length (report job argument table).text ≤ 1048576 }
+    ensures { (job : Job) (argument : List ℕ) (table : Table)
+        → length (report job argument table).text ≤ 1048576 }
 {}
 
 // ---- every lawful history
 
 /// Running intervals of requests that exclude each other do not overlap.
 pub fn no_overlap()
-    ensures { (plan : Plan) (history : List Event) → LawfulSoFar plan history → NoOverlap plan history }
+    ensures { (plan : Plan) (history : List Event) → LawfulSoFar plan history
+        → NoOverlap plan history }
 {}
 
 /// No start of a request stands after its completion.
@@ -79,17 +81,20 @@ pub fn running_is_let()
 
 /// The first event is a tick.
 pub fn begins_with_a_tick()
-    ensures { (plan : Plan) (e : Event) (history : List Event) → LawfulSoFar plan (e ∷ history) → IsSome (tick_of e) }
+    ensures { (plan : Plan) (e : Event) (history : List Event) → LawfulSoFar plan (e ∷ history)
+        → IsSome (tick_of e) }
 {}
 
 /// The history up to any event is lawful too, with every life judged as an earlier one.
 pub fn prefix_is_lawful_so_far()
-    ensures { (plan : Plan) (before after : List Event) → LawfulSoFar plan (before ++ after) → LawfulSoFar plan before }
+    ensures { (plan : Plan) (before after : List Event) → LawfulSoFar plan (before ++ after)
+        → LawfulSoFar plan before }
 {}
 
 /// A history that is lawful for some readings is lawful with every life judged as an earlier one.
 pub fn lawful_is_lawful_so_far()
-    ensures { (plan : Plan) (readings : Readings) (history : List Event) → Lawful plan readings.list history → LawfulSoFar plan history }
+    ensures { (plan : Plan) (readings : Readings) (history : List Event)
+        → Lawful plan readings.list history → LawfulSoFar plan history }
 {}
 
 // ---- the run without a choice
@@ -109,7 +114,8 @@ pub fn alone_is_lawful()
 
 /// Where nothing comes next in a run without workers, the history is finished.
 pub fn alone_finishes()
-    ensures { (plan : Plan) (readings : List Reading) (history : List Event) → LawfulSoFar plan history →
+    ensures { (plan : Plan) (readings : List Reading) (history : List Event)
+        → LawfulSoFar plan history →
         next_alone plan readings (reverse history) ≡ None → Finished plan readings history }
 {}
 
@@ -121,7 +127,8 @@ pub fn alone_reports()
 
 /// A life ends: each event but a resume lowers the bound on the events that it still has.
 pub fn each_event_uses_up()
-    ensures { (plan : Plan) (readings : List Reading) (history : List Event) (e : Event) → LawfulSoFar plan history →
+    ensures { (plan : Plan) (readings : List Reading) (history : List Event) (e : Event)
+        → LawfulSoFar plan history →
         IsTrue (may_follow plan (Some readings) (reverse history) e) → IsFalse (is_resume e) →
         remaining plan readings (e ∷ reverse history) < remaining plan readings (reverse history) }
 {}
@@ -149,7 +156,9 @@ pub fn running_stands()
 /// In a lawful history a request runs at the place at which a start of it stands with no end or
 /// interrupt after it.
 pub fn running_place_stands()
-    ensures { (plan : Plan) (history : List Event) (r : Req) (place : PlaceId) → Has plan.requests r → LawfulSoFar plan history →
+    ensures { (plan : Plan) (history : List Event) (r : Req) (place : PlaceId) → Has plan.requests r
+        → LawfulSoFar plan history →
         some_and (λ p. p.index == place.index) (running_place (reverse history) r.number)
-        ≡ stands_since (λ _ e. starts_at r.number place e) (λ _ e. stops r.number e) (reverse history) }
+        ≡ stands_since (λ _ e. starts_at r.number place e) (λ _ e. stops r.number e)
+            (reverse history) }
 {}

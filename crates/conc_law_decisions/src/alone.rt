@@ -14,7 +14,8 @@ use conc_types::{Event, PlaceId, Plan, Reading, Req, State};
 // The first of so many places from an index on at which r may start.
 fn first_place(plan: &Plan, state: &State, r: &Req, from: u32, count: u32) -> Option<PlaceId>
     requires { from + count < 2 ^ 32 }
-    ensures { result ≡ find (next_spec.may_start plan.now state.now r.now) (map (λ index. record { index = index }) (range_with_len from count)) }
+    ensures { result ≡ find (next_spec.may_start plan.now state.now r.now)
+        (map (λ index. record { index = index }) (range_with_len from count)) }
 {
     if count == 0 {
         return None;
@@ -39,13 +40,15 @@ fn start_of(plan: &Plan, state: &State, r: &Req) -> Option<Event>
 }
 
 fn stands_before(plan: &Plan, state: &State, r: &Req, q: &Req) -> bool
-    ensures { result ≡ (next_spec.may_start_somewhere plan.now state.now q.now && plans_spec.precedes q.now r.now) }
+    ensures { result ≡ (next_spec.may_start_somewhere plan.now state.now q.now
+        && plans_spec.precedes q.now r.now) }
 {
     may_start_somewhere(plan, state, q) && precedes(q, r)
 }
 
 fn is_behind(plan: &Plan, state: &State, r: &Req) -> bool
-    ensures { result ≡ list_any (λ q. next_spec.may_start_somewhere plan.now state.now q && plans_spec.precedes q r.now) plan.now.requests }
+    ensures { result ≡ list_any (λ q. next_spec.may_start_somewhere plan.now state.now q
+        && plans_spec.precedes q r.now) plan.now.requests }
 {
     plan.requests
         .as_slice()
@@ -54,13 +57,16 @@ fn is_behind(plan: &Plan, state: &State, r: &Req) -> bool
 }
 
 fn is_first(plan: &Plan, state: &State, r: &Req) -> bool
-    ensures { result ≡ (next_spec.may_start_somewhere plan.now state.now r.now && not (list_any (λ q. next_spec.may_start_somewhere plan.now state.now q && plans_spec.precedes q r.now) plan.now.requests)) }
+    ensures { result ≡ (next_spec.may_start_somewhere plan.now state.now r.now
+        && not (list_any (λ q. next_spec.may_start_somewhere plan.now state.now q
+        && plans_spec.precedes q r.now) plan.now.requests)) }
 {
     may_start_somewhere(plan, state, r) && !is_behind(plan, state, r)
 }
 
 fn first_to_start<'a>(plan: &'a Plan, state: &State) -> Option<&'a Req>
-    ensures { option_copied result ≡ first_by plans_spec.precedes (next_spec.may_start_somewhere plan.now state.now) plan.now.requests }
+    ensures { option_copied result ≡ first_by plans_spec.precedes
+        (next_spec.may_start_somewhere plan.now state.now) plan.now.requests }
 {
     plan.requests
         .as_slice()

@@ -64,7 +64,8 @@ pub fn is_due(state: &State, number: u32, order: &Order) -> bool
 // The number of the first command that is due, of those from this number on.
 fn first_due(state: &State, orders: &[Order], number: u32) -> Option<u32>
     requires { number + length orders.now < 2 ^ 32 }
-    ensures { result ≡ option_map (λ order. order.0) (find (next_spec.is_due state.now) (enumerate_from number orders.now)) }
+    ensures { result ≡ option_map (λ order. order.0)
+        (find (next_spec.is_due state.now) (enumerate_from number orders.now)) }
 {
     match orders.split_first() {
         None => None,
@@ -98,7 +99,8 @@ pub fn has_step(plan: &Plan, state: &State, r: &Req, members: &[Req]) -> bool
 
 #[tactic(auto, unfolding(conc_law::specs::Plans::members))]
 fn first_with_step<'a>(plan: &'a Plan, state: &State) -> Option<&'a Req>
-    ensures { option_copied result ≡ find (next_spec.has_step plan.now state.now) plan.now.requests }
+    ensures { option_copied result ≡ find (next_spec.has_step plan.now state.now)
+        plan.now.requests }
 {
     plan.requests
         .as_slice()
@@ -166,13 +168,15 @@ fn may_let(plan: &Plan, state: &State, r: &Req) -> bool
 }
 
 fn stands_before(plan: &Plan, state: &State, r: &Req, q: &Req) -> bool
-    ensures { result ≡ (next_spec.may_let plan.now state.now q.now && plans_spec.precedes q.now r.now) }
+    ensures { result ≡ (next_spec.may_let plan.now state.now q.now
+        && plans_spec.precedes q.now r.now) }
 {
     may_let(plan, state, q) && precedes(q, r)
 }
 
 fn is_behind(plan: &Plan, state: &State, r: &Req) -> bool
-    ensures { result ≡ list_any (λ q. next_spec.may_let plan.now state.now q && plans_spec.precedes q r.now) plan.now.requests }
+    ensures { result ≡ list_any (λ q. next_spec.may_let plan.now state.now q
+        && plans_spec.precedes q r.now) plan.now.requests }
 {
     plan.requests
         .as_slice()
@@ -181,13 +185,16 @@ fn is_behind(plan: &Plan, state: &State, r: &Req) -> bool
 }
 
 fn is_first(plan: &Plan, state: &State, r: &Req) -> bool
-    ensures { result ≡ (next_spec.may_let plan.now state.now r.now && not (list_any (λ q. next_spec.may_let plan.now state.now q && plans_spec.precedes q r.now) plan.now.requests)) }
+    ensures { result ≡ (next_spec.may_let plan.now state.now r.now
+        && not (list_any (λ q. next_spec.may_let plan.now state.now q
+        && plans_spec.precedes q r.now) plan.now.requests)) }
 {
     may_let(plan, state, r) && !is_behind(plan, state, r)
 }
 
 fn first_to_let<'a>(plan: &'a Plan, state: &State) -> Option<&'a Req>
-    ensures { option_copied result ≡ first_by plans_spec.precedes (next_spec.may_let plan.now state.now) plan.now.requests }
+    ensures { option_copied result ≡ first_by plans_spec.precedes
+        (next_spec.may_let plan.now state.now) plan.now.requests }
 {
     plan.requests
         .as_slice()

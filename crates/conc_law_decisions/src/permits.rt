@@ -67,7 +67,8 @@ pub fn may_start(plan: &Plan, state: &State, r: &Req, place: PlaceId) -> bool
 // Whether r may start at one of so many places from an index on.
 fn may_start_among(plan: &Plan, state: &State, r: &Req, from: u32, count: u32) -> bool
     requires { from + count < 2 ^ 32 }
-    ensures { result ≡ list_any (next_spec.may_start plan.now state.now r.now) (map (λ index. record { index = index }) (range_with_len from count)) }
+    ensures { result ≡ list_any (next_spec.may_start plan.now state.now r.now)
+        (map (λ index. record { index = index }) (range_with_len from count)) }
 {
     count > 0
         && (may_start(plan, state, r, PlaceId { index: from })
@@ -139,7 +140,8 @@ pub fn one_runs(plan: &Plan, state: &State) -> bool
 }
 
 fn one_may_start(plan: &Plan, state: &State) -> bool
-    ensures { result ≡ list_any (next_spec.may_start_somewhere plan.now state.now) plan.now.requests }
+    ensures { result ≡ list_any (next_spec.may_start_somewhere plan.now state.now)
+        plan.now.requests }
 {
     plan.requests
         .as_slice()
@@ -180,7 +182,8 @@ fn may_tick(plan: &Plan, state: &State, next: Option<Option<Reading>>, t: Moment
 
 /// Whether the plan has this request, and it may start at the place.
 pub fn may_start_by_id(plan: &Plan, state: &State, id: RequestId, place: PlaceId) -> bool
-    ensures { result ≡ some_and (λ q. next_spec.may_start plan.now state.now q place) (plans_spec.request plan.now id) }
+    ensures { result ≡ some_and (λ q. next_spec.may_start plan.now state.now q place)
+        (plans_spec.request plan.now id) }
 {
     match plan.request(id) {
         Some(r) => may_start(plan, state, r, place),
@@ -196,7 +199,8 @@ pub fn may_end_by_id(
     outcome: Outcome,
     extent: Option<Extent>,
 ) -> bool
-    ensures { result ≡ some_and (λ q. next_spec.may_end state.now q outcome extent) (plans_spec.request plan.now id) }
+    ensures { result ≡ some_and (λ q. next_spec.may_end state.now q outcome extent)
+        (plans_spec.request plan.now id) }
 {
     match plan.request(id) {
         Some(r) => may_end(state, r, outcome, extent),

@@ -46,7 +46,8 @@ fn outcome_at(state: &State, r: &Req) -> Option<Outcome>
 
 // Whether those of the requests that are members of the stage are completed.
 fn are_members_completed(state: &State, set: RequestId, stage: u32, requests: &[Req]) -> bool
-    ensures { result ≡ list_all (stages_spec.completed_at state.now) (filter (plans_spec.is_member set stage) requests.now) }
+    ensures { result ≡ list_all (stages_spec.completed_at state.now)
+        (filter (plans_spec.is_member set stage) requests.now) }
 {
     requests
         .iter()
@@ -81,7 +82,8 @@ fn worst_member(state: &State, set: RequestId, stage: u32, requests: &[Req]) -> 
 // The worst outcome among those of the requests that are members of the stage.
 #[tactic(auto, unfolding(conc_law::specs::Stages::worst))]
 fn worst_outcome(state: &State, set: RequestId, stage: u32, requests: &[Req]) -> Outcome
-    ensures { result ≡ worst (filter_map (stages_spec.outcome_at state.now) (filter (plans_spec.is_member set stage) requests.now)) }
+    ensures { result ≡ worst (filter_map (stages_spec.outcome_at state.now)
+        (filter (plans_spec.is_member set stage) requests.now)) }
 {
     of_severity(worst_member(state, set, stage, requests))
 }
@@ -124,7 +126,8 @@ fn counts_for_set(facts: Facts, number: u32, stage: &Stage) -> bool
 // Whether none of the stages, the first of which has this number, is critical and ran.
 fn none_counts(facts: Facts, stages: &[Stage], number: u32) -> bool
     requires { number + length stages.now < 2 ^ 32 }
-    ensures { result ≡ is_empty (filter (stages_spec.counts_for_set facts) (enumerate_from number stages.now)) }
+    ensures { result ≡ is_empty (filter (stages_spec.counts_for_set facts)
+        (enumerate_from number stages.now)) }
 {
     match stages.split_first() {
         None => true,
@@ -144,7 +147,10 @@ fn worst_critical(
     members: &[Req],
 ) -> u32
     requires { number + length stages.now < 2 ^ 32 }
-    ensures { result ≡ greatest (map stages_spec.severity (map (λ stage. worst (filter_map (stages_spec.outcome_at state.now) (filter (plans_spec.is_member set stage.0) members.now))) (filter (stages_spec.counts_for_set facts) (enumerate_from number stages.now)))) }
+    ensures { result ≡ greatest (map stages_spec.severity
+        (map (λ stage. worst (filter_map (stages_spec.outcome_at state.now)
+        (filter (plans_spec.is_member set stage.0) members.now)))
+        (filter (stages_spec.counts_for_set facts) (enumerate_from number stages.now)))) }
 {
     match stages.split_first() {
         None => 0,

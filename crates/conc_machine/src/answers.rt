@@ -28,7 +28,9 @@ use conc_types::{Event, Phase, PlaceId, Reading, RequestId, Status};
 impl<'p> Machine<'p> {
     // The next reading of this life, where its readings are known.
     fn known_next(&self) -> Option<Option<Reading>>
-        ensures { (past : List Event) → StandsFor self.now past → result ≡ option_map (λ readings. readings_spec.next_reading readings past) (readings_of self.now) }
+        ensures { (past : List Event) → StandsFor self.now past
+            → result ≡ option_map (λ readings. readings_spec.next_reading readings past)
+            (readings_of self.now) }
     {
         match &self.life {
             Some(life) => Some(life.next_reading()),
@@ -38,14 +40,16 @@ impl<'p> Machine<'p> {
 
     /// Whether the event may come next.
     pub fn judge(&self, event: &Event) -> bool
-        ensures { (past : List Event) → StandsFor self.now past → result ≡ may_follow (plan_of self.now) (readings_of self.now) past event.now }
+        ensures { (past : List Event) → StandsFor self.now past
+            → result ≡ may_follow (plan_of self.now) (readings_of self.now) past event.now }
     {
         may_come(self.plan, &self.indexes, self.known_next(), *event)
     }
 
     /// The event that is forced, if one is due.
     pub fn forced(&self) -> Option<Event>
-        ensures { (past : List Event) → StandsFor self.now past → result ≡ next_spec.forced (plan_of self.now) (state (plan_of self.now) past) }
+        ensures { (past : List Event) → StandsFor self.now past
+            → result ≡ next_spec.forced (plan_of self.now) (state (plan_of self.now) past) }
     {
         forced(self.plan, &self.indexes)
     }
@@ -53,7 +57,9 @@ impl<'p> Machine<'p> {
     /// Whether a request may start at a place, where nothing is forced.
     pub fn may_start(&self, request: RequestId, place: PlaceId) -> bool
         ensures { (past : List Event) → StandsFor self.now past →
-            result ≡ some_and (λ r. next_spec.may_start (plan_of self.now) (state (plan_of self.now) past) r place) (plans_spec.request (plan_of self.now) request) }
+            result ≡ some_and (λ r. next_spec.may_start (plan_of self.now)
+                (state (plan_of self.now) past) r place)
+                (plans_spec.request (plan_of self.now) request) }
     {
         may_start(self.plan, &self.indexes, request, place)
     }
@@ -61,7 +67,8 @@ impl<'p> Machine<'p> {
     /// The first let request in precedence that has an allowed place, with the first such place.
     pub fn first_start(&self) -> Option<(RequestId, PlaceId)>
         ensures { (past : List Event) → StandsFor self.now past →
-            option_map (λ (start : RequestId × PlaceId). event.Started start.0 start.1) result ≡ alone_spec.first_start (plan_of self.now) (state (plan_of self.now) past) }
+            option_map (λ (start : RequestId × PlaceId). event.Started start.0 start.1) result
+                ≡ alone_spec.first_start (plan_of self.now) (state (plan_of self.now) past) }
     {
         self.indexes
             .starts
@@ -71,7 +78,9 @@ impl<'p> Machine<'p> {
     /// The request with the least number of those that run at a place.
     pub fn first_running(&self) -> Option<RequestId>
         ensures { (past : List Event) → StandsFor self.now past →
-            result ≡ option_map (λ r. r.number) (find (runs_somewhere (state (plan_of self.now) past)) (plan_of self.now).requests) }
+            result ≡ option_map (λ r. r.number)
+                (find (runs_somewhere (state (plan_of self.now) past))
+                (plan_of self.now).requests) }
     {
         match self.indexes.running.first(self.plan, &self.indexes.state) {
             Some(r) => Some(r.number),
@@ -81,7 +90,9 @@ impl<'p> Machine<'p> {
 
     /// The next reading of this life, if one is left. Without readings there is none.
     pub fn next_reading(&self) -> Option<Reading>
-        ensures { (past : List Event) → StandsFor self.now past → result ≡ option_and_then (λ readings. readings_spec.next_reading readings past) (readings_of self.now) }
+        ensures { (past : List Event) → StandsFor self.now past
+            → result ≡ option_and_then (λ readings. readings_spec.next_reading readings past)
+            (readings_of self.now) }
     {
         match &self.life {
             Some(life) => life.next_reading(),
@@ -92,7 +103,10 @@ impl<'p> Machine<'p> {
     /// Whether the next reading may be taken: one is left, and it is early or the system is at rest.
     pub fn may_tick(&self) -> bool
         ensures { (past : List Event) → StandsFor self.now past →
-            result ≡ some_and (next_spec.may_take (plan_of self.now) (state (plan_of self.now) past)) (option_and_then (λ readings. readings_spec.next_reading readings past) (readings_of self.now)) }
+            result ≡ some_and (next_spec.may_take (plan_of self.now)
+                (state (plan_of self.now) past))
+                (option_and_then (λ readings. readings_spec.next_reading readings past)
+                (readings_of self.now)) }
     {
         match self.next_reading() {
             Some(reading) => may_take(self.plan, &self.indexes, reading),
@@ -102,21 +116,24 @@ impl<'p> Machine<'p> {
 
     /// Whether the system is at rest: nothing is forced, no request runs, and none may start.
     pub fn at_rest(&self) -> bool
-        ensures { (past : List Event) → StandsFor self.now past → result ≡ next_spec.is_at_rest (plan_of self.now) (state (plan_of self.now) past) }
+        ensures { (past : List Event) → StandsFor self.now past
+            → result ≡ next_spec.is_at_rest (plan_of self.now) (state (plan_of self.now) past) }
     {
         is_at_rest(self.plan, &self.indexes)
     }
 
     /// How many bytes of the spool the extents take, where 64 bits hold it.
     pub fn used(&self) -> Option<u64>
-        ensures { (past : List Event) → StandsFor self.now past → result ≡ (state (plan_of self.now) past).used }
+        ensures { (past : List Event) → StandsFor self.now past
+            → result ≡ (state (plan_of self.now) past).used }
     {
         self.indexes.state.used
     }
 
     /// Whether a place may be used at the last tick. Before the first tick none may.
     pub fn usable(&self, place: PlaceId) -> bool
-        ensures { (past : List Event) → StandsFor self.now past → result ≡ some_and (λ t. places_spec.is_usable (plan_of self.now) t place) (now past) }
+        ensures { (past : List Event) → StandsFor self.now past
+            → result ≡ some_and (λ t. places_spec.is_usable (plan_of self.now) t place) (now past) }
     {
         match self.indexes.state.time {
             Some(t) => is_usable(self.plan, t, place),
@@ -127,7 +144,9 @@ impl<'p> Machine<'p> {
     /// Whether a request has to stop: it runs, and was terminated.
     pub fn must_stop(&self, request: RequestId) -> bool
         ensures { (past : List Event) → StandsFor self.now past →
-            result ≡ some_and (λ r. is_stopping (state_spec.facts_at (state (plan_of self.now) past) r)) (plans_spec.request (plan_of self.now) request) }
+            result ≡ some_and (λ r. is_stopping
+                (state_spec.facts_at (state (plan_of self.now) past) r))
+                (plans_spec.request (plan_of self.now) request) }
     {
         match self.plan.request(request) {
             Some(r) => {
@@ -141,7 +160,8 @@ impl<'p> Machine<'p> {
     /// The phase and status of a request; None exactly where it is not submitted.
     pub fn status(&self, request: RequestId) -> Option<(Phase, Status)>
         ensures { (past : List Event) → StandsFor self.now past →
-            result ≡ option_and_then (status_of (plan_of self.now) (state (plan_of self.now) past)) (plans_spec.request (plan_of self.now) request) }
+            result ≡ option_and_then (status_of (plan_of self.now) (state (plan_of self.now) past))
+                (plans_spec.request (plan_of self.now) request) }
     {
         match self.plan.request(request) {
             Some(r) => status(self.plan, &self.indexes.state, r),

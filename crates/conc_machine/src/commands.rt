@@ -24,7 +24,9 @@ pub(crate) fn first_undone(done: &[bool], from: usize) -> usize
 
 // The command at a place, from 0, if it is due.
 fn due_at(plan: &Plan, state: &State, place: usize) -> Option<Event>
-    ensures { result ≡ option_and_then (λ order. then_some (next_spec.is_due state.now (place + 1, order)) (command (place + 1))) (slice_get plan.now.script.commands place) }
+    ensures { result ≡ option_and_then
+        (λ order. then_some (next_spec.is_due state.now (place + 1, order)) (command (place + 1)))
+        (slice_get plan.now.script.commands place) }
 {
     let order = plan.script.commands.as_slice().get(place)?;
     let number = place as u32 + 1;

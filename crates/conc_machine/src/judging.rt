@@ -22,7 +22,8 @@ fn none_runs(plan: &Plan, indexes: &Indexes) -> bool
 
 fn none_may_start(plan: &Plan, indexes: &Indexes) -> bool
     requires { AreIndexes plan.now indexes.now }
-    ensures { result ≡ not (list_any (may_start_somewhere plan.now indexes.now.state) plan.now.requests) }
+    ensures { result ≡ not (list_any (may_start_somewhere plan.now indexes.now.state)
+        plan.now.requests) }
 {
     indexes.starts.first_start(plan, &indexes.state).is_none()
 }
@@ -64,7 +65,8 @@ fn may_tick(plan: &Plan, indexes: &Indexes, next: Option<Option<Reading>>, t: Mo
 /// Whether the request with this number may start at a place.
 pub(crate) fn may_start(plan: &Plan, indexes: &Indexes, id: RequestId, place: PlaceId) -> bool
     requires { AreIndexes plan.now indexes.now }
-    ensures { result ≡ some_and (λ q. next_spec.may_start plan.now indexes.now.state q place) (plans_spec.request plan.now id) }
+    ensures { result ≡ some_and (λ q. next_spec.may_start plan.now indexes.now.state q place)
+        (plans_spec.request plan.now id) }
 {
     match plan.request(id) {
         Some(r) => indexes.starts.may_start(plan, &indexes.state, r, place),

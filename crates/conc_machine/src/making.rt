@@ -39,8 +39,10 @@ fn begun(alloc: Global, plan: &Plan) -> Result<Indexes, NoMemory>
 
 // Takes one more event into a life, if its readings are known. The last tick came at a moment.
 fn live_on(life: &mut Option<LifeReadings>, e: Event, time: Option<Moment>)
-    ensures readings { option_map (λ life. life.readings.list) life.new ≡ option_map (λ life. life.readings.list) life.old }
-    ensures lives { (past : List Event) → time ≡ now past → FitLife life.old past → FitLife life.new (e ∷ past) }
+    ensures readings { option_map (λ life. life.readings.list) life.new
+        ≡ option_map (λ life. life.readings.list) life.old }
+    ensures lives { (past : List Event) → time ≡ now past → FitLife life.old past
+        → FitLife life.new (e ∷ past) }
 {
     if let Some(life) = life {
         life.take_in(e, time);
@@ -68,7 +70,8 @@ impl<'p> Machine<'p> {
     pub fn take_readings(&mut self, alloc: Global, readings: &Readings) -> Result<(), NoMemory>
         ensures plan { plan_of self.new ≡ plan_of self.old }
         ensures readings { OnOk result (readings_of self.new ≡ Some readings.now.list) }
-        ensures stands { OnOk result ((past : List Event) → last_life past ≡ [] → StandsFor self.old past → StandsFor self.new past) }
+        ensures stands { OnOk result ((past : List Event) → last_life past ≡ []
+            → StandsFor self.old past → StandsFor self.new past) }
         ensures err { OnErr result (self.new ≡ self.old) }
     {
         let life = LifeReadings::new(alloc, readings, self.indexes.state.time)?;
@@ -80,7 +83,8 @@ impl<'p> Machine<'p> {
     pub fn apply(&mut self, event: Event)
         ensures plan { plan_of self.new ≡ plan_of self.old }
         ensures readings { readings_of self.new ≡ readings_of self.old }
-        ensures stands { (past : List Event) → StandsFor self.old past → StandsFor self.new (event ∷ past) }
+        ensures stands { (past : List Event) → StandsFor self.old past
+            → StandsFor self.new (event ∷ past) }
     {
         let time = self.indexes.state.time;
         live_on(&mut self.life, event, time);

@@ -36,7 +36,9 @@ fn write(plan: &Plan, indexes: &mut Indexes, i: usize, own: Facts)
 fn write_next(plan: &Plan, indexes: &mut Indexes, named: Facts, e: Event, i: usize)
     requires parts { AreParts plan.now indexes.old }
     ensures parts { AreParts plan.now indexes.new }
-    ensures facts { AreFacts indexes.old indexes.new (one_by plan.now named e indexes.old.state.facts i (slice_get plan.now.requests i) (slice_get indexes.old.state.facts i)) }
+    ensures facts { AreFacts indexes.old indexes.new
+        (one_by plan.now named e indexes.old.state.facts i (slice_get plan.now.requests i)
+        (slice_get indexes.old.state.facts i)) }
 {
     if let Some(r) = plan.requests.as_slice().get(i) {
         if let Some(own) = indexes.state.facts.as_slice().get(i).copied() {
@@ -52,7 +54,8 @@ pub(crate) fn write_all(plan: &Plan, indexes: &mut Indexes, named: Facts, e: Eve
     requires inside { span.to ≤ length plan.now.requests }
     requires leaves { LeavesOthers plan.now e span }
     ensures parts { AreParts plan.now indexes.new }
-    ensures facts { AreFacts indexes.old indexes.new (all_after plan.now named e plan.now.requests indexes.old.state.facts) }
+    ensures facts { AreFacts indexes.old indexes.new
+        (all_after plan.now named e plan.now.requests indexes.old.state.facts) }
 {
     for i in span.from..span.to {
         write_next(plan, indexes, named, e, i);

@@ -66,7 +66,8 @@ fn none_excluding_kin(alloc: Global, count: usize) -> Result<Vec<bool>, NoMemory
 
 // Marks the class of a request and that of its parent, if these exclude each other.
 fn mark_kin(classes: &[u32], rows: &[Seq<u32>], index: usize, r: &Req, excludes_kin: &mut Vec<bool>)
-    ensures { MarksKin classes.now rows.now index r.now excludes_kin.old.items excludes_kin.new.items }
+    ensures { MarksKin classes.now rows.now index r.now excludes_kin.old.items
+        excludes_kin.new.items }
 {
     if let Some(class) = classes.get(index).copied() {
         if let Some(parent) = rival_parent(classes, rows, r, class) {
@@ -83,7 +84,8 @@ pub(crate) fn all_excluding_kin(
     classes: &[u32],
     rows: &[Seq<u32>],
 ) -> Result<Seq<bool>, NoMemory>
-    ensures { IfOk result (λ excludes_kin. AreKinMarked plan.now.requests classes.now rows.now excludes_kin) }
+    ensures { IfOk result (λ excludes_kin. AreKinMarked plan.now.requests classes.now rows.now
+        excludes_kin) }
 {
     let mut excludes_kin = none_excluding_kin(alloc, rows.len())?;
     for (i, r) in plan.requests.as_slice().iter().enumerate() {

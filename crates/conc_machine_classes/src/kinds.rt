@@ -53,7 +53,8 @@ pub(crate) fn are_one_kind(plan: &Plan, a: Head, b: Head) -> bool
 
 // The head of a class of which the request, at this index, is the first.
 pub(crate) fn head_of(plan: &Plan, index: u32, r: &Req) -> Head
-    ensures { slice_get plan.now.requests index ≡ Some r.now → kind_at plan.now result ≡ kind_of plan.now r.now }
+    ensures { slice_get plan.now.requests index ≡ Some r.now
+        → kind_at plan.now result ≡ kind_of plan.now r.now }
 {
     Head {
         item: r.item,

@@ -17,7 +17,8 @@ pub(crate) struct Partition {
 }
 
 fn class_of(plan: &Plan, heads: &[Head], head: Head) -> Option<usize>
-    ensures { result ≡ position (λ h. kind_eq (kind_at plan.now h) (kind_at plan.now head)) heads.now }
+    ensures { result ≡ position (λ h. kind_eq (kind_at plan.now h) (kind_at plan.now head))
+        heads.now }
 {
     heads
         .iter()
@@ -54,7 +55,8 @@ fn open(partition: &mut Partition, head: Head) -> Result<(), NoMemory>
 fn slot(plan: &Plan, partition: &mut Partition, index: u32, r: &Req) -> Result<(), NoMemory>
     requires before { IsPartition plan.now (take index plan.now.requests) partition.old }
     requires here { slice_get plan.now.requests index ≡ Some r.now }
-    ensures { OnOk result (IsPartition plan.now (take (suc index) plan.now.requests) partition.new) }
+    ensures { OnOk result (IsPartition plan.now (take (suc index) plan.now.requests)
+        partition.new) }
 {
     let head = head_of(plan, index, r);
     match class_of(plan, partition.heads.as_slice(), head) {

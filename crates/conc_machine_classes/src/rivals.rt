@@ -62,7 +62,8 @@ fn entries_of(alloc: Global, entries: &[Entry], item: Item) -> Result<Vec<Entry>
 }
 
 fn entries_over(alloc: Global, entries: &[Entry], head: Head) -> Result<Vec<Entry>, NoMemory>
-    ensures { IfOk result (λ all. all.items ≡ filter (covers_item head.item head.parent) entries.now) }
+    ensures { IfOk result (λ all. all.items
+        ≡ filter (covers_item head.item head.parent) entries.now) }
 {
     Ok(
         entries
@@ -86,7 +87,8 @@ fn claim_of(alloc: Global, plan: &Plan, head: Head) -> Result<Claim, NoMemory>
 }
 
 fn some_covers(owned: &[Entry], other: Head, same_domain: bool) -> bool
-    ensures { result ≡ list_any (λ entry. covers_item other.item other.parent entry && kinds_spec.reaches same_domain entry) owned.now }
+    ensures { result ≡ list_any (λ entry. covers_item other.item other.parent entry
+        && kinds_spec.reaches same_domain entry) owned.now }
 {
     owned.iter().any(|entry| {
         covers(other.item, other.parent, *entry) && reaches(same_domain, *entry)
@@ -94,7 +96,8 @@ fn some_covers(owned: &[Entry], other: Head, same_domain: bool) -> bool
 }
 
 fn some_is_owned(covering: &[Entry], other: Head, same_domain: bool) -> bool
-    ensures { result ≡ list_any (λ entry. kinds_spec.owns other.item entry && kinds_spec.reaches same_domain entry) covering.now }
+    ensures { result ≡ list_any (λ entry. kinds_spec.owns other.item entry
+        && kinds_spec.reaches same_domain entry) covering.now }
 {
     covering.iter().any(|entry| owns(other.item, *entry) && reaches(same_domain, *entry))
 }

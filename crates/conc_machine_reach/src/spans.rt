@@ -121,7 +121,8 @@ impl Spans {
     // Where the requests stand to which the command of an event does something.
     #[tactic(auto, unfolding(crate::specs::Reach::is_acted_on))]
     fn span_of_act(&self, plan: &Plan, e: Event) -> Span
-        ensures { AreSpans plan.now self.now → IsAround plan.now (is_acted_on (act_of plan.now e)) result }
+        ensures { AreSpans plan.now self.now
+            → IsAround plan.now (is_acted_on (act_of plan.now e)) result }
     {
         match act(plan, e) {
             Some(Act::Hold { request } | Act::Unhold { request } | Act::Terminate { request }) => {

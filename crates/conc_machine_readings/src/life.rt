@@ -26,7 +26,8 @@ impl LifeReadings {
         time: Option<Moment>,
     ) -> Result<LifeReadings, NoMemory>
         ensures readings { IfOk result (λ life. life.readings ≡ readings.now) }
-        ensures begins { IfOk result (λ life. (past : List Event) → time ≡ now past → last_life past ≡ [] → AreLifeReadings life past) }
+        ensures begins { IfOk result (λ life. (past : List Event) → time ≡ now past
+            → last_life past ≡ [] → AreLifeReadings life past) }
     {
         let list = Seq::from_vec(readings.list.as_slice().to_vec(alloc)?);
         Ok(LifeReadings {
@@ -37,7 +38,8 @@ impl LifeReadings {
 
     /// The next reading, if one is left.
     pub fn next_reading(&self) -> Option<Reading>
-        ensures { (past : List Event) → AreLifeReadings self.now past → result ≡ next_reading self.now.readings.list past }
+        ensures { (past : List Event) → AreLifeReadings self.now past
+            → result ≡ next_reading self.now.readings.list past }
     {
         self.readings.list.as_slice().get(self.next).copied()
     }
@@ -46,7 +48,8 @@ impl LifeReadings {
     #[tactic(auto, using(crate::proofs::Lives::life_ticked, crate::proofs::Lives::life_same))]
     pub fn take_in(&mut self, e: Event, time: Option<Moment>)
         ensures readings { self.new.readings ≡ self.old.readings }
-        ensures life { (past : List Event) → time ≡ now past → AreLifeReadings self.old past → AreLifeReadings self.new (e ∷ past) }
+        ensures life { (past : List Event) → time ≡ now past → AreLifeReadings self.old past
+            → AreLifeReadings self.new (e ∷ past) }
     {
         match e {
             Event::Tick { .. } => {
@@ -63,7 +66,8 @@ impl LifeReadings {
 // How many readings are earlier than the moment, all of which come first.
 fn count_earlier(readings: &Readings, time: Option<Moment>) -> usize
     ensures few { result ≤ length readings.now.list }
-    ensures rest { filter (λ q. is_not_earlier time q.moment) readings.now.list ≡ drop result readings.now.list }
+    ensures rest { filter (λ q. is_not_earlier time q.moment) readings.now.list
+        ≡ drop result readings.now.list }
 {
     match time {
         Some(last) => readings

@@ -28,7 +28,8 @@ fn has_only_kin_rivals(
     r: &Req,
 ) -> bool
     requires { AreSpans plan.now spans.now }
-    ensures { result ≡ forced_spec.has_only_kin_rivals plan.now classes.now state.now class rivals r.now }
+    ensures { result ≡ forced_spec.has_only_kin_rivals plan.now classes.now state.now class rivals
+        r.now }
 {
     classes.class(r) == class
         && is_ready(plan, state, r)
@@ -47,7 +48,8 @@ fn turn_if_only_kin_rivals(
     r: &Req,
 ) -> Option<u64>
     requires { AreSpans plan.now spans.now }
-    ensures { result ≡ then_some (forced_spec.has_only_kin_rivals plan.now classes.now state.now class rivals r.now) (turns_spec.turn r.now) }
+    ensures { result ≡ then_some (forced_spec.has_only_kin_rivals plan.now classes.now state.now
+        class rivals r.now) (turns_spec.turn r.now) }
 {
     has_only_kin_rivals(plan, classes, spans, state, class, rivals, r).then_some(turn(r))
 }
@@ -63,7 +65,8 @@ pub(crate) fn has_turn_only_kin_rivals(
     turn: u64,
 ) -> bool
     requires { AreSpans plan.now spans.now }
-    ensures { result ≡ some_and (forced_spec.has_only_kin_rivals plan.now classes.now state.now class rivals) (turns_spec.request_at_turn plan.now turn) }
+    ensures { result ≡ some_and (forced_spec.has_only_kin_rivals plan.now classes.now state.now
+        class rivals) (turns_spec.request_at_turn plan.now turn) }
 {
     match request_at_turn(plan, turn) {
         Some(r) => has_only_kin_rivals(plan, classes, spans, state, class, rivals, r),
@@ -81,7 +84,9 @@ pub(crate) fn least_with_only_kin_rivals(
     rivals: u32,
 ) -> Option<u64>
     requires { AreSpans plan.now spans.now }
-    ensures { result ≡ least_spec.least (turns_of (forced_spec.has_only_kin_rivals plan.now classes.now state.now class rivals) plan.now.requests) }
+    ensures { result ≡ least_spec.least
+        (turns_of (forced_spec.has_only_kin_rivals plan.now classes.now state.now class rivals)
+        plan.now.requests) }
 {
     let mut best = None;
     for r in plan.requests.as_slice() {
@@ -95,7 +100,8 @@ pub(crate) fn least_with_only_kin_rivals(
 
 /// The let, or open, of the request that has this turn.
 pub(crate) fn event_at(plan: &Plan, turn: Option<u64>) -> Option<Event>
-    ensures { result ≡ option_map next_spec.let_event (option_and_then (turns_spec.request_at_turn plan.now) turn) }
+    ensures { result ≡ option_map next_spec.let_event
+        (option_and_then (turns_spec.request_at_turn plan.now) turn) }
 {
     match turn {
         Some(turn) => match request_at_turn(plan, turn) {

@@ -13,7 +13,9 @@ pub(crate) fn vacant_queues(
     classes: &Classes,
     count: u32,
 ) -> Result<Vec<Queue>, NoMemory>
-    ensures { IfOk result (λ queues. queues.items ≡ map (λ c. vacant (unwrap_or (slice_get classes.now.sizes c) 0)) (range_with_len 0 count)) }
+    ensures { IfOk result (λ queues. queues.items
+        ≡ map (λ c. vacant (unwrap_or (slice_get classes.now.sizes c) 0))
+        (range_with_len 0 count)) }
 {
     let mut queues = Vec::with_capacity(alloc, count as usize)?;
     for class in 0..count {

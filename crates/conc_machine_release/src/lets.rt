@@ -62,7 +62,9 @@ impl Lets {
     )
         requires classes { AreClasses plan.now classes.now }
         requires spans { AreSpans plan.now spans.now }
-        ensures { (before : State) → IsWritten plan.now before after.now i old → AreLets plan.now classes.now before self.old → AreLets plan.now classes.now after.now self.new }
+        ensures { (before : State) → IsWritten plan.now before after.now i old
+            → AreLets plan.now classes.now before self.old
+            → AreLets plan.now classes.now after.now self.new }
     {
         renew(&mut self.ready, plan, classes, spans, after, i, old);
         recount(&mut self.rivals, plan, classes, after, i, old);
@@ -72,7 +74,9 @@ impl Lets {
     /// comes.
     pub fn tick(&mut self, plan: &Plan, classes: &Classes, after: &State)
         requires { AreClasses plan.now classes.now }
-        ensures { (before : State) → after.now.facts ≡ before.facts → AreLets plan.now classes.now before self.old → AreLets plan.now classes.now after.now self.new }
+        ensures { (before : State) → after.now.facts ≡ before.facts
+            → AreLets plan.now classes.now before self.old
+            → AreLets plan.now classes.now after.now self.new }
     {
         if self.window.contains(after.time) {
             return;
@@ -108,7 +112,8 @@ impl Lets {
         requires spans { AreSpans plan.now spans.now }
         requires stands { AreLets plan.now classes.now state.now self.now }
         requires within { class < length classes.now.sizes }
-        requires first { least (turns_of (is_ready plan.now state.now) (of_class plan.now classes.now class)) ≡ Some first }
+        requires first { least (turns_of (is_ready plan.now state.now)
+            (of_class plan.now classes.now class)) ≡ Some first }
         ensures { result ≡ forced_spec.turn_in_class plan.now classes.now state.now class }
     {
         let rivals = self.rival_count(class as usize);

@@ -33,7 +33,8 @@ pub(crate) fn refresh_request(
     state: &State,
     r: &Req,
 )
-    ensures { queues.new.items ≡ refreshed_at plan.now classes.now state.now queues.old.items r.now }
+    ensures { queues.new.items ≡ refreshed_at plan.now classes.now state.now queues.old.items
+        r.now }
 {
     let key = key(plan, state, r);
     put_in(
@@ -67,7 +68,8 @@ pub(crate) fn refresh_span(
     state: &State,
     span: Span,
 )
-    ensures { queues.new.items ≡ refreshed_all plan.now classes.now state.now (span.to - span.from) span.from queues.old.items }
+    ensures { queues.new.items ≡ refreshed_all plan.now classes.now state.now (span.to - span.from)
+        span.from queues.old.items }
 {
     for i in span.from..span.to {
         refresh(queues, plan, classes, state, i);

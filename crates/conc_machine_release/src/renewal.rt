@@ -18,7 +18,8 @@ fn renew_within(
     span: Span,
     same: bool,
 )
-    ensures { queues.new.items ≡ renewed_within plan.now classes.now state.now span same queues.old.items }
+    ensures { queues.new.items ≡ renewed_within plan.now classes.now state.now span same
+        queues.old.items }
 {
     if !same {
         refresh_span(queues, plan, classes, state, span);
@@ -36,7 +37,8 @@ pub(crate) fn renew(
     i: usize,
     old: Facts,
 )
-    ensures { queues.new.items ≡ renewed plan.now classes.now spans.now state.now old queues.old.items (slice_get plan.now.requests i) }
+    ensures { queues.new.items ≡ renewed plan.now classes.now spans.now state.now old
+        queues.old.items (slice_get plan.now.requests i) }
 {
     if let Some(r) = plan.requests.as_slice().get(i) {
         refresh_request(queues, plan, classes, state, r);
@@ -63,7 +65,8 @@ pub(crate) fn recount(
     i: usize,
     old: Facts,
 )
-    ensures { counts.new ≡ recounted classes.now state.now old counts.old (slice_get plan.now.requests i) }
+    ensures { counts.new ≡ recounted classes.now state.now old counts.old
+        (slice_get plan.now.requests i) }
 {
     if let Some(r) = plan.requests.as_slice().get(i) {
         let rivals = classes.rivals(classes.class(r));

@@ -80,7 +80,8 @@ impl Starts {
 
     /// Takes in that the facts of the request at an index were written, which were these before.
     pub fn write(&mut self, plan: &Plan, after: &State, i: usize, old: Facts)
-        ensures { (before : State) → IsWritten plan.now before after.now i old → AreStarts plan.now before self.old → AreStarts plan.now after.now self.new }
+        ensures { (before : State) → IsWritten plan.now before after.now i old
+            → AreStarts plan.now before self.old → AreStarts plan.now after.now self.new }
     {
         let Some(r) = plan.requests.as_slice().get(i) else {
             return;
@@ -99,7 +100,8 @@ impl Starts {
 
     /// Takes in another moment of the last tick.
     pub fn tick(&mut self, plan: &Plan, after: &State)
-        ensures { (before : State) → after.now.facts ≡ before.facts → AreStarts plan.now before self.old → AreStarts plan.now after.now self.new }
+        ensures { (before : State) → after.now.facts ≡ before.facts
+            → AreStarts plan.now before self.old → AreStarts plan.now after.now self.new }
     {
         renew(&mut self.usable, plan, after);
     }
@@ -128,7 +130,8 @@ impl Starts {
 
     // Whether the manager that has the place admits the request.
     fn is_admitted_at(&self, plan: &Plan, place: PlaceId, r: &Req) -> bool
-        ensures { result ≡ some_and (λ manager. managers_spec.admits manager r.now) (updates_spec.manager_at plan.now self.now place) }
+        ensures { result ≡ some_and (λ manager. managers_spec.admits manager r.now)
+            (updates_spec.manager_at plan.now self.now place) }
     {
         match self.manager_at(plan, place) {
             Some(manager) => admits(manager, r),
@@ -147,7 +150,10 @@ impl Starts {
 
     // Whether a request with these facts may start at a place.
     fn may_start_by(&self, plan: &Plan, facts: Facts, r: &Req, place: PlaceId) -> bool
-        ensures { result ≡ (facts.let_out && (not (is_running facts) && (updates_spec.is_open self.now place && some_and (λ manager. managers_spec.admits manager r.now) (updates_spec.manager_at plan.now self.now place)))) }
+        ensures { result ≡ (facts.let_out
+            && (not (is_running facts) && (updates_spec.is_open self.now place
+            && some_and (λ manager. managers_spec.admits manager r.now)
+            (updates_spec.manager_at plan.now self.now place)))) }
     {
         facts.let_out
             && facts.place.is_none()
@@ -165,7 +171,9 @@ impl Starts {
 
     // The least turn of the requests that may start at the place.
     fn least_turn_at(&self, place: PlaceId) -> Option<u64>
-        ensures { (plan : Plan) (s : State) → AreStarts plan s self.now → result ≡ least_spec.least (turns_of (λ r. next_spec.may_start plan s r place) plan.requests) }
+        ensures { (plan : Plan) (s : State) → AreStarts plan s self.now
+            → result ≡ least_spec.least (turns_of (λ r. next_spec.may_start plan s r place)
+            plan.requests) }
     {
         if self.is_open(place) {
             self.queue_at(place)?.least()
@@ -177,7 +185,10 @@ impl Starts {
     // The least turn of the requests that may start at one of so many places from an index on.
     fn least_turn(&self, from: u32, count: u32) -> Option<u64>
         requires { from + count < 2 ^ 32 }
-        ensures { (plan : Plan) (s : State) → AreStarts plan s self.now → result ≡ least_spec.least (turns_of (λ r. list_any (next_spec.may_start plan s r) (map (λ index. record { index = index }) (range_with_len from count))) plan.requests) }
+        ensures { (plan : Plan) (s : State) → AreStarts plan s self.now
+            → result ≡ least_spec.least (turns_of
+            (λ r. list_any (next_spec.may_start plan s r)
+            (map (λ index. record { index = index }) (range_with_len from count))) plan.requests) }
     {
         if count == 0 {
             return None;
@@ -199,7 +210,8 @@ impl Starts {
     ) -> Option<PlaceId>
         requires stands { AreStarts plan.now state.now self.now }
         requires few { from + count < 2 ^ 32 }
-        ensures { result ≡ find (next_spec.may_start plan.now state.now r.now) (map (λ index. record { index = index }) (range_with_len from count)) }
+        ensures { result ≡ find (next_spec.may_start plan.now state.now r.now)
+            (map (λ index. record { index = index }) (range_with_len from count)) }
     {
         if count == 0 {
             return None;
@@ -212,7 +224,9 @@ impl Starts {
 
     // The first request in precedence that may start at some place.
     fn first_request<'a>(&self, plan: &'a Plan) -> Option<&'a Req>
-        ensures { (s : State) → AreStarts plan.now s self.now → option_copied result ≡ first_by precedes (may_start_somewhere plan.now s) plan.now.requests }
+        ensures { (s : State) → AreStarts plan.now s self.now
+            → option_copied result ≡ first_by precedes (may_start_somewhere plan.now s)
+            plan.now.requests }
     {
         let turn = self.least_turn(0, place_count(plan))?;
         request_at_turn(plan, turn)
@@ -222,7 +236,8 @@ impl Starts {
     #[tactic(auto, unfolding(conc_law::specs::Alone::first_start, conc_law::specs::Places::all_places))]
     pub fn first_start(&self, plan: &Plan, state: &State) -> Option<(RequestId, PlaceId)>
         requires { AreStarts plan.now state.now self.now }
-        ensures { option_map (λ start. event.Started start.0 start.1) result ≡ alone_spec.first_start plan.now state.now }
+        ensures { option_map (λ start. event.Started start.0 start.1) result
+            ≡ alone_spec.first_start plan.now state.now }
     {
         let r = self.first_request(plan)?;
         let place = self.first_place(plan, state, r, 0, place_count(plan))?;

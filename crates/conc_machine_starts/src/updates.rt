@@ -40,7 +40,9 @@ pub(crate) fn refresh(
     r: &Req,
     facts: Facts,
 )
-    ensures { (slots : Manager → List (Option ℕ)) → queues.old ≡ map slots managers.now → queues.new ≡ map (λ manager. slice_set (slots manager) slot (updates_spec.key_of facts manager r.now)) managers.now }
+    ensures { (slots : Manager → List (Option ℕ)) → queues.old ≡ map slots managers.now
+        → queues.new ≡ map (λ manager. slice_set (slots manager) slot
+        (updates_spec.key_of facts manager r.now)) managers.now }
 {
     let Some((queue, queues)) = queues.split_first_mut() else {
         return;
@@ -92,7 +94,8 @@ fn is_usable_now(plan: &Plan, state: &State, place: PlaceId) -> bool
 
 /// Marks each place as usable at the last tick or not.
 pub(crate) fn renew(usable: &mut Seq<bool>, plan: &Plan, state: &State)
-    ensures { length usable.old ≡ count_of_places plan.now → usable.new ≡ map (starts_spec.is_usable_now plan.now state.now) (all_places plan.now) }
+    ensures { length usable.old ≡ count_of_places plan.now
+        → usable.new ≡ map (starts_spec.is_usable_now plan.now state.now) (all_places plan.now) }
 {
     for index in 0..place_count(plan) {
         if (index as usize) < usable.len() {

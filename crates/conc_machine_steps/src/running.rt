@@ -35,7 +35,8 @@ impl Running {
 
     /// Takes in that the facts of the request at an index were written, which were these before.
     pub fn write(&mut self, plan: &Plan, after: &State, i: usize, _old: Facts)
-        ensures { (before : State) → IsWritten plan.now before after.now i _old → AreRunning plan.now before self.old → AreRunning plan.now after.now self.new }
+        ensures { (before : State) → IsWritten plan.now before after.now i _old
+            → AreRunning plan.now before self.old → AreRunning plan.now after.now self.new }
     {
         if let Some(r) = request_at(plan, i) {
             refresh(&mut self.all, r, runs_somewhere(after, r));

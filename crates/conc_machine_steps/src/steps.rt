@@ -37,7 +37,8 @@ impl Steps {
     // Decides anew whether a request is an open set that has something to do.
     fn refresh(&mut self, plan: &Plan, spans: &Spans, state: &State, r: &Req)
         requires { AreSpans plan.now spans.now }
-        ensures { self.new.due ≡ refreshed self.old.due r.now (spec.has_step plan.now state.now r.now) }
+        ensures { self.new.due ≡ refreshed self.old.due r.now
+            (spec.has_step plan.now state.now r.now) }
     {
         let due = has_step(plan, state, r, spans.members(plan, r.number));
         refresh(&mut self.due, r, due);
@@ -46,7 +47,8 @@ impl Steps {
     /// Takes in that the facts of the request at an index were written, which were these before.
     pub fn write(&mut self, plan: &Plan, spans: &Spans, after: &State, i: usize, _old: Facts)
         requires { AreSpans plan.now spans.now }
-        ensures { (before : State) → IsWritten plan.now before after.now i _old → AreSteps plan.now before self.old → AreSteps plan.now after.now self.new }
+        ensures { (before : State) → IsWritten plan.now before after.now i _old
+            → AreSteps plan.now before self.old → AreSteps plan.now after.now self.new }
     {
         if let Some(r) = request_at(plan, i) {
             self.refresh(plan, spans, after, r);
@@ -59,7 +61,8 @@ impl Steps {
     #[tactic(auto, using(crate::proofs::Firsts::first_due))]
     fn first_due<'a>(&self, plan: &'a Plan, _state: &State) -> Option<&'a Req>
         requires { AreSteps plan.now _state.now self.now }
-        ensures { option_copied result ≡ find (spec.has_step plan.now _state.now) plan.now.requests }
+        ensures { option_copied result ≡ find (spec.has_step plan.now _state.now)
+            plan.now.requests }
     {
         least_request(&self.due, plan)
     }

@@ -34,7 +34,8 @@ pub fn make(alloc: Global, seed: u64, size: u32) -> Result<Inputs, NoMemory>
     ensures script { IfOk result (λ inputs. inputs.script.items ≡ script_text seed size) }
     ensures clock { IfOk result (λ inputs. inputs.clock.items ≡ clock_text) }
     ensures table { IfOk result (λ inputs. inputs.table.items ≡ table_text seed) }
-    ensures accepted { IfOk result (λ inputs. AreAccepted inputs.setup.items inputs.script.items inputs.clock.items inputs.table.items) }
+    ensures accepted { IfOk result (λ inputs. AreAccepted inputs.setup.items inputs.script.items
+        inputs.clock.items inputs.table.items) }
 {
     let mut draws = Draws { number: seed };
     let mut table = Vec::new(alloc);

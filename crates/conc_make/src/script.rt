@@ -23,7 +23,8 @@ fn put_item(out: &mut Vec<u8>, item: u64) -> Result<(), NoMemory>
 // Appends a submission: what is submitted, by which user, with which priority and in which domain.
 #[tactic(auto, unfolding(crate::specs::Draws::after))]
 fn put_submission(out: &mut Vec<u8>, draws: &mut Draws) -> Result<(), NoMemory>
-    ensures text { OnOk result (out.new.items ≡ out.old.items ++ line (submission draws.old.number)) }
+    ensures text { OnOk result (out.new.items ≡ out.old.items
+        ++ line (submission draws.old.number)) }
     ensures number { OnOk result (draws.new.number ≡ after 4 draws.old.number) }
 {
     let item = draws.draw(9);
@@ -41,7 +42,8 @@ fn put_submission(out: &mut Vec<u8>, draws: &mut Draws) -> Result<(), NoMemory>
 
 /// Appends the script: its header, and so many submissions at one moment.
 pub(crate) fn put_script(out: &mut Vec<u8>, draws: &mut Draws, size: u32) -> Result<(), NoMemory>
-    ensures { OnOk result (out.new.items ≡ out.old.items ++ text_of (script_header ∷ made submission 4 size draws.old.number)) }
+    ensures { OnOk result (out.new.items ≡ out.old.items
+        ++ text_of (script_header ∷ made submission 4 size draws.old.number)) }
 {
     put_bytes(out, b"at,do,what,user,priority,start,domain,argument\n")?;
     for _submission in 0..size {

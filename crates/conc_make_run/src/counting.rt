@@ -41,7 +41,8 @@ fn put_outcome(
     outcome: Outcome,
     state: &State,
 ) -> Result<(), NoMemory>
-    ensures { OnOk result (out.new.items ≡ out.old.items ++ line word.now (spec.count_completed outcome state.now)) }
+    ensures { OnOk result (out.new.items ≡ out.old.items
+        ++ line word.now (spec.count_completed outcome state.now)) }
 {
     put_line(out, word, count_completed(outcome, state))
 }

@@ -24,7 +24,8 @@ fn want_of_memory(fail: HistoryFail) -> NoMemory
 /// The finished run, without workers, of what was generated, over a journal and a spool in memory that
 /// have nothing yet.
 pub(crate) fn run_in_memory(alloc: Global, generated: &Generated) -> Result<Work<'_>, NoMemory>
-    ensures { IfOk result (λ work. Alone generated.now.plan generated.now.readings.list [] (list_in work)) }
+    ensures { IfOk result (λ work. Alone generated.now.plan generated.now.readings.list []
+        (list_in work)) }
 {
     let Generated {
         plan,

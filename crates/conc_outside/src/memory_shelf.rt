@@ -29,7 +29,8 @@ impl MemShelf {
     /// no memory.
     pub fn new(files: Vec<(Name, Vec<u8>)>, fails: Vec<u64>) -> Self
         requires { IsTrue (are_distinct bytes_eq (map (λ f. f.0) files.items)) }
-        ensures { ⟦<MemShelf as Shelf>⟧.state result ≡ record { files = Some (told files.items); absences = 0; faults = 0 } }
+        ensures { ⟦<MemShelf as Shelf>⟧.state result
+            ≡ record { files = Some (told files.items); absences = 0; faults = 0 } }
     {
         MemShelf {
             files,
@@ -61,7 +62,8 @@ fn file_named<'a>(files: &'a [(Name, Vec<u8>)], name: &Name) -> Option<&'a [u8]>
 }
 
 impl Shelf for MemShelf {
-    ghost state = { λ s. record { files = Some (told s.files.items); absences = s.absences; faults = s.faults } };
+    ghost state = { λ s. record { files = Some (told s.files.items); absences = s.absences; faults
+        = s.faults } };
 
     fn read_file(&mut self, alloc: Global, name: &Name) -> Result<Vec<u8>, ShelfFail> {
         let number = self.reads;

@@ -29,7 +29,8 @@ impl<'a, R: Files> FileShelf<'a, R> {
     /// A shelf of the files that this handle opens, where the disks stand at these paths. It takes no
     /// memory.
     pub fn new(rt: &'a R, disks: &'a [&'a str]) -> Self
-        ensures { ⟦<FileShelf<'a, R> as Shelf>⟧.state result ≡ record { files = None; absences = 0; faults = 0 } }
+        ensures { ⟦<FileShelf<'a, R> as Shelf>⟧.state result
+            ≡ record { files = None; absences = 0; faults = 0 } }
     {
         FileShelf {
             rt,

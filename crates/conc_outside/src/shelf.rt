@@ -22,8 +22,12 @@ pub trait Shelf {
         ensures found { IfOk result (λ bytes. Gives (state self.old).files name.now bytes.items) }
 
         // A file that is lacking is told as such, and nothing else is.
-        ensures absent { IsErrOf result Absent → Rose (state self.old).absences (state self.new).absences × Lacks (state self.old).files name.now }
-        ensures lacking { IfSome (state self.old).files (λ told. file_named told name.now ≡ None → IsErrOf result Absent) }
+        ensures absent { IsErrOf result Absent
+            → Rose (state self.old).absences (state self.new).absences
+            × Lacks (state self.old).files name.now }
+        ensures lacking { IfSome (state self.old).files
+            (λ told. file_named told name.now ≡ None → IsErrOf result Absent) }
 
-        ensures failed { IsErrOf result Failed → Rose (state self.old).faults (state self.new).faults };
+        ensures failed { IsErrOf result Failed
+            → Rose (state self.old).faults (state self.new).faults };
 }

@@ -18,7 +18,8 @@ pub trait Sink {
         ensures faults { faults self.old ≤ faults self.new }
         ensures within { IfOk result (λ n. n ≤ length piece.now) }
         ensures some { IfOk result (λ n. piece.now ≢ [] → 0 < n) }
-        ensures taken { IfOk result (λ n. Took (taken self.old) (taken self.new) (take n piece.now)) }
+        ensures taken { IfOk result (λ n. Took (taken self.old) (taken self.new)
+            (take n piece.now)) }
         ensures kept { OnErr result (taken self.new ≡ taken self.old) }
         ensures failed { OnErr result (Rose (faults self.old) (faults self.new)) };
 }

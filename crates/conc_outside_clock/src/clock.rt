@@ -14,7 +14,8 @@ pub trait Clock {
     /// The count of faults never falls.
     fn now(&mut self) -> Result<Moment, Failed>
         ensures faults { (state self.old).faults ≤ (state self.new).faults }
-        ensures given { IfOk result (λ moment. Gives (state self.old).moments moment (state self.new).moments) }
+        ensures given { IfOk result (λ moment. Gives (state self.old).moments moment
+            (state self.new).moments) }
         ensures quiet { OnOk result ((state self.new).faults ≡ (state self.old).faults) }
         ensures told { IfSome (state self.old).moments (λ moments. moments ≢ [] → IsOk result) }
         ensures kept { OnErr result ((state self.new).moments ≡ (state self.old).moments) }

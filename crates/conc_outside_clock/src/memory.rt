@@ -16,7 +16,8 @@ pub struct MemClock {
 impl MemClock {
     /// A clock that gives these moments. It takes no memory.
     pub fn new(moments: Vec<Moment>) -> Self
-        ensures { ⟦<MemClock as Clock>⟧.state result ≡ record { moments = Some moments.items; faults = 0 } }
+        ensures { ⟦<MemClock as Clock>⟧.state result
+            ≡ record { moments = Some moments.items; faults = 0 } }
     {
         MemClock {
             left: VecDeque::from(moments),

@@ -73,7 +73,8 @@ pub struct SystemClock<'a, R: time::Clock> {
 impl<'a, R: time::Clock> SystemClock<'a, R> {
     /// The clock of this handle in this zone. To look up the zone's name takes memory.
     pub fn new(rt: &'a R, zone: &'a SystemZone) -> Result<Self, NoMemory>
-        ensures { IfOk result (λ clock. ⟦<SystemClock<'a, R> as Clock>⟧.state clock ≡ record { moments = None; faults = 0 }) }
+        ensures { IfOk result (λ clock. ⟦<SystemClock<'a, R> as Clock>⟧.state clock
+            ≡ record { moments = None; faults = 0 }) }
     {
         Ok(SystemClock {
             rt,
@@ -93,7 +94,8 @@ impl<'a, R: time::Clock> SystemClock<'a, R> {
 /// What clocks that are so many seconds ahead of UTC show at so many seconds after
 /// 1970-01-01T00:00:00 UTC. None exactly where that is off the years 1 to 9999.
 fn moment_at(second: i64, ahead: i32) -> Option<Moment>
-    ensures { MatchOption result (IsOffYears (shown_at second ahead)) (λ moment. pos moment.seconds ≡ shown_at second ahead) }
+    ensures { MatchOption result (IsOffYears (shown_at second ahead))
+        (λ moment. pos moment.seconds ≡ shown_at second ahead) }
 {
     let civil = second.checked_add(ahead as i64)?;
     let seconds = u64::try_from(civil.checked_add(SECONDS_BEFORE_1970)?).ok()?;

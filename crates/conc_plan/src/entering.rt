@@ -35,7 +35,9 @@ fn enter_part(
     item: Item,
     out: &mut Vec<Req>,
 ) -> Result<(), NoMemory>
-    ensures { OnOk result (out.new.items ≡ out.old.items ++ request_by setup.now numbers.command numbers.first order.now.act (numbers.next, (stage, item))) }
+    ensures { OnOk result (out.new.items ≡ out.old.items
+        ++ request_by setup.now numbers.command numbers.first order.now.act
+        (numbers.next, (stage, item))) }
 {
     match &order.act {
         Act::Submit {
@@ -78,7 +80,9 @@ fn enter_stage(
     out: &mut Vec<Req>,
 ) -> Result<(), NoMemory>
     requires { numbers.next + length stage.now.members < 2 ^ 32 }
-    ensures { OnOk result (out.new.items ≡ out.old.items ++ entered_for setup.now numbers.command numbers.first order.now.act numbers.next (members_of (number, stage.now))) }
+    ensures { OnOk result (out.new.items ≡ out.old.items
+        ++ entered_for setup.now numbers.command numbers.first order.now.act numbers.next
+        (members_of (number, stage.now))) }
 {
     let mut next = numbers.next;
     for program in stage.members.as_slice() {
@@ -106,8 +110,11 @@ fn enter_members(
     set: &SetDef,
     out: &mut Vec<Req>,
 ) -> Result<(), NoMemory>
-    requires { numbers.next + length (flat_map members_of (enumerate_from 1 set.now.stages)) < 2 ^ 32 }
-    ensures { OnOk result (out.new.items ≡ out.old.items ++ entered_for setup.now numbers.command numbers.first order.now.act numbers.next (flat_map members_of (enumerate_from 1 set.now.stages))) }
+    requires { numbers.next + length (flat_map members_of (enumerate_from 1 set.now.stages)) < 2 ^
+        32 }
+    ensures { OnOk result (out.new.items ≡ out.old.items
+        ++ entered_for setup.now numbers.command numbers.first order.now.act numbers.next
+        (flat_map members_of (enumerate_from 1 set.now.stages))) }
 {
     let mut next = numbers.next;
     let mut number = 1;
@@ -130,7 +137,9 @@ fn enter_set(
     out: &mut Vec<Req>,
 ) -> Result<(), NoMemory>
     requires { numbers.next + length (set_parts setup.now place) < 2 ^ 32 }
-    ensures { OnOk result (out.new.items ≡ out.old.items ++ entered_for setup.now numbers.command numbers.first order.now.act numbers.next (set_parts setup.now place)) }
+    ensures { OnOk result (out.new.items ≡ out.old.items
+        ++ entered_for setup.now numbers.command numbers.first order.now.act numbers.next
+        (set_parts setup.now place)) }
 {
     match setup.sets.as_slice().get(place as usize) {
         Some(set) => enter_members(alloc, setup, order, numbers, set, out),
@@ -148,7 +157,9 @@ fn enter_item(
     out: &mut Vec<Req>,
 ) -> Result<(), NoMemory>
     requires { numbers.next + length (parts setup.now item) < 2 ^ 32 }
-    ensures { OnOk result (out.new.items ≡ out.old.items ++ entered_for setup.now numbers.command numbers.first order.now.act numbers.next (parts setup.now item)) }
+    ensures { OnOk result (out.new.items ≡ out.old.items
+        ++ entered_for setup.now numbers.command numbers.first order.now.act numbers.next
+        (parts setup.now item)) }
 {
     enter_part(alloc, setup, order, numbers, 0, item, out)?;
     match item {
@@ -170,7 +181,8 @@ pub fn enter(
     out: &mut Vec<Req>,
 ) -> Result<(), NoMemory>
     requires { length out.old.items + length (parts_by setup.now order.now.act) ≤ 16384 }
-    ensures { OnOk result (out.new.items ≡ out.old.items ++ entered setup.now (length out.old.items + 1) (command, order.now)) }
+    ensures { OnOk result (out.new.items ≡ out.old.items
+        ++ entered setup.now (length out.old.items + 1) (command, order.now)) }
 {
     match &order.act {
         Act::Submit { item, .. } => {

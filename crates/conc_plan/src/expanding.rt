@@ -27,8 +27,10 @@ pub fn expand(alloc: Global, setup: &Setup, orders: &[Order]) -> Result<Vec<Req>
     requires { length orders.now ≤ 4096 }
     ensures ok { IfOk result (λ requests. requests.items ≡ expansion setup.now orders.now) }
     ensures few { IfOk result (λ requests. length requests.items ≤ 16384) }
-    ensures faultless { IfOk result (λ _. first_fault (record_kind setup.now orders.now) 2 (length orders.now) ≡ None) }
-    ensures err { IfErr result (IsFailure file.Script (first_fault (record_kind setup.now orders.now) 2 (length orders.now))) }
+    ensures faultless { IfOk result (λ _. first_fault (record_kind setup.now orders.now) 2
+        (length orders.now) ≡ None) }
+    ensures err { IfErr result (IsFailure file.Script
+        (first_fault (record_kind setup.now orders.now) 2 (length orders.now))) }
 {
     let mut requests = Vec::new(alloc);
     let mut command = 1;

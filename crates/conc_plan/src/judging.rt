@@ -56,7 +56,8 @@ fn kind_for(setup: &Setup, tables: &[Table], program: &Program) -> Option<u8>
 
 /// The number of the first program that breaks a rule, and the kind of the first rule that it breaks.
 pub(crate) fn first_bad_program(setup: &Setup, tables: &[Table]) -> Option<(u64, u8)>
-    ensures { result ≡ first_fault (program_kind setup.now tables.now) 1 (length setup.now.programs) }
+    ensures { result ≡ first_fault (program_kind setup.now tables.now) 1
+        (length setup.now.programs) }
 {
     let mut number = 1;
     for program in setup.programs.as_slice() {

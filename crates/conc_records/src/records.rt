@@ -49,7 +49,8 @@ impl<'a> Records<'a> {
     /// Reads the next record into `into`, and says whether there was one. A record has a field at
     /// least. After `NoMemory` there is no record.
     pub fn read(&mut self, into: &mut ByteRecord) -> Result<bool, NoMemory>
-        ensures some { IfOk result (λ found. found ≡ true → self.old ≡ fields_of into.new ∷ self.new) }
+        ensures some { IfOk result (λ found. found ≡ true
+            → self.old ≡ fields_of into.new ∷ self.new) }
         ensures fields { IfOk result (λ found. found ≡ true → 0 < length (fields_of into.new)) }
         ensures none { IfOk result (λ found. found ≡ false → (self.old ≡ []) × (self.new ≡ [])) }
         ensures ends { OnErr result (self.new ≡ []) }

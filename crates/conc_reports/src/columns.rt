@@ -66,7 +66,8 @@ pub fn value_at(table: &Table, row: usize, place: Option<Place>) -> Option<i64>
 /// The cell of a row, from 0, at a place, if one is asked for.
 pub fn key_at(table: &Table, row: usize, place: Option<Place>) -> Option<&[u8]>
     requires { row < length table.now.rows }
-    ensures { option_map (λ key. key.now) result ≡ option_map (λ p. cell_in p.index (cells_at table.now row)) place }
+    ensures { option_map (λ key. key.now) result
+        ≡ option_map (λ p. cell_in p.index (cells_at table.now row)) place }
 {
     match place {
         Some(place) => Some(cell_at(table, row, place)),

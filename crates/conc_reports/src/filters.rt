@@ -55,7 +55,8 @@ fn filter_value<'a>(argument: &'a [u8], filter: &'a Filter) -> &'a [u8]
 
 #[tactic(auto, unfolding(conc_law::specs::Report::passes_filter, conc_law::specs::Report::cell))]
 fn condition_of<'a>(argument: &'a [u8], table: &Table, filter: &'a Filter) -> Condition<'a>
-    ensures { (row : Row) → holds row.1 result ≡ passes_filter table.now argument.now row filter.now }
+    ensures { (row : Row) → holds row.1 result
+        ≡ passes_filter table.now argument.now row filter.now }
 {
     Condition {
         place: place_of(table, filter.column.as_bytes()),
@@ -71,7 +72,9 @@ pub fn conditions<'a>(
     argument: &'a [u8],
     table: &Table,
 ) -> Result<Vec<Condition<'a>>, NoMemory>
-    ensures { IfOk result (λ conditions. (row : Row) → list_all (holds row.1) conditions.items ≡ report_spec.passes job.now argument.now table.now row) }
+    ensures { IfOk result (λ conditions. (row : Row)
+        → list_all (holds row.1) conditions.items
+        ≡ report_spec.passes job.now argument.now table.now row) }
 {
     let mut conditions = Vec::with_capacity(alloc, job.filters.len())?;
     for filter in job.filters.as_slice() {

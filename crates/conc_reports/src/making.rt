@@ -68,7 +68,8 @@ fn put_figures(out: &mut Vec<u8>, job: &Job, figures: Figures) -> Result<(), NoM
 
 // Appends the line of a key.
 fn put_group(out: &mut Vec<u8>, job: &Job, key: &[u8], figures: Figures) -> Result<(), NoMemory>
-    ensures { OnOk result (out.new.items ≡ out.old.items ++ figures_line job.now.sum (quoted key.now) (shown figures)) }
+    ensures { OnOk result (out.new.items ≡ out.old.items
+        ++ figures_line job.now.sum (quoted key.now) (shown figures)) }
 {
     put_quoted(out, key)?;
     put_figures(out, job, figures)?;
@@ -77,7 +78,8 @@ fn put_group(out: &mut Vec<u8>, job: &Job, key: &[u8], figures: Figures) -> Resu
 
 // Appends the lines of all keys.
 fn put_groups(out: &mut Vec<u8>, job: &Job, groups: &Groups<'_>) -> Result<(), NoMemory>
-    ensures text { OnOk result (out.new.items ≡ out.old.items ++ groups_text job.now.sum (map group_of groups.now.entries)) }
+    ensures text { OnOk result (out.new.items ≡ out.old.items
+        ++ groups_text job.now.sum (map group_of groups.now.entries)) }
     ensures ordered { OnOk result (IsOrdered (λ x y. slice_cmp nat_cmp x.now y.now) groups.now) }
 {
     for (key, figures) in groups {
@@ -106,8 +108,11 @@ fn room_for(keys: usize) -> usize {
 
 #[tactic(auto, unfolding(crate::specs::Texts::tally_text))]
 fn tally_text(alloc: Global, job: &Job, tally: &Tally<'_>) -> Result<Vec<u8>, NoMemory>
-    ensures text { IfOk result (λ text. text.items ≡ texts_spec.tally_text job.now (shown tally.now.total) (map group_of tally.now.groups.entries)) }
-    ensures ordered { OnOk result (IsOrdered (λ x y. slice_cmp nat_cmp x.now y.now) tally.now.groups) }
+    ensures text { IfOk result (λ text. text.items
+        ≡ texts_spec.tally_text job.now (shown tally.now.total)
+        (map group_of tally.now.groups.entries)) }
+    ensures ordered { OnOk result (IsOrdered (λ x y. slice_cmp nat_cmp x.now y.now)
+        tally.now.groups) }
 {
     let mut text = Vec::with_capacity(alloc, room_for(tally.groups.len()))?;
     text.extend_from_slice(header(job))?;
@@ -170,9 +175,14 @@ fn bad_row(alloc: Global, number: u64) -> Result<Made, NoMemory>
 // The report where each cell to be added is a whole number.
 #[tactic(auto, unfolding(crate::specs::Texts::tally_report))]
 fn report_of_tally(alloc: Global, job: &Job, tally: &Tally<'_>) -> Result<Made, NoMemory>
-    ensures outcome { IfOk result (λ made. made.outcome ≡ (tally_report job.now (shown tally.now.total) (map group_of tally.now.groups.entries)).outcome) }
-    ensures text { IfOk result (λ made. made.text ≡ (tally_report job.now (shown tally.now.total) (map group_of tally.now.groups.entries)).text) }
-    ensures ordered { OnOk result (IsOrdered (λ x y. slice_cmp nat_cmp x.now y.now) tally.now.groups) }
+    ensures outcome { IfOk result (λ made. made.outcome
+        ≡ (tally_report job.now (shown tally.now.total)
+        (map group_of tally.now.groups.entries)).outcome) }
+    ensures text { IfOk result (λ made. made.text
+        ≡ (tally_report job.now (shown tally.now.total)
+        (map group_of tally.now.groups.entries)).text) }
+    ensures ordered { OnOk result (IsOrdered (λ x y. slice_cmp nat_cmp x.now y.now)
+        tally.now.groups) }
 {
     let text = tally_text(alloc, job, tally)?;
     if text.len() > MOST_BYTES {
@@ -190,8 +200,10 @@ fn report_by_rows(
     argument: &[u8],
     table: &Table,
 ) -> Result<Made, NoMemory>
-    ensures outcome { IfOk result (λ made. made.outcome ≡ (report_spec.report job.now argument.now table.now).outcome) }
-    ensures text { IfOk result (λ made. made.text ≡ (report_spec.report job.now argument.now table.now).text) }
+    ensures outcome { IfOk result (λ made. made.outcome
+        ≡ (report_spec.report job.now argument.now table.now).outcome) }
+    ensures text { IfOk result (λ made. made.text
+        ≡ (report_spec.report job.now argument.now table.now).text) }
 {
     match tally_rows(alloc, job, argument, table)? {
         Tallied::Bad(number) => bad_row(alloc, number),
@@ -202,9 +214,11 @@ fn report_by_rows(
 /// The report of a job on a table. A filter value `$` stands for the argument. The text is 1 to
 /// 1,048,576 bytes.
 pub fn report(alloc: Global, job: &Job, argument: &[u8], table: &Table) -> Result<Made, NoMemory>
-    ensures outcome { IfOk result (λ made. made.outcome ≡ (report_spec.report job.now argument.now table.now).outcome) }
+    ensures outcome { IfOk result (λ made. made.outcome
+        ≡ (report_spec.report job.now argument.now table.now).outcome) }
     ensures short { IfOk result (λ made. length made.text ≤ 1048576) }
-    ensures text { IfOk result (λ made. made.text ≡ (report_spec.report job.now argument.now table.now).text) }
+    ensures text { IfOk result (λ made. made.text
+        ≡ (report_spec.report job.now argument.now table.now).text) }
 {
     report_is_short();
     report_by_rows(alloc, job, argument, table)

@@ -42,9 +42,13 @@ impl<'a> Tally<'a> {
     // One more row, under a key if there is one, which adds a value.
     fn add(&mut self, key: Option<&'a [u8]>, value: i64) -> Result<(), NoMemory>
         requires total { self.old.total.count < 2 ^ 63 }
-        requires group { IfSome (option_and_then (λ k. figures_at self.old.groups k.now) key) (λ figures. figures.0 < 2 ^ 63) }
-        ensures total { OnOk result (shown self.new.total ≡ grown value (Some (shown self.old.total))) }
-        ensures groups { OnOk result ((k : List ℕ) → figures_at self.new.groups k ≡ grown_at (option_map (λ q. q.now) key.entry) value (figures_at self.old.groups) k) }
+        requires group { IfSome (option_and_then (λ k. figures_at self.old.groups k.now) key)
+            (λ figures. figures.0 < 2 ^ 63) }
+        ensures total { OnOk result (shown self.new.total
+            ≡ grown value (Some (shown self.old.total))) }
+        ensures groups { OnOk result ((k : List ℕ)
+            → figures_at self.new.groups k ≡ grown_at (option_map (λ q. q.now) key.entry) value
+            (figures_at self.old.groups) k) }
     {
         self.total = self.total.with(value);
         match key {

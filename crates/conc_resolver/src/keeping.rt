@@ -17,12 +17,16 @@ pub(crate) fn keep<E: Disk>(work: &mut Work<'_>, spool: &mut E, next: &Next) -> 
     requires may { MayLog work.old next.now.event }
     requires text { HasItsText (plan_in work.old) next.now.event next.now.text }
 
-    ensures kept { OnOk result (IsTied (Some next.now.event) work.new any_disk (E.state spool.new)) }
-    ensures stored { OnOk result (StoresOn (plan_in work.old) (used_of work.old.spool) (list_in work.old) (list_in work.old ++ next.now.event ∷ []) (E.state spool.old) (E.state spool.new)) }
+    ensures kept { OnOk result (IsTied (Some next.now.event) work.new any_disk
+        (E.state spool.new)) }
+    ensures stored { OnOk result (StoresOn (plan_in work.old) (used_of work.old.spool)
+        (list_in work.old) (list_in work.old ++ next.now.event ∷ []) (E.state spool.old)
+        (E.state spool.new)) }
 
     // A fault.
     ensures not_kept { OnErr result (IsTied None work.new any_disk (E.state spool.new)) }
-    ensures as_before { OnErr result (StoresOn (plan_in work.old) (used_of work.old.spool) (list_in work.old) (list_in work.old) (E.state spool.old) (E.state spool.new)) }
+    ensures as_before { OnErr result (StoresOn (plan_in work.old) (used_of work.old.spool)
+        (list_in work.old) (list_in work.old) (E.state spool.old) (E.state spool.new)) }
     ensures fault { OnErr result (Rose (E.state spool.old).faults (E.state spool.new).faults) }
     ensures cause { IfErr result (λ e. e ≡ RunFail.SpoolFault) }
 

@@ -24,19 +24,23 @@ pub(crate) fn log_event<D: Disk>(
 
     ensures logged { OnOk result (IsTied None work.new (D.state journal.new) any_disk) }
     ensures added { OnOk result (list_in work.new ≡ list_in work.old ++ event ∷ []) }
-    ensures receipt { IfOk result (IsNextOf (Some (list_in work.old)) (λ list. list ≡ list_in work.new)) }
+    ensures receipt { IfOk result (IsNextOf (Some (list_in work.old))
+        (λ list. list ≡ list_in work.new)) }
     ensures state { OnOk result (state_of work.new.journal ≡ state_of work.old.journal) }
     ensures room { OnOk result (room_of work.new.journal + 1 ≡ room_of work.old.journal) }
 
     // A fault.
-    ensures not_logged { OnErr result (IsTied (Some event) work.new (D.state journal.new) any_disk) }
+    ensures not_logged { OnErr result (IsTied (Some event) work.new (D.state journal.new)
+        any_disk) }
     ensures as_before { OnErr result (list_in work.new ≡ list_in work.old) }
-    ensures failed { OnErr result (state_of work.new.journal ≡ after_fault event (state_of work.old.journal)) }
+    ensures failed { OnErr result (state_of work.new.journal
+        ≡ after_fault event (state_of work.old.journal)) }
     ensures fault { OnErr result (Rose (D.state journal.old).faults (D.state journal.new).faults) }
     ensures cause { IfErr result (λ e. e ≡ RunFail.JournalFault) }
 
     // A stop at any moment, and what stays.
-    ensures survives { SurvivesFor work.old.journal (list_in work.old) (list_in work.old ++ event ∷ []) (D.state journal.old) (D.state journal.new) }
+    ensures survives { SurvivesFor work.old.journal (list_in work.old)
+        (list_in work.old ++ event ∷ []) (D.state journal.old) (D.state journal.new) }
     ensures plan { plan_in work.new ≡ plan_in work.old }
     ensures readings { readings_in work.new ≡ readings_in work.old }
     ensures spool { work.new.spool ≡ work.old.spool }

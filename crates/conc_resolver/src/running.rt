@@ -27,7 +27,8 @@ fn next(alloc: Global, plan: &Plan, work: &Work<'_>) -> Result<Option<Next>, Run
     requires plan { plan_in work.now ≡ plan.now }
     requires tied { IsTied None work.now any_disk any_disk }
     ensures event { IfOk result (λ next. option_map event_of next ≡ next_in work.now) }
-    ensures text { IfOk result (λ next. ForSome next (λ n. HasItsText (plan_in work.now) n.event n.text)) }
+    ensures text { IfOk result (λ next. ForSome next
+        (λ n. HasItsText (plan_in work.now) n.event n.text)) }
     ensures cause { IfErr result (λ e. e ≡ RunFail.NoMemory) }
 {
     match next_event(alloc, plan, &work.machine) {
@@ -48,16 +49,22 @@ fn step<D: Disk, E: Disk>(
     requires plan { plan_in work.old ≡ plan.now }
     requires ready { IsReady work.old (D.state journal.old) (E.state spool.old) }
 
-    ensures went_on { WentOn (plan_in work.old) (readings_in work.old) (disks (D.state journal.old) (D.state journal.new) (E.state spool.old) (E.state spool.new)) work.old work.new }
+    ensures went_on { WentOn (plan_in work.old) (readings_in work.old)
+        (disks (D.state journal.old) (D.state journal.new) (E.state spool.old) (E.state spool.new))
+        work.old work.new }
     ensures ready { OnOk result (IsReady work.new (D.state journal.new) (E.state spool.new)) }
-    ensures receipt { IfOk result (λ logged. IfSome logged (IsNextOf (Some (list_in work.old)) (λ list. list ≡ list_in work.new))) }
+    ensures receipt { IfOk result (λ logged. IfSome logged
+        (IsNextOf (Some (list_in work.old)) (λ list. list ≡ list_in work.new))) }
     ensures less { IfOk result (λ logged. IsSome logged → left_in work.new < left_in work.old) }
     ensures finished { IfOk result (λ logged. IsNone logged → IsFinished work.new) }
 
     // Why it adds none.
-    ensures journal_fault { IsErrOf result RunFail.JournalFault → Rose (D.state journal.old).faults (D.state journal.new).faults }
-    ensures spool_fault { IsErrOf result RunFail.SpoolFault → Rose (E.state spool.old).faults (E.state spool.new).faults }
-    ensures sound { (IsErrOf result RunFail.JournalFault → ⊥) → state_of work.new.journal ≡ state_of work.old.journal }
+    ensures journal_fault { IsErrOf result RunFail.JournalFault
+        → Rose (D.state journal.old).faults (D.state journal.new).faults }
+    ensures spool_fault { IsErrOf result RunFail.SpoolFault
+        → Rose (E.state spool.old).faults (E.state spool.new).faults }
+    ensures sound { (IsErrOf result RunFail.JournalFault → ⊥)
+        → state_of work.new.journal ≡ state_of work.old.journal }
 {
     match next(alloc, plan, work)? {
         None => Ok(None),
@@ -80,17 +87,24 @@ pub fn run_alone<D: Disk, E: Disk>(
     journal: &mut D,
     spool: &mut E,
 ) -> Result<(), RunFail>
-    requires ready { (readings : List Reading) × AreReady plan.now readings work.old (D.state journal.old) (E.state spool.old) }
+    requires ready { (readings : List Reading)
+        × AreReady plan.now readings work.old (D.state journal.old) (E.state spool.old) }
 
     // What it makes, however it ends.
     ensures went_on { (readings : List Reading) → readings_of work.old.machine ≡ Some readings →
-        WentOn plan.now readings (disks (D.state journal.old) (D.state journal.new) (E.state spool.old) (E.state spool.new)) work.old work.new }
-    ensures finished { OnOk result ((readings : List Reading) → readings_of work.old.machine ≡ Some readings → Finished plan.now readings (list_in work.new)) }
+        WentOn plan.now readings (disks (D.state journal.old) (D.state journal.new)
+            (E.state spool.old) (E.state spool.new)) work.old work.new }
+    ensures finished { OnOk result ((readings : List Reading)
+        → readings_of work.old.machine ≡ Some readings
+        → Finished plan.now readings (list_in work.new)) }
 
     // Why it ends before.
-    ensures journal_fault { IsErrOf result RunFail.JournalFault → Rose (D.state journal.old).faults (D.state journal.new).faults }
-    ensures spool_fault { IsErrOf result RunFail.SpoolFault → Rose (E.state spool.old).faults (E.state spool.new).faults }
-    ensures sound { (IsErrOf result RunFail.JournalFault → ⊥) → state_of work.new.journal ≡ state_of work.old.journal }
+    ensures journal_fault { IsErrOf result RunFail.JournalFault
+        → Rose (D.state journal.old).faults (D.state journal.new).faults }
+    ensures spool_fault { IsErrOf result RunFail.SpoolFault
+        → Rose (E.state spool.old).faults (E.state spool.new).faults }
+    ensures sound { (IsErrOf result RunFail.JournalFault → ⊥)
+        → state_of work.new.journal ≡ state_of work.old.journal }
 {
     while step(alloc, plan, work, journal, spool)?.is_some() {}
     Ok(())

@@ -32,7 +32,8 @@ pub struct Next {
 // The report of a request of a program.
 #[tactic(auto, unfolding(conc_law::specs::Alone::report_of))]
 fn report_of(alloc: Global, plan: &Plan, r: &Req) -> Result<Option<Made>, NoMemory>
-    ensures made { IfOk result (λ made. option_map as_report made ≡ alone_spec.report_of plan.now r.now) }
+    ensures made { IfOk result (λ made. option_map as_report made
+        ≡ alone_spec.report_of plan.now r.now) }
     ensures short { IfOk result (λ made. ForSome made (λ m. length m.text ≤ 1048576)) }
 {
     match program_of(plan, r) {
@@ -89,8 +90,12 @@ fn end_by(
     stopping: bool,
     used: Option<u64>,
 ) -> Result<Option<Next>, NoMemory>
-    ensures event { IfOk result (λ next. option_map event_of next ≡ (if stopping then Some (event.Ended r.now.number outcome.Terminated None) else option_and_then (λ made. option_map (end_with r.now made) used) (alone_spec.report_of plan.now r.now))) }
-    ensures text { request plan.now r.now.number ≡ Some r.now → IfOk result (λ next. ForSome next (λ n. HasItsText plan.now n.event n.text)) }
+    ensures event { IfOk result (λ next. option_map event_of next
+        ≡ (if stopping then Some (event.Ended r.now.number outcome.Terminated None) else
+        option_and_then (λ made. option_map (end_with r.now made) used)
+        (alone_spec.report_of plan.now r.now))) }
+    ensures text { request plan.now r.now.number ≡ Some r.now
+        → IfOk result (λ next. ForSome next (λ n. HasItsText plan.now n.event n.text)) }
 {
     if stopping {
         return Ok(Some(terminated(r)));
@@ -104,7 +109,8 @@ fn end_by(
 // The request that runs, if one does.
 fn running<'a>(plan: &'a Plan, machine: &Machine) -> Option<&'a Req>
     requires { plan_of machine.now ≡ plan.now }
-    ensures { (past : List Event) → StandsFor machine.now past → option_copied result ≡ find (runs_somewhere (state plan.now past)) plan.now.requests }
+    ensures { (past : List Event) → StandsFor machine.now past
+        → option_copied result ≡ find (runs_somewhere (state plan.now past)) plan.now.requests }
 {
     match machine.first_running() {
         Some(id) => plan.request(id),
@@ -115,8 +121,10 @@ fn running<'a>(plan: &'a Plan, machine: &Machine) -> Option<&'a Req>
 // The end of the request that runs.
 fn first_end(alloc: Global, plan: &Plan, machine: &Machine) -> Result<Option<Next>, NoMemory>
     requires { plan_of machine.now ≡ plan.now }
-    ensures event { IfOk result (λ next. (past : List Event) → StandsFor machine.now past → option_map event_of next ≡ alone_spec.first_end plan.now (state plan.now past)) }
-    ensures text { IfOk result (λ next. (past : List Event) → StandsFor machine.now past → ForSome next (λ n. HasItsText plan.now n.event n.text)) }
+    ensures event { IfOk result (λ next. (past : List Event) → StandsFor machine.now past
+        → option_map event_of next ≡ alone_spec.first_end plan.now (state plan.now past)) }
+    ensures text { IfOk result (λ next. (past : List Event) → StandsFor machine.now past
+        → ForSome next (λ n. HasItsText plan.now n.event n.text)) }
 {
     match running(plan, machine) {
         Some(r) => {
@@ -130,7 +138,8 @@ fn first_end(alloc: Global, plan: &Plan, machine: &Machine) -> Result<Option<Nex
 // The event that is forced, if one is due.
 fn forced(plan: &Plan, machine: &Machine) -> Option<Event>
     requires { plan_of machine.now ≡ plan.now }
-    ensures { (past : List Event) → StandsFor machine.now past → result ≡ next_spec.forced plan.now (state plan.now past) }
+    ensures { (past : List Event) → StandsFor machine.now past
+        → result ≡ next_spec.forced plan.now (state plan.now past) }
 {
     machine.forced()
 }
@@ -138,7 +147,8 @@ fn forced(plan: &Plan, machine: &Machine) -> Option<Event>
 // The start that comes first, if one may come.
 fn first_start(plan: &Plan, machine: &Machine) -> Option<Event>
     requires { plan_of machine.now ≡ plan.now }
-    ensures event { (past : List Event) → StandsFor machine.now past → result ≡ alone_spec.first_start plan.now (state plan.now past) }
+    ensures event { (past : List Event) → StandsFor machine.now past
+        → result ≡ alone_spec.first_start plan.now (state plan.now past) }
     ensures text { ForSome result (λ e. HasItsText plan.now e None) }
 {
     match machine.first_start() {
@@ -150,8 +160,10 @@ fn first_start(plan: &Plan, machine: &Machine) -> Option<Event>
 // The tick of the next reading, if one is left and may be taken.
 fn next_tick(plan: &Plan, machine: &Machine) -> Option<Event>
     requires { plan_of machine.now ≡ plan.now }
-    ensures event { (readings : List Reading) (past : List Event) → readings_of machine.now ≡ Some readings → StandsFor machine.now past →
-        result ≡ alone_spec.next_tick plan.now (state plan.now past) (readings_spec.next_reading readings past) }
+    ensures event { (readings : List Reading) (past : List Event)
+        → readings_of machine.now ≡ Some readings → StandsFor machine.now past →
+        result ≡ alone_spec.next_tick plan.now (state plan.now past)
+            (readings_spec.next_reading readings past) }
     ensures text { ForSome result (λ e. HasItsText plan.now e None) }
 {
     match machine.next_reading() {
@@ -165,8 +177,11 @@ fn next_tick(plan: &Plan, machine: &Machine) -> Option<Event>
 // The start or the tick that comes next where nothing is forced and nothing runs.
 fn start_or_tick(plan: &Plan, machine: &Machine) -> Option<Event>
     requires { plan_of machine.now ≡ plan.now }
-    ensures event { (readings : List Reading) (past : List Event) → readings_of machine.now ≡ Some readings → StandsFor machine.now past →
-        result ≡ option_or (alone_spec.first_start plan.now (state plan.now past)) (alone_spec.next_tick plan.now (state plan.now past) (readings_spec.next_reading readings past)) }
+    ensures event { (readings : List Reading) (past : List Event)
+        → readings_of machine.now ≡ Some readings → StandsFor machine.now past →
+        result ≡ option_or (alone_spec.first_start plan.now (state plan.now past))
+            (alone_spec.next_tick plan.now (state plan.now past)
+            (readings_spec.next_reading readings past)) }
     ensures text { ForSome result (λ e. HasItsText plan.now e None) }
 {
     match first_start(plan, machine) {
@@ -190,9 +205,11 @@ fn without_text(event: Event) -> Next
 #[tactic(auto, unfolding(conc_law::specs::Alone::choice, conc_law::specs::Alone::next_alone))]
 pub fn next_event(alloc: Global, plan: &Plan, machine: &Machine) -> Result<Option<Next>, NoMemory>
     requires { plan_of machine.now ≡ plan.now }
-    ensures event { IfOk result (λ next. (readings : List Reading) (past : List Event) → readings_of machine.now ≡ Some readings → StandsFor machine.now past →
+    ensures event { IfOk result (λ next. (readings : List Reading) (past : List Event)
+        → readings_of machine.now ≡ Some readings → StandsFor machine.now past →
         option_map event_of next ≡ next_alone plan.now readings past) }
-    ensures text { IfOk result (λ next. (past : List Event) → StandsFor machine.now past → ForSome next (λ n. HasItsText plan.now n.event n.text)) }
+    ensures text { IfOk result (λ next. (past : List Event) → StandsFor machine.now past
+        → ForSome next (λ n. HasItsText plan.now n.event n.text)) }
 {
     if let Some(e) = forced(plan, machine) {
         return Ok(Some(without_text(e)));

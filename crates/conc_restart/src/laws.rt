@@ -10,5 +10,6 @@ ghost use Rattle.conc_restart.specs.Need.{IsOfOneLife, need};
 /// found, with a resume at most as the first of them, are no more.
 pub fn life_fits_need()
     ensures { (plan : Plan) (readings : Readings) (found added : List Event) →
-        Lawful plan readings.list (found ++ added) → IsOfOneLife added → length added ≤ need plan readings.list }
+        Lawful plan readings.list (found ++ added) → IsOfOneLife added
+            → length added ≤ need plan readings.list }
 {}

@@ -43,8 +43,12 @@ pub fn run_plan<'p, D: Disk, E: Disk>(
     journal: &mut D,
     spool: &mut E,
 ) -> Result<Work<'p>, HistoryFail>
-    ensures finished { IfOk result (λ work. IsFinished (handed plan.now readings.now digest.now (D.state journal.old) (D.state journal.new) (E.state spool.old) (E.state spool.new)) (list_in work)) }
-    ensures cut_short { IfErr result (IsCutShort (handed plan.now readings.now digest.now (D.state journal.old) (D.state journal.new) (E.state spool.old) (E.state spool.new))) }
+    ensures finished { IfOk result (λ work. IsFinished
+        (handed plan.now readings.now digest.now (D.state journal.old) (D.state journal.new)
+        (E.state spool.old) (E.state spool.new)) (list_in work)) }
+    ensures cut_short { IfErr result (IsCutShort
+        (handed plan.now readings.now digest.now (D.state journal.old) (D.state journal.new)
+        (E.state spool.old) (E.state spool.new))) }
 {
     lawful_is_lawful_so_far();
     let mut work = open(alloc, plan, readings, digest, journal, spool)?;

@@ -84,7 +84,8 @@ fn prepare<'p>(
     ensures state { IfOk result (λ examined. state_of examined.journal ≡ state_of opened.journal) }
     ensures spool { IfOk result (λ examined. examined.spool ≡ spool) }
     ensures whole { OnOk result (opened.broken ≡ None) }
-    ensures cannot_begin { IfErr result (CannotBegin plan.now readings.now.list opened.events.items opened.broken) }
+    ensures cannot_begin { IfErr result
+        (CannotBegin plan.now readings.now.list opened.events.items opened.broken) }
 {
     let Opened {
         mut journal,
@@ -114,9 +115,14 @@ pub(crate) fn examine<'p, D: Disk, E: Disk>(
     journal: &mut D,
     spool: &mut E,
 ) -> Result<Examined<'p>, HistoryFail>
-    ensures examined { IfOk result (IsExamined (handed plan.now readings.now digest.now (D.state journal.old) (D.state journal.new) (E.state spool.old) (E.state spool.new))) }
-    ensures cause { IfErr result (HasCause (handed plan.now readings.now digest.now (D.state journal.old) (D.state journal.new) (E.state spool.old) (E.state spool.new))) }
-    ensures untouched { IsUntouched (handed plan.now readings.now digest.now (D.state journal.old) (D.state journal.new) (E.state spool.old) (E.state spool.new)) }
+    ensures examined { IfOk result (IsExamined
+        (handed plan.now readings.now digest.now (D.state journal.old) (D.state journal.new)
+        (E.state spool.old) (E.state spool.new))) }
+    ensures cause { IfErr result (HasCause
+        (handed plan.now readings.now digest.now (D.state journal.old) (D.state journal.new)
+        (E.state spool.old) (E.state spool.new))) }
+    ensures untouched { IsUntouched (handed plan.now readings.now digest.now (D.state journal.old)
+        (D.state journal.new) (E.state spool.old) (E.state spool.new)) }
 {
     let opened = open_own(alloc, digest, journal)?;
     let texts = open_texts(alloc, plan, &opened.events, spool)?;

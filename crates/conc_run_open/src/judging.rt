@@ -42,7 +42,8 @@ pub(crate) fn resume_whole<'p>(
     ensures lawful_so_far { OnOk result (LawfulSoFar plan.now events.now) }
     ensures whole { OnOk result (broken ≡ None) }
     ensures unlisted { IfErr result (IsUnlisted plan.now events.now broken) }
-    ensures refused { (len : ℕ) → counted events.now ≤ len → IfErr result (IsRefused plan.now len events.now broken) }
+    ensures refused { (len : ℕ) → counted events.now ≤ len
+        → IfErr result (IsRefused plan.now len events.now broken) }
 {
     let machine = match resume(alloc, plan, events) {
         Ok(machine) => machine,

@@ -20,10 +20,13 @@ pub fn read_list<D: Disk>(
     digest: &[u8; 32],
     journal: &mut D,
 ) -> Result<Vec<Event>, HistoryFail>
-    ensures listed { IfOk result (λ events. IsListed plan.now digest.now (D.state journal.old) events.items) }
-    ensures cause { IfErr result (HasListCause plan.now digest.now (D.state journal.old) (D.state journal.new)) }
+    ensures listed { IfOk result (λ events. IsListed plan.now digest.now (D.state journal.old)
+        events.items) }
+    ensures cause { IfErr result (HasListCause plan.now digest.now (D.state journal.old)
+        (D.state journal.new)) }
     ensures stays { Stays (D.state journal.old) (D.state journal.new) }
-    ensures survives { LeavesOnly (D.state journal.old).may_leave (D.state journal.old) (D.state journal.new) }
+    ensures survives { LeavesOnly (D.state journal.old).may_leave (D.state journal.old)
+        (D.state journal.new) }
 {
     let opened = open_own(alloc, digest, journal)?;
     resume_whole(alloc, plan, &opened.events, opened.broken)?;

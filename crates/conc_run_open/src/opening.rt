@@ -27,17 +27,27 @@ pub fn open<'p, D: Disk, E: Disk>(
     journal: &mut D,
     spool: &mut E,
 ) -> Result<Work<'p>, HistoryFail>
-    ensures begun { IfOk result (IsBegun (handed plan.now readings.now digest.now (D.state journal.old) (D.state journal.new) (E.state spool.old) (E.state spool.new))) }
+    ensures begun { IfOk result (IsBegun
+        (handed plan.now readings.now digest.now (D.state journal.old) (D.state journal.new)
+        (E.state spool.old) (E.state spool.new))) }
 
     // Each cause, and what is written then.
-    ensures cause { IfErr result (HasCause (handed plan.now readings.now digest.now (D.state journal.old) (D.state journal.new) (E.state spool.old) (E.state spool.new))) }
-    ensures untouched { IfErr result (λ e. IsFalse (is_journal_fault e) → IsUntouched (handed plan.now readings.now digest.now (D.state journal.old) (D.state journal.new) (E.state spool.old) (E.state spool.new))) }
+    ensures cause { IfErr result (HasCause
+        (handed plan.now readings.now digest.now (D.state journal.old) (D.state journal.new)
+        (E.state spool.old) (E.state spool.new))) }
+    ensures untouched { IfErr result (λ e. IsFalse (is_journal_fault e)
+        → IsUntouched (handed plan.now readings.now digest.now (D.state journal.old)
+        (D.state journal.new) (E.state spool.old) (E.state spool.new))) }
 
     // A stop at any moment. What it leaves where a life is begun stands above.
-    ensures given_up { OnErr result (IsUntouched (handed plan.now readings.now digest.now (D.state journal.old) (D.state journal.new) (E.state spool.old) (E.state spool.new))
-        ⊎ IsGivenUp (handed plan.now readings.now digest.now (D.state journal.old) (D.state journal.new) (E.state spool.old) (E.state spool.new))) }
+    ensures given_up { OnErr result (IsUntouched
+        (handed plan.now readings.now digest.now (D.state journal.old) (D.state journal.new)
+        (E.state spool.old) (E.state spool.new))
+        ⊎ IsGivenUp (handed plan.now readings.now digest.now (D.state journal.old)
+            (D.state journal.new) (E.state spool.old) (E.state spool.new))) }
     ensures spool { Stays (E.state spool.old) (E.state spool.new) }
-    ensures spool_survives { LeavesOnly (E.state spool.old).may_leave (E.state spool.old) (E.state spool.new) }
+    ensures spool_survives { LeavesOnly (E.state spool.old).may_leave (E.state spool.old)
+        (E.state spool.new) }
 {
     let Examined {
         machine,

@@ -26,15 +26,19 @@ pub(crate) fn open_own<D: Disk>(
     digest: &[u8; 32],
     disk: &mut D,
 ) -> Result<Opened, HistoryFail>
-    ensures found { IfOk result (λ opened. IfSome (D.state disk.old).seen (λ image. IsFoundIn image opened)) }
+    ensures found { IfOk result (λ opened. IfSome (D.state disk.old).seen
+        (λ image. IsFoundIn image opened)) }
     ensures own { OnOk result (IfSome (D.state disk.old).seen (IsOwnJournal digest.now)) }
-    ensures on { IfOk result (λ opened. opened.broken ≡ None → JournalIsOn opened.journal (D.state disk.new)) }
-    ensures state { IfOk result (λ opened. opened.broken ≡ None → MayStart digest.now (state_of opened.journal)) }
+    ensures on { IfOk result (λ opened. opened.broken ≡ None
+        → JournalIsOn opened.journal (D.state disk.new)) }
+    ensures state { IfOk result (λ opened. opened.broken ≡ None
+        → MayStart digest.now (state_of opened.journal)) }
     ensures list { IfOk result (λ opened. list_of opened.journal ≡ opened.events.items) }
     ensures room { IfOk result (λ opened. room_of opened.journal ≡ 0) }
     ensures cause { IfErr result (IsUnopened digest.now (D.state disk.old) (D.state disk.new)) }
     ensures stays { Stays (D.state disk.old) (D.state disk.new) }
-    ensures survives { LeavesOnly (D.state disk.old).may_leave (D.state disk.old) (D.state disk.new) }
+    ensures survives { LeavesOnly (D.state disk.old).may_leave (D.state disk.old)
+        (D.state disk.new) }
 {
     let opened = match Journal::open_on(alloc, disk) {
         Ok(opened) => opened,
@@ -62,9 +66,12 @@ pub(crate) fn open_texts<E: Disk>(
     ensures on { IfOk result (λ spool. SpoolIsOn spool (E.state disk.new)) }
     ensures used { IfOk result (λ spool. used_of spool ≡ counted events.now) }
     ensures long { OnOk result (Reaches (E.state disk.old) (counted events.now)) }
-    ensures unreadable { (broken : Option ℕ) → IfErr result (IsUnreadable plan.now events.now broken (E.state disk.old) (E.state disk.new)) }
+    ensures unreadable { (broken : Option ℕ)
+        → IfErr result (IsUnreadable plan.now events.now broken (E.state disk.old)
+        (E.state disk.new)) }
     ensures stays { Stays (E.state disk.old) (E.state disk.new) }
-    ensures survives { LeavesOnly (E.state disk.old).may_leave (E.state disk.old) (E.state disk.new) }
+    ensures survives { LeavesOnly (E.state disk.old).may_leave (E.state disk.old)
+        (E.state disk.new) }
 {
     match Spool::open_on(disk, count_bytes(events)) {
         Ok(spool) => Ok(spool),

@@ -25,11 +25,14 @@ pub(crate) fn start<D: Disk>(
     ensures on { OnOk result (IsOn journal.new (D.state disk.new)) }
     ensures state { OnOk result (state_of journal.new ≡ Begun digest.now) }
     ensures list { OnOk result (list_of journal.new ≡ opening (list_of journal.old)) }
-    ensures room { OnOk result (room_of journal.new + length (list_of journal.new) ≡ room_of journal.old + length (list_of journal.old)) }
+    ensures room { OnOk result (room_of journal.new + length (list_of journal.new)
+        ≡ room_of journal.old + length (list_of journal.old)) }
     ensures fault { OnErr result (Rose (D.state disk.old).faults (D.state disk.new).faults) }
 
-    ensures survives { LeavesOnly (Survives digest.now (list_of journal.old) (opening (list_of journal.old))) (D.state disk.old) (D.state disk.new) }
-    ensures now { EachImage (Survives digest.now (list_of journal.old) (opening (list_of journal.old))) (D.state disk.new) }
+    ensures survives { LeavesOnly (Survives digest.now (list_of journal.old)
+        (opening (list_of journal.old))) (D.state disk.old) (D.state disk.new) }
+    ensures now { EachImage (Survives digest.now (list_of journal.old)
+        (opening (list_of journal.old))) (D.state disk.new) }
 {
     if !journal.takes_events() {
         return journal.begin(disk, digest);

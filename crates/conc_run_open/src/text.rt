@@ -72,13 +72,18 @@ pub fn read_text<D: Disk, E: Disk>(
     journal: &mut D,
     spool: &mut E,
 ) -> Result<Vec<u8>, TextFail>
-    ensures text { IfOk result (λ text. HasText plan.now digest.now id (D.state journal.old) (E.state spool.old) text.items) }
-    ensures cause { IfErr result (HasTextCause plan.now digest.now id (disks (D.state journal.old) (D.state journal.new) (E.state spool.old) (E.state spool.new))) }
+    ensures text { IfOk result (λ text. HasText plan.now digest.now id (D.state journal.old)
+        (E.state spool.old) text.items) }
+    ensures cause { IfErr result (HasTextCause plan.now digest.now id
+        (disks (D.state journal.old) (D.state journal.new) (E.state spool.old)
+        (E.state spool.new))) }
 
     ensures journal_stays { Stays (D.state journal.old) (D.state journal.new) }
-    ensures journal_survives { LeavesOnly (D.state journal.old).may_leave (D.state journal.old) (D.state journal.new) }
+    ensures journal_survives { LeavesOnly (D.state journal.old).may_leave (D.state journal.old)
+        (D.state journal.new) }
     ensures spool_stays { Stays (E.state spool.old) (E.state spool.new) }
-    ensures spool_survives { LeavesOnly (E.state spool.old).may_leave (E.state spool.old) (E.state spool.new) }
+    ensures spool_survives { LeavesOnly (E.state spool.old).may_leave (E.state spool.old)
+        (E.state spool.new) }
 {
     let opened = open_own(alloc, digest, journal)?;
     let texts = open_texts(alloc, plan, &opened.events, spool)?;

@@ -41,7 +41,8 @@ fn is_earlier(reading: Reading, before: Option<Reading>) -> bool
 // breaks.
 fn accept(number: usize, line: &[u8], before: Option<Reading>) -> Result<Reading, u8>
     ensures ok { IfOk result (λ reading. reading_of line.now ≡ Some reading) }
-    ensures rules { first_broken (line_rules number (reading_of line.now) before) ≡ result_err result }
+    ensures rules { first_broken (line_rules number (reading_of line.now) before)
+        ≡ result_err result }
 {
     if number > MOST_READINGS {
         return Err(rule::SIZE);
@@ -56,7 +57,8 @@ fn accept(number: usize, line: &[u8], before: Option<Reading>) -> Result<Reading
 // The readings of all lines of a text, none of which breaks a rule.
 fn read_lines(alloc: Global, bytes: &[u8]) -> Result<Vec<Reading>, ReadFail>
     ensures ok { IfOk result (λ readings. ReadsLines (lines_of bytes.now) readings.items) }
-    ensures err { IfErr result (IsFailure kind.Clock (first_fault (line_kind (lines_of bytes.now)) 1 (length (lines_of bytes.now)))) }
+    ensures err { IfErr result (IsFailure kind.Clock
+        (first_fault (line_kind (lines_of bytes.now)) 1 (length (lines_of bytes.now)))) }
 {
     let mut readings = Vec::new(alloc);
     let mut rest = bytes;

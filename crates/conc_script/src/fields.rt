@@ -32,7 +32,8 @@ fn field(row: &ByteRecord, place: usize) -> &[u8]
 
 // The fields of a record that has eight.
 fn eight(row: &ByteRecord) -> Option<Fields<'_>>
-    ensures { MatchOption result (has_length 8 (fields_of row.now) ≡ false) (λ fields. fields_of row.now ≡ list_of fields) }
+    ensures { MatchOption result (has_length 8 (fields_of row.now) ≡ false)
+        (λ fields. fields_of row.now ≡ list_of fields) }
 {
     if row.len() != 8 {
         return None;
@@ -66,7 +67,8 @@ fn are_text(fields: &Fields) -> bool
 /// The fields of a record, if it has eight and each is UTF-8.
 #[tactic(auto, unfolding(crate::specs::Script::is_record))]
 pub(crate) fn fields_in(row: &ByteRecord) -> Option<Fields<'_>>
-    ensures { MatchOption result (is_record (fields_of row.now) ≡ false) (λ fields. (is_record (fields_of row.now) ≡ true) × (fields_of row.now ≡ list_of fields)) }
+    ensures { MatchOption result (is_record (fields_of row.now) ≡ false)
+        (λ fields. (is_record (fields_of row.now) ≡ true) × (fields_of row.now ≡ list_of fields)) }
 {
     let fields = eight(row)?;
     if are_text(&fields) {

@@ -30,9 +30,11 @@ const MOST_ARGUMENT_BYTES: usize = 200;
 // The submission of an item at a moment, where the fields behind the item have their form.
 fn form<'a>(at: Moment, item: Item, fields: &Fields<'a>) -> Option<Submission<'a>>
     ensures form { is_some result ≡ submit_form (list_of fields.now) }
-    ensures said { IfSome result (λ s. submission_by at item (list_of fields.now) ≡ Some (submit_by s)) }
+    ensures said { IfSome result (λ s. submission_by at item (list_of fields.now)
+        ≡ Some (submit_by s)) }
     ensures item { IfSome result (λ s. s.item ≡ item) }
-    ensures fits { IfSome result (λ s. IsTrue (is_between 1 99 s.priority && is_text 200 s.argument.now)) }
+    ensures fits { IfSome result (λ s. IsTrue
+        (is_between 1 99 s.priority && is_text 200 s.argument.now)) }
 {
     let priority = priority_of(fields.priority)?;
     let start = start_of(at, fields.start)?;
@@ -54,8 +56,10 @@ fn form<'a>(at: Moment, item: Item, fields: &Fields<'a>) -> Option<Submission<'a
 #[tactic(auto, unfolding(crate::specs::Script::submission_of))]
 fn submission<'a>(setup: &Setup, at: Moment, fields: &Fields<'a>) -> Result<Submission<'a>, u8>
     ensures rules { first_broken (submit_rules setup.now (list_of fields.now)) ≡ result_err result }
-    ensures said { IfOk result (λ s. submission_of setup.now at (list_of fields.now) ≡ Some (submit_by s)) }
-    ensures item { IfOk result (λ s. script_spec.item_named setup.now fields.now.what.now ≡ Some s.item) }
+    ensures said { IfOk result (λ s. submission_of setup.now at (list_of fields.now)
+        ≡ Some (submit_by s)) }
+    ensures item { IfOk result (λ s. script_spec.item_named setup.now fields.now.what.now
+        ≡ Some s.item) }
     ensures fits { IfOk result (λ s. (next : ℕ) → IsTrue (is_act setup.now next (submit_by s))) }
 {
     let item = item_named(setup, fields.what).ok_or(rule::NAME)?;
@@ -93,7 +97,8 @@ fn is_bare(fields: &Fields) -> bool
 fn request(entered: u64, fields: &Fields) -> Result<RequestId, u8>
     requires { entered < 2 ^ 32 }
     ensures rules { first_broken (request_rules entered (list_of fields.now)) ≡ result_err result }
-    ensures said { IfOk result (λ request. decimal_value fields.now.what.now ≡ Some request.number) }
+    ensures said { IfOk result (λ request. decimal_value fields.now.what.now
+        ≡ Some request.number) }
     ensures fits { IfOk result (λ request. IsTrue (is_between 1 entered request.number)) }
 {
     let number = read_decimal(fields.what).ok_or(rule::FORM)?;
@@ -123,10 +128,13 @@ fn action<'a>(
     fields: &Fields<'a>,
 ) -> Result<Action<'a>, u8>
     requires { entered < 2 ^ 32 }
-    ensures rules { first_broken (action_rules setup.now entered (list_of fields.now)) ≡ result_err result }
-    ensures said { IfOk result (λ action. act_of setup.now at (list_of fields.now) ≡ Some (act_by action)) }
+    ensures rules { first_broken (action_rules setup.now entered (list_of fields.now))
+        ≡ result_err result }
+    ensures said { IfOk result (λ action. act_of setup.now at (list_of fields.now)
+        ≡ Some (act_by action)) }
     ensures fits { IfOk result (λ action. IsTrue (is_act setup.now (entered + 1) (act_by action))) }
-    ensures enters { IfOk result (λ action. entered_by_record setup.now (list_of fields.now) ≡ entered_by setup.now (act_by action)) }
+    ensures enters { IfOk result (λ action. entered_by_record setup.now (list_of fields.now)
+        ≡ entered_by setup.now (act_by action)) }
 {
     if is_submit(fields) {
         let submission = submission(setup, at, fields)?;
@@ -153,12 +161,15 @@ pub(crate) fn judge<'a>(
     row: &'a ByteRecord,
 ) -> Result<(Moment, Action<'a>), u8>
     requires { entered < 2 ^ 32 }
-    ensures rules { first_broken (record_rules setup.now number entered before (fields_of row.now)) ≡ result_err result }
-    ensures said { IfOk result (λ p. order_of setup.now (fields_of row.now) ≡ Some (record { at = p.0; act = act_by p.1 })) }
+    ensures rules { first_broken (record_rules setup.now number entered before (fields_of row.now))
+        ≡ result_err result }
+    ensures said { IfOk result (λ p. order_of setup.now (fields_of row.now)
+        ≡ Some (record { at = p.0; act = act_by p.1 })) }
     ensures at { IfOk result (λ p. moment_of (at_field (fields_of row.now)) ≡ Some p.0) }
     ensures later { IfOk result (λ p. script_spec.is_earlier (Some p.0) before ≡ false) }
     ensures fits { IfOk result (λ p. IsTrue (is_act setup.now (entered + 1) (act_by p.1))) }
-    ensures enters { IfOk result (λ p. entered_by_record setup.now (fields_of row.now) ≡ entered_by setup.now (act_by p.1)) }
+    ensures enters { IfOk result (λ p. entered_by_record setup.now (fields_of row.now)
+        ≡ entered_by setup.now (act_by p.1)) }
 {
     let fields = fields_in(row).ok_or(rule::RECORD)?;
     if number > MOST_RECORDS {

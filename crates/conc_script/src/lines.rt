@@ -17,7 +17,8 @@ fn without_return(line: &[u8]) -> &[u8]
 /// The first line of a text, without its end, and the text behind it. A text without a byte has no
 /// line.
 pub(crate) fn split_line(bytes: &[u8]) -> Option<(&[u8], &[u8])>
-    ensures lines { MatchOption result (lines_of bytes.now ≡ []) (λ p. lines_of bytes.now ≡ p.0.now ∷ lines_of p.1.now) }
+    ensures lines { MatchOption result (lines_of bytes.now ≡ [])
+        (λ p. lines_of bytes.now ≡ p.0.now ∷ lines_of p.1.now) }
     ensures shorter { IfSome result (λ p. length p.1.now < length bytes.now) }
 {
     if bytes.is_empty() {

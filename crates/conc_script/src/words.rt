@@ -27,7 +27,8 @@ fn set_named(sets: &[SetDef], name: &[u8]) -> Option<usize>
 #[tactic(auto, unfolding(crate::specs::Script::item_named))]
 pub(crate) fn item_named(setup: &Setup, name: &[u8]) -> Option<Item>
     ensures value { result ≡ script_spec.item_named setup.now name.now }
-    ensures there { IfSome result (λ item. IsTrue (is_item setup.now.programs setup.now.sets item)) }
+    ensures there { IfSome result (λ item. IsTrue
+        (is_item setup.now.programs setup.now.sets item)) }
 {
     match program_named(setup.programs.as_slice(), name) {
         Some(index) => Some(Item::Program(index as u32)),

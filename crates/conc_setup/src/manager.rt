@@ -23,7 +23,8 @@ fn program_if_named(items: &Items, name: &Option<Name>) -> Result<Option<u32>, u
 }
 
 fn rule_for(alloc: Global, program: Option<u32>, raw: &RawRule) -> Result<Rule, NoMemory>
-    requires { IsTrue (is_rule program (option_map (λ t. t.text) raw.now.request_type) raw.now.user) }
+    requires { IsTrue (is_rule program (option_map (λ t. t.text) raw.now.request_type)
+        raw.now.user) }
     ensures { IfOk result (λ rule. spec.to_rule raw.now program ≡ Ok rule) }
 {
     let request_type = copy_of_text(alloc, &raw.request_type)?;

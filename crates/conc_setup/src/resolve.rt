@@ -54,7 +54,8 @@ pub(crate) trait Resolve {
     /// The value with places, or the least kind of what is wrong with a name. Where memory lacks there
     /// is neither.
     fn resolve(&self, alloc: Global, items: &Items) -> Result<Result<Self::Out, u8>, NoMemory>
-        ensures { IfOk result (λ r. r ≡ resolved items.now.programs.now items.now.sets.now self.now) };
+        ensures { IfOk result (λ r. r ≡ resolved items.now.programs.now items.now.sets.now
+            self.now) };
 }
 
 impl Resolve for Name {
@@ -73,7 +74,8 @@ pub(crate) fn resolve_all<T: Resolve>(
     items: &Items,
     values: &[T],
 ) -> Result<Seq<Result<T::Out, u8>>, NoMemory>
-    ensures { IfOk result (λ all. all ≡ map (T.resolved items.now.programs.now items.now.sets.now) values.now) }
+    ensures { IfOk result (λ all. all ≡ map (T.resolved items.now.programs.now items.now.sets.now)
+        values.now) }
 {
     let mut all = Vec::new(alloc);
     for value in values {
@@ -88,7 +90,9 @@ pub(crate) fn resolve_good<T: Resolve>(
     items: &Items,
     values: &[T],
 ) -> Result<Result<Seq<T::Out>, u8>, NoMemory>
-    ensures value { IfOk result (λ r. r ≡ arrays_spec.all_good (map (T.resolved items.now.programs.now items.now.sets.now) values.now)) }
+    ensures value { IfOk result (λ r. r
+        ≡ arrays_spec.all_good (map (T.resolved items.now.programs.now items.now.sets.now)
+        values.now)) }
     ensures count { IfOk result (λ r. IfOk r (λ all. length all ≡ length values.now)) }
 {
     let all = resolve_all(alloc, items, values)?;

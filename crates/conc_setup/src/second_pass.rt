@@ -14,7 +14,8 @@ use conc_types::{Name, Program};
 fn again_from<T: Named>(line: u64, items: &[T], place: usize) -> Option<Fault>
     requires within { place ≤ length items.now }
     requires fits { line + (length items.now - place) < 2 ^ 64 }
-    ensures { result ≡ spec.first_again line (map T.name_of (take place items.now)) (map T.name_of (drop place items.now)) }
+    ensures { result ≡ spec.first_again line (map T.name_of (take place items.now))
+        (map T.name_of (drop place items.now)) }
 {
     if place == items.len() {
         return None;
@@ -27,7 +28,8 @@ fn again_from<T: Named>(line: u64, items: &[T], place: usize) -> Option<Fault>
 }
 
 fn is_again(programs: &[Program], before: &[RawSet], set: &RawSet) -> bool
-    ensures { result ≡ spec.is_again (map (λ p. p.name) programs.now) (map (λ s. s.name) before.now) set.now }
+    ensures { result ≡ spec.is_again (map (λ p. p.name) programs.now) (map (λ s. s.name) before.now)
+        set.now }
 {
     is_among(programs, &set.name)
         || is_among(before, &set.name)
@@ -40,7 +42,8 @@ fn is_again(programs: &[Program], before: &[RawSet], set: &RawSet) -> bool
 fn set_again_from(line: u64, programs: &[Program], sets: &[RawSet], place: usize) -> Option<Fault>
     requires within { place ≤ length sets.now }
     requires fits { line + (length sets.now - place) < 2 ^ 64 }
-    ensures { result ≡ spec.first_set_again line (map (λ p. p.name) programs.now) (map (λ s. s.name) (take place sets.now)) (drop place sets.now) }
+    ensures { result ≡ spec.first_set_again line (map (λ p. p.name) programs.now)
+        (map (λ s. s.name) (take place sets.now)) (drop place sets.now) }
 {
     if place == sets.len() {
         return None;

@@ -76,7 +76,8 @@ fn resolve_stage(
     stage: &RawStage,
 ) -> Result<Result<Stage, u8>, NoMemory>
     requires { length stages.now ≤ 64 }
-    ensures { IfOk result (λ r. r ≡ spec.resolved_stage items.now.programs.now stages.now (at, stage.now)) }
+    ensures { IfOk result (λ r. r ≡ spec.resolved_stage items.now.programs.now stages.now
+        (at, stage.now)) }
 {
     let success = link_if_named(stages, at, &stage.on_success);
     let warning = link_if_named(stages, at, &stage.on_warning);
@@ -97,7 +98,8 @@ fn resolve_stages(
     stages: &[RawStage],
 ) -> Result<Seq<Result<Stage, u8>>, NoMemory>
     requires { length stages.now ≤ 64 }
-    ensures { IfOk result (λ all. all ≡ map (spec.resolved_stage items.now.programs.now stages.now) (enumerate_from 0 stages.now)) }
+    ensures { IfOk result (λ all. all ≡ map (spec.resolved_stage items.now.programs.now stages.now)
+        (enumerate_from 0 stages.now)) }
 {
     let mut all = Vec::new(alloc);
     for (at, stage) in stages.iter().enumerate() {

@@ -21,7 +21,8 @@ use std::alloc::Global;
 #[tactic(auto, unfolding(crate::specs::SecondPass::second_pass))]
 fn pass_names(alloc: Global, raw: RawSetup) -> Result<Result<Setup, Fault>, NoMemory>
     requires { IsFew raw }
-    ensures { IfOk result (λ r. r ≡ passed third_pass_spec.third_pass (second_pass_spec.second_pass raw)) }
+    ensures { IfOk result (λ r. r ≡ passed third_pass_spec.third_pass
+        (second_pass_spec.second_pass raw)) }
 {
     match second_pass(&raw) {
         Some(fault) => Ok(Err(fault)),
@@ -31,7 +32,8 @@ fn pass_names(alloc: Global, raw: RawSetup) -> Result<Result<Setup, Fault>, NoMe
 
 // What the three passes make of a document.
 fn pass_all(alloc: Global, document: Document) -> Result<Result<Setup, Fault>, NoMemory>
-    ensures { IfOk result (λ r. r ≡ passed third_pass_spec.third_pass (passed second_pass_spec.second_pass (first_pass_spec.first_pass document))) }
+    ensures { IfOk result (λ r. r ≡ passed third_pass_spec.third_pass
+        (passed second_pass_spec.second_pass (first_pass_spec.first_pass document))) }
 {
     match first_pass(alloc, document)? {
         Ok(raw) => pass_names(alloc, raw),

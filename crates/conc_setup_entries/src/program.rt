@@ -189,7 +189,8 @@ fn program_with(
     restart: bool,
     job: Job,
 ) -> Program
-    ensures { result ≡ spec.to_program (name, (request_type, (enabled, (run_alone, (restart, job))))) }
+    ensures { result ≡ spec.to_program
+        (name, (request_type, (enabled, (run_alone, (restart, job))))) }
 {
     Program {
         name,

@@ -10,7 +10,8 @@ use toml::{Table, Value};
 
 /// What the table has at a key, if it has the key.
 pub fn field<'a>(table: &'a Table, key: &str) -> Option<&'a Value>
-    ensures { option_map (λ value. view value.now) result ≡ get_member key.now (table_view table.now) }
+    ensures { option_map (λ value. view value.now) result
+        ≡ get_member key.now (table_view table.now) }
 {
     table.get(key)
 }
@@ -22,7 +23,8 @@ pub fn required<F: Form>(
     table: &Table,
     key: &str,
 ) -> Result<Result<F::Out, u8>, NoMemory>
-    ensures { IfOk result (λ r. r ≡ spec.required F.form (get_member key.now (table_view table.now))) }
+    ensures { IfOk result (λ r. r ≡ spec.required F.form
+        (get_member key.now (table_view table.now))) }
 {
     match field(table, key) {
         None => Ok(Err(kind::MISSING)),
@@ -36,7 +38,8 @@ pub fn optional<F: Form>(
     table: &Table,
     key: &str,
 ) -> Result<Result<Option<F::Out>, u8>, NoMemory>
-    ensures { IfOk result (λ r. r ≡ spec.optional F.form (get_member key.now (table_view table.now))) }
+    ensures { IfOk result (λ r. r ≡ spec.optional F.form
+        (get_member key.now (table_view table.now))) }
 {
     match field(table, key) {
         None => Ok(Ok(None)),
@@ -54,7 +57,8 @@ pub fn default<F: Form>(
     table: &Table,
     key: &str,
 ) -> Result<Result<F::Out, u8>, NoMemory>
-    ensures { IfOk result (λ r. r ≡ spec.default otherwise F.form (get_member key.now (table_view table.now))) }
+    ensures { IfOk result (λ r. r ≡ spec.default otherwise F.form
+        (get_member key.now (table_view table.now))) }
 {
     match field(table, key) {
         None => Ok(Ok(otherwise)),

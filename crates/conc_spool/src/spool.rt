@@ -28,10 +28,12 @@ impl Spool {
         ensures long { OnOk result (Reaches (E.state disk.old) used) }
 
         ensures short { IfErr result (IsShort used (E.state disk.old)) }
-        ensures fault { IsErrOf result SpoolFail.DiskFault → Rose (E.state disk.old).faults (E.state disk.new).faults }
+        ensures fault { IsErrOf result SpoolFail.DiskFault
+            → Rose (E.state disk.old).faults (E.state disk.new).faults }
 
         ensures same { Stays (E.state disk.old) (E.state disk.new) }
-        ensures survives { LeavesOnly (E.state disk.old).may_leave (E.state disk.old) (E.state disk.new) }
+        ensures survives { LeavesOnly (E.state disk.old).may_leave (E.state disk.old)
+            (E.state disk.new) }
     {
         disk.sync()?; // so that what is read is on the disk
         let len = disk.len()?;
@@ -66,8 +68,10 @@ impl Spool {
         ensures fault { OnErr result (Rose (E.state disk.old).faults (E.state disk.new).faults) }
 
         ensures on { IsOn self.new (E.state disk.new) }
-        ensures before { SeenFollows (Agrees (used_of self.old)) (E.state disk.old) (E.state disk.new) }
-        ensures survives { LeavesOnly (KeepsBelow (used_of self.old) (E.state disk.old)) (E.state disk.old) (E.state disk.new) }
+        ensures before { SeenFollows (Agrees (used_of self.old)) (E.state disk.old)
+            (E.state disk.new) }
+        ensures survives { LeavesOnly (KeepsBelow (used_of self.old) (E.state disk.old))
+            (E.state disk.old) (E.state disk.new) }
     {
         disk.write_at(self.used, bytes)?;
         disk.sync()?; // from here on each image has the text
@@ -92,11 +96,13 @@ impl Spool {
         ensures length { IfOk result (λ text. vec_len text ≡ extent.length) }
         ensures text { IfOk result (λ text. HasAt (E.state disk.old) extent.offset text.items) }
 
-        ensures fault { IsErrOf result ReadBack.DiskFault → Rose (E.state disk.old).faults (E.state disk.new).faults }
+        ensures fault { IsErrOf result ReadBack.DiskFault
+            → Rose (E.state disk.old).faults (E.state disk.new).faults }
 
         ensures on { IsOn self.now (E.state disk.new) }
         ensures same { Stays (E.state disk.old) (E.state disk.new) }
-        ensures survives { LeavesOnly (E.state disk.old).may_leave (E.state disk.old) (E.state disk.new) }
+        ensures survives { LeavesOnly (E.state disk.old).may_leave (E.state disk.old)
+            (E.state disk.new) }
     {
         let mut text = vec![in alloc; 0u8; extent.length as usize]?;
         disk.read(extent.offset, &mut text)?;

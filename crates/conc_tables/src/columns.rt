@@ -21,7 +21,8 @@ pub(crate) fn columns_of(alloc: Global, header: &ByteRecord) -> Result<Seq<Bytes
 
 /// Whether no two fields of a header are the same.
 pub(crate) fn are_distinct(alloc: Global, header: &ByteRecord) -> Result<bool, NoMemory>
-    ensures { IfOk result (λ distinct. distinct ≡ spec.are_distinct bytes_eq (fields_of header.now)) }
+    ensures { IfOk result (λ distinct. distinct
+        ≡ spec.are_distinct bytes_eq (fields_of header.now)) }
 {
     let mut seen = BTreeSet::new(alloc);
     for field in header.iter() {

@@ -36,7 +36,9 @@ fn most_places(manager: &Manager) -> u32
 // the number `owner`; this manager; and the place's number within it, from 1.
 fn place_among(managers: &[Manager], owner: u32, index: u32) -> Option<(u32, &Manager, u32)>
     requires { owner + length managers.now < 2 ^ 32 }
-    ensures { option_map {U = ℕ × Manager × ℕ} (λ p. (p.0, p.1.now, p.2)) result ≡ option_map {U = ℕ × Manager × ℕ} (λ p. (p.owner, p.manager, p.number)) (places_spec.place_from owner managers.now index) }
+    ensures { option_map {U = ℕ × Manager × ℕ} (λ p. (p.0, p.1.now, p.2)) result
+        ≡ option_map {U = ℕ × Manager × ℕ} (λ p. (p.owner, p.manager, p.number))
+        (places_spec.place_from owner managers.now index) }
 {
     let (manager, rest) = managers.split_first()?;
     let size = most_places(manager);
@@ -51,7 +53,9 @@ fn place_among(managers: &[Manager], owner: u32, index: u32) -> Option<(u32, &Ma
 /// number within it, from 1.
 #[tactic(auto, unfolding(conc_law::specs::Places::place_of))]
 pub fn place_of(plan: &Plan, place: PlaceId) -> Option<(u32, &Manager, u32)>
-    ensures { option_map {U = ℕ × Manager × ℕ} (λ p. (p.0, p.1.now, p.2)) result ≡ option_map {U = ℕ × Manager × ℕ} (λ p. (p.owner, p.manager, p.number)) (places_spec.place_of plan.now place) }
+    ensures { option_map {U = ℕ × Manager × ℕ} (λ p. (p.0, p.1.now, p.2)) result
+        ≡ option_map {U = ℕ × Manager × ℕ} (λ p. (p.owner, p.manager, p.number))
+        (places_spec.place_of plan.now place) }
 {
     place_among(plan.setup.managers.as_slice(), 1, place.index)
 }
@@ -69,7 +73,8 @@ pub fn is_usable(plan: &Plan, t: Moment, place: PlaceId) -> bool
 
 /// Whether the manager that has a place admits the request.
 pub fn is_admitted_at(plan: &Plan, place: PlaceId, r: &Req) -> bool
-    ensures { result ≡ some_and (λ p. managers_spec.admits p.manager r.now) (places_spec.place_of plan.now place) }
+    ensures { result ≡ some_and (λ p. managers_spec.admits p.manager r.now)
+        (places_spec.place_of plan.now place) }
 {
     match place_of(plan, place) {
         Some((_, manager, _)) => admits(manager, r),

@@ -52,7 +52,8 @@ fn days_until(day: Date) -> i64
 
 // The same, or None where it is negative.
 fn days_from_start(day: Date) -> Option<u64>
-    ensures { MatchOption result ((epoch_day day +ℤ pos 719162) <ℤ pos 0) (λ days. pos days ≡ epoch_day day +ℤ pos 719162) }
+    ensures { MatchOption result ((epoch_day day +ℤ pos 719162) <ℤ pos 0)
+        (λ days. pos days ≡ epoch_day day +ℤ pos 719162) }
 {
     u64::try_from(days_until(day)).ok()
 }
@@ -60,7 +61,8 @@ fn days_from_start(day: Date) -> Option<u64>
 // The days from 0001-01-01 to a date. None exactly where the calendar has no such date in a year
 // from 1 on.
 fn days_before(numbers: &Civil) -> Option<u64>
-    ensures days { result ≡ (if has_date (civil numbers.now) then Some (calendar_spec.days_before (civil numbers.now)) else None) }
+    ensures days { result ≡ (if has_date (civil numbers.now) then Some
+        (calendar_spec.days_before (civil numbers.now)) else None) }
     ensures few { IfSome result (λ days. days < 3652059) }
 {
     let Ok(day) = Date::new(numbers.year as i16, numbers.month as i8, numbers.day as i8) else {
@@ -72,7 +74,8 @@ fn days_before(numbers: &Civil) -> Option<u64>
 // The seconds from midnight. None exactly where a day has no such time.
 #[tactic(auto, unfolding(crate::specs::Fields::has_time))]
 fn time_of(numbers: &Civil) -> Option<u64>
-    ensures seconds { result ≡ (if has_time (civil numbers.now) then Some (fields_spec.time (civil numbers.now)) else None) }
+    ensures seconds { result ≡ (if has_time (civil numbers.now) then Some
+        (fields_spec.time (civil numbers.now)) else None) }
     ensures few { IfSome result (λ seconds. seconds < 86400) }
 {
     if numbers.hour < 24 && numbers.minute < 60 && numbers.second < 60 {
@@ -90,7 +93,8 @@ fn time_of(numbers: &Civil) -> Option<u64>
 // from 1 on, or a day has no such time.
 #[tactic(auto, unfolding(conc_law::specs::Calendar::is_civil, conc_law::specs::Calendar::seconds_of, crate::specs::Fields::has_date, crate::specs::Fields::has_time))]
 fn seconds_of(numbers: &Civil) -> Option<u64>
-    ensures seconds { result ≡ (if is_civil (civil numbers.now) then Some (calendar_spec.seconds_of (civil numbers.now)) else None) }
+    ensures seconds { result ≡ (if is_civil (civil numbers.now) then Some
+        (calendar_spec.seconds_of (civil numbers.now)) else None) }
     ensures few { IfSome result (λ seconds. seconds < 315537897600) }
 {
     Some(SECONDS_PER_DAY * days_before(numbers)? + time_of(numbers)?)

@@ -15,7 +15,8 @@ use conc_types::{Manager, Moment, Shift};
 #[tactic(auto, using(crate::proofs::Calendars::weekday_same))]
 fn weekday_of(day: u64) -> u64
     ensures cycle { result ≡ day % 7 }
-    ensures calendar { (d : Date) → epoch_day d ≡ pos day -ℤ pos 719162 → words_spec.weekday_of d ≡ result }
+    ensures calendar { (d : Date) → epoch_day d ≡ pos day -ℤ pos 719162
+        → words_spec.weekday_of d ≡ result }
 {
     day % 7
 }
@@ -76,7 +77,8 @@ fn top_level(shifts: &[Shift], t: Moment) -> u32
 
 // The most places among the shifts of this level that cover the moment, or 0.
 fn most_at_level(shifts: &[Shift], t: Moment, top: u32) -> u32
-    ensures { result ≡ greatest (map (λ shift. shift.places) (filter (λ shift. managers_spec.level shift == top) (filter (shift_covers t) shifts.now))) }
+    ensures { result ≡ greatest (map (λ shift. shift.places)
+        (filter (λ shift. managers_spec.level shift == top) (filter (shift_covers t) shifts.now))) }
 {
     match shifts.split_first() {
         None => 0,

@@ -46,7 +46,8 @@ fn judge_and_print<F: Shelf, O: Sink>(
     out: &mut O,
     history: &Name,
 ) -> Exit
-    ensures ends { CheckEnds (record { plan = plan.now; readings = readings.now.list; name = history.now; before = F.state shelf.old; after = F.state shelf.new })
+    ensures ends { CheckEnds (record { plan = plan.now; readings = readings.now.list; name
+        = history.now; before = F.state shelf.old; after = F.state shelf.new })
         (sunk (O.taken out.old) (O.taken out.new) (O.faults out.old) (O.faults out.new)) result }
     ensures later { IsLater (F.state shelf.old) (F.state shelf.new) }
 {
@@ -78,7 +79,9 @@ pub(crate) fn check_files<F: Shelf, O: Sink, C: Clock>(
     history: Name,
 ) -> Exit
     ensures answers { AnswersCheck (named setup script (Some file)) history
-        (around (F.state shelf.old) (F.state shelf.new) (C.state clock.old) (C.state clock.new) (sunk (O.taken out.old) (O.taken out.new) (O.faults out.old) (O.faults out.new))) result }
+        (around (F.state shelf.old) (F.state shelf.new) (C.state clock.old) (C.state clock.new)
+            (sunk (O.taken out.old) (O.taken out.new) (O.faults out.old) (O.faults out.new)))
+            result }
     ensures later { IsLater (F.state shelf.old) (F.state shelf.new) }
 {
     let (accepted, readings) = match accept_timed(alloc, shelf, clock, setup, script, file) {

@@ -34,8 +34,10 @@ pub fn run_plain<F: Shelf, O: Sink, D: Disk, E: Disk, C: Clock>(
     clock: &mut C,
 ) -> Exit
     ensures means { MeansRun (command_of (map string_bytes words.now))
-        (around (F.state shelf.old) (F.state shelf.new) (C.state clock.old) (C.state clock.new) (sunk (O.taken out.old) (O.taken out.new) (O.faults out.old) (O.faults out.new)))
-        (disks (D.state journal.old) (D.state journal.new) (E.state spool.old) (E.state spool.new)) result }
+        (around (F.state shelf.old) (F.state shelf.new) (C.state clock.old) (C.state clock.new)
+            (sunk (O.taken out.old) (O.taken out.new) (O.faults out.old) (O.faults out.new)))
+        (disks (D.state journal.old) (D.state journal.new) (E.state spool.old) (E.state spool.new))
+            result }
     ensures later { IsLater (F.state shelf.old) (F.state shelf.new) }
 {
     match read_command(alloc, words) {
@@ -63,7 +65,9 @@ pub fn show_plan<F: Shelf, O: Sink>(
     out: &mut O,
 ) -> Exit
     ensures means { (clock : ClockState) → MeansPlan (command_of (map string_bytes words.now))
-        (around (F.state shelf.old) (F.state shelf.new) clock clock (sunk (O.taken out.old) (O.taken out.new) (O.faults out.old) (O.faults out.new))) result }
+        (around (F.state shelf.old) (F.state shelf.new) clock clock
+            (sunk (O.taken out.old) (O.taken out.new) (O.faults out.old) (O.faults out.new)))
+            result }
     ensures later { IsLater (F.state shelf.old) (F.state shelf.new) }
 {
     match read_command(alloc, words) {
@@ -82,7 +86,9 @@ pub fn check_history<F: Shelf, O: Sink, C: Clock>(
     clock: &mut C,
 ) -> Exit
     ensures means { MeansCheck (command_of (map string_bytes words.now))
-        (around (F.state shelf.old) (F.state shelf.new) (C.state clock.old) (C.state clock.new) (sunk (O.taken out.old) (O.taken out.new) (O.faults out.old) (O.faults out.new))) result }
+        (around (F.state shelf.old) (F.state shelf.new) (C.state clock.old) (C.state clock.new)
+            (sunk (O.taken out.old) (O.taken out.new) (O.faults out.old) (O.faults out.new)))
+            result }
     ensures later { IsLater (F.state shelf.old) (F.state shelf.new) }
 {
     match read_command(alloc, words) {
@@ -111,7 +117,8 @@ pub fn show_status<F: Shelf, O: Sink, D: Disk>(
     journal: &mut D,
 ) -> Exit
     ensures means { (clock : ClockState) → MeansStatus (command_of (map string_bytes words.now))
-        (around (F.state shelf.old) (F.state shelf.new) clock clock (sunk (O.taken out.old) (O.taken out.new) (O.faults out.old) (O.faults out.new)))
+        (around (F.state shelf.old) (F.state shelf.new) clock clock
+            (sunk (O.taken out.old) (O.taken out.new) (O.faults out.old) (O.faults out.new)))
         (D.state journal.old) (D.state journal.new) result }
     ensures untouched { IsDiskUntouched (D.state journal.old) (D.state journal.new) }
     ensures later { IsLater (F.state shelf.old) (F.state shelf.new) }
@@ -135,9 +142,12 @@ pub fn show_output<F: Shelf, O: Sink, D: Disk, E: Disk>(
     spool: &mut E,
 ) -> Exit
     ensures means { (clock : ClockState) → MeansOutput (command_of (map string_bytes words.now))
-        (around (F.state shelf.old) (F.state shelf.new) clock clock (sunk (O.taken out.old) (O.taken out.new) (O.faults out.old) (O.faults out.new)))
-        (disks (D.state journal.old) (D.state journal.new) (E.state spool.old) (E.state spool.new)) result }
-    ensures untouched { AreUntouched (disks (D.state journal.old) (D.state journal.new) (E.state spool.old) (E.state spool.new)) }
+        (around (F.state shelf.old) (F.state shelf.new) clock clock
+            (sunk (O.taken out.old) (O.taken out.new) (O.faults out.old) (O.faults out.new)))
+        (disks (D.state journal.old) (D.state journal.new) (E.state spool.old) (E.state spool.new))
+            result }
+    ensures untouched { AreUntouched (disks (D.state journal.old) (D.state journal.new)
+        (E.state spool.old) (E.state spool.new)) }
     ensures later { IsLater (F.state shelf.old) (F.state shelf.new) }
 {
     match read_command(alloc, words) {
@@ -158,7 +168,8 @@ pub fn show_output<F: Shelf, O: Sink, D: Disk, E: Disk>(
 /// Does `make SEED SIZE`, as `conc` says. It reads no file and touches no disk: its run is over disks in
 /// memory.
 pub fn make_and_run<O: Sink>(alloc: Global, words: &[String], out: &mut O) -> Exit
-    ensures { MeansMake (command_of (map string_bytes words.now)) (sunk (O.taken out.old) (O.taken out.new) (O.faults out.old) (O.faults out.new)) result }
+    ensures { MeansMake (command_of (map string_bytes words.now))
+        (sunk (O.taken out.old) (O.taken out.new) (O.faults out.old) (O.faults out.new)) result }
 {
     match read_command(alloc, words) {
         Ok(Some(Command::Make { seed, size })) => print_summary(alloc, seed, size, out),

@@ -29,7 +29,8 @@ fn run_and_print<O: Sink, D: Disk, E: Disk>(
     journal: &mut D,
     spool: &mut E,
 ) -> Exit
-    ensures { RunEnds (handed plan.now readings.now digest.now (D.state journal.old) (D.state journal.new) (E.state spool.old) (E.state spool.new))
+    ensures { RunEnds (handed plan.now readings.now digest.now (D.state journal.old)
+        (D.state journal.new) (E.state spool.old) (E.state spool.new))
         (sunk (O.taken out.old) (O.taken out.new) (O.faults out.old) (O.faults out.new)) result }
 {
     alone_is_lawful();
@@ -60,8 +61,10 @@ pub(crate) fn run_files<F: Shelf, O: Sink, D: Disk, E: Disk, C: Clock>(
     file: Name,
 ) -> Exit
     ensures answers { AnswersRun (named setup script (Some file))
-        (around (F.state shelf.old) (F.state shelf.new) (C.state clock.old) (C.state clock.new) (sunk (O.taken out.old) (O.taken out.new) (O.faults out.old) (O.faults out.new)))
-        (disks (D.state journal.old) (D.state journal.new) (E.state spool.old) (E.state spool.new)) result }
+        (around (F.state shelf.old) (F.state shelf.new) (C.state clock.old) (C.state clock.new)
+            (sunk (O.taken out.old) (O.taken out.new) (O.faults out.old) (O.faults out.new)))
+        (disks (D.state journal.old) (D.state journal.new) (E.state spool.old) (E.state spool.new))
+            result }
     ensures later { IsLater (F.state shelf.old) (F.state shelf.new) }
 {
     let (accepted, readings) = match accept_timed(alloc, shelf, clock, setup, script, file) {

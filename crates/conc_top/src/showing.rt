@@ -23,7 +23,8 @@ use std::alloc::Global;
 
 // Prints the listing of the plan.
 fn print_listing<O: Sink>(alloc: Global, plan: &Plan, out: &mut O) -> Exit
-    ensures { Prints (λ text. text ≡ listing plan.now) (sunk (O.taken out.old) (O.taken out.new) (O.faults out.old) (O.faults out.new)) result }
+    ensures { Prints (λ text. text ≡ listing plan.now)
+        (sunk (O.taken out.old) (O.taken out.new) (O.faults out.old) (O.faults out.new)) result }
 {
     match put_plan(alloc, plan) {
         Ok(text) => write_text(&text, out),
@@ -40,7 +41,9 @@ pub(crate) fn list_files<F: Shelf, O: Sink>(
     script: Name,
 ) -> Exit
     ensures answers { (clock : ClockState) → AnswersPlan (named setup script None)
-        (around (F.state shelf.old) (F.state shelf.new) clock clock (sunk (O.taken out.old) (O.taken out.new) (O.faults out.old) (O.faults out.new))) result }
+        (around (F.state shelf.old) (F.state shelf.new) clock clock
+            (sunk (O.taken out.old) (O.taken out.new) (O.faults out.old) (O.faults out.new)))
+            result }
     ensures later { IsLater (F.state shelf.old) (F.state shelf.new) }
 {
     match accept(alloc, shelf, setup, script) {
@@ -84,7 +87,8 @@ pub(crate) fn show_table<F: Shelf, O: Sink, D: Disk>(
     script: Name,
 ) -> Exit
     ensures answers { (clock : ClockState) → AnswersStatus (named setup script None)
-        (around (F.state shelf.old) (F.state shelf.new) clock clock (sunk (O.taken out.old) (O.taken out.new) (O.faults out.old) (O.faults out.new)))
+        (around (F.state shelf.old) (F.state shelf.new) clock clock
+            (sunk (O.taken out.old) (O.taken out.new) (O.faults out.old) (O.faults out.new)))
         (D.state journal.old) (D.state journal.new) result }
     ensures untouched { IsDiskUntouched (D.state journal.old) (D.state journal.new) }
     ensures later { IsLater (F.state shelf.old) (F.state shelf.new) }
@@ -117,9 +121,11 @@ fn print_report<O: Sink, D: Disk, E: Disk>(
     journal: &mut D,
     spool: &mut E,
 ) -> Exit
-    ensures ends { OutputEnds plan.now digest.now id (disks (D.state journal.old) (D.state journal.new) (E.state spool.old) (E.state spool.new))
+    ensures ends { OutputEnds plan.now digest.now id
+        (disks (D.state journal.old) (D.state journal.new) (E.state spool.old) (E.state spool.new))
         (sunk (O.taken out.old) (O.taken out.new) (O.faults out.old) (O.faults out.new)) result }
-    ensures untouched { AreUntouched (disks (D.state journal.old) (D.state journal.new) (E.state spool.old) (E.state spool.new)) }
+    ensures untouched { AreUntouched (disks (D.state journal.old) (D.state journal.new)
+        (E.state spool.old) (E.state spool.new)) }
 {
     match read_text(alloc, plan, digest, id, journal, spool) {
         Ok(text) => write_text(&text, out),
@@ -140,9 +146,12 @@ pub(crate) fn show_report<F: Shelf, O: Sink, D: Disk, E: Disk>(
     id: RequestId,
 ) -> Exit
     ensures answers { (clock : ClockState) → AnswersOutput (named setup script None) id
-        (around (F.state shelf.old) (F.state shelf.new) clock clock (sunk (O.taken out.old) (O.taken out.new) (O.faults out.old) (O.faults out.new)))
-        (disks (D.state journal.old) (D.state journal.new) (E.state spool.old) (E.state spool.new)) result }
-    ensures untouched { AreUntouched (disks (D.state journal.old) (D.state journal.new) (E.state spool.old) (E.state spool.new)) }
+        (around (F.state shelf.old) (F.state shelf.new) clock clock
+            (sunk (O.taken out.old) (O.taken out.new) (O.faults out.old) (O.faults out.new)))
+        (disks (D.state journal.old) (D.state journal.new) (E.state spool.old) (E.state spool.new))
+            result }
+    ensures untouched { AreUntouched (disks (D.state journal.old) (D.state journal.new)
+        (E.state spool.old) (E.state spool.new)) }
     ensures later { IsLater (F.state shelf.old) (F.state shelf.new) }
 {
     match accept(alloc, shelf, setup, script) {

@@ -60,11 +60,16 @@ fn plan_from<F: Shelf>(
 ) -> Result<Accepted, InputFail>
     requires { IsTrue (are_commands start.setup start.script.commands) }
     ensures later { IsLater (F.state shelf.old) (F.state shelf.new) }
-    ensures ok { (told : Told) (clock : Option (List ℕ)) (readings : Option ReadingsIn) → told.files ≡ (F.state shelf.old).files
-        → HasInputs told (named setup script clock) start readings → IfOk result (IsAccepted told (named setup script clock) readings) }
-    ensures err { (old : ShelfState) (before after : ClockState) (clock : Option (List ℕ)) (readings : Option ReadingsIn) → IsLater old (F.state shelf.old)
-        → HasInputs (told_by (sources old before) (sources (F.state shelf.new) after)) (named setup script clock) start readings
-        → IfErr result (FailsWith (sources old before) (sources (F.state shelf.new) after) (named setup script clock)) }
+    ensures ok { (told : Told) (clock : Option (List ℕ)) (readings : Option ReadingsIn)
+        → told.files ≡ (F.state shelf.old).files
+        → HasInputs told (named setup script clock) start readings
+            → IfOk result (IsAccepted told (named setup script clock) readings) }
+    ensures err { (old : ShelfState) (before after : ClockState) (clock : Option (List ℕ))
+        (readings : Option ReadingsIn) → IsLater old (F.state shelf.old)
+        → HasInputs (told_by (sources old before) (sources (F.state shelf.new) after))
+            (named setup script clock) start readings
+        → IfErr result (FailsWith (sources old before) (sources (F.state shelf.new) after)
+            (named setup script clock)) }
 {
     let mut digest = start.digest;
     let tables = match read_tables(alloc, shelf, start.setup.tables.as_slice(), &mut digest) {
@@ -90,8 +95,12 @@ pub fn accept<F: Shelf>(
     script: Name,
 ) -> Result<Accepted, InputFail>
     ensures later { IsLater (F.state shelf.old) (F.state shelf.new) }
-    ensures ok { (clock : ClockState) → IfOk result (IsAccepted (told_by (sources (F.state shelf.old) clock) (sources (F.state shelf.new) clock)) (named setup script None) None) }
-    ensures err { (clock : ClockState) → IfErr result (FailsWith (sources (F.state shelf.old) clock) (sources (F.state shelf.new) clock) (named setup script None)) }
+    ensures ok { (clock : ClockState) → IfOk result
+        (IsAccepted (told_by (sources (F.state shelf.old) clock)
+        (sources (F.state shelf.new) clock)) (named setup script None) None) }
+    ensures err { (clock : ClockState)
+        → IfErr result (FailsWith (sources (F.state shelf.old) clock)
+        (sources (F.state shelf.new) clock) (named setup script None)) }
 {
     let start = match read_start(alloc, shelf, &setup, &script) {
         Ok(start) => start,
@@ -112,8 +121,12 @@ pub fn accept_timed<F: Shelf, C: Clock>(
     file: Name,
 ) -> Result<(Accepted, Readings), InputFail>
     ensures later { IsLater (F.state shelf.old) (F.state shelf.new) }
-    ensures ok { IfOk result (λ p. IsAccepted (told_by (sources (F.state shelf.old) (C.state clock.old)) (sources (F.state shelf.new) (C.state clock.new))) (named setup script (Some file)) (Some p.1) p.0) }
-    ensures err { IfErr result (FailsWith (sources (F.state shelf.old) (C.state clock.old)) (sources (F.state shelf.new) (C.state clock.new)) (named setup script (Some file))) }
+    ensures ok { IfOk result (λ p. IsAccepted
+        (told_by (sources (F.state shelf.old) (C.state clock.old))
+        (sources (F.state shelf.new) (C.state clock.new))) (named setup script (Some file))
+        (Some p.1) p.0) }
+    ensures err { IfErr result (FailsWith (sources (F.state shelf.old) (C.state clock.old))
+        (sources (F.state shelf.new) (C.state clock.new)) (named setup script (Some file))) }
 {
     let start = match read_start(alloc, shelf, &setup, &script) {
         Ok(start) => start,

@@ -56,8 +56,12 @@ pub(crate) fn read_readings<F: Shelf, C: Clock>(
     name: &Name,
 ) -> Result<Readings, InputFail>
     ensures later { IsLater (F.state shelf.old) (F.state shelf.new) }
-    ensures ok { IfOk result (λ readings. ReadsFrom (told_by (sources (F.state shelf.old) (C.state clock.old)) (sources (F.state shelf.new) (C.state clock.new))) name.now readings (spec.is_system name.now)) }
-    ensures err { IfErr result (FailsAtClock (sources (F.state shelf.old) (C.state clock.old)) (sources (F.state shelf.new) (C.state clock.new)) name.now) }
+    ensures ok { IfOk result (λ readings. ReadsFrom
+        (told_by (sources (F.state shelf.old) (C.state clock.old))
+        (sources (F.state shelf.new) (C.state clock.new))) name.now readings
+        (spec.is_system name.now)) }
+    ensures err { IfErr result (FailsAtClock (sources (F.state shelf.old) (C.state clock.old))
+        (sources (F.state shelf.new) (C.state clock.new)) name.now) }
 {
     if is_system(name) {
         return show(alloc, clock);

@@ -52,8 +52,10 @@ pub(crate) fn judge_setup<F: Shelf>(
     name: &Name,
 ) -> Result<(Setup, Vec<u8>), FileFail>
     ensures later { IsLater (F.state shelf.old) (F.state shelf.new) }
-    ensures ok { IfOk result (λ p. Gives (F.state shelf.old).files name.now p.1.items × (setup_in p.1.items ≡ Ok p.0)) }
-    ensures err { IfErr result (Ends (F.state shelf.old) (F.state shelf.new) (λ bytes fault. fault_in bytes ≡ Some fault) kind.Setup name.now) }
+    ensures ok { IfOk result (λ p. Gives (F.state shelf.old).files name.now p.1.items
+        × (setup_in p.1.items ≡ Ok p.0)) }
+    ensures err { IfErr result (Ends (F.state shelf.old) (F.state shelf.new)
+        (λ bytes fault. fault_in bytes ≡ Some fault) kind.Setup name.now) }
 {
     let bytes = read(alloc, shelf, name)?;
     match read_setup(alloc, &bytes) {
@@ -70,9 +72,11 @@ pub(crate) fn judge_script<F: Shelf>(
     setup: &Setup,
 ) -> Result<(Script, Vec<u8>), FileFail>
     ensures later { IsLater (F.state shelf.old) (F.state shelf.new) }
-    ensures ok { IfOk result (λ p. Gives (F.state shelf.old).files name.now p.1.items × SpellsScript setup.now p.1.items p.0) }
+    ensures ok { IfOk result (λ p. Gives (F.state shelf.old).files name.now p.1.items
+        × SpellsScript setup.now p.1.items p.0) }
     ensures fits { IfOk result (λ p. IsTrue (are_commands setup.now p.0.commands)) }
-    ensures err { IfErr result (Ends (F.state shelf.old) (F.state shelf.new) (λ bytes fault. script_fault setup.now bytes ≡ Some fault) kind.Script name.now) }
+    ensures err { IfErr result (Ends (F.state shelf.old) (F.state shelf.new)
+        (λ bytes fault. script_fault setup.now bytes ≡ Some fault) kind.Script name.now) }
 {
     let bytes = read(alloc, shelf, name)?;
     match read_script(alloc, &bytes, setup) {
@@ -88,8 +92,10 @@ pub(crate) fn judge_clock<F: Shelf>(
     name: &Name,
 ) -> Result<Readings, FileFail>
     ensures later { IsLater (F.state shelf.old) (F.state shelf.new) }
-    ensures ok { IfOk result (λ readings. (bytes : List ℕ) × Gives (F.state shelf.old).files name.now bytes × SpellsClock bytes readings) }
-    ensures err { IfErr result (Ends (F.state shelf.old) (F.state shelf.new) (λ bytes fault. clock_fault bytes ≡ Some fault) kind.Clock name.now) }
+    ensures ok { IfOk result (λ readings. (bytes : List ℕ)
+        × Gives (F.state shelf.old).files name.now bytes × SpellsClock bytes readings) }
+    ensures err { IfErr result (Ends (F.state shelf.old) (F.state shelf.new)
+        (λ bytes fault. clock_fault bytes ≡ Some fault) kind.Clock name.now) }
 {
     let bytes = read(alloc, shelf, name)?;
     match read_clock(alloc, &bytes) {
@@ -109,9 +115,11 @@ pub(crate) fn judge_table<F: Shelf>(
 ) -> Result<(Table, Vec<u8>), FileFail>
     requires { before ≤ 134217728 }
     ensures later { IsLater (F.state shelf.old) (F.state shelf.new) }
-    ensures ok { IfOk result (λ p. Gives (F.state shelf.old).files name.now p.1.items × SpellsTable p.1.items p.0) }
+    ensures ok { IfOk result (λ p. Gives (F.state shelf.old).files name.now p.1.items
+        × SpellsTable p.1.items p.0) }
     ensures fit { IfOk result (λ p. before + length p.1.items ≤ 134217728) }
-    ensures err { IfErr result (Ends (F.state shelf.old) (F.state shelf.new) (λ bytes fault. fault_of_table before bytes ≡ Some fault) (kind.Table number) name.now) }
+    ensures err { IfErr result (Ends (F.state shelf.old) (F.state shelf.new)
+        (λ bytes fault. fault_of_table before bytes ≡ Some fault) (kind.Table number) name.now) }
 {
     let bytes = read(alloc, shelf, name)?;
     if before + bytes.len() > MOST_BYTES {

@@ -32,9 +32,12 @@ pub(crate) fn read_start<F: Shelf>(
     script: &Name,
 ) -> Result<Start, InputFail>
     ensures later { IsLater (F.state shelf.old) (F.state shelf.new) }
-    ensures ok { (clock : Option (List ℕ)) → IfOk result (HasStart (F.state shelf.old).files (named setup.now script.now clock)) }
+    ensures ok { (clock : Option (List ℕ))
+        → IfOk result (HasStart (F.state shelf.old).files (named setup.now script.now clock)) }
     ensures fits { IfOk result (λ start. IsTrue (are_commands start.setup start.script.commands)) }
-    ensures err { (before after : ClockState) (clock : Option (List ℕ)) → IfErr result (FailsWith (sources (F.state shelf.old) before) (sources (F.state shelf.new) after) (named setup.now script.now clock)) }
+    ensures err { (before after : ClockState) (clock : Option (List ℕ))
+        → IfErr result (FailsWith (sources (F.state shelf.old) before)
+        (sources (F.state shelf.new) after) (named setup.now script.now clock)) }
 {
     let (setup_read, setup_bytes) = match judge_setup(alloc, shelf, setup) {
         Ok(read) => read,
@@ -61,7 +64,8 @@ pub(crate) fn read_tables<F: Shelf>(
 ) -> Result<Vec<Table>, InputFail>
     requires { length names.now ≤ 64 }
     ensures later { IsLater (F.state shelf.old) (F.state shelf.new) }
-    ensures ok { IfOk result (λ tables. HasTablesIn (F.state shelf.old).files names.now digest.old digest.new tables.items) }
+    ensures ok { IfOk result (λ tables. HasTablesIn (F.state shelf.old).files names.now digest.old
+        digest.new tables.items) }
     ensures err { IfErr result (FailsInTables (F.state shelf.old) (F.state shelf.new) names.now) }
 {
     let mut tables = Vec::new(alloc);

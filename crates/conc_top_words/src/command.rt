@@ -69,7 +69,8 @@ fn check_among(
     clock: &[u8],
     history: &[u8],
 ) -> Result<Option<Command>, NoMemory>
-    ensures { IfOk result (λ command. command ≡ check_of (setup.now ∷ script.now ∷ clock.now ∷ history.now ∷ [])) }
+    ensures { IfOk result (λ command. command
+        ≡ check_of (setup.now ∷ script.now ∷ clock.now ∷ history.now ∷ [])) }
 {
     if !(is_file(setup) && is_file(script) && is_file(clock) && is_file(history)) {
         return Ok(None);
@@ -145,7 +146,8 @@ fn read_make(words: &[String]) -> Option<Command>
 // The command of a name, with what the words behind it say.
 #[tactic(auto, unfolding(crate::specs::Words::command_named))]
 fn read_named(alloc: Global, name: &[u8], words: &[String]) -> Result<Option<Command>, NoMemory>
-    ensures { IfOk result (λ command. command ≡ command_named name.now (map string_bytes words.now)) }
+    ensures { IfOk result (λ command. command
+        ≡ command_named name.now (map string_bytes words.now)) }
 {
     if is(b"run", name) {
         read_run(alloc, words)

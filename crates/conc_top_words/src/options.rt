@@ -33,7 +33,8 @@ fn nothing<'a>(alloc: Global) -> Said<'a>
 
 // Puts a word before others.
 fn put_first<'a>(words: &mut Vec<&'a [u8]>, word: &'a [u8]) -> Result<(), NoMemory>
-    ensures { OnOk result (map (λ w. w.now) words.new.items ≡ word.now ∷ map (λ w. w.now) words.old.items) }
+    ensures { OnOk result (map (λ w. w.now) words.new.items ≡ word.now
+        ∷ map (λ w. w.now) words.old.items) }
 {
     words.insert(0, word)?;
     Ok(())
@@ -69,7 +70,8 @@ fn behind<'a>(text: &[u8], word: &'a [u8]) -> Option<&'a [u8]>
 
 // A word that is a file or an option with its value, before words that say more.
 fn said_by<'a>(word: &'a [u8], more: Said<'a>) -> Result<Option<Said<'a>>, NoMemory>
-    ensures { IfOk result (λ s. option_map shown s ≡ spec.said_by word.now (Some (shown more.entry))) }
+    ensures { IfOk result (λ s. option_map shown s
+        ≡ spec.said_by word.now (Some (shown more.entry))) }
 {
     if let Some(value) = behind(b"--threads=", word) {
         return Ok(Some(with_threads(value, more)?));
@@ -92,7 +94,8 @@ fn takes_next(word: &[u8]) -> bool
 
 // An option with its value, before words that say more.
 fn with_option<'a>(option: &[u8], value: &'a [u8], more: Said<'a>) -> Result<Said<'a>, NoMemory>
-    ensures { IfOk result (λ s. shown s ≡ spec.with_option option.now value.now (shown more.entry)) }
+    ensures { IfOk result (λ s. shown s
+        ≡ spec.with_option option.now value.now (shown more.entry)) }
 {
     if is(b"--threads", option) {
         with_threads(value, more)

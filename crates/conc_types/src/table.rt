@@ -14,7 +14,8 @@ pub struct Table {
     columns: Seq<Bytes>,
     cells: Cells,
     ghost distinct: { IsTrue (are_distinct bytes_eq columns) },
-    ghost even: { IsTrue (list_all (has_length (length columns)) (rows_of (length columns) cells)) },
+    ghost even: { IsTrue (list_all (has_length (length columns))
+        (rows_of (length columns) cells)) },
     ghost few: { length (rows_of (length columns) cells) ≤ 1114112 },
 }
 
@@ -43,7 +44,8 @@ impl Table {
         requires whole { length cells % length columns ≡ 0 }
         requires few { length cells / length columns ≤ 1114112 }
         ensures columns { result.columns ≡ columns }
-        ensures rows { (rows : List (List (List ℕ))) → concat rows ≡ cells → IsTrue (list_all (has_length (length columns)) rows) → result.rows ≡ rows }
+        ensures rows { (rows : List (List (List ℕ))) → concat rows ≡ cells
+            → IsTrue (list_all (has_length (length columns)) rows) → result.rows ≡ rows }
         ensures cells { concat result.rows ≡ cells }
     {
         Table { columns, cells }
