@@ -34,7 +34,7 @@ pub fn rule_has_points()
 pub fn rule_reads_no_finds()
     ensures { (plan : Plan) (s : BoardState) (others : List View) → Keep plan s →
         DifferInFinds s.views others → Keep plan
-            (record { words = s.words; homes = s.homes; views = others }) }
+        (record { words = s.words; homes = s.homes; views = others }) }
 {}
 
 /// A hand has the slot of the request that it has the permit for, and no other slot.

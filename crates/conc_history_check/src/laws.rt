@@ -10,5 +10,5 @@ ghost use Rattle.conc_history_check.specs.Positions.{is_lawful_at};
 pub fn lawful_at_each_position()
     ensures { (plan : Plan) (readings : List Reading) (history : List Event) →
         Lawful plan readings history ↔ ((i : ℕ) → 1 ≤ i → i ≤ length history
-            → IsTrue (is_lawful_at plan readings history i)) }
+        → IsTrue (is_lawful_at plan readings history i)) }
 {}

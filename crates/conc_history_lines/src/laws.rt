@@ -20,7 +20,7 @@ pub fn event_lines_have_one_spelling()
 pub fn event_lines_are_read_back()
     ensures { (plan : Plan) (e : Event) →
         IsTrue (has_line plan e) → event_of_line (starts_of plan) (spaced (event_words plan e))
-            ≡ Some e }
+        ≡ Some e }
 {}
 
 /// Each event of a lawful history has a line.

@@ -189,8 +189,14 @@ fn tick_fields(moment: Moment) -> Fields
 
 // The fields of an event whose record has one number beside its kind.
 fn one_number(kind: u8, first: u32) -> Fields
-    ensures { result ≡ record { kind = kind; outcome = 0; first = first; second = 0; wide = 0;
-        length = 0 } }
+    ensures { result ≡ record {
+      kind = kind;
+      outcome = 0;
+      first = first;
+      second = 0;
+      wide = 0;
+      length = 0;
+    } }
 {
     Fields {
         kind,
@@ -201,8 +207,14 @@ fn one_number(kind: u8, first: u32) -> Fields
 
 // The same with two numbers.
 fn two_numbers(kind: u8, first: u32, second: u32) -> Fields
-    ensures { result ≡ record { kind = kind; outcome = 0; first = first; second = second; wide = 0;
-        length = 0 } }
+    ensures { result ≡ record {
+      kind = kind;
+      outcome = 0;
+      first = first;
+      second = second;
+      wide = 0;
+      length = 0;
+    } }
 {
     Fields {
         second,

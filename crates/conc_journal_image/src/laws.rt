@@ -62,7 +62,7 @@ pub fn gate_begins()
 pub fn journal_stays()
     ensures { (digest old new : List ℕ) (events : List Event) → IsJournal digest events old →
         take (64 + 32 * length events + 1) new ≡ take (64 + 32 * length events + 1) old
-            → IsJournal digest events new }
+        → IsJournal digest events new }
 {}
 
 /// With the next record behind the last gate a journal has its events, or the next one too, whatever the
@@ -72,7 +72,7 @@ pub fn gate_adds()
         IsJournal digest events old → length events < 1048576 → HasNext events e old →
         take (64 + 32 * length events) new ≡ take (64 + 32 * length events) old →
         drop (64 + 32 * length events + 1) new ≡ drop (64 + 32 * length events + 1) old
-            → length old ≤ length new →
+        → length old ≤ length new →
         IsJournal digest events new ⊎ IsJournal digest (events ++ e ∷ []) new }
     ensures opened { (digest old new : List ℕ) (events : List Event) (e : Event) →
         IsJournal digest events old → length events < 1048576 → HasNext events e old →

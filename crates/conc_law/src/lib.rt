@@ -160,5 +160,5 @@ pub fn running_place_stands()
         → LawfulSoFar plan history →
         some_and (λ p. p.index == place.index) (running_place (reverse history) r.number)
         ≡ stands_since (λ _ e. starts_at r.number place e) (λ _ e. stops r.number e)
-            (reverse history) }
+        (reverse history) }
 {}

@@ -17,7 +17,7 @@ ghost use Rattle.conc_law_promises.specs.Promises.{IsAdmitted, IsNextStage};
 pub fn starts_are_admitted()
     ensures { (plan : Plan) (before : List Event) (r : Req) (place : PlaceId) →
         Has plan.requests r → LawfulSoFar plan (before ++ Event.Started r.number place ∷ [])
-            → IsAdmitted plan (state plan (reverse before)) r place }
+        → IsAdmitted plan (state plan (reverse before)) r place }
 {}
 
 /// Where a stage of a set begins, it is the first one, and none has begun; or all members of the stage that
@@ -25,5 +25,5 @@ pub fn starts_are_admitted()
 pub fn stages_follow_links()
     ensures { (plan : Plan) (before : List Event) (set : Req) (stage : ℕ) →
         Has plan.requests set → LawfulSoFar plan (before ++ Event.Stage set.number stage ∷ [])
-            → IsNextStage plan (state plan (reverse before)) set stage }
+        → IsNextStage plan (state plan (reverse before)) set stage }
 {}

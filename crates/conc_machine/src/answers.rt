@@ -58,8 +58,8 @@ impl<'p> Machine<'p> {
     pub fn may_start(&self, request: RequestId, place: PlaceId) -> bool
         ensures { (past : List Event) → StandsFor self.now past →
             result ≡ some_and (λ r. next_spec.may_start (plan_of self.now)
-                (state (plan_of self.now) past) r place)
-                (plans_spec.request (plan_of self.now) request) }
+            (state (plan_of self.now) past) r place)
+            (plans_spec.request (plan_of self.now) request) }
     {
         may_start(self.plan, &self.indexes, request, place)
     }
@@ -68,7 +68,7 @@ impl<'p> Machine<'p> {
     pub fn first_start(&self) -> Option<(RequestId, PlaceId)>
         ensures { (past : List Event) → StandsFor self.now past →
             option_map (λ (start : RequestId × PlaceId). event.Started start.0 start.1) result
-                ≡ alone_spec.first_start (plan_of self.now) (state (plan_of self.now) past) }
+            ≡ alone_spec.first_start (plan_of self.now) (state (plan_of self.now) past) }
     {
         self.indexes
             .starts
@@ -79,8 +79,8 @@ impl<'p> Machine<'p> {
     pub fn first_running(&self) -> Option<RequestId>
         ensures { (past : List Event) → StandsFor self.now past →
             result ≡ option_map (λ r. r.number)
-                (find (runs_somewhere (state (plan_of self.now) past))
-                (plan_of self.now).requests) }
+            (find (runs_somewhere (state (plan_of self.now) past))
+            (plan_of self.now).requests) }
     {
         match self.indexes.running.first(self.plan, &self.indexes.state) {
             Some(r) => Some(r.number),
@@ -104,9 +104,9 @@ impl<'p> Machine<'p> {
     pub fn may_tick(&self) -> bool
         ensures { (past : List Event) → StandsFor self.now past →
             result ≡ some_and (next_spec.may_take (plan_of self.now)
-                (state (plan_of self.now) past))
-                (option_and_then (λ readings. readings_spec.next_reading readings past)
-                (readings_of self.now)) }
+            (state (plan_of self.now) past))
+            (option_and_then (λ readings. readings_spec.next_reading readings past)
+            (readings_of self.now)) }
     {
         match self.next_reading() {
             Some(reading) => may_take(self.plan, &self.indexes, reading),
@@ -145,8 +145,8 @@ impl<'p> Machine<'p> {
     pub fn must_stop(&self, request: RequestId) -> bool
         ensures { (past : List Event) → StandsFor self.now past →
             result ≡ some_and (λ r. is_stopping
-                (state_spec.facts_at (state (plan_of self.now) past) r))
-                (plans_spec.request (plan_of self.now) request) }
+            (state_spec.facts_at (state (plan_of self.now) past) r))
+            (plans_spec.request (plan_of self.now) request) }
     {
         match self.plan.request(request) {
             Some(r) => {
@@ -161,7 +161,7 @@ impl<'p> Machine<'p> {
     pub fn status(&self, request: RequestId) -> Option<(Phase, Status)>
         ensures { (past : List Event) → StandsFor self.now past →
             result ≡ option_and_then (status_of (plan_of self.now) (state (plan_of self.now) past))
-                (plans_spec.request (plan_of self.now) request) }
+            (plans_spec.request (plan_of self.now) request) }
     {
         match self.plan.request(request) {
             Some(r) => status(self.plan, &self.indexes.state, r),

@@ -14,12 +14,12 @@ ghost use Rattle.conc_machine_queue.specs.Turns.{numbers_of, request_at_turn, re
 pub fn first_in_precedence()
     ensures { (plan : Plan) (test : Req → Bool) →
         first_by precedes test plan.requests
-            ≡ option_and_then (request_at_turn plan) (least (turns_of test plan.requests)) }
+        ≡ option_and_then (request_at_turn plan) (least (turns_of test plan.requests)) }
 {}
 
 /// The first request in order that passes is the one with the least number among those that pass.
 pub fn first_by_number()
     ensures { (plan : Plan) (test : Req → Bool) →
         find test plan.requests ≡ option_and_then (request_numbered plan)
-            (least (numbers_of test plan.requests)) }
+        (least (numbers_of test plan.requests)) }
 {}

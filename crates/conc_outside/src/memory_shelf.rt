@@ -62,8 +62,12 @@ fn file_named<'a>(files: &'a [(Name, Vec<u8>)], name: &Name) -> Option<&'a [u8]>
 }
 
 impl Shelf for MemShelf {
-    ghost state = { λ s. record { files = Some (told s.files.items); absences = s.absences; faults
-        = s.faults } };
+    ghost state = { λ s. record {
+      files = Some (told s.files.items);
+      absences = s.absences;
+      faults
+          = s.faults;
+    } };
 
     fn read_file(&mut self, alloc: Global, name: &Name) -> Result<Vec<u8>, ShelfFail> {
         let number = self.reads;

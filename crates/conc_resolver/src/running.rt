@@ -93,7 +93,7 @@ pub fn run_alone<D: Disk, E: Disk>(
     // What it makes, however it ends.
     ensures went_on { (readings : List Reading) → readings_of work.old.machine ≡ Some readings →
         WentOn plan.now readings (disks (D.state journal.old) (D.state journal.new)
-            (E.state spool.old) (E.state spool.new)) work.old work.new }
+        (E.state spool.old) (E.state spool.new)) work.old work.new }
     ensures finished { OnOk result ((readings : List Reading)
         → readings_of work.old.machine ≡ Some readings
         → Finished plan.now readings (list_in work.new)) }

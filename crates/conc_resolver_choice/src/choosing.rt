@@ -163,7 +163,7 @@ fn next_tick(plan: &Plan, machine: &Machine) -> Option<Event>
     ensures event { (readings : List Reading) (past : List Event)
         → readings_of machine.now ≡ Some readings → StandsFor machine.now past →
         result ≡ alone_spec.next_tick plan.now (state plan.now past)
-            (readings_spec.next_reading readings past) }
+        (readings_spec.next_reading readings past) }
     ensures text { ForSome result (λ e. HasItsText plan.now e None) }
 {
     match machine.next_reading() {
@@ -180,8 +180,8 @@ fn start_or_tick(plan: &Plan, machine: &Machine) -> Option<Event>
     ensures event { (readings : List Reading) (past : List Event)
         → readings_of machine.now ≡ Some readings → StandsFor machine.now past →
         result ≡ option_or (alone_spec.first_start plan.now (state plan.now past))
-            (alone_spec.next_tick plan.now (state plan.now past)
-            (readings_spec.next_reading readings past)) }
+        (alone_spec.next_tick plan.now (state plan.now past)
+        (readings_spec.next_reading readings past)) }
     ensures text { ForSome result (λ e. HasItsText plan.now e None) }
 {
     match first_start(plan, machine) {

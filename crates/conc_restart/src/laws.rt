@@ -11,5 +11,5 @@ ghost use Rattle.conc_restart.specs.Need.{IsOfOneLife, need};
 pub fn life_fits_need()
     ensures { (plan : Plan) (readings : Readings) (found added : List Event) →
         Lawful plan readings.list (found ++ added) → IsOfOneLife added
-            → length added ≤ need plan readings.list }
+        → length added ≤ need plan readings.list }
 {}

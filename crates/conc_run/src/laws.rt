@@ -23,5 +23,5 @@ pub fn what_is_good_is_not_refused()
     ensures { (plan : Plan) (digest found image : List ℕ) (len number : ℕ) →
         IsOwnJournal digest image → AreGood plan len (events_of image) (broken_of image) →
         (IsFalse (may_open image) → ⊥) × (IsOther digest found image → ⊥)
-            × (IsBadRecord plan len (events_of image) (broken_of image) number → ⊥) }
+        × (IsBadRecord plan len (events_of image) (broken_of image) number → ⊥) }
 {}

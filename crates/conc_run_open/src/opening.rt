@@ -44,7 +44,7 @@ pub fn open<'p, D: Disk, E: Disk>(
         (handed plan.now readings.now digest.now (D.state journal.old) (D.state journal.new)
         (E.state spool.old) (E.state spool.new))
         ⊎ IsGivenUp (handed plan.now readings.now digest.now (D.state journal.old)
-            (D.state journal.new) (E.state spool.old) (E.state spool.new))) }
+        (D.state journal.new) (E.state spool.old) (E.state spool.new))) }
     ensures spool { Stays (E.state spool.old) (E.state spool.new) }
     ensures spool_survives { LeavesOnly (E.state spool.old).may_leave (E.state spool.old)
         (E.state spool.new) }

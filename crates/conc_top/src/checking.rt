@@ -46,8 +46,14 @@ fn judge_and_print<F: Shelf, O: Sink>(
     out: &mut O,
     history: &Name,
 ) -> Exit
-    ensures ends { CheckEnds (record { plan = plan.now; readings = readings.now.list; name
-        = history.now; before = F.state shelf.old; after = F.state shelf.new })
+    ensures ends { CheckEnds (record {
+      plan = plan.now;
+      readings = readings.now.list;
+      name
+          = history.now;
+      before = F.state shelf.old;
+      after = F.state shelf.new;
+    })
         (sunk (O.taken out.old) (O.taken out.new) (O.faults out.old) (O.faults out.new)) result }
     ensures later { IsLater (F.state shelf.old) (F.state shelf.new) }
 {
@@ -80,8 +86,8 @@ pub(crate) fn check_files<F: Shelf, O: Sink, C: Clock>(
 ) -> Exit
     ensures answers { AnswersCheck (named setup script (Some file)) history
         (around (F.state shelf.old) (F.state shelf.new) (C.state clock.old) (C.state clock.new)
-            (sunk (O.taken out.old) (O.taken out.new) (O.faults out.old) (O.faults out.new)))
-            result }
+        (sunk (O.taken out.old) (O.taken out.new) (O.faults out.old) (O.faults out.new)))
+        result }
     ensures later { IsLater (F.state shelf.old) (F.state shelf.new) }
 {
     let (accepted, readings) = match accept_timed(alloc, shelf, clock, setup, script, file) {

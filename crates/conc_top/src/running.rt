@@ -62,9 +62,9 @@ pub(crate) fn run_files<F: Shelf, O: Sink, D: Disk, E: Disk, C: Clock>(
 ) -> Exit
     ensures answers { AnswersRun (named setup script (Some file))
         (around (F.state shelf.old) (F.state shelf.new) (C.state clock.old) (C.state clock.new)
-            (sunk (O.taken out.old) (O.taken out.new) (O.faults out.old) (O.faults out.new)))
+        (sunk (O.taken out.old) (O.taken out.new) (O.faults out.old) (O.faults out.new)))
         (disks (D.state journal.old) (D.state journal.new) (E.state spool.old) (E.state spool.new))
-            result }
+        result }
     ensures later { IsLater (F.state shelf.old) (F.state shelf.new) }
 {
     let (accepted, readings) = match accept_timed(alloc, shelf, clock, setup, script, file) {

@@ -42,8 +42,8 @@ pub(crate) fn list_files<F: Shelf, O: Sink>(
 ) -> Exit
     ensures answers { (clock : ClockState) → AnswersPlan (named setup script None)
         (around (F.state shelf.old) (F.state shelf.new) clock clock
-            (sunk (O.taken out.old) (O.taken out.new) (O.faults out.old) (O.faults out.new)))
-            result }
+        (sunk (O.taken out.old) (O.taken out.new) (O.faults out.old) (O.faults out.new)))
+        result }
     ensures later { IsLater (F.state shelf.old) (F.state shelf.new) }
 {
     match accept(alloc, shelf, setup, script) {
@@ -88,7 +88,7 @@ pub(crate) fn show_table<F: Shelf, O: Sink, D: Disk>(
 ) -> Exit
     ensures answers { (clock : ClockState) → AnswersStatus (named setup script None)
         (around (F.state shelf.old) (F.state shelf.new) clock clock
-            (sunk (O.taken out.old) (O.taken out.new) (O.faults out.old) (O.faults out.new)))
+        (sunk (O.taken out.old) (O.taken out.new) (O.faults out.old) (O.faults out.new)))
         (D.state journal.old) (D.state journal.new) result }
     ensures untouched { IsDiskUntouched (D.state journal.old) (D.state journal.new) }
     ensures later { IsLater (F.state shelf.old) (F.state shelf.new) }
@@ -147,9 +147,9 @@ pub(crate) fn show_report<F: Shelf, O: Sink, D: Disk, E: Disk>(
 ) -> Exit
     ensures answers { (clock : ClockState) → AnswersOutput (named setup script None) id
         (around (F.state shelf.old) (F.state shelf.new) clock clock
-            (sunk (O.taken out.old) (O.taken out.new) (O.faults out.old) (O.faults out.new)))
+        (sunk (O.taken out.old) (O.taken out.new) (O.faults out.old) (O.faults out.new)))
         (disks (D.state journal.old) (D.state journal.new) (E.state spool.old) (E.state spool.new))
-            result }
+        result }
     ensures untouched { AreUntouched (disks (D.state journal.old) (D.state journal.new)
         (E.state spool.old) (E.state spool.new)) }
     ensures later { IsLater (F.state shelf.old) (F.state shelf.new) }

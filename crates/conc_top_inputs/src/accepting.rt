@@ -63,13 +63,13 @@ fn plan_from<F: Shelf>(
     ensures ok { (told : Told) (clock : Option (List ℕ)) (readings : Option ReadingsIn)
         → told.files ≡ (F.state shelf.old).files
         → HasInputs told (named setup script clock) start readings
-            → IfOk result (IsAccepted told (named setup script clock) readings) }
+        → IfOk result (IsAccepted told (named setup script clock) readings) }
     ensures err { (old : ShelfState) (before after : ClockState) (clock : Option (List ℕ))
         (readings : Option ReadingsIn) → IsLater old (F.state shelf.old)
         → HasInputs (told_by (sources old before) (sources (F.state shelf.new) after))
-            (named setup script clock) start readings
+        (named setup script clock) start readings
         → IfErr result (FailsWith (sources old before) (sources (F.state shelf.new) after)
-            (named setup script clock)) }
+        (named setup script clock)) }
 {
     let mut digest = start.digest;
     let tables = match read_tables(alloc, shelf, start.setup.tables.as_slice(), &mut digest) {
