@@ -22,8 +22,8 @@ impl MemSink {
     /// A sink that has taken nothing. The writes with these numbers, counted from 0, are to fail;
     /// no clause says so, since any sink may fail. It takes no memory.
     pub fn new(alloc: Global, fails: Vec<u64>) -> Self
-        ensures taken { ⟦<MemSink as Sink>⟧.taken result ≡ Some [] }
-        ensures faults { ⟦<MemSink as Sink>⟧.faults result ≡ 0 }
+        ensures taken { (⟦<MemSink as Sink>⟧.state result).taken ≡ Some [] }
+        ensures faults { (⟦<MemSink as Sink>⟧.state result).faults ≡ 0 }
         ensures starved { starved_of result ≡ 0 }
     {
         MemSink {
@@ -37,7 +37,7 @@ impl MemSink {
 
     /// The bytes taken so far.
     pub fn bytes(&self) -> &[u8]
-        ensures { ⟦<MemSink as Sink>⟧.taken self.now ≡ Some result.now }
+        ensures { (⟦<MemSink as Sink>⟧.state self.now).taken ≡ Some result.now }
     {
         &self.bytes
     }
@@ -45,16 +45,14 @@ impl MemSink {
     /// How often a write found no memory. Each of these writes is a fault too.
     pub fn starved(&self) -> u64
         ensures count { result ≡ starved_of self.now }
-        ensures within { result ≤ ⟦<MemSink as Sink>⟧.faults self.now }
+        ensures within { result ≤ (⟦<MemSink as Sink>⟧.state self.now).faults }
     {
         self.starved
     }
 }
 
 impl Sink for MemSink {
-    ghost taken = { λ s. Some s.bytes.items };
-
-    ghost faults = { λ s. s.faults };
+    ghost state = { λ s. record { taken = Some s.bytes.items; faults = s.faults } };
 
     fn write(&mut self, piece: &[u8]) -> Result<usize, Failed> {
         let number = self.writes;

@@ -117,16 +117,14 @@ pub struct WriterSink<W: Write> {
 impl<W: Write> WriterSink<W> {
     /// A sink over this writer. It takes no memory.
     pub fn new(writer: W) -> Self
-        ensures faults { ⟦<WriterSink<W> as Sink>⟧.faults result ≡ 0 }
+        ensures faults { (⟦<WriterSink<W> as Sink>⟧.state result).faults ≡ 0 }
     {
         WriterSink { writer, faults: 0 }
     }
 }
 
 impl<W: Write> Sink for WriterSink<W> {
-    ghost taken = { λ _. None };
-
-    ghost faults = { λ s. s.faults };
+    ghost state = { λ s. record { taken = None; faults = s.faults } };
 
     fn write(&mut self, piece: &[u8]) -> Result<usize, Failed> {
         let taken = write_some(&mut self.writer, piece);

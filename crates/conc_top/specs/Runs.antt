@@ -29,10 +29,10 @@ pub record IsHistory (h : Handed) (history : List Event) : Type 0 where
 
 -- what each exit says of the run and of the output
 abbrev pub RunEnds : Handed → Sunk → Exit → Type 0
-RunEnds h sink exit.Done = (history : List Event) × IsHistory h history × Took sink.taken_before sink.taken_after (text_of h.plan history)
+RunEnds h sink exit.Done = (history : List Event) × IsHistory h history × Took sink.before.taken sink.after.taken (text_of h.plan history)
 RunEnds h sink exit.WriteFault =
-    (history : List Event) × IsHistory h history × TookPrefix sink.taken_before sink.taken_after (text_of h.plan history)
-    × Rose sink.faults_before sink.faults_after
+    (history : List Event) × IsHistory h history × TookPrefix sink.before.taken sink.after.taken (text_of h.plan history)
+    × Rose sink.before.faults sink.after.faults
 RunEnds h sink exit.NoMemory = IsCutShort h history_fail.NoMemory × TookNothing sink
 RunEnds h sink (exit.DiskFault which) = IsCutShort h (history_fail.DiskFault which) × TookNothing sink
 RunEnds h sink exit.NotJournal = IsCutShort h history_fail.NotJournal × TookNothing sink

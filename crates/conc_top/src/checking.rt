@@ -54,7 +54,7 @@ fn judge_and_print<F: Shelf, O: Sink>(
       before = F.state shelf.old;
       after = F.state shelf.new;
     })
-        (sunk (O.taken out.old) (O.taken out.new) (O.faults out.old) (O.faults out.new)) result }
+        (sunk (O.state out.old) (O.state out.new)) result }
     ensures later { IsLater (F.state shelf.old) (F.state shelf.new) }
 {
     let bytes = match read_file(alloc, shelf, history) {
@@ -86,7 +86,7 @@ pub(crate) fn check_files<F: Shelf, O: Sink, C: Clock>(
 ) -> Exit
     ensures answers { AnswersCheck (named setup script (Some file)) history
         (around (F.state shelf.old) (F.state shelf.new) (C.state clock.old) (C.state clock.new)
-        (sunk (O.taken out.old) (O.taken out.new) (O.faults out.old) (O.faults out.new)))
+        (sunk (O.state out.old) (O.state out.new)))
         result }
     ensures later { IsLater (F.state shelf.old) (F.state shelf.new) }
 {

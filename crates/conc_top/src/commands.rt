@@ -35,7 +35,7 @@ pub fn run_plain<F: Shelf, O: Sink, D: Disk, E: Disk, C: Clock>(
 ) -> Exit
     ensures means { MeansRun (command_of (map string_bytes words.now))
         (around (F.state shelf.old) (F.state shelf.new) (C.state clock.old) (C.state clock.new)
-        (sunk (O.taken out.old) (O.taken out.new) (O.faults out.old) (O.faults out.new)))
+        (sunk (O.state out.old) (O.state out.new)))
         (disks (D.state journal.old) (D.state journal.new) (E.state spool.old) (E.state spool.new))
         result }
     ensures later { IsLater (F.state shelf.old) (F.state shelf.new) }
@@ -66,7 +66,7 @@ pub fn show_plan<F: Shelf, O: Sink>(
 ) -> Exit
     ensures means { (clock : ClockState) → MeansPlan (command_of (map string_bytes words.now))
         (around (F.state shelf.old) (F.state shelf.new) clock clock
-        (sunk (O.taken out.old) (O.taken out.new) (O.faults out.old) (O.faults out.new)))
+        (sunk (O.state out.old) (O.state out.new)))
         result }
     ensures later { IsLater (F.state shelf.old) (F.state shelf.new) }
 {
@@ -87,7 +87,7 @@ pub fn check_history<F: Shelf, O: Sink, C: Clock>(
 ) -> Exit
     ensures means { MeansCheck (command_of (map string_bytes words.now))
         (around (F.state shelf.old) (F.state shelf.new) (C.state clock.old) (C.state clock.new)
-        (sunk (O.taken out.old) (O.taken out.new) (O.faults out.old) (O.faults out.new)))
+        (sunk (O.state out.old) (O.state out.new)))
         result }
     ensures later { IsLater (F.state shelf.old) (F.state shelf.new) }
 {
@@ -118,7 +118,7 @@ pub fn show_status<F: Shelf, O: Sink, D: Disk>(
 ) -> Exit
     ensures means { (clock : ClockState) → MeansStatus (command_of (map string_bytes words.now))
         (around (F.state shelf.old) (F.state shelf.new) clock clock
-        (sunk (O.taken out.old) (O.taken out.new) (O.faults out.old) (O.faults out.new)))
+        (sunk (O.state out.old) (O.state out.new)))
         (D.state journal.old) (D.state journal.new) result }
     ensures untouched { IsDiskUntouched (D.state journal.old) (D.state journal.new) }
     ensures later { IsLater (F.state shelf.old) (F.state shelf.new) }
@@ -143,7 +143,7 @@ pub fn show_output<F: Shelf, O: Sink, D: Disk, E: Disk>(
 ) -> Exit
     ensures means { (clock : ClockState) → MeansOutput (command_of (map string_bytes words.now))
         (around (F.state shelf.old) (F.state shelf.new) clock clock
-        (sunk (O.taken out.old) (O.taken out.new) (O.faults out.old) (O.faults out.new)))
+        (sunk (O.state out.old) (O.state out.new)))
         (disks (D.state journal.old) (D.state journal.new) (E.state spool.old) (E.state spool.new))
         result }
     ensures untouched { AreUntouched (disks (D.state journal.old) (D.state journal.new)
@@ -169,7 +169,7 @@ pub fn show_output<F: Shelf, O: Sink, D: Disk, E: Disk>(
 /// memory.
 pub fn make_and_run<O: Sink>(alloc: Global, words: &[String], out: &mut O) -> Exit
     ensures { MeansMake (command_of (map string_bytes words.now))
-        (sunk (O.taken out.old) (O.taken out.new) (O.faults out.old) (O.faults out.new)) result }
+        (sunk (O.state out.old) (O.state out.new)) result }
 {
     match read_command(alloc, words) {
         Ok(Some(Command::Make { seed, size })) => print_summary(alloc, seed, size, out),

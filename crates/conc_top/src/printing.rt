@@ -12,8 +12,7 @@ use std::alloc::Global;
 
 /// Writes a text.
 pub(crate) fn write_text<O: Sink>(text: &[u8], out: &mut O) -> Exit
-    ensures { Wrote text.now (sunk (O.taken out.old) (O.taken out.new) (O.faults out.old)
-        (O.faults out.new)) result }
+    ensures { Wrote text.now (sunk (O.state out.old) (O.state out.new)) result }
 {
     match write_all(out, text) {
         Ok(()) => Exit::Done,
@@ -43,8 +42,7 @@ pub(crate) fn exit_for(fail: HistoryFail, digest: &[u8; 32]) -> Exit
 pub(crate) fn print_summary<O: Sink>(alloc: Global, seed: u64, size: u32, out: &mut O) -> Exit
     requires some { 1 ≤ size }
     requires few { size ≤ 4000 }
-    ensures { AnswersMake seed size (sunk (O.taken out.old) (O.taken out.new) (O.faults out.old)
-        (O.faults out.new)) result }
+    ensures { AnswersMake seed size (sunk (O.state out.old) (O.state out.new)) result }
 {
     match summarize(alloc, seed, size) {
         Ok(text) => write_text(&text, out),

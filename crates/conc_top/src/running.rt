@@ -31,7 +31,7 @@ fn run_and_print<O: Sink, D: Disk, E: Disk>(
 ) -> Exit
     ensures { RunEnds (handed plan.now readings.now digest.now (D.state journal.old)
         (D.state journal.new) (E.state spool.old) (E.state spool.new))
-        (sunk (O.taken out.old) (O.taken out.new) (O.faults out.old) (O.faults out.new)) result }
+        (sunk (O.state out.old) (O.state out.new)) result }
 {
     alone_is_lawful();
     alone_reports();
@@ -62,7 +62,7 @@ pub(crate) fn run_files<F: Shelf, O: Sink, D: Disk, E: Disk, C: Clock>(
 ) -> Exit
     ensures answers { AnswersRun (named setup script (Some file))
         (around (F.state shelf.old) (F.state shelf.new) (C.state clock.old) (C.state clock.new)
-        (sunk (O.taken out.old) (O.taken out.new) (O.faults out.old) (O.faults out.new)))
+        (sunk (O.state out.old) (O.state out.new)))
         (disks (D.state journal.old) (D.state journal.new) (E.state spool.old) (E.state spool.new))
         result }
     ensures later { IsLater (F.state shelf.old) (F.state shelf.new) }

@@ -24,7 +24,7 @@ use std::alloc::Global;
 // Prints the listing of the plan.
 fn print_listing<O: Sink>(alloc: Global, plan: &Plan, out: &mut O) -> Exit
     ensures { Prints (λ text. text ≡ listing plan.now)
-        (sunk (O.taken out.old) (O.taken out.new) (O.faults out.old) (O.faults out.new)) result }
+        (sunk (O.state out.old) (O.state out.new)) result }
 {
     match put_plan(alloc, plan) {
         Ok(text) => write_text(&text, out),
@@ -42,7 +42,7 @@ pub(crate) fn list_files<F: Shelf, O: Sink>(
 ) -> Exit
     ensures answers { (clock : ClockState) → AnswersPlan (named setup script None)
         (around (F.state shelf.old) (F.state shelf.new) clock clock
-        (sunk (O.taken out.old) (O.taken out.new) (O.faults out.old) (O.faults out.new)))
+        (sunk (O.state out.old) (O.state out.new)))
         result }
     ensures later { IsLater (F.state shelf.old) (F.state shelf.new) }
 {
@@ -63,7 +63,7 @@ fn print_table<O: Sink, D: Disk>(
     journal: &mut D,
 ) -> Exit
     ensures ends { StatusEnds plan.now digest.now (D.state journal.old) (D.state journal.new)
-        (sunk (O.taken out.old) (O.taken out.new) (O.faults out.old) (O.faults out.new)) result }
+        (sunk (O.state out.old) (O.state out.new)) result }
     ensures untouched { IsDiskUntouched (D.state journal.old) (D.state journal.new) }
 {
     let events = match read_list(alloc, plan, digest, journal) {
@@ -88,7 +88,7 @@ pub(crate) fn show_table<F: Shelf, O: Sink, D: Disk>(
 ) -> Exit
     ensures answers { (clock : ClockState) → AnswersStatus (named setup script None)
         (around (F.state shelf.old) (F.state shelf.new) clock clock
-        (sunk (O.taken out.old) (O.taken out.new) (O.faults out.old) (O.faults out.new)))
+        (sunk (O.state out.old) (O.state out.new)))
         (D.state journal.old) (D.state journal.new) result }
     ensures untouched { IsDiskUntouched (D.state journal.old) (D.state journal.new) }
     ensures later { IsLater (F.state shelf.old) (F.state shelf.new) }
@@ -123,7 +123,7 @@ fn print_report<O: Sink, D: Disk, E: Disk>(
 ) -> Exit
     ensures ends { OutputEnds plan.now digest.now id
         (disks (D.state journal.old) (D.state journal.new) (E.state spool.old) (E.state spool.new))
-        (sunk (O.taken out.old) (O.taken out.new) (O.faults out.old) (O.faults out.new)) result }
+        (sunk (O.state out.old) (O.state out.new)) result }
     ensures untouched { AreUntouched (disks (D.state journal.old) (D.state journal.new)
         (E.state spool.old) (E.state spool.new)) }
 {
@@ -147,7 +147,7 @@ pub(crate) fn show_report<F: Shelf, O: Sink, D: Disk, E: Disk>(
 ) -> Exit
     ensures answers { (clock : ClockState) → AnswersOutput (named setup script None) id
         (around (F.state shelf.old) (F.state shelf.new) clock clock
-        (sunk (O.taken out.old) (O.taken out.new) (O.faults out.old) (O.faults out.new)))
+        (sunk (O.state out.old) (O.state out.new)))
         (disks (D.state journal.old) (D.state journal.new) (E.state spool.old) (E.state spool.new))
         result }
     ensures untouched { AreUntouched (disks (D.state journal.old) (D.state journal.new)

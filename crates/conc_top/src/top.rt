@@ -56,7 +56,7 @@ pub fn conc<Rt: Threads + Wait + Sync, F: Shelf, O: Sink, D: Disk, E: Disk, C: C
 ) -> Exit
     ensures means { Means (command_of (map string_bytes words.now))
         (around (F.state shelf.old) (F.state shelf.new) (C.state clock.old) (C.state clock.new)
-        (sunk (O.taken out.old) (O.taken out.new) (O.faults out.old) (O.faults out.new)))
+        (sunk (O.state out.old) (O.state out.new)))
         (disks (D.state journal.old) (D.state journal.new) (E.state spool.old) (E.state spool.new))
         result }
     ensures later { IsLater (F.state shelf.old) (F.state shelf.new) }

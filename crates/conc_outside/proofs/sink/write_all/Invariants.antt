@@ -4,8 +4,8 @@ use Rattle.conc_outside.proofs.sink.write_all.Given as goal
 
 abbrev pub invariant-loop-rest : goal.invariant-loop-rest
 invariant-loop-rest g l = record {
-  faults : g.O.Sink.faults l.fn.out ≤ g.O.Sink.faults l.out;
-  written : (written : List ℕ) × (written ++ l.rest ≡ l.fn.bytes) × Took (g.O.Sink.taken l.fn.out) (g.O.Sink.taken l.out) written;
+  faults : (g.O.Sink.state l.fn.out).faults ≤ (g.O.Sink.state l.out).faults;
+  written : (written : List ℕ) × (written ++ l.rest ≡ l.fn.bytes) × Took (g.O.Sink.state l.fn.out).taken (g.O.Sink.state l.out).taken written;
 }
 
 abbrev pub decreases-loop-rest : goal.decreases-loop-rest

@@ -14,7 +14,7 @@ returns-in-Err g c =
     let journal = g.D.Disk.state in
     let spool = g.E.Disk.state in
     let h = handed c.args.plan.now c.args.readings.now c.args.digest.now (journal c.args.journal.now) (journal c.run_plan.new.journal) (spool c.args.spool.now) (spool c.run_plan.new.spool) in
-    let sink = sunk (g.O.Sink.taken c.args.out.now) (g.O.Sink.taken c.args.out.now) (g.O.Sink.faults c.args.out.now) (g.O.Sink.faults c.args.out.now) in
+    let sink = sunk (g.O.Sink.state c.args.out.now) (g.O.Sink.state c.args.out.now) in
     subst (RunEnds h sink) (sym c.exit_for.ensures) (cut-ends h sink c.in-Err.fail c.in-Err.ensures.cut_short refl)
 
 pub returns-in-Ok-put_history : goal.returns-in-Ok-put_history
@@ -24,7 +24,7 @@ returns-in-Ok-put_history g c =
     let plan = c.args.plan.now in
     let readings = c.args.readings.now in
     let h = handed plan readings c.args.digest.now (journal c.args.journal.now) (journal c.run_plan.new.journal) (spool c.args.spool.now) (spool c.run_plan.new.spool) in
-    let sink = sunk (g.O.Sink.taken c.args.out.now) (g.O.Sink.taken c.write_text.new.out) (g.O.Sink.faults c.args.out.now) (g.O.Sink.faults c.write_text.new.out) in
+    let sink = sunk (g.O.Sink.state c.args.out.now) (g.O.Sink.state c.write_text.new.out) in
     let history = list_in c.in-Ok.work in
     let finished = c.in-Ok.ensures.finished in
     let lawful : Lawful plan readings.list history

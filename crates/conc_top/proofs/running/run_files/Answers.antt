@@ -12,7 +12,7 @@ returns-clause-answers g c =
     let given = c.in-Ok.ensures.ok in
     let journal = g.D.Disk.state in
     let spool = g.E.Disk.state in
-    let sink = sunk (g.O.Sink.taken c.args.out.now) (g.O.Sink.taken c.run_and_print.new.out) (g.O.Sink.faults c.args.out.now) (g.O.Sink.faults c.run_and_print.new.out) in
+    let sink = sunk (g.O.Sink.state c.args.out.now) (g.O.Sink.state c.run_and_print.new.out) in
     inl (
       record { plan = c.in-Ok.given.0.plan; readings = c.in-Ok.given.1; accepted = given.accepts },
       subst
@@ -25,7 +25,7 @@ pub returns-in-Err-clause-answers : goal.returns-in-Err-clause-answers
 returns-in-Err-clause-answers g c =
     let names = named c.args.setup c.args.script (Some c.args.file) in
     let a = around (g.F.Shelf.state c.args.shelf.now) (g.F.Shelf.state c.accept_timed.new.shelf) (g.C.Clock.state c.args.clock.now) (g.C.Clock.state c.accept_timed.new.clock)
-    (sunk (g.O.Sink.taken c.args.out.now) (g.O.Sink.taken c.args.out.now) (g.O.Sink.faults c.args.out.now) (g.O.Sink.faults c.args.out.now)) in
+    (sunk (g.O.Sink.state c.args.out.now) (g.O.Sink.state c.args.out.now)) in
     inr (
       subst (IsUnplanned names a) (sym c.from.ensures) (unplanned names a c.in-Err.fail c.in-Err.ensures.err refl),
       untouched (g.D.Disk.state c.args.journal.now) (g.E.Disk.state c.args.spool.now),

@@ -13,5 +13,5 @@ pub returns-in-Err-clause-answers : goal.returns-in-Err-clause-answers
 returns-in-Err-clause-answers g c clock =
     let names = named c.args.setup c.args.script None in
     let a = around (g.F.Shelf.state c.args.shelf.now) (g.F.Shelf.state c.accept.new.shelf) clock clock
-    (sunk (g.O.Sink.taken c.args.out.now) (g.O.Sink.taken c.args.out.now) (g.O.Sink.faults c.args.out.now) (g.O.Sink.faults c.args.out.now)) in
+    (sunk (g.O.Sink.state c.args.out.now) (g.O.Sink.state c.args.out.now)) in
     inr (subst (IsUnplanned names a) (sym c.from.ensures) (unplanned names a c.in-Err.fail (c.in-Err.ensures.err clock) refl))
