@@ -10,7 +10,7 @@ use Rattle.conc_journal.specs.Journals.{FitsState, IsOn}
 use Rattle.conc_disk.specs.Left.{EachImage}
 use Rattle.conc_journal.specs.Opens.{broken_of, digest_of, events_of, IsFoundIn, may_open}
 use Rattle.conc_journal.specs.JournalStates.{state_with}
-use Rattle.conc_journal.specs.declared.fault.JournalFail.{JournalFail}
+use Rattle.conc_journal.specs.declared.error.JournalFail.{JournalFail}
 use Rattle.conc_journal.specs.declared.journal.JournalState.{JournalState}
 use Rattle.conc_journal.specs.declared.opened.Opened.{Opened}
 

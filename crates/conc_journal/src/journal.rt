@@ -42,7 +42,7 @@ impl Journal {
     ghost use Rattle.conc_disk.specs.Left.{LeavesOnly};
     ghost use Rattle.conc_journal.specs.Receipts.{event_of, number_of};
     ghost use Rattle.conc_journal.specs.JournalStates.{after_fault, has_faulted, takes_events};
-    ghost use Rattle.conc_journal.specs.declared.fault.AppendFail.TheVariants as AppendFail;
+    ghost use Rattle.conc_journal.specs.declared.error.AppendFail.TheVariants as AppendFail;
     ghost use Rattle.conc_journal.specs.declared.journal.JournalState.TheVariants.{Begun, BeginFailed, NotBegun};
 
     // A journal with these events, without room for more.

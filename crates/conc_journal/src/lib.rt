@@ -5,13 +5,13 @@
 mod append;
 mod begin;
 mod durable;
-mod fault;
+mod error;
 mod journal;
 mod opened;
 mod receipt;
 mod teller;
 
-pub use fault::{AppendFail, JournalFail};
+pub use error::{AppendFail, JournalFail};
 pub use journal::Journal;
 pub use opened::Opened;
 pub use receipt::Receipt;

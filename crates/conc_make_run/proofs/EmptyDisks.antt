@@ -15,8 +15,8 @@ use Rattle.conc_run.specs.Whole.{IsFinished}
 use Rattle.conc_run_state.specs.Causes.{HasCause, IsOther, is_refusal}
 use Rattle.conc_run_state.specs.Handed.{Handed, IsFound}
 use Rattle.conc_run_state.specs.Judging.{IsBadRecord}
-use Rattle.conc_run_state.specs.declared.fail.HistoryFail.{HistoryFail}
-use Rattle.conc_run_state.specs.declared.fail.HistoryFail.TheVariants as history_fail
+use Rattle.conc_run_state.specs.declared.error.HistoryFail.{HistoryFail}
+use Rattle.conc_run_state.specs.declared.error.HistoryFail.TheVariants as history_fail
 
 not-begun : is_not_begun [] ≡ Bool.true
 unfolding is_not_begun

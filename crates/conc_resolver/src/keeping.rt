@@ -4,7 +4,7 @@ ghost use Rattle.conc_outside.specs.Counts.{Rose};
 ghost use Rattle.conc_resolver.specs.Steps.{any_disk, IsTied, MayLog, plan_in, StoresOn};
 ghost use Rattle.conc_spool.specs.Spools.{used_of};
 ghost use Rattle.conc_run_state.specs.Works.{list_in};
-ghost use Rattle.conc_run_state.specs.declared.fail.RunFail.TheVariants as RunFail;
+ghost use Rattle.conc_run_state.specs.declared.error.RunFail.TheVariants as RunFail;
 
 use conc_disk::Disk;
 use conc_outside::Failed;

@@ -11,7 +11,7 @@ ghost use Rattle.conc_run_state.specs.Disks.{disks};
 ghost use Rattle.conc_resolver.specs.Runs.{WentOn};
 ghost use Rattle.conc_resolver.specs.Steps.{any_disk, IsFinished, IsReady, IsTied, left_in, next_in, plan_in, readings_in};
 ghost use Rattle.conc_run_state.specs.Works.{AreReady, list_in};
-ghost use Rattle.conc_run_state.specs.declared.fail.RunFail.TheVariants as RunFail;
+ghost use Rattle.conc_run_state.specs.declared.error.RunFail.TheVariants as RunFail;
 
 use crate::keeping::keep;
 use crate::logging::log_event;

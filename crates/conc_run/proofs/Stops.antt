@@ -3,11 +3,11 @@ use Rattle.std.proofs.Common.{◌≡◌, inl, inr, ℕ, ◌≤◌, true, false, 
 use Rattle.conc_outside.specs.Counts.{Rose}
 use Rattle.conc_run_state.specs.Causes.{Faulted, HasCause, is_refusal}
 use Rattle.conc_run_state.specs.Handed.{Handed, IsUntouched}
-use Rattle.conc_run_state.specs.declared.fail.RunFail.{RunFail}
-use Rattle.conc_run_state.specs.declared.fail.RunFail.TheVariants as run_fail
-use Rattle.conc_run_state.specs.declared.fail.HistoryFail.{HistoryFail}
-use Rattle.conc_run_state.specs.declared.fail.HistoryFail.TheVariants as history_fail
-use Rattle.conc_run_state.specs.declared.fail.DiskName.TheVariants as which
+use Rattle.conc_run_state.specs.declared.error.RunFail.{RunFail}
+use Rattle.conc_run_state.specs.declared.error.RunFail.TheVariants as run_fail
+use Rattle.conc_run_state.specs.declared.error.HistoryFail.{HistoryFail}
+use Rattle.conc_run_state.specs.declared.error.HistoryFail.TheVariants as history_fail
+use Rattle.conc_run_state.specs.declared.error.DiskName.TheVariants as which
 
 -- a count that rose after it did not fall rose
 pub rose-since : (before mid after : ℕ) → before ≤ mid → Rose mid after → Rose before after

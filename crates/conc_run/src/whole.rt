@@ -2,9 +2,9 @@ ghost use Rattle.std.specs.Prelude.{◌≡◌, IfErr, IfOk};
 ghost use Rattle.conc_run_state.specs.Handed.{handed};
 ghost use Rattle.conc_run_state.specs.Works.{list_in};
 ghost use Rattle.conc_run.specs.Whole.{IsCutShort, IsFinished};
-ghost use Rattle.conc_run_state.specs.declared.fail.RunFail.TheVariants as run_fail;
-ghost use Rattle.conc_run_state.specs.declared.fail.HistoryFail.TheVariants as history_fail;
-ghost use Rattle.conc_run_state.specs.declared.fail.DiskName.TheVariants as which;
+ghost use Rattle.conc_run_state.specs.declared.error.RunFail.TheVariants as run_fail;
+ghost use Rattle.conc_run_state.specs.declared.error.HistoryFail.TheVariants as history_fail;
+ghost use Rattle.conc_run_state.specs.declared.error.DiskName.TheVariants as which;
 
 use conc_disk::Disk;
 use conc_law::lawful_is_lawful_so_far;

@@ -14,7 +14,7 @@ use Rattle.conc_spool.specs.Spools.{IsOn as SpoolIsOn}
 use Rattle.conc_spool.specs.declared.spool.Spool.{Spool}
 use Rattle.conc_run_state.specs.Causes.{HasCause}
 use Rattle.conc_run_state.specs.Handed.{Handed, IsFound}
-use Rattle.conc_run_state.specs.declared.fail.HistoryFail.{HistoryFail}
+use Rattle.conc_run_state.specs.declared.error.HistoryFail.{HistoryFail}
 use Rattle.conc_run_open.specs.declared.examining.Examined.{Examined}
 use Rattle.conc_run_open.specs.Examined.{IsExamined, IsReady, MayStart}
 use Rattle.conc_run_open.specs.Extents.{counted}

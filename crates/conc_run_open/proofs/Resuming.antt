@@ -7,8 +7,8 @@ use Rattle.conc_disk.specs.Left.{EachImage, LeavesOnly}
 use Rattle.conc_journal_image.specs.Image.{IsJournal}
 use Rattle.conc_journal.specs.Journals.{FitsState}
 use Rattle.conc_journal.specs.JournalStates.{after_fault, has_faulted, takes_events}
-use Rattle.conc_journal.specs.declared.fault.AppendFail.{AppendFail}
-use Rattle.conc_journal.specs.declared.fault.AppendFail.TheVariants as append_fail
+use Rattle.conc_journal.specs.declared.error.AppendFail.{AppendFail}
+use Rattle.conc_journal.specs.declared.error.AppendFail.TheVariants as append_fail
 use Rattle.conc_journal.specs.declared.journal.JournalState.{JournalState}
 use Rattle.conc_journal.specs.declared.journal.JournalState.TheVariants.{AppendFailed, Begun, BeginFailed}
 use Rattle.conc_law.specs.Alone.{opening}

@@ -15,9 +15,9 @@ use Rattle.conc_journal.specs.declared.opened.Opened.{Opened}
 use Rattle.conc_run_state.specs.Disks.{Disks}
 use Rattle.conc_run_state.specs.Handed.{IsOwnJournal}
 use Rattle.conc_run_state.specs.Judging.{IsBadRecord}
-use Rattle.conc_run_state.specs.declared.fail.HistoryFail.{HistoryFail}
-use Rattle.conc_run_state.specs.declared.fail.HistoryFail.TheVariants as history_fail
-use Rattle.conc_run_state.specs.declared.fail.DiskName.TheVariants as which
+use Rattle.conc_run_state.specs.declared.error.HistoryFail.{HistoryFail}
+use Rattle.conc_run_state.specs.declared.error.HistoryFail.TheVariants as history_fail
+use Rattle.conc_run_state.specs.declared.error.DiskName.TheVariants as which
 use Rattle.conc_run_open.specs.Extents.{counted}
 use Rattle.conc_run_open.specs.Refusals.{IsRefused, IsUnopened, IsUnreadable}
 use Rattle.conc_run_open.specs.Texts.{AreWhole, HasEnd, HasReadCause}

@@ -9,9 +9,9 @@ use Rattle.conc_journal.specs.Opens.{broken_of, events_of, may_open}
 use Rattle.conc_restart.specs.FirstBad.{IsFirstUnlawful}
 use Rattle.conc_run_state.specs.Causes.{IsOther}
 use Rattle.conc_run_state.specs.Handed.{IsOwnJournal}
-use Rattle.conc_run_state.specs.declared.fail.HistoryFail.{HistoryFail}
-use Rattle.conc_run_state.specs.declared.fail.HistoryFail.TheVariants as history_fail
-use Rattle.conc_run_state.specs.declared.fail.DiskName.TheVariants as which
+use Rattle.conc_run_state.specs.declared.error.HistoryFail.{HistoryFail}
+use Rattle.conc_run_state.specs.declared.error.HistoryFail.TheVariants as history_fail
+use Rattle.conc_run_state.specs.declared.error.DiskName.TheVariants as which
 
 -- the journal is this input's and good, and these are its events
 pub record IsListed (plan : Plan) (digest : List ℕ) (disk : DiskState) (events : List Event) : Type 0 where

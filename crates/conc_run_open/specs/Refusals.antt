@@ -10,9 +10,9 @@ use Rattle.conc_journal.specs.Opens.{may_open}
 use Rattle.conc_restart.specs.Need.{need}
 use Rattle.conc_run_state.specs.Causes.{IsOther}
 use Rattle.conc_run_state.specs.Judging.{IsBadRecord}
-use Rattle.conc_run_state.specs.declared.fail.HistoryFail.{HistoryFail}
-use Rattle.conc_run_state.specs.declared.fail.HistoryFail.TheVariants as history_fail
-use Rattle.conc_run_state.specs.declared.fail.DiskName.TheVariants as which
+use Rattle.conc_run_state.specs.declared.error.HistoryFail.{HistoryFail}
+use Rattle.conc_run_state.specs.declared.error.HistoryFail.TheVariants as history_fail
+use Rattle.conc_run_state.specs.declared.error.DiskName.TheVariants as which
 use Rattle.conc_run_open.specs.Extents.{counted}
 
 -- this is no journal, or that of another input, or its disk failed, or there is no memory

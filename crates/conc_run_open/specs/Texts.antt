@@ -14,9 +14,9 @@ use Rattle.conc_run_state.specs.Causes.{IsOther}
 use Rattle.conc_run_state.specs.Disks.{Disks}
 use Rattle.conc_run_state.specs.Handed.{IsOwnJournal}
 use Rattle.conc_run_state.specs.Judging.{EndWithin, IsBadRecord}
-use Rattle.conc_run_state.specs.declared.fail.HistoryFail.{HistoryFail}
-use Rattle.conc_run_state.specs.declared.fail.HistoryFail.TheVariants as history_fail
-use Rattle.conc_run_state.specs.declared.fail.DiskName.TheVariants as which
+use Rattle.conc_run_state.specs.declared.error.HistoryFail.{HistoryFail}
+use Rattle.conc_run_state.specs.declared.error.HistoryFail.TheVariants as history_fail
+use Rattle.conc_run_state.specs.declared.error.DiskName.TheVariants as which
 use Rattle.conc_run_open.specs.Listing.{IsListed}
 use Rattle.conc_run_open.specs.declared.text.TextFail.{TextFail}
 use Rattle.conc_run_open.specs.declared.text.TextFail.TheVariants as text_fail

@@ -6,10 +6,10 @@ use Rattle.conc_journal.specs.Opens.{broken_of, digest_of, events_of, may_open}
 use Rattle.conc_restart.specs.Need.{need}
 use Rattle.conc_run_state.specs.Handed.{Finds, Handed, IsFound, IsOwnJournal}
 use Rattle.conc_run_state.specs.Judging.{IsBadRecord}
-use Rattle.conc_run_state.specs.declared.fail.HistoryFail.{HistoryFail}
-use Rattle.conc_run_state.specs.declared.fail.HistoryFail.TheVariants as history_fail
-use Rattle.conc_run_state.specs.declared.fail.DiskName.{DiskName}
-use Rattle.conc_run_state.specs.declared.fail.DiskName.TheVariants as which
+use Rattle.conc_run_state.specs.declared.error.HistoryFail.{HistoryFail}
+use Rattle.conc_run_state.specs.declared.error.HistoryFail.TheVariants as history_fail
+use Rattle.conc_run_state.specs.declared.error.DiskName.{DiskName}
+use Rattle.conc_run_state.specs.declared.error.DiskName.TheVariants as which
 
 -- the journal of another input, with this digest
 pub record IsOther (digest found image : List ℕ) : Type 0 where

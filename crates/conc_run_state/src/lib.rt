@@ -2,8 +2,8 @@
 //! list, and their two disks.
 #![tactic(auto)]
 
-mod fail;
+mod error;
 mod work;
 
-pub use fail::{DiskName, HistoryFail, RunFail};
+pub use error::{DiskName, HistoryFail, RunFail};
 pub use work::Work;

@@ -4,8 +4,8 @@ use Rattle.std.specs.Prelude.{IfSome}
 use Rattle.conc_types.specs.declared.event.Event.{Event}
 use Rattle.conc_law.specs.Text.{text_of}
 use Rattle.conc_run_state.specs.Handed.{Handed}
-use Rattle.conc_run_state.specs.declared.fail.HistoryFail.{HistoryFail}
-use Rattle.conc_run_state.specs.declared.fail.HistoryFail.TheVariants as history_fail
+use Rattle.conc_run_state.specs.declared.error.HistoryFail.{HistoryFail}
+use Rattle.conc_run_state.specs.declared.error.HistoryFail.TheVariants as history_fail
 use Rattle.conc_top.specs.declared.exit.Exit.{Exit}
 use Rattle.conc_top.specs.declared.exit.Exit.TheVariants as exit
 use Rattle.conc_top.specs.Printing.{Sunk, TookNothing, Wrote}

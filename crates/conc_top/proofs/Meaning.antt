@@ -6,8 +6,8 @@ use Rattle.conc_disk.specs.Disk.{DiskState, Stays}
 use Rattle.conc_disk.specs.Left.{LeavesOnly}
 use Rattle.conc_top_inputs.specs.Fails.{IsThere, IsUnread, FailsWith}
 use Rattle.conc_top_inputs.specs.Given.{Names}
-use Rattle.conc_top_inputs.specs.declared.fail.InputFail.{InputFail}
-use Rattle.conc_top_inputs.specs.declared.fail.InputFail.TheVariants as input
+use Rattle.conc_top_inputs.specs.declared.error.InputFail.{InputFail}
+use Rattle.conc_top_inputs.specs.declared.error.InputFail.TheVariants as input
 use Rattle.conc_outside.specs.Counts.{Rose}
 use Rattle.conc_outside.specs.Files.{Gives, IsLater, Lacks, ShelfState}
 use Rattle.conc_history_verdict.specs.declared.verdict.Verdict.{Verdict}

@@ -9,7 +9,7 @@ use Rattle.conc_make_run.specs.Summary.{IsSummary}
 use Rattle.conc_history.specs.Listing.{listing}
 use Rattle.conc_top_inputs.specs.Fails.{FailsWith}
 use Rattle.conc_top_inputs.specs.Given.{Accepts, digest_of, Names, Sources, sources, Told, told_by}
-use Rattle.conc_top_inputs.specs.declared.fail.InputFail.TheVariants as input
+use Rattle.conc_top_inputs.specs.declared.error.InputFail.TheVariants as input
 use Rattle.conc_outside.specs.Files.{ShelfState}
 use Rattle.conc_run_state.specs.Disks.{AreUntouched, Disks}
 use Rattle.conc_run_state.specs.Handed.{handed, Handed}

@@ -4,7 +4,7 @@ use Rattle.std.specs.Fmt.{decimal}
 use Rattle.conc_types.specs.declared.plan.Plan.{Plan}
 use Rattle.conc_types.specs.declared.script.Reading.{Reading}
 use Rattle.conc_top_inputs.specs.Fails.{IsUnread}
-use Rattle.conc_top_inputs.specs.declared.fail.InputFail.TheVariants as input
+use Rattle.conc_top_inputs.specs.declared.error.InputFail.TheVariants as input
 use Rattle.conc_outside.specs.Files.{Gives, ShelfState}
 use Rattle.conc_history_verdict.specs.Verdicts.{IsVerdict}
 use Rattle.conc_history_verdict.specs.declared.verdict.Verdict.{Verdict}

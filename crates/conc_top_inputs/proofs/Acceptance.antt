@@ -15,7 +15,7 @@ use Rattle.conc_outside.specs.Files.{Files, Gives, IsLater, ShelfState}
 use Rattle.conc_plan.specs.Faults.{IsFailure, plan_fault}
 use Rattle.conc_tables.specs.Tables.{SpellsTable}
 use Rattle.conc_top_inputs.specs.declared.accepting.Accepted.{Accepted}
-use Rattle.conc_top_inputs.specs.declared.fail.InputFail.{InputFail}
+use Rattle.conc_top_inputs.specs.declared.error.InputFail.{InputFail}
 use Rattle.conc_top_inputs.specs.declared.reading.Start.{Start}
 use Rattle.conc_top_inputs.specs.Accepting.{IsAccepted}
 use Rattle.conc_top_inputs.specs.Fails.{FailsWith}

@@ -16,8 +16,8 @@ use Rattle.conc_outside.specs.Counts.{Rose}
 use Rattle.conc_outside.specs.declared.error.ShelfFail.TheVariants as fail
 use Rattle.conc_outside.specs.Files.{file_named, Files, Gives, IsLater, Lacks, ShelfState}
 use Rattle.conc_tables.specs.Tables.{SpellsTable}
-use Rattle.conc_top_inputs.specs.declared.fail.InputFail.{InputFail}
-use Rattle.conc_top_inputs.specs.declared.fail.InputFail.TheVariants as input
+use Rattle.conc_top_inputs.specs.declared.error.InputFail.{InputFail}
+use Rattle.conc_top_inputs.specs.declared.error.InputFail.TheVariants as input
 use Rattle.conc_top_inputs.specs.declared.file_fail.FileFail.{FileFail}
 use Rattle.conc_top_inputs.specs.declared.file_fail.FileFail.TheVariants as file_fail
 use Rattle.conc_top_inputs.specs.Fails.{IsThere, FailsWith}

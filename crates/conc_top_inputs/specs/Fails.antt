@@ -4,8 +4,8 @@ use Rattle.conc_outside_clock.specs.Clocks.{ClockState}
 use Rattle.conc_types.specs.declared.refusal.FileKind.{FileKind}
 use Rattle.conc_outside.specs.Counts.{Rose}
 use Rattle.conc_outside.specs.Files.{file_named, Files, Lacks, ShelfState}
-use Rattle.conc_top_inputs.specs.declared.fail.InputFail.{InputFail}
-use Rattle.conc_top_inputs.specs.declared.fail.InputFail.TheVariants as input
+use Rattle.conc_top_inputs.specs.declared.error.InputFail.{InputFail}
+use Rattle.conc_top_inputs.specs.declared.error.InputFail.TheVariants as input
 use Rattle.conc_top_inputs.specs.Given.{HasScript, is_system, IsNext, Names, Sources, told_by}
 use Rattle.conc_top_inputs.specs.Refusals.{IsInputRefused}
 

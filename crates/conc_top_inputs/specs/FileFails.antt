@@ -12,8 +12,8 @@ use Rattle.conc_outside.specs.Files.{Files, Gives, Lacks, ShelfState}
 use Rattle.conc_script.specs.Clock.{clock_fault}
 use Rattle.conc_top_inputs.specs.declared.file_fail.FileFail.{FileFail}
 use Rattle.conc_top_inputs.specs.declared.file_fail.FileFail.TheVariants as file_fail
-use Rattle.conc_top_inputs.specs.declared.fail.InputFail.{InputFail}
-use Rattle.conc_top_inputs.specs.declared.fail.InputFail.TheVariants as input
+use Rattle.conc_top_inputs.specs.declared.error.InputFail.{InputFail}
+use Rattle.conc_top_inputs.specs.declared.error.InputFail.TheVariants as input
 use Rattle.conc_top_inputs.specs.Fails.{IsSilent, IsThere}
 use Rattle.conc_top_inputs.specs.Given.{HasTables, is_system, Sources}
 use Rattle.conc_top_inputs.specs.Refusals.{fault_of_table}

@@ -2,8 +2,8 @@
 use Rattle.std.specs.Prelude.{ℕ, List}
 use Rattle.conc_types.specs.declared.refusal.ReadFail.{ReadFail}
 use Rattle.conc_types.specs.declared.refusal.ReadFail.TheVariants as fail
-use Rattle.conc_top_inputs.specs.declared.fail.InputFail.{InputFail}
-use Rattle.conc_top_inputs.specs.declared.fail.InputFail.TheVariants as input
+use Rattle.conc_top_inputs.specs.declared.error.InputFail.{InputFail}
+use Rattle.conc_top_inputs.specs.declared.error.InputFail.TheVariants as input
 use Rattle.conc_top_inputs.specs.declared.file_fail.FileFail.{FileFail}
 use Rattle.conc_top_inputs.specs.declared.file_fail.FileFail.TheVariants as file_fail
 use Rattle.conc_top_inputs.specs.Refusals.{name_of}

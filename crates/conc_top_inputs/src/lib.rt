@@ -4,12 +4,12 @@
 
 mod accepting;
 mod clocks;
-mod fail;
+mod error;
 mod file_fail;
 mod given;
 mod reading;
 mod single;
 
 pub use accepting::{Accepted, accept, accept_timed};
-pub use fail::InputFail;
+pub use error::InputFail;
 pub use single::read_file;

@@ -2,8 +2,8 @@ use Rattle.std.proofs.Common.{◌≡◌, sym, ◌∙◌, ap, true, false}
 use Rattle.std.proofs.lemmas.Result.{err_from_is_err_and}
 use Rattle.conc_run_state.specs.Causes.{is_journal_fault}
 use Rattle.conc_run_state.specs.Handed.{handed, Handed}
-use Rattle.conc_run_state.specs.declared.fail.RunFail.TheVariants as run_fail
-use Rattle.conc_run_state.specs.declared.fail.HistoryFail.{HistoryFail}
+use Rattle.conc_run_state.specs.declared.error.RunFail.TheVariants as run_fail
+use Rattle.conc_run_state.specs.declared.error.HistoryFail.{HistoryFail}
 use Rattle.conc_run.proofs.Opened.{cut-opening}
 use Rattle.conc_run.proofs.Ran.{cut-run, finished-run}
 use Rattle.conc_run.proofs.Stops.{rose-since, stop-cause, stop-late}
