@@ -65,8 +65,7 @@ impl Shelf for MemShelf {
     ghost state = { λ s. record {
       files = Some (told s.files.items);
       absences = s.absences;
-      faults
-          = s.faults;
+      faults = s.faults;
     } };
 
     fn read_file(&mut self, alloc: Global, name: &Name) -> Result<Vec<u8>, ShelfFail> {

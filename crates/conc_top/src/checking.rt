@@ -49,8 +49,7 @@ fn judge_and_print<F: Shelf, O: Sink>(
     ensures ends { CheckEnds (record {
       plan = plan.now;
       readings = readings.now.list;
-      name
-          = history.now;
+      name = history.now;
       before = F.state shelf.old;
       after = F.state shelf.new;
     })
