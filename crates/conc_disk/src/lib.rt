@@ -2,5 +2,7 @@
 #![tactic(auto)]
 
 mod disk;
+mod error;
 
 pub use disk::Disk;
+pub use error::DiskFault;

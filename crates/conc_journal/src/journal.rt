@@ -5,7 +5,7 @@ ghost use Rattle.conc_journal.specs.JournalStates.{fits_count};
 use crate::append::{add_record, record_before_gate};
 use crate::begin::write_header;
 use crate::{AppendFail, Receipt};
-use conc_disk::Disk;
+use conc_disk::{Disk, DiskFault};
 use conc_outside::Failed;
 use conc_types::{Event, NoMemory};
 
@@ -100,7 +100,7 @@ impl Journal {
 
     /// Begins a journal for the input with this digest, where none was begun. After an `Ok` each image
     /// that a stop may leave has its header, and no event. After a fault only `events` is of use.
-    pub fn begin<D: Disk>(&mut self, disk: &mut D, digest: &[u8; 32]) -> Result<(), Failed>
+    pub fn begin<D: Disk>(&mut self, disk: &mut D, digest: &[u8; 32]) -> Result<(), DiskFault>
         requires state { state_of self.old ≡ NotBegun }
         requires on { IsOn self.old (D.state disk.old) }
         ensures on { IsOn self.new (D.state disk.new) }
@@ -120,7 +120,7 @@ impl Journal {
             }
             Err(Failed) => {
                 self.state = JournalState::BeginFailed { digest: *digest };
-                Err(Failed)
+                Err(DiskFault)
             }
         }
     }

@@ -6,8 +6,7 @@ ghost use Rattle.conc_spool.specs.Spools.{used_of};
 ghost use Rattle.conc_run_state.specs.Works.{list_in};
 ghost use Rattle.conc_run_state.specs.declared.error.RunFail.TheVariants as RunFail;
 
-use conc_disk::Disk;
-use conc_outside::Failed;
+use conc_disk::{Disk, DiskFault};
 use conc_resolver_choice::Next;
 use conc_run_state::{RunFail, Work};
 
@@ -39,7 +38,7 @@ pub(crate) fn keep<E: Disk>(work: &mut Work<'_>, spool: &mut E, next: &Next) -> 
         None => Ok(()),
         Some(text) => match work.spool.append(spool, text.as_slice()) {
             Ok(_) => Ok(()),
-            Err(Failed) => Err(RunFail::SpoolFault),
+            Err(DiskFault) => Err(RunFail::SpoolFault),
         },
     }
 }

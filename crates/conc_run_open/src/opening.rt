@@ -7,8 +7,7 @@ ghost use Rattle.conc_run_open.specs.Opening.{IsBegun, IsGivenUp};
 
 use crate::examining::{Examined, examine};
 use crate::starting::start;
-use conc_disk::Disk;
-use conc_outside::Failed;
+use conc_disk::{Disk, DiskFault};
 use conc_run_state::{DiskName, HistoryFail, Work};
 use conc_types::{Plan, Readings};
 use std::alloc::Global;
@@ -60,7 +59,7 @@ pub fn open<'p, D: Disk, E: Disk>(
             journal: list,
             spool: texts,
         }),
-        Err(Failed) => Err(HistoryFail::DiskFault {
+        Err(DiskFault) => Err(HistoryFail::DiskFault {
             which: DiskName::Journal,
         }),
     }

@@ -7,9 +7,8 @@ ghost use Rattle.conc_journal.specs.declared.journal.JournalState.TheVariants.{B
 ghost use Rattle.conc_run_state.specs.Survival.{Survives};
 ghost use Rattle.conc_run_open.specs.Examined.{MayStart};
 
-use conc_disk::Disk;
+use conc_disk::{Disk, DiskFault};
 use conc_journal::Journal;
-use conc_outside::Failed;
 use conc_types::Event;
 
 /// Begins a life in a journal: the header where none was begun, and a resume where it has events.
@@ -17,7 +16,7 @@ pub(crate) fn start<D: Disk>(
     journal: &mut Journal,
     disk: &mut D,
     digest: &[u8; 32],
-) -> Result<(), Failed>
+) -> Result<(), DiskFault>
     requires state { MayStart digest.now (state_of journal.old) }
     requires room { 0 < room_of journal.old }
     requires on { IsOn journal.old (D.state disk.old) }
@@ -42,6 +41,6 @@ pub(crate) fn start<D: Disk>(
     }
     match journal.append(disk, Event::Resume) {
         Ok(_) => Ok(()),
-        Err(_) => Err(Failed),
+        Err(_) => Err(DiskFault),
     }
 }

@@ -4,8 +4,7 @@ ghost use Rattle.conc_disk.specs.Disk.{HasAt, Reaches, SeenFollows, Stays};
 ghost use Rattle.conc_disk.specs.Left.{LeavesOnly};
 
 use crate::{ReadBack, SpoolFail};
-use conc_disk::Disk;
-use conc_outside::Failed;
+use conc_disk::{Disk, DiskFault};
 use conc_types::Extent;
 use std::alloc::Global;
 
@@ -53,7 +52,7 @@ impl Spool {
     /// Adds a text of 1 to 1,048,576 bytes and gives its place. An `Ok` means that it is on the
     /// disk. After a fault the spool is as before, and the next text goes to the same place. It
     /// takes no memory.
-    pub fn append<E: Disk>(&mut self, disk: &mut E, bytes: &[u8]) -> Result<Extent, Failed>
+    pub fn append<E: Disk>(&mut self, disk: &mut E, bytes: &[u8]) -> Result<Extent, DiskFault>
         requires some { 1 ≤ length bytes.now }
         requires few { length bytes.now ≤ 1048576 }
         requires fits { used_of self.old + length bytes.now < 2 ^ 64 }

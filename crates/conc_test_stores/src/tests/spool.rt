@@ -1,6 +1,6 @@
 use super::expect::{same, same_at};
+use conc_disk::DiskFault;
 use conc_disk_devices::MemDisk;
-use conc_outside::Failed;
 use conc_spool::{Spool, SpoolFail};
 use std::alloc::Global;
 use std::process::Abort;
@@ -29,7 +29,7 @@ fn add_after_fault<Rt: Abort>(rt: &Rt, alloc: Global, call: u64) -> Result<(), F
     let mut disk = MemDisk::new(alloc, Vec::new(alloc), fails);
     let mut spool = Spool::open_on(&mut disk, 0)?;
     let failed = spool.append(&mut disk, b"abc");
-    same_at(rt, failed, Err(Failed), call);
+    same_at(rt, failed, Err(DiskFault), call);
     same_at(rt, spool.used(), 0, call);
     let extent = spool.append(&mut disk, b"de")?;
     let text = spool.read(alloc, &mut disk, extent)?;
