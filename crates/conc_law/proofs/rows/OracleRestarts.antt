@@ -18,7 +18,7 @@ use Rattle.conc_law.specs.Law.{is_lawful, is_lawful_so_far}
 use Rattle.conc_law.specs.Readings.{next_reading}
 use Rattle.conc_law.specs.Text.{text_of}
 use Rattle.conc_law.proofs.rows.Computed.{the_law, made}
-use Rattle.conc_law.proofs.rows.OracleWords.{ended, state, request_by}
+use Rattle.conc_law.proofs.rows.OracleWords.{ended, answers, request_by}
 use Rattle.conc_law.proofs.rows.Plans.{texts, id, moment, start}
 
 abbrev r94_setup : Setup
@@ -74,7 +74,7 @@ r94_text : text_of r94 (event.Tick (moment 63876600000) ∷ event.Command 1 ∷ 
 unfolding the_law
 r94_text = refl
 
-r94_group_0 : map (state r94) ((ended 6 outcome.Warning 18 18 ∷ start 6 0 ∷ event.LetOut (id 6) ∷ event.Command 8 ∷ event.Command 7 ∷ event.Command 6 ∷ event.Command 5 ∷ event.Tick (moment 63876602400) ∷ event.Tick (moment 63876600600) ∷ event.Command 4 ∷ event.Tick (moment 63876600600) ∷ event.Tick (moment 63876600000) ∷ event.Tick (moment 63876600000) ∷ ended 5 outcome.Warning 0 18 ∷ start 5 0 ∷ event.Resume ∷ event.Stage (id 1) 1 ∷ event.OpenSet (id 1) ∷ event.LetOut (id 5) ∷ event.Command 3 ∷ event.Command 2 ∷ event.Command 1 ∷ event.Tick (moment 63876600000) ∷ []) ∷ (start 5 0 ∷ event.Resume ∷ event.Stage (id 1) 1 ∷ event.OpenSet (id 1) ∷ event.LetOut (id 5) ∷ event.Command 3 ∷ event.Command 2 ∷ event.Command 1 ∷ event.Tick (moment 63876600000) ∷ []) ∷ (event.Tick (moment 63876604200) ∷ ended 6 outcome.Warning 18 18 ∷ start 6 0 ∷ event.LetOut (id 6) ∷ event.Command 8 ∷ event.Command 7 ∷ event.Command 6 ∷ event.Command 5 ∷ event.Tick (moment 63876602400) ∷ event.Tick (moment 63876600600) ∷ event.Command 4 ∷ event.Tick (moment 63876600600) ∷ event.Tick (moment 63876600000) ∷ event.Tick (moment 63876600000) ∷ ended 5 outcome.Warning 0 18 ∷ start 5 0 ∷ event.Resume ∷ event.Stage (id 1) 1 ∷ event.OpenSet (id 1) ∷ event.LetOut (id 5) ∷ event.Command 3 ∷ event.Command 2 ∷ event.Command 1 ∷ event.Tick (moment 63876600000) ∷ []) ∷ []) ≡ ((None, (true, ((Some (phase.Running, status.Paused)) ∷ (Some (phase.Inactive, status.OnHold)) ∷ (Some (phase.Pending, status.Waiting)) ∷ (Some (phase.Completed, status.Cancelled)) ∷ (Some (phase.Completed, status.Warning)) ∷ (Some (phase.Completed, status.Warning)) ∷ []))) ∷ (None, (false, ((Some (phase.Running, status.Paused)) ∷ (Some (phase.Inactive, status.Disabled)) ∷ (Some (phase.Pending, status.Waiting)) ∷ (Some (phase.Pending, status.Waiting)) ∷ (Some (phase.Running, status.Normal)) ∷ None ∷ []))) ∷ (None, (true, ((Some (phase.Running, status.Paused)) ∷ (Some (phase.Inactive, status.OnHold)) ∷ (Some (phase.Pending, status.Waiting)) ∷ (Some (phase.Completed, status.Cancelled)) ∷ (Some (phase.Completed, status.Warning)) ∷ (Some (phase.Completed, status.Warning)) ∷ []))) ∷ [])
+r94_group_0 : map (answers r94) ((ended 6 outcome.Warning 18 18 ∷ start 6 0 ∷ event.LetOut (id 6) ∷ event.Command 8 ∷ event.Command 7 ∷ event.Command 6 ∷ event.Command 5 ∷ event.Tick (moment 63876602400) ∷ event.Tick (moment 63876600600) ∷ event.Command 4 ∷ event.Tick (moment 63876600600) ∷ event.Tick (moment 63876600000) ∷ event.Tick (moment 63876600000) ∷ ended 5 outcome.Warning 0 18 ∷ start 5 0 ∷ event.Resume ∷ event.Stage (id 1) 1 ∷ event.OpenSet (id 1) ∷ event.LetOut (id 5) ∷ event.Command 3 ∷ event.Command 2 ∷ event.Command 1 ∷ event.Tick (moment 63876600000) ∷ []) ∷ (start 5 0 ∷ event.Resume ∷ event.Stage (id 1) 1 ∷ event.OpenSet (id 1) ∷ event.LetOut (id 5) ∷ event.Command 3 ∷ event.Command 2 ∷ event.Command 1 ∷ event.Tick (moment 63876600000) ∷ []) ∷ (event.Tick (moment 63876604200) ∷ ended 6 outcome.Warning 18 18 ∷ start 6 0 ∷ event.LetOut (id 6) ∷ event.Command 8 ∷ event.Command 7 ∷ event.Command 6 ∷ event.Command 5 ∷ event.Tick (moment 63876602400) ∷ event.Tick (moment 63876600600) ∷ event.Command 4 ∷ event.Tick (moment 63876600600) ∷ event.Tick (moment 63876600000) ∷ event.Tick (moment 63876600000) ∷ ended 5 outcome.Warning 0 18 ∷ start 5 0 ∷ event.Resume ∷ event.Stage (id 1) 1 ∷ event.OpenSet (id 1) ∷ event.LetOut (id 5) ∷ event.Command 3 ∷ event.Command 2 ∷ event.Command 1 ∷ event.Tick (moment 63876600000) ∷ []) ∷ []) ≡ ((None, (true, ((Some (phase.Running, status.Paused)) ∷ (Some (phase.Inactive, status.OnHold)) ∷ (Some (phase.Pending, status.Waiting)) ∷ (Some (phase.Completed, status.Cancelled)) ∷ (Some (phase.Completed, status.Warning)) ∷ (Some (phase.Completed, status.Warning)) ∷ []))) ∷ (None, (false, ((Some (phase.Running, status.Paused)) ∷ (Some (phase.Inactive, status.Disabled)) ∷ (Some (phase.Pending, status.Waiting)) ∷ (Some (phase.Pending, status.Waiting)) ∷ (Some (phase.Running, status.Normal)) ∷ None ∷ []))) ∷ (None, (true, ((Some (phase.Running, status.Paused)) ∷ (Some (phase.Inactive, status.OnHold)) ∷ (Some (phase.Pending, status.Waiting)) ∷ (Some (phase.Completed, status.Cancelled)) ∷ (Some (phase.Completed, status.Warning)) ∷ (Some (phase.Completed, status.Warning)) ∷ []))) ∷ [])
 unfolding the_law
 r94_group_0 = refl
 
@@ -151,7 +151,7 @@ r107_text : text_of r107 (event.Tick (moment 63876600000) ∷ event.Command 1 �
 unfolding the_law
 r107_text = refl
 
-r107_group_0 : map (state r107) ((start 9 0 ∷ event.LetOut (id 9) ∷ event.Stage (id 5) 3 ∷ event.Interrupt (id 7) ∷ event.Resume ∷ start 7 0 ∷ event.LetOut (id 7) ∷ ended 6 outcome.Normal 18 18 ∷ start 6 0 ∷ ended 10 outcome.Normal 0 18 ∷ start 10 0 ∷ event.LetOut (id 6) ∷ event.Resume ∷ event.Stage (id 5) 1 ∷ event.OpenSet (id 5) ∷ event.LetOut (id 10) ∷ event.Command 6 ∷ event.Command 5 ∷ event.Command 4 ∷ event.Command 3 ∷ event.Tick (moment 63876603600) ∷ event.Command 2 ∷ event.Tick (moment 63876600600) ∷ event.Command 1 ∷ event.Tick (moment 63876600000) ∷ []) ∷ (event.Tick (moment 63876603600) ∷ event.CloseSet (id 5) outcome.Normal ∷ ended 9 outcome.Normal 36 18 ∷ start 9 0 ∷ event.LetOut (id 9) ∷ event.Stage (id 5) 3 ∷ event.Interrupt (id 7) ∷ event.Resume ∷ start 7 0 ∷ event.LetOut (id 7) ∷ ended 6 outcome.Normal 18 18 ∷ start 6 0 ∷ ended 10 outcome.Normal 0 18 ∷ start 10 0 ∷ event.LetOut (id 6) ∷ event.Resume ∷ event.Stage (id 5) 1 ∷ event.OpenSet (id 5) ∷ event.LetOut (id 10) ∷ event.Command 6 ∷ event.Command 5 ∷ event.Command 4 ∷ event.Command 3 ∷ event.Tick (moment 63876603600) ∷ event.Command 2 ∷ event.Tick (moment 63876600600) ∷ event.Command 1 ∷ event.Tick (moment 63876600000) ∷ []) ∷ (event.Stage (id 5) 3 ∷ event.Interrupt (id 7) ∷ event.Resume ∷ start 7 0 ∷ event.LetOut (id 7) ∷ ended 6 outcome.Normal 18 18 ∷ start 6 0 ∷ ended 10 outcome.Normal 0 18 ∷ start 10 0 ∷ event.LetOut (id 6) ∷ event.Resume ∷ event.Stage (id 5) 1 ∷ event.OpenSet (id 5) ∷ event.LetOut (id 10) ∷ event.Command 6 ∷ event.Command 5 ∷ event.Command 4 ∷ event.Command 3 ∷ event.Tick (moment 63876603600) ∷ event.Command 2 ∷ event.Tick (moment 63876600600) ∷ event.Command 1 ∷ event.Tick (moment 63876600000) ∷ []) ∷ []) ≡ ((None, (false, ((Some (phase.Inactive, status.OnHold)) ∷ (Some (phase.Pending, status.Waiting)) ∷ (Some (phase.Pending, status.Waiting)) ∷ (Some (phase.Completed, status.Cancelled)) ∷ (Some (phase.Running, status.Paused)) ∷ (Some (phase.Completed, status.Normal)) ∷ (Some (phase.Completed, status.Error)) ∷ (Some (phase.Inactive, status.Disabled)) ∷ (Some (phase.Running, status.Normal)) ∷ (Some (phase.Completed, status.Normal)) ∷ []))) ∷ (None, (true, ((Some (phase.Inactive, status.OnHold)) ∷ (Some (phase.Pending, status.Waiting)) ∷ (Some (phase.Pending, status.Waiting)) ∷ (Some (phase.Completed, status.Cancelled)) ∷ (Some (phase.Completed, status.Normal)) ∷ (Some (phase.Completed, status.Normal)) ∷ (Some (phase.Completed, status.Error)) ∷ (Some (phase.Completed, status.Cancelled)) ∷ (Some (phase.Completed, status.Normal)) ∷ (Some (phase.Completed, status.Normal)) ∷ []))) ∷ ((Some (event.LetOut (id 9))), (false, ((Some (phase.Inactive, status.OnHold)) ∷ (Some (phase.Pending, status.Waiting)) ∷ (Some (phase.Pending, status.Waiting)) ∷ (Some (phase.Completed, status.Cancelled)) ∷ (Some (phase.Running, status.Paused)) ∷ (Some (phase.Completed, status.Normal)) ∷ (Some (phase.Completed, status.Error)) ∷ (Some (phase.Inactive, status.Disabled)) ∷ (Some (phase.Pending, status.Standby)) ∷ (Some (phase.Completed, status.Normal)) ∷ []))) ∷ [])
+r107_group_0 : map (answers r107) ((start 9 0 ∷ event.LetOut (id 9) ∷ event.Stage (id 5) 3 ∷ event.Interrupt (id 7) ∷ event.Resume ∷ start 7 0 ∷ event.LetOut (id 7) ∷ ended 6 outcome.Normal 18 18 ∷ start 6 0 ∷ ended 10 outcome.Normal 0 18 ∷ start 10 0 ∷ event.LetOut (id 6) ∷ event.Resume ∷ event.Stage (id 5) 1 ∷ event.OpenSet (id 5) ∷ event.LetOut (id 10) ∷ event.Command 6 ∷ event.Command 5 ∷ event.Command 4 ∷ event.Command 3 ∷ event.Tick (moment 63876603600) ∷ event.Command 2 ∷ event.Tick (moment 63876600600) ∷ event.Command 1 ∷ event.Tick (moment 63876600000) ∷ []) ∷ (event.Tick (moment 63876603600) ∷ event.CloseSet (id 5) outcome.Normal ∷ ended 9 outcome.Normal 36 18 ∷ start 9 0 ∷ event.LetOut (id 9) ∷ event.Stage (id 5) 3 ∷ event.Interrupt (id 7) ∷ event.Resume ∷ start 7 0 ∷ event.LetOut (id 7) ∷ ended 6 outcome.Normal 18 18 ∷ start 6 0 ∷ ended 10 outcome.Normal 0 18 ∷ start 10 0 ∷ event.LetOut (id 6) ∷ event.Resume ∷ event.Stage (id 5) 1 ∷ event.OpenSet (id 5) ∷ event.LetOut (id 10) ∷ event.Command 6 ∷ event.Command 5 ∷ event.Command 4 ∷ event.Command 3 ∷ event.Tick (moment 63876603600) ∷ event.Command 2 ∷ event.Tick (moment 63876600600) ∷ event.Command 1 ∷ event.Tick (moment 63876600000) ∷ []) ∷ (event.Stage (id 5) 3 ∷ event.Interrupt (id 7) ∷ event.Resume ∷ start 7 0 ∷ event.LetOut (id 7) ∷ ended 6 outcome.Normal 18 18 ∷ start 6 0 ∷ ended 10 outcome.Normal 0 18 ∷ start 10 0 ∷ event.LetOut (id 6) ∷ event.Resume ∷ event.Stage (id 5) 1 ∷ event.OpenSet (id 5) ∷ event.LetOut (id 10) ∷ event.Command 6 ∷ event.Command 5 ∷ event.Command 4 ∷ event.Command 3 ∷ event.Tick (moment 63876603600) ∷ event.Command 2 ∷ event.Tick (moment 63876600600) ∷ event.Command 1 ∷ event.Tick (moment 63876600000) ∷ []) ∷ []) ≡ ((None, (false, ((Some (phase.Inactive, status.OnHold)) ∷ (Some (phase.Pending, status.Waiting)) ∷ (Some (phase.Pending, status.Waiting)) ∷ (Some (phase.Completed, status.Cancelled)) ∷ (Some (phase.Running, status.Paused)) ∷ (Some (phase.Completed, status.Normal)) ∷ (Some (phase.Completed, status.Error)) ∷ (Some (phase.Inactive, status.Disabled)) ∷ (Some (phase.Running, status.Normal)) ∷ (Some (phase.Completed, status.Normal)) ∷ []))) ∷ (None, (true, ((Some (phase.Inactive, status.OnHold)) ∷ (Some (phase.Pending, status.Waiting)) ∷ (Some (phase.Pending, status.Waiting)) ∷ (Some (phase.Completed, status.Cancelled)) ∷ (Some (phase.Completed, status.Normal)) ∷ (Some (phase.Completed, status.Normal)) ∷ (Some (phase.Completed, status.Error)) ∷ (Some (phase.Completed, status.Cancelled)) ∷ (Some (phase.Completed, status.Normal)) ∷ (Some (phase.Completed, status.Normal)) ∷ []))) ∷ ((Some (event.LetOut (id 9))), (false, ((Some (phase.Inactive, status.OnHold)) ∷ (Some (phase.Pending, status.Waiting)) ∷ (Some (phase.Pending, status.Waiting)) ∷ (Some (phase.Completed, status.Cancelled)) ∷ (Some (phase.Running, status.Paused)) ∷ (Some (phase.Completed, status.Normal)) ∷ (Some (phase.Completed, status.Error)) ∷ (Some (phase.Inactive, status.Disabled)) ∷ (Some (phase.Pending, status.Standby)) ∷ (Some (phase.Completed, status.Normal)) ∷ []))) ∷ [])
 unfolding the_law
 r107_group_0 = refl
 
@@ -228,7 +228,7 @@ r57_text : text_of r57 (event.Tick (moment 63876603000) ∷ event.Command 1 ∷ 
 unfolding the_law
 r57_text = refl
 
-r57_group_0 : map (state r57) ((event.CloseSet (id 1) outcome.Error ∷ ended 4 outcome.Error 70 24 ∷ start 4 0 ∷ event.LetOut (id 4) ∷ ended 3 outcome.Error 48 22 ∷ start 3 0 ∷ event.LetOut (id 3) ∷ event.Stage (id 1) 2 ∷ ended 2 outcome.Error 24 24 ∷ start 2 0 ∷ event.LetOut (id 2) ∷ event.Stage (id 1) 1 ∷ event.OpenSet (id 1) ∷ ended 5 outcome.Error 0 24 ∷ start 5 0 ∷ event.LetOut (id 5) ∷ event.Resume ∷ event.Command 7 ∷ event.Command 6 ∷ event.Command 5 ∷ event.Command 4 ∷ event.Command 3 ∷ event.Command 2 ∷ event.Command 1 ∷ event.Tick (moment 63876603000) ∷ []) ∷ (event.LetOut (id 4) ∷ ended 3 outcome.Error 48 22 ∷ start 3 0 ∷ event.LetOut (id 3) ∷ event.Stage (id 1) 2 ∷ ended 2 outcome.Error 24 24 ∷ start 2 0 ∷ event.LetOut (id 2) ∷ event.Stage (id 1) 1 ∷ event.OpenSet (id 1) ∷ ended 5 outcome.Error 0 24 ∷ start 5 0 ∷ event.LetOut (id 5) ∷ event.Resume ∷ event.Command 7 ∷ event.Command 6 ∷ event.Command 5 ∷ event.Command 4 ∷ event.Command 3 ∷ event.Command 2 ∷ event.Command 1 ∷ event.Tick (moment 63876603000) ∷ []) ∷ (event.LetOut (id 2) ∷ event.Stage (id 1) 1 ∷ event.OpenSet (id 1) ∷ ended 5 outcome.Error 0 24 ∷ start 5 0 ∷ event.LetOut (id 5) ∷ event.Resume ∷ event.Command 7 ∷ event.Command 6 ∷ event.Command 5 ∷ event.Command 4 ∷ event.Command 3 ∷ event.Command 2 ∷ event.Command 1 ∷ event.Tick (moment 63876603000) ∷ []) ∷ []) ≡ ((None, (true, ((Some (phase.Completed, status.Error)) ∷ (Some (phase.Completed, status.Error)) ∷ (Some (phase.Completed, status.Error)) ∷ (Some (phase.Completed, status.Error)) ∷ (Some (phase.Completed, status.Error)) ∷ []))) ∷ (None, (false, ((Some (phase.Running, status.Paused)) ∷ (Some (phase.Completed, status.Error)) ∷ (Some (phase.Completed, status.Error)) ∷ (Some (phase.Pending, status.Normal)) ∷ (Some (phase.Completed, status.Error)) ∷ []))) ∷ (None, (false, ((Some (phase.Running, status.Paused)) ∷ (Some (phase.Pending, status.Normal)) ∷ (Some (phase.Pending, status.Waiting)) ∷ (Some (phase.Pending, status.Waiting)) ∷ (Some (phase.Completed, status.Error)) ∷ []))) ∷ [])
+r57_group_0 : map (answers r57) ((event.CloseSet (id 1) outcome.Error ∷ ended 4 outcome.Error 70 24 ∷ start 4 0 ∷ event.LetOut (id 4) ∷ ended 3 outcome.Error 48 22 ∷ start 3 0 ∷ event.LetOut (id 3) ∷ event.Stage (id 1) 2 ∷ ended 2 outcome.Error 24 24 ∷ start 2 0 ∷ event.LetOut (id 2) ∷ event.Stage (id 1) 1 ∷ event.OpenSet (id 1) ∷ ended 5 outcome.Error 0 24 ∷ start 5 0 ∷ event.LetOut (id 5) ∷ event.Resume ∷ event.Command 7 ∷ event.Command 6 ∷ event.Command 5 ∷ event.Command 4 ∷ event.Command 3 ∷ event.Command 2 ∷ event.Command 1 ∷ event.Tick (moment 63876603000) ∷ []) ∷ (event.LetOut (id 4) ∷ ended 3 outcome.Error 48 22 ∷ start 3 0 ∷ event.LetOut (id 3) ∷ event.Stage (id 1) 2 ∷ ended 2 outcome.Error 24 24 ∷ start 2 0 ∷ event.LetOut (id 2) ∷ event.Stage (id 1) 1 ∷ event.OpenSet (id 1) ∷ ended 5 outcome.Error 0 24 ∷ start 5 0 ∷ event.LetOut (id 5) ∷ event.Resume ∷ event.Command 7 ∷ event.Command 6 ∷ event.Command 5 ∷ event.Command 4 ∷ event.Command 3 ∷ event.Command 2 ∷ event.Command 1 ∷ event.Tick (moment 63876603000) ∷ []) ∷ (event.LetOut (id 2) ∷ event.Stage (id 1) 1 ∷ event.OpenSet (id 1) ∷ ended 5 outcome.Error 0 24 ∷ start 5 0 ∷ event.LetOut (id 5) ∷ event.Resume ∷ event.Command 7 ∷ event.Command 6 ∷ event.Command 5 ∷ event.Command 4 ∷ event.Command 3 ∷ event.Command 2 ∷ event.Command 1 ∷ event.Tick (moment 63876603000) ∷ []) ∷ []) ≡ ((None, (true, ((Some (phase.Completed, status.Error)) ∷ (Some (phase.Completed, status.Error)) ∷ (Some (phase.Completed, status.Error)) ∷ (Some (phase.Completed, status.Error)) ∷ (Some (phase.Completed, status.Error)) ∷ []))) ∷ (None, (false, ((Some (phase.Running, status.Paused)) ∷ (Some (phase.Completed, status.Error)) ∷ (Some (phase.Completed, status.Error)) ∷ (Some (phase.Pending, status.Normal)) ∷ (Some (phase.Completed, status.Error)) ∷ []))) ∷ (None, (false, ((Some (phase.Running, status.Paused)) ∷ (Some (phase.Pending, status.Normal)) ∷ (Some (phase.Pending, status.Waiting)) ∷ (Some (phase.Pending, status.Waiting)) ∷ (Some (phase.Completed, status.Error)) ∷ []))) ∷ [])
 unfolding the_law
 r57_group_0 = refl
 
@@ -305,7 +305,7 @@ r89_text : text_of r89 (event.Tick (moment 63876601800) ∷ event.Command 1 ∷ 
 unfolding the_law
 r89_text = refl
 
-r89_group_0 : map (state r89) ((event.LetOut (id 3) ∷ event.Interrupt (id 3) ∷ event.Resume ∷ start 3 0 ∷ ended 1 outcome.Normal 0 18 ∷ start 1 0 ∷ event.LetOut (id 3) ∷ event.Stage (id 2) 1 ∷ event.OpenSet (id 2) ∷ event.LetOut (id 1) ∷ event.Command 4 ∷ event.Command 3 ∷ event.Command 2 ∷ event.Command 1 ∷ event.Tick (moment 63876601800) ∷ []) ∷ (start 3 0 ∷ event.LetOut (id 3) ∷ event.Interrupt (id 3) ∷ event.Resume ∷ start 3 0 ∷ ended 1 outcome.Normal 0 18 ∷ start 1 0 ∷ event.LetOut (id 3) ∷ event.Stage (id 2) 1 ∷ event.OpenSet (id 2) ∷ event.LetOut (id 1) ∷ event.Command 4 ∷ event.Command 3 ∷ event.Command 2 ∷ event.Command 1 ∷ event.Tick (moment 63876601800) ∷ []) ∷ (ended 3 outcome.Warning 18 18 ∷ start 3 0 ∷ event.LetOut (id 3) ∷ event.Interrupt (id 3) ∷ event.Resume ∷ start 3 0 ∷ ended 1 outcome.Normal 0 18 ∷ start 1 0 ∷ event.LetOut (id 3) ∷ event.Stage (id 2) 1 ∷ event.OpenSet (id 2) ∷ event.LetOut (id 1) ∷ event.Command 4 ∷ event.Command 3 ∷ event.Command 2 ∷ event.Command 1 ∷ event.Tick (moment 63876601800) ∷ []) ∷ []) ≡ ((None, (false, ((Some (phase.Completed, status.Normal)) ∷ (Some (phase.Running, status.Paused)) ∷ (Some (phase.Pending, status.Normal)) ∷ (Some (phase.Pending, status.Waiting)) ∷ (Some (phase.Pending, status.Waiting)) ∷ None ∷ []))) ∷ (None, (false, ((Some (phase.Completed, status.Normal)) ∷ (Some (phase.Running, status.Paused)) ∷ (Some (phase.Running, status.Normal)) ∷ (Some (phase.Pending, status.Waiting)) ∷ (Some (phase.Pending, status.Waiting)) ∷ None ∷ []))) ∷ ((Some (event.CloseSet (id 2) outcome.Warning)), (false, ((Some (phase.Completed, status.Normal)) ∷ (Some (phase.Running, status.Paused)) ∷ (Some (phase.Completed, status.Warning)) ∷ (Some (phase.Pending, status.Waiting)) ∷ (Some (phase.Pending, status.Waiting)) ∷ None ∷ []))) ∷ [])
+r89_group_0 : map (answers r89) ((event.LetOut (id 3) ∷ event.Interrupt (id 3) ∷ event.Resume ∷ start 3 0 ∷ ended 1 outcome.Normal 0 18 ∷ start 1 0 ∷ event.LetOut (id 3) ∷ event.Stage (id 2) 1 ∷ event.OpenSet (id 2) ∷ event.LetOut (id 1) ∷ event.Command 4 ∷ event.Command 3 ∷ event.Command 2 ∷ event.Command 1 ∷ event.Tick (moment 63876601800) ∷ []) ∷ (start 3 0 ∷ event.LetOut (id 3) ∷ event.Interrupt (id 3) ∷ event.Resume ∷ start 3 0 ∷ ended 1 outcome.Normal 0 18 ∷ start 1 0 ∷ event.LetOut (id 3) ∷ event.Stage (id 2) 1 ∷ event.OpenSet (id 2) ∷ event.LetOut (id 1) ∷ event.Command 4 ∷ event.Command 3 ∷ event.Command 2 ∷ event.Command 1 ∷ event.Tick (moment 63876601800) ∷ []) ∷ (ended 3 outcome.Warning 18 18 ∷ start 3 0 ∷ event.LetOut (id 3) ∷ event.Interrupt (id 3) ∷ event.Resume ∷ start 3 0 ∷ ended 1 outcome.Normal 0 18 ∷ start 1 0 ∷ event.LetOut (id 3) ∷ event.Stage (id 2) 1 ∷ event.OpenSet (id 2) ∷ event.LetOut (id 1) ∷ event.Command 4 ∷ event.Command 3 ∷ event.Command 2 ∷ event.Command 1 ∷ event.Tick (moment 63876601800) ∷ []) ∷ []) ≡ ((None, (false, ((Some (phase.Completed, status.Normal)) ∷ (Some (phase.Running, status.Paused)) ∷ (Some (phase.Pending, status.Normal)) ∷ (Some (phase.Pending, status.Waiting)) ∷ (Some (phase.Pending, status.Waiting)) ∷ None ∷ []))) ∷ (None, (false, ((Some (phase.Completed, status.Normal)) ∷ (Some (phase.Running, status.Paused)) ∷ (Some (phase.Running, status.Normal)) ∷ (Some (phase.Pending, status.Waiting)) ∷ (Some (phase.Pending, status.Waiting)) ∷ None ∷ []))) ∷ ((Some (event.CloseSet (id 2) outcome.Warning)), (false, ((Some (phase.Completed, status.Normal)) ∷ (Some (phase.Running, status.Paused)) ∷ (Some (phase.Completed, status.Warning)) ∷ (Some (phase.Pending, status.Waiting)) ∷ (Some (phase.Pending, status.Waiting)) ∷ None ∷ []))) ∷ [])
 unfolding the_law
 r89_group_0 = refl
 

@@ -18,7 +18,7 @@ use Rattle.conc_law.specs.Law.{is_lawful, is_lawful_so_far}
 use Rattle.conc_law.specs.Readings.{next_reading}
 use Rattle.conc_law.specs.Text.{text_of}
 use Rattle.conc_law.proofs.rows.Computed.{the_law, made}
-use Rattle.conc_law.proofs.rows.OracleWords.{ended, state, request_by}
+use Rattle.conc_law.proofs.rows.OracleWords.{ended, answers, request_by}
 use Rattle.conc_law.proofs.rows.Plans.{texts, id, moment, start}
 
 abbrev c83_setup : Setup
@@ -74,7 +74,7 @@ c83_text : text_of c83 (event.Tick (moment 63876600000) ∷ event.Command 1 ∷ 
 unfolding the_law
 c83_text = refl
 
-c83_group_0 : map (state c83) ((event.Command 2 ∷ event.Command 1 ∷ event.Tick (moment 63876600000) ∷ []) ∷ (event.LetOut (id 2) ∷ event.Stage (id 1) 1 ∷ event.OpenSet (id 1) ∷ event.Command 2 ∷ event.Command 1 ∷ event.Tick (moment 63876600000) ∷ []) ∷ (start 3 0 ∷ event.LetOut (id 3) ∷ event.Stage (id 1) 2 ∷ ended 2 outcome.Normal 0 18 ∷ start 2 0 ∷ event.LetOut (id 2) ∷ event.Stage (id 1) 1 ∷ event.OpenSet (id 1) ∷ event.Command 2 ∷ event.Command 1 ∷ event.Tick (moment 63876600000) ∷ []) ∷ []) ≡ (((Some (event.OpenSet (id 1))), (false, ((Some (phase.Pending, status.Standby)) ∷ (Some (phase.Pending, status.Waiting)) ∷ (Some (phase.Pending, status.Waiting)) ∷ (Some (phase.Inactive, status.Disabled)) ∷ []))) ∷ (None, (false, ((Some (phase.Running, status.Paused)) ∷ (Some (phase.Pending, status.Normal)) ∷ (Some (phase.Pending, status.Waiting)) ∷ (Some (phase.Inactive, status.Disabled)) ∷ []))) ∷ (None, (false, ((Some (phase.Running, status.Paused)) ∷ (Some (phase.Completed, status.Normal)) ∷ (Some (phase.Running, status.Normal)) ∷ (Some (phase.Inactive, status.Disabled)) ∷ []))) ∷ [])
+c83_group_0 : map (answers c83) ((event.Command 2 ∷ event.Command 1 ∷ event.Tick (moment 63876600000) ∷ []) ∷ (event.LetOut (id 2) ∷ event.Stage (id 1) 1 ∷ event.OpenSet (id 1) ∷ event.Command 2 ∷ event.Command 1 ∷ event.Tick (moment 63876600000) ∷ []) ∷ (start 3 0 ∷ event.LetOut (id 3) ∷ event.Stage (id 1) 2 ∷ ended 2 outcome.Normal 0 18 ∷ start 2 0 ∷ event.LetOut (id 2) ∷ event.Stage (id 1) 1 ∷ event.OpenSet (id 1) ∷ event.Command 2 ∷ event.Command 1 ∷ event.Tick (moment 63876600000) ∷ []) ∷ []) ≡ (((Some (event.OpenSet (id 1))), (false, ((Some (phase.Pending, status.Standby)) ∷ (Some (phase.Pending, status.Waiting)) ∷ (Some (phase.Pending, status.Waiting)) ∷ (Some (phase.Inactive, status.Disabled)) ∷ []))) ∷ (None, (false, ((Some (phase.Running, status.Paused)) ∷ (Some (phase.Pending, status.Normal)) ∷ (Some (phase.Pending, status.Waiting)) ∷ (Some (phase.Inactive, status.Disabled)) ∷ []))) ∷ (None, (false, ((Some (phase.Running, status.Paused)) ∷ (Some (phase.Completed, status.Normal)) ∷ (Some (phase.Running, status.Normal)) ∷ (Some (phase.Inactive, status.Disabled)) ∷ []))) ∷ [])
 unfolding the_law
 c83_group_0 = refl
 
@@ -147,7 +147,7 @@ c57_text : text_of c57 (event.Tick (moment 63876603000) ∷ event.Command 1 ∷ 
 unfolding the_law
 c57_text = refl
 
-c57_group_0 : map (state c57) ((start 5 0 ∷ event.LetOut (id 5) ∷ event.Command 7 ∷ event.Command 6 ∷ event.Command 5 ∷ event.Command 4 ∷ event.Command 3 ∷ event.Command 2 ∷ event.Command 1 ∷ event.Tick (moment 63876603000) ∷ []) ∷ (event.Stage (id 1) 2 ∷ ended 2 outcome.Error 24 24 ∷ start 2 0 ∷ event.LetOut (id 2) ∷ event.Stage (id 1) 1 ∷ event.OpenSet (id 1) ∷ ended 5 outcome.Error 0 24 ∷ start 5 0 ∷ event.LetOut (id 5) ∷ event.Command 7 ∷ event.Command 6 ∷ event.Command 5 ∷ event.Command 4 ∷ event.Command 3 ∷ event.Command 2 ∷ event.Command 1 ∷ event.Tick (moment 63876603000) ∷ []) ∷ (ended 3 outcome.Error 48 22 ∷ start 3 0 ∷ event.LetOut (id 3) ∷ event.Stage (id 1) 2 ∷ ended 2 outcome.Error 24 24 ∷ start 2 0 ∷ event.LetOut (id 2) ∷ event.Stage (id 1) 1 ∷ event.OpenSet (id 1) ∷ ended 5 outcome.Error 0 24 ∷ start 5 0 ∷ event.LetOut (id 5) ∷ event.Command 7 ∷ event.Command 6 ∷ event.Command 5 ∷ event.Command 4 ∷ event.Command 3 ∷ event.Command 2 ∷ event.Command 1 ∷ event.Tick (moment 63876603000) ∷ []) ∷ []) ≡ ((None, (false, ((Some (phase.Pending, status.Standby)) ∷ (Some (phase.Pending, status.Waiting)) ∷ (Some (phase.Pending, status.Waiting)) ∷ (Some (phase.Pending, status.Waiting)) ∷ (Some (phase.Running, status.Normal)) ∷ []))) ∷ ((Some (event.LetOut (id 3))), (false, ((Some (phase.Running, status.Paused)) ∷ (Some (phase.Completed, status.Error)) ∷ (Some (phase.Pending, status.Standby)) ∷ (Some (phase.Pending, status.Standby)) ∷ (Some (phase.Completed, status.Error)) ∷ []))) ∷ ((Some (event.LetOut (id 4))), (false, ((Some (phase.Running, status.Paused)) ∷ (Some (phase.Completed, status.Error)) ∷ (Some (phase.Completed, status.Error)) ∷ (Some (phase.Pending, status.Standby)) ∷ (Some (phase.Completed, status.Error)) ∷ []))) ∷ [])
+c57_group_0 : map (answers c57) ((start 5 0 ∷ event.LetOut (id 5) ∷ event.Command 7 ∷ event.Command 6 ∷ event.Command 5 ∷ event.Command 4 ∷ event.Command 3 ∷ event.Command 2 ∷ event.Command 1 ∷ event.Tick (moment 63876603000) ∷ []) ∷ (event.Stage (id 1) 2 ∷ ended 2 outcome.Error 24 24 ∷ start 2 0 ∷ event.LetOut (id 2) ∷ event.Stage (id 1) 1 ∷ event.OpenSet (id 1) ∷ ended 5 outcome.Error 0 24 ∷ start 5 0 ∷ event.LetOut (id 5) ∷ event.Command 7 ∷ event.Command 6 ∷ event.Command 5 ∷ event.Command 4 ∷ event.Command 3 ∷ event.Command 2 ∷ event.Command 1 ∷ event.Tick (moment 63876603000) ∷ []) ∷ (ended 3 outcome.Error 48 22 ∷ start 3 0 ∷ event.LetOut (id 3) ∷ event.Stage (id 1) 2 ∷ ended 2 outcome.Error 24 24 ∷ start 2 0 ∷ event.LetOut (id 2) ∷ event.Stage (id 1) 1 ∷ event.OpenSet (id 1) ∷ ended 5 outcome.Error 0 24 ∷ start 5 0 ∷ event.LetOut (id 5) ∷ event.Command 7 ∷ event.Command 6 ∷ event.Command 5 ∷ event.Command 4 ∷ event.Command 3 ∷ event.Command 2 ∷ event.Command 1 ∷ event.Tick (moment 63876603000) ∷ []) ∷ []) ≡ ((None, (false, ((Some (phase.Pending, status.Standby)) ∷ (Some (phase.Pending, status.Waiting)) ∷ (Some (phase.Pending, status.Waiting)) ∷ (Some (phase.Pending, status.Waiting)) ∷ (Some (phase.Running, status.Normal)) ∷ []))) ∷ ((Some (event.LetOut (id 3))), (false, ((Some (phase.Running, status.Paused)) ∷ (Some (phase.Completed, status.Error)) ∷ (Some (phase.Pending, status.Standby)) ∷ (Some (phase.Pending, status.Standby)) ∷ (Some (phase.Completed, status.Error)) ∷ []))) ∷ ((Some (event.LetOut (id 4))), (false, ((Some (phase.Running, status.Paused)) ∷ (Some (phase.Completed, status.Error)) ∷ (Some (phase.Completed, status.Error)) ∷ (Some (phase.Pending, status.Standby)) ∷ (Some (phase.Completed, status.Error)) ∷ []))) ∷ [])
 unfolding the_law
 c57_group_0 = refl
 
@@ -216,7 +216,7 @@ c6_text : text_of c6 (event.Tick (moment 63876601800) ∷ event.Command 1 ∷ ev
 unfolding the_law
 c6_text = refl
 
-c6_group_0 : map (state c6) ((ended 9 outcome.Warning 144 18 ∷ start 9 0 ∷ event.LetOut (id 9) ∷ event.Stage (id 7) 2 ∷ ended 8 outcome.Normal 108 36 ∷ start 8 0 ∷ event.LetOut (id 8) ∷ event.Stage (id 7) 1 ∷ event.OpenSet (id 7) ∷ event.Tick (moment 63876603600) ∷ event.Command 6 ∷ event.Tick (moment 63876603000) ∷ event.Tick (moment 63876601800) ∷ event.CloseSet (id 4) outcome.Normal ∷ ended 6 outcome.Warning 90 18 ∷ start 6 0 ∷ event.LetOut (id 6) ∷ event.Stage (id 4) 2 ∷ ended 5 outcome.Normal 54 36 ∷ start 5 0 ∷ ended 1 outcome.Normal 18 36 ∷ start 1 0 ∷ ended 3 outcome.Error 0 18 ∷ start 3 0 ∷ event.LetOut (id 5) ∷ event.Stage (id 4) 1 ∷ event.OpenSet (id 4) ∷ event.LetOut (id 1) ∷ event.LetOut (id 3) ∷ event.Command 5 ∷ event.Command 4 ∷ event.Command 3 ∷ event.Command 2 ∷ event.Command 1 ∷ event.Tick (moment 63876601800) ∷ []) ∷ (event.LetOut (id 8) ∷ event.Stage (id 7) 1 ∷ event.OpenSet (id 7) ∷ event.Tick (moment 63876603600) ∷ event.Command 6 ∷ event.Tick (moment 63876603000) ∷ event.Tick (moment 63876601800) ∷ event.CloseSet (id 4) outcome.Normal ∷ ended 6 outcome.Warning 90 18 ∷ start 6 0 ∷ event.LetOut (id 6) ∷ event.Stage (id 4) 2 ∷ ended 5 outcome.Normal 54 36 ∷ start 5 0 ∷ ended 1 outcome.Normal 18 36 ∷ start 1 0 ∷ ended 3 outcome.Error 0 18 ∷ start 3 0 ∷ event.LetOut (id 5) ∷ event.Stage (id 4) 1 ∷ event.OpenSet (id 4) ∷ event.LetOut (id 1) ∷ event.LetOut (id 3) ∷ event.Command 5 ∷ event.Command 4 ∷ event.Command 3 ∷ event.Command 2 ∷ event.Command 1 ∷ event.Tick (moment 63876601800) ∷ []) ∷ (event.LetOut (id 5) ∷ event.Stage (id 4) 1 ∷ event.OpenSet (id 4) ∷ event.LetOut (id 1) ∷ event.LetOut (id 3) ∷ event.Command 5 ∷ event.Command 4 ∷ event.Command 3 ∷ event.Command 2 ∷ event.Command 1 ∷ event.Tick (moment 63876601800) ∷ []) ∷ []) ≡ (((Some (event.CloseSet (id 7) outcome.Normal)), (false, ((Some (phase.Completed, status.Normal)) ∷ (Some (phase.Inactive, status.Disabled)) ∷ (Some (phase.Completed, status.Error)) ∷ (Some (phase.Completed, status.Normal)) ∷ (Some (phase.Completed, status.Normal)) ∷ (Some (phase.Completed, status.Warning)) ∷ (Some (phase.Running, status.Paused)) ∷ (Some (phase.Completed, status.Normal)) ∷ (Some (phase.Completed, status.Warning)) ∷ []))) ∷ (None, (false, ((Some (phase.Completed, status.Normal)) ∷ (Some (phase.Inactive, status.Disabled)) ∷ (Some (phase.Completed, status.Error)) ∷ (Some (phase.Completed, status.Normal)) ∷ (Some (phase.Completed, status.Normal)) ∷ (Some (phase.Completed, status.Warning)) ∷ (Some (phase.Running, status.Paused)) ∷ (Some (phase.Pending, status.Normal)) ∷ (Some (phase.Pending, status.Waiting)) ∷ []))) ∷ (None, (false, ((Some (phase.Pending, status.Normal)) ∷ (Some (phase.Inactive, status.Disabled)) ∷ (Some (phase.Pending, status.Normal)) ∷ (Some (phase.Running, status.Paused)) ∷ (Some (phase.Pending, status.Normal)) ∷ (Some (phase.Pending, status.Waiting)) ∷ (Some (phase.Pending, status.Scheduled)) ∷ (Some (phase.Pending, status.Waiting)) ∷ (Some (phase.Pending, status.Waiting)) ∷ []))) ∷ [])
+c6_group_0 : map (answers c6) ((ended 9 outcome.Warning 144 18 ∷ start 9 0 ∷ event.LetOut (id 9) ∷ event.Stage (id 7) 2 ∷ ended 8 outcome.Normal 108 36 ∷ start 8 0 ∷ event.LetOut (id 8) ∷ event.Stage (id 7) 1 ∷ event.OpenSet (id 7) ∷ event.Tick (moment 63876603600) ∷ event.Command 6 ∷ event.Tick (moment 63876603000) ∷ event.Tick (moment 63876601800) ∷ event.CloseSet (id 4) outcome.Normal ∷ ended 6 outcome.Warning 90 18 ∷ start 6 0 ∷ event.LetOut (id 6) ∷ event.Stage (id 4) 2 ∷ ended 5 outcome.Normal 54 36 ∷ start 5 0 ∷ ended 1 outcome.Normal 18 36 ∷ start 1 0 ∷ ended 3 outcome.Error 0 18 ∷ start 3 0 ∷ event.LetOut (id 5) ∷ event.Stage (id 4) 1 ∷ event.OpenSet (id 4) ∷ event.LetOut (id 1) ∷ event.LetOut (id 3) ∷ event.Command 5 ∷ event.Command 4 ∷ event.Command 3 ∷ event.Command 2 ∷ event.Command 1 ∷ event.Tick (moment 63876601800) ∷ []) ∷ (event.LetOut (id 8) ∷ event.Stage (id 7) 1 ∷ event.OpenSet (id 7) ∷ event.Tick (moment 63876603600) ∷ event.Command 6 ∷ event.Tick (moment 63876603000) ∷ event.Tick (moment 63876601800) ∷ event.CloseSet (id 4) outcome.Normal ∷ ended 6 outcome.Warning 90 18 ∷ start 6 0 ∷ event.LetOut (id 6) ∷ event.Stage (id 4) 2 ∷ ended 5 outcome.Normal 54 36 ∷ start 5 0 ∷ ended 1 outcome.Normal 18 36 ∷ start 1 0 ∷ ended 3 outcome.Error 0 18 ∷ start 3 0 ∷ event.LetOut (id 5) ∷ event.Stage (id 4) 1 ∷ event.OpenSet (id 4) ∷ event.LetOut (id 1) ∷ event.LetOut (id 3) ∷ event.Command 5 ∷ event.Command 4 ∷ event.Command 3 ∷ event.Command 2 ∷ event.Command 1 ∷ event.Tick (moment 63876601800) ∷ []) ∷ (event.LetOut (id 5) ∷ event.Stage (id 4) 1 ∷ event.OpenSet (id 4) ∷ event.LetOut (id 1) ∷ event.LetOut (id 3) ∷ event.Command 5 ∷ event.Command 4 ∷ event.Command 3 ∷ event.Command 2 ∷ event.Command 1 ∷ event.Tick (moment 63876601800) ∷ []) ∷ []) ≡ (((Some (event.CloseSet (id 7) outcome.Normal)), (false, ((Some (phase.Completed, status.Normal)) ∷ (Some (phase.Inactive, status.Disabled)) ∷ (Some (phase.Completed, status.Error)) ∷ (Some (phase.Completed, status.Normal)) ∷ (Some (phase.Completed, status.Normal)) ∷ (Some (phase.Completed, status.Warning)) ∷ (Some (phase.Running, status.Paused)) ∷ (Some (phase.Completed, status.Normal)) ∷ (Some (phase.Completed, status.Warning)) ∷ []))) ∷ (None, (false, ((Some (phase.Completed, status.Normal)) ∷ (Some (phase.Inactive, status.Disabled)) ∷ (Some (phase.Completed, status.Error)) ∷ (Some (phase.Completed, status.Normal)) ∷ (Some (phase.Completed, status.Normal)) ∷ (Some (phase.Completed, status.Warning)) ∷ (Some (phase.Running, status.Paused)) ∷ (Some (phase.Pending, status.Normal)) ∷ (Some (phase.Pending, status.Waiting)) ∷ []))) ∷ (None, (false, ((Some (phase.Pending, status.Normal)) ∷ (Some (phase.Inactive, status.Disabled)) ∷ (Some (phase.Pending, status.Normal)) ∷ (Some (phase.Running, status.Paused)) ∷ (Some (phase.Pending, status.Normal)) ∷ (Some (phase.Pending, status.Waiting)) ∷ (Some (phase.Pending, status.Scheduled)) ∷ (Some (phase.Pending, status.Waiting)) ∷ (Some (phase.Pending, status.Waiting)) ∷ []))) ∷ [])
 unfolding the_law
 c6_group_0 = refl
 
@@ -285,7 +285,7 @@ c130_text : text_of c130 (event.Tick (moment 63876600000) ∷ event.Tick (moment
 unfolding the_law
 c130_text = refl
 
-c130_group_0 : map (state c130) ((start 6 0 ∷ event.LetOut (id 6) ∷ event.Command 7 ∷ event.Tick (moment 63876603000) ∷ event.CloseSet (id 1) outcome.Warning ∷ ended 2 outcome.Warning 0 18 ∷ start 2 0 ∷ event.LetOut (id 2) ∷ event.Stage (id 1) 1 ∷ event.OpenSet (id 1) ∷ event.Command 6 ∷ event.Command 5 ∷ event.Command 4 ∷ event.Command 3 ∷ event.Command 2 ∷ event.Command 1 ∷ event.Tick (moment 63876601800) ∷ event.Tick (moment 63876600000) ∷ []) ∷ (event.CloseSet (id 1) outcome.Warning ∷ ended 2 outcome.Warning 0 18 ∷ start 2 0 ∷ event.LetOut (id 2) ∷ event.Stage (id 1) 1 ∷ event.OpenSet (id 1) ∷ event.Command 6 ∷ event.Command 5 ∷ event.Command 4 ∷ event.Command 3 ∷ event.Command 2 ∷ event.Command 1 ∷ event.Tick (moment 63876601800) ∷ event.Tick (moment 63876600000) ∷ []) ∷ (event.CloseSet (id 1) outcome.Warning ∷ ended 2 outcome.Warning 0 18 ∷ start 2 0 ∷ event.LetOut (id 2) ∷ event.Stage (id 1) 1 ∷ event.OpenSet (id 1) ∷ event.Command 6 ∷ event.Command 5 ∷ event.Command 4 ∷ event.Command 3 ∷ event.Command 2 ∷ event.Command 1 ∷ event.Tick (moment 63876601800) ∷ event.Tick (moment 63876600000) ∷ []) ∷ []) ≡ ((None, (false, ((Some (phase.Completed, status.Warning)) ∷ (Some (phase.Completed, status.Warning)) ∷ (Some (phase.Completed, status.Cancelled)) ∷ (Some (phase.Completed, status.Cancelled)) ∷ (Some (phase.Inactive, status.OnHold)) ∷ (Some (phase.Running, status.Normal)) ∷ []))) ∷ (None, (true, ((Some (phase.Completed, status.Warning)) ∷ (Some (phase.Completed, status.Warning)) ∷ (Some (phase.Completed, status.Cancelled)) ∷ (Some (phase.Completed, status.Cancelled)) ∷ (Some (phase.Inactive, status.OnHold)) ∷ (Some (phase.Pending, status.Scheduled)) ∷ []))) ∷ (None, (true, ((Some (phase.Completed, status.Warning)) ∷ (Some (phase.Completed, status.Warning)) ∷ (Some (phase.Completed, status.Cancelled)) ∷ (Some (phase.Completed, status.Cancelled)) ∷ (Some (phase.Inactive, status.OnHold)) ∷ (Some (phase.Pending, status.Scheduled)) ∷ []))) ∷ [])
+c130_group_0 : map (answers c130) ((start 6 0 ∷ event.LetOut (id 6) ∷ event.Command 7 ∷ event.Tick (moment 63876603000) ∷ event.CloseSet (id 1) outcome.Warning ∷ ended 2 outcome.Warning 0 18 ∷ start 2 0 ∷ event.LetOut (id 2) ∷ event.Stage (id 1) 1 ∷ event.OpenSet (id 1) ∷ event.Command 6 ∷ event.Command 5 ∷ event.Command 4 ∷ event.Command 3 ∷ event.Command 2 ∷ event.Command 1 ∷ event.Tick (moment 63876601800) ∷ event.Tick (moment 63876600000) ∷ []) ∷ (event.CloseSet (id 1) outcome.Warning ∷ ended 2 outcome.Warning 0 18 ∷ start 2 0 ∷ event.LetOut (id 2) ∷ event.Stage (id 1) 1 ∷ event.OpenSet (id 1) ∷ event.Command 6 ∷ event.Command 5 ∷ event.Command 4 ∷ event.Command 3 ∷ event.Command 2 ∷ event.Command 1 ∷ event.Tick (moment 63876601800) ∷ event.Tick (moment 63876600000) ∷ []) ∷ (event.CloseSet (id 1) outcome.Warning ∷ ended 2 outcome.Warning 0 18 ∷ start 2 0 ∷ event.LetOut (id 2) ∷ event.Stage (id 1) 1 ∷ event.OpenSet (id 1) ∷ event.Command 6 ∷ event.Command 5 ∷ event.Command 4 ∷ event.Command 3 ∷ event.Command 2 ∷ event.Command 1 ∷ event.Tick (moment 63876601800) ∷ event.Tick (moment 63876600000) ∷ []) ∷ []) ≡ ((None, (false, ((Some (phase.Completed, status.Warning)) ∷ (Some (phase.Completed, status.Warning)) ∷ (Some (phase.Completed, status.Cancelled)) ∷ (Some (phase.Completed, status.Cancelled)) ∷ (Some (phase.Inactive, status.OnHold)) ∷ (Some (phase.Running, status.Normal)) ∷ []))) ∷ (None, (true, ((Some (phase.Completed, status.Warning)) ∷ (Some (phase.Completed, status.Warning)) ∷ (Some (phase.Completed, status.Cancelled)) ∷ (Some (phase.Completed, status.Cancelled)) ∷ (Some (phase.Inactive, status.OnHold)) ∷ (Some (phase.Pending, status.Scheduled)) ∷ []))) ∷ (None, (true, ((Some (phase.Completed, status.Warning)) ∷ (Some (phase.Completed, status.Warning)) ∷ (Some (phase.Completed, status.Cancelled)) ∷ (Some (phase.Completed, status.Cancelled)) ∷ (Some (phase.Inactive, status.OnHold)) ∷ (Some (phase.Pending, status.Scheduled)) ∷ []))) ∷ [])
 unfolding the_law
 c130_group_0 = refl
 
@@ -354,7 +354,7 @@ c84_text : text_of c84 (event.Tick (moment 63876600000) ∷ event.Command 1 ∷ 
 unfolding the_law
 c84_text = refl
 
-c84_group_0 : map (state c84) ((event.OpenSet (id 6) ∷ event.Command 6 ∷ event.Command 5 ∷ event.Tick (moment 63876601800) ∷ event.Tick (moment 63876600000) ∷ ended 5 outcome.Normal 0 18 ∷ start 5 0 ∷ event.LetOut (id 5) ∷ event.Command 4 ∷ event.Command 3 ∷ event.Command 2 ∷ event.Command 1 ∷ event.Tick (moment 63876600000) ∷ []) ∷ (event.Tick (moment 63876600000) ∷ ended 5 outcome.Normal 0 18 ∷ start 5 0 ∷ event.LetOut (id 5) ∷ event.Command 4 ∷ event.Command 3 ∷ event.Command 2 ∷ event.Command 1 ∷ event.Tick (moment 63876600000) ∷ []) ∷ (start 10 0 ∷ event.CloseSet (id 6) outcome.Normal ∷ ended 7 outcome.Normal 18 18 ∷ start 7 0 ∷ event.LetOut (id 10) ∷ event.LetOut (id 7) ∷ event.Stage (id 6) 1 ∷ event.OpenSet (id 6) ∷ event.Command 6 ∷ event.Command 5 ∷ event.Tick (moment 63876601800) ∷ event.Tick (moment 63876600000) ∷ ended 5 outcome.Normal 0 18 ∷ start 5 0 ∷ event.LetOut (id 5) ∷ event.Command 4 ∷ event.Command 3 ∷ event.Command 2 ∷ event.Command 1 ∷ event.Tick (moment 63876600000) ∷ []) ∷ []) ≡ (((Some (event.Stage (id 6) 1)), (false, ((Some (phase.Inactive, status.OnHold)) ∷ (Some (phase.Pending, status.Waiting)) ∷ (Some (phase.Pending, status.Waiting)) ∷ (Some (phase.Completed, status.Cancelled)) ∷ (Some (phase.Completed, status.Normal)) ∷ (Some (phase.Running, status.Normal)) ∷ (Some (phase.Pending, status.Waiting)) ∷ (Some (phase.Pending, status.Waiting)) ∷ (Some (phase.Pending, status.Waiting)) ∷ (Some (phase.Pending, status.Standby)) ∷ []))) ∷ (None, (true, ((Some (phase.Inactive, status.OnHold)) ∷ (Some (phase.Pending, status.Waiting)) ∷ (Some (phase.Pending, status.Waiting)) ∷ (Some (phase.Completed, status.Cancelled)) ∷ (Some (phase.Completed, status.Normal)) ∷ None ∷ None ∷ None ∷ None ∷ None ∷ []))) ∷ (None, (false, ((Some (phase.Inactive, status.OnHold)) ∷ (Some (phase.Pending, status.Waiting)) ∷ (Some (phase.Pending, status.Waiting)) ∷ (Some (phase.Completed, status.Cancelled)) ∷ (Some (phase.Completed, status.Normal)) ∷ (Some (phase.Completed, status.Normal)) ∷ (Some (phase.Completed, status.Normal)) ∷ (Some (phase.Completed, status.Cancelled)) ∷ (Some (phase.Completed, status.Cancelled)) ∷ (Some (phase.Running, status.Normal)) ∷ []))) ∷ [])
+c84_group_0 : map (answers c84) ((event.OpenSet (id 6) ∷ event.Command 6 ∷ event.Command 5 ∷ event.Tick (moment 63876601800) ∷ event.Tick (moment 63876600000) ∷ ended 5 outcome.Normal 0 18 ∷ start 5 0 ∷ event.LetOut (id 5) ∷ event.Command 4 ∷ event.Command 3 ∷ event.Command 2 ∷ event.Command 1 ∷ event.Tick (moment 63876600000) ∷ []) ∷ (event.Tick (moment 63876600000) ∷ ended 5 outcome.Normal 0 18 ∷ start 5 0 ∷ event.LetOut (id 5) ∷ event.Command 4 ∷ event.Command 3 ∷ event.Command 2 ∷ event.Command 1 ∷ event.Tick (moment 63876600000) ∷ []) ∷ (start 10 0 ∷ event.CloseSet (id 6) outcome.Normal ∷ ended 7 outcome.Normal 18 18 ∷ start 7 0 ∷ event.LetOut (id 10) ∷ event.LetOut (id 7) ∷ event.Stage (id 6) 1 ∷ event.OpenSet (id 6) ∷ event.Command 6 ∷ event.Command 5 ∷ event.Tick (moment 63876601800) ∷ event.Tick (moment 63876600000) ∷ ended 5 outcome.Normal 0 18 ∷ start 5 0 ∷ event.LetOut (id 5) ∷ event.Command 4 ∷ event.Command 3 ∷ event.Command 2 ∷ event.Command 1 ∷ event.Tick (moment 63876600000) ∷ []) ∷ []) ≡ (((Some (event.Stage (id 6) 1)), (false, ((Some (phase.Inactive, status.OnHold)) ∷ (Some (phase.Pending, status.Waiting)) ∷ (Some (phase.Pending, status.Waiting)) ∷ (Some (phase.Completed, status.Cancelled)) ∷ (Some (phase.Completed, status.Normal)) ∷ (Some (phase.Running, status.Normal)) ∷ (Some (phase.Pending, status.Waiting)) ∷ (Some (phase.Pending, status.Waiting)) ∷ (Some (phase.Pending, status.Waiting)) ∷ (Some (phase.Pending, status.Standby)) ∷ []))) ∷ (None, (true, ((Some (phase.Inactive, status.OnHold)) ∷ (Some (phase.Pending, status.Waiting)) ∷ (Some (phase.Pending, status.Waiting)) ∷ (Some (phase.Completed, status.Cancelled)) ∷ (Some (phase.Completed, status.Normal)) ∷ None ∷ None ∷ None ∷ None ∷ None ∷ []))) ∷ (None, (false, ((Some (phase.Inactive, status.OnHold)) ∷ (Some (phase.Pending, status.Waiting)) ∷ (Some (phase.Pending, status.Waiting)) ∷ (Some (phase.Completed, status.Cancelled)) ∷ (Some (phase.Completed, status.Normal)) ∷ (Some (phase.Completed, status.Normal)) ∷ (Some (phase.Completed, status.Normal)) ∷ (Some (phase.Completed, status.Cancelled)) ∷ (Some (phase.Completed, status.Cancelled)) ∷ (Some (phase.Running, status.Normal)) ∷ []))) ∷ [])
 unfolding the_law
 c84_group_0 = refl
 

@@ -18,7 +18,7 @@ use Rattle.conc_law.specs.Law.{is_lawful, is_lawful_so_far, may_follow}
 use Rattle.conc_law.specs.Readings.{next_reading}
 use Rattle.conc_law.specs.Text.{text_of}
 use Rattle.conc_law.proofs.rows.Computed.{the_law}
-use Rattle.conc_law.proofs.rows.OracleWords.{ended, state, all_facts, all_values, starts, overall, steps, request_by}
+use Rattle.conc_law.proofs.rows.OracleWords.{ended, answers, all_facts, all_values, starts, overall, steps, request_by}
 use Rattle.conc_law.proofs.rows.Plans.{texts, id, moment, start}
 
 abbrev w7_setup : Setup
@@ -90,7 +90,7 @@ w7_next_3 : map (may_follow w7 (Some w7_readings) (event.Command 11 ∷ event.Ti
 unfolding the_law
 w7_next_3 = refl
 
-w7_group_0 : map (state w7) ((ended 1 outcome.Error 16 37 ∷ ended 5 outcome.Normal 0 16 ∷ start 5 0 ∷ event.Command 11 ∷ event.Tick (moment 63876603600) ∷ event.Tick (moment 63876602400) ∷ start 1 2 ∷ event.Tick (moment 63876602400) ∷ event.CloseSet (id 2) outcome.Error ∷ event.Ended (id 3) outcome.Terminated None ∷ event.LetOut (id 5) ∷ event.LetOut (id 1) ∷ event.Command 10 ∷ event.Command 9 ∷ event.Command 8 ∷ event.Command 7 ∷ event.Command 6 ∷ event.Command 5 ∷ event.Tick (moment 63876602400) ∷ event.Tick (moment 63876600600) ∷ start 3 0 ∷ event.LetOut (id 3) ∷ event.Stage (id 2) 1 ∷ event.OpenSet (id 2) ∷ event.Command 4 ∷ event.Command 3 ∷ event.Tick (moment 63876600600) ∷ event.Command 2 ∷ event.Command 1 ∷ event.Tick (moment 63876600000) ∷ []) ∷ (event.Command 9 ∷ event.Command 8 ∷ event.Command 7 ∷ event.Command 6 ∷ event.Command 5 ∷ event.Tick (moment 63876602400) ∷ event.Tick (moment 63876600600) ∷ start 3 0 ∷ event.LetOut (id 3) ∷ event.Stage (id 2) 1 ∷ event.OpenSet (id 2) ∷ event.Command 4 ∷ event.Command 3 ∷ event.Tick (moment 63876600600) ∷ event.Command 2 ∷ event.Command 1 ∷ event.Tick (moment 63876600000) ∷ []) ∷ (event.CloseSet (id 2) outcome.Error ∷ event.Ended (id 3) outcome.Terminated None ∷ event.LetOut (id 5) ∷ event.LetOut (id 1) ∷ event.Command 10 ∷ event.Command 9 ∷ event.Command 8 ∷ event.Command 7 ∷ event.Command 6 ∷ event.Command 5 ∷ event.Tick (moment 63876602400) ∷ event.Tick (moment 63876600600) ∷ start 3 0 ∷ event.LetOut (id 3) ∷ event.Stage (id 2) 1 ∷ event.OpenSet (id 2) ∷ event.Command 4 ∷ event.Command 3 ∷ event.Tick (moment 63876600600) ∷ event.Command 2 ∷ event.Command 1 ∷ event.Tick (moment 63876600000) ∷ []) ∷ (start 3 0 ∷ event.LetOut (id 3) ∷ event.Stage (id 2) 1 ∷ event.OpenSet (id 2) ∷ event.Command 4 ∷ event.Command 3 ∷ event.Tick (moment 63876600600) ∷ event.Command 2 ∷ event.Command 1 ∷ event.Tick (moment 63876600000) ∷ []) ∷ (event.Command 11 ∷ event.Tick (moment 63876603600) ∷ event.Tick (moment 63876602400) ∷ start 1 2 ∷ event.Tick (moment 63876602400) ∷ event.CloseSet (id 2) outcome.Error ∷ event.Ended (id 3) outcome.Terminated None ∷ event.LetOut (id 5) ∷ event.LetOut (id 1) ∷ event.Command 10 ∷ event.Command 9 ∷ event.Command 8 ∷ event.Command 7 ∷ event.Command 6 ∷ event.Command 5 ∷ event.Tick (moment 63876602400) ∷ event.Tick (moment 63876600600) ∷ start 3 0 ∷ event.LetOut (id 3) ∷ event.Stage (id 2) 1 ∷ event.OpenSet (id 2) ∷ event.Command 4 ∷ event.Command 3 ∷ event.Tick (moment 63876600600) ∷ event.Command 2 ∷ event.Command 1 ∷ event.Tick (moment 63876600000) ∷ []) ∷ []) ≡ ((None, (true, ((Some (phase.Completed, status.Error)) ∷ (Some (phase.Completed, status.Error)) ∷ (Some (phase.Completed, status.Terminated)) ∷ (Some (phase.Completed, status.Cancelled)) ∷ (Some (phase.Completed, status.Normal)) ∷ []))) ∷ ((Some (event.Command 10)), (false, ((Some (phase.Pending, status.Standby)) ∷ (Some (phase.Running, status.Paused)) ∷ (Some (phase.Running, status.Terminating)) ∷ (Some (phase.Pending, status.Waiting)) ∷ (Some (phase.Pending, status.Standby)) ∷ []))) ∷ (None, (false, ((Some (phase.Pending, status.Normal)) ∷ (Some (phase.Completed, status.Error)) ∷ (Some (phase.Completed, status.Terminated)) ∷ (Some (phase.Completed, status.Cancelled)) ∷ (Some (phase.Pending, status.Normal)) ∷ []))) ∷ (None, (false, ((Some (phase.Pending, status.Scheduled)) ∷ (Some (phase.Running, status.Paused)) ∷ (Some (phase.Running, status.Normal)) ∷ (Some (phase.Pending, status.Waiting)) ∷ (Some (phase.Pending, status.Scheduled)) ∷ []))) ∷ (None, (false, ((Some (phase.Running, status.Normal)) ∷ (Some (phase.Completed, status.Error)) ∷ (Some (phase.Completed, status.Terminated)) ∷ (Some (phase.Completed, status.Cancelled)) ∷ (Some (phase.Pending, status.Normal)) ∷ []))) ∷ [])
+w7_group_0 : map (answers w7) ((ended 1 outcome.Error 16 37 ∷ ended 5 outcome.Normal 0 16 ∷ start 5 0 ∷ event.Command 11 ∷ event.Tick (moment 63876603600) ∷ event.Tick (moment 63876602400) ∷ start 1 2 ∷ event.Tick (moment 63876602400) ∷ event.CloseSet (id 2) outcome.Error ∷ event.Ended (id 3) outcome.Terminated None ∷ event.LetOut (id 5) ∷ event.LetOut (id 1) ∷ event.Command 10 ∷ event.Command 9 ∷ event.Command 8 ∷ event.Command 7 ∷ event.Command 6 ∷ event.Command 5 ∷ event.Tick (moment 63876602400) ∷ event.Tick (moment 63876600600) ∷ start 3 0 ∷ event.LetOut (id 3) ∷ event.Stage (id 2) 1 ∷ event.OpenSet (id 2) ∷ event.Command 4 ∷ event.Command 3 ∷ event.Tick (moment 63876600600) ∷ event.Command 2 ∷ event.Command 1 ∷ event.Tick (moment 63876600000) ∷ []) ∷ (event.Command 9 ∷ event.Command 8 ∷ event.Command 7 ∷ event.Command 6 ∷ event.Command 5 ∷ event.Tick (moment 63876602400) ∷ event.Tick (moment 63876600600) ∷ start 3 0 ∷ event.LetOut (id 3) ∷ event.Stage (id 2) 1 ∷ event.OpenSet (id 2) ∷ event.Command 4 ∷ event.Command 3 ∷ event.Tick (moment 63876600600) ∷ event.Command 2 ∷ event.Command 1 ∷ event.Tick (moment 63876600000) ∷ []) ∷ (event.CloseSet (id 2) outcome.Error ∷ event.Ended (id 3) outcome.Terminated None ∷ event.LetOut (id 5) ∷ event.LetOut (id 1) ∷ event.Command 10 ∷ event.Command 9 ∷ event.Command 8 ∷ event.Command 7 ∷ event.Command 6 ∷ event.Command 5 ∷ event.Tick (moment 63876602400) ∷ event.Tick (moment 63876600600) ∷ start 3 0 ∷ event.LetOut (id 3) ∷ event.Stage (id 2) 1 ∷ event.OpenSet (id 2) ∷ event.Command 4 ∷ event.Command 3 ∷ event.Tick (moment 63876600600) ∷ event.Command 2 ∷ event.Command 1 ∷ event.Tick (moment 63876600000) ∷ []) ∷ (start 3 0 ∷ event.LetOut (id 3) ∷ event.Stage (id 2) 1 ∷ event.OpenSet (id 2) ∷ event.Command 4 ∷ event.Command 3 ∷ event.Tick (moment 63876600600) ∷ event.Command 2 ∷ event.Command 1 ∷ event.Tick (moment 63876600000) ∷ []) ∷ (event.Command 11 ∷ event.Tick (moment 63876603600) ∷ event.Tick (moment 63876602400) ∷ start 1 2 ∷ event.Tick (moment 63876602400) ∷ event.CloseSet (id 2) outcome.Error ∷ event.Ended (id 3) outcome.Terminated None ∷ event.LetOut (id 5) ∷ event.LetOut (id 1) ∷ event.Command 10 ∷ event.Command 9 ∷ event.Command 8 ∷ event.Command 7 ∷ event.Command 6 ∷ event.Command 5 ∷ event.Tick (moment 63876602400) ∷ event.Tick (moment 63876600600) ∷ start 3 0 ∷ event.LetOut (id 3) ∷ event.Stage (id 2) 1 ∷ event.OpenSet (id 2) ∷ event.Command 4 ∷ event.Command 3 ∷ event.Tick (moment 63876600600) ∷ event.Command 2 ∷ event.Command 1 ∷ event.Tick (moment 63876600000) ∷ []) ∷ []) ≡ ((None, (true, ((Some (phase.Completed, status.Error)) ∷ (Some (phase.Completed, status.Error)) ∷ (Some (phase.Completed, status.Terminated)) ∷ (Some (phase.Completed, status.Cancelled)) ∷ (Some (phase.Completed, status.Normal)) ∷ []))) ∷ ((Some (event.Command 10)), (false, ((Some (phase.Pending, status.Standby)) ∷ (Some (phase.Running, status.Paused)) ∷ (Some (phase.Running, status.Terminating)) ∷ (Some (phase.Pending, status.Waiting)) ∷ (Some (phase.Pending, status.Standby)) ∷ []))) ∷ (None, (false, ((Some (phase.Pending, status.Normal)) ∷ (Some (phase.Completed, status.Error)) ∷ (Some (phase.Completed, status.Terminated)) ∷ (Some (phase.Completed, status.Cancelled)) ∷ (Some (phase.Pending, status.Normal)) ∷ []))) ∷ (None, (false, ((Some (phase.Pending, status.Scheduled)) ∷ (Some (phase.Running, status.Paused)) ∷ (Some (phase.Running, status.Normal)) ∷ (Some (phase.Pending, status.Waiting)) ∷ (Some (phase.Pending, status.Scheduled)) ∷ []))) ∷ (None, (false, ((Some (phase.Running, status.Normal)) ∷ (Some (phase.Completed, status.Error)) ∷ (Some (phase.Completed, status.Terminated)) ∷ (Some (phase.Completed, status.Cancelled)) ∷ (Some (phase.Pending, status.Normal)) ∷ []))) ∷ [])
 unfolding the_law
 w7_group_0 = refl
 
@@ -195,7 +195,7 @@ w40_next_3 : map (may_follow w40 (Some w40_readings) (event.Tick (moment 6387660
 unfolding the_law
 w40_next_3 = refl
 
-w40_group_0 : map (state w40) ((ended 4 outcome.Normal 12 24 ∷ event.Command 5 ∷ event.Command 4 ∷ event.Command 3 ∷ event.Tick (moment 63876603600) ∷ start 4 0 ∷ event.LetOut (id 4) ∷ event.Stage (id 1) 2 ∷ ended 2 outcome.Normal 0 12 ∷ start 2 0 ∷ event.LetOut (id 2) ∷ event.Stage (id 1) 1 ∷ event.OpenSet (id 1) ∷ event.Command 2 ∷ event.Command 1 ∷ event.Tick (moment 63876601200) ∷ []) ∷ [] ∷ (event.Stage (id 1) 2 ∷ ended 2 outcome.Normal 0 12 ∷ start 2 0 ∷ event.LetOut (id 2) ∷ event.Stage (id 1) 1 ∷ event.OpenSet (id 1) ∷ event.Command 2 ∷ event.Command 1 ∷ event.Tick (moment 63876601200) ∷ []) ∷ (event.Command 1 ∷ event.Tick (moment 63876601200) ∷ []) ∷ (event.Tick (moment 63876601200) ∷ []) ∷ []) ≡ ((None, (true, ((Some (phase.Running, status.Paused)) ∷ (Some (phase.Completed, status.Normal)) ∷ (Some (phase.Inactive, status.NoManager)) ∷ (Some (phase.Completed, status.Normal)) ∷ (Some (phase.Pending, status.Waiting)) ∷ []))) ∷ (None, (true, (None ∷ None ∷ None ∷ None ∷ None ∷ []))) ∷ ((Some (event.LetOut (id 4))), (false, ((Some (phase.Running, status.Paused)) ∷ (Some (phase.Completed, status.Normal)) ∷ (Some (phase.Inactive, status.OnHold)) ∷ (Some (phase.Pending, status.Standby)) ∷ (Some (phase.Pending, status.Waiting)) ∷ []))) ∷ ((Some (event.Command 2)), (false, ((Some (phase.Pending, status.Standby)) ∷ (Some (phase.Pending, status.Waiting)) ∷ (Some (phase.Inactive, status.NoManager)) ∷ (Some (phase.Pending, status.Waiting)) ∷ (Some (phase.Pending, status.Waiting)) ∷ []))) ∷ ((Some (event.Command 1)), (false, (None ∷ None ∷ None ∷ None ∷ None ∷ []))) ∷ [])
+w40_group_0 : map (answers w40) ((ended 4 outcome.Normal 12 24 ∷ event.Command 5 ∷ event.Command 4 ∷ event.Command 3 ∷ event.Tick (moment 63876603600) ∷ start 4 0 ∷ event.LetOut (id 4) ∷ event.Stage (id 1) 2 ∷ ended 2 outcome.Normal 0 12 ∷ start 2 0 ∷ event.LetOut (id 2) ∷ event.Stage (id 1) 1 ∷ event.OpenSet (id 1) ∷ event.Command 2 ∷ event.Command 1 ∷ event.Tick (moment 63876601200) ∷ []) ∷ [] ∷ (event.Stage (id 1) 2 ∷ ended 2 outcome.Normal 0 12 ∷ start 2 0 ∷ event.LetOut (id 2) ∷ event.Stage (id 1) 1 ∷ event.OpenSet (id 1) ∷ event.Command 2 ∷ event.Command 1 ∷ event.Tick (moment 63876601200) ∷ []) ∷ (event.Command 1 ∷ event.Tick (moment 63876601200) ∷ []) ∷ (event.Tick (moment 63876601200) ∷ []) ∷ []) ≡ ((None, (true, ((Some (phase.Running, status.Paused)) ∷ (Some (phase.Completed, status.Normal)) ∷ (Some (phase.Inactive, status.NoManager)) ∷ (Some (phase.Completed, status.Normal)) ∷ (Some (phase.Pending, status.Waiting)) ∷ []))) ∷ (None, (true, (None ∷ None ∷ None ∷ None ∷ None ∷ []))) ∷ ((Some (event.LetOut (id 4))), (false, ((Some (phase.Running, status.Paused)) ∷ (Some (phase.Completed, status.Normal)) ∷ (Some (phase.Inactive, status.OnHold)) ∷ (Some (phase.Pending, status.Standby)) ∷ (Some (phase.Pending, status.Waiting)) ∷ []))) ∷ ((Some (event.Command 2)), (false, ((Some (phase.Pending, status.Standby)) ∷ (Some (phase.Pending, status.Waiting)) ∷ (Some (phase.Inactive, status.NoManager)) ∷ (Some (phase.Pending, status.Waiting)) ∷ (Some (phase.Pending, status.Waiting)) ∷ []))) ∷ ((Some (event.Command 1)), (false, (None ∷ None ∷ None ∷ None ∷ None ∷ []))) ∷ [])
 unfolding the_law
 w40_group_0 = refl
 
@@ -304,7 +304,7 @@ w23_next_3 : map (may_follow w23 (Some w23_readings) (event.Command 4 ∷ event.
 unfolding the_law
 w23_next_3 = refl
 
-w23_group_0 : map (state w23) ((event.Ended (id 1) outcome.Terminated None ∷ start 7 1 ∷ ended 2 outcome.Warning 0 39 ∷ start 4 2 ∷ event.Tick (moment 63876604200) ∷ event.Tick (moment 63876603600) ∷ start 2 1 ∷ event.Tick (moment 63876603000) ∷ event.LetOut (id 7) ∷ event.Stage (id 6) 1 ∷ event.OpenSet (id 6) ∷ event.Command 5 ∷ event.Command 4 ∷ event.Tick (moment 63876603000) ∷ event.LetOut (id 4) ∷ event.Stage (id 3) 1 ∷ event.OpenSet (id 3) ∷ event.LetOut (id 2) ∷ event.Command 3 ∷ event.Command 2 ∷ event.Tick (moment 63876602400) ∷ start 1 0 ∷ event.LetOut (id 1) ∷ event.Command 1 ∷ event.Tick (moment 63876600000) ∷ []) ∷ (event.Command 2 ∷ event.Tick (moment 63876602400) ∷ start 1 0 ∷ event.LetOut (id 1) ∷ event.Command 1 ∷ event.Tick (moment 63876600000) ∷ []) ∷ (event.OpenSet (id 6) ∷ event.Command 5 ∷ event.Command 4 ∷ event.Tick (moment 63876603000) ∷ event.LetOut (id 4) ∷ event.Stage (id 3) 1 ∷ event.OpenSet (id 3) ∷ event.LetOut (id 2) ∷ event.Command 3 ∷ event.Command 2 ∷ event.Tick (moment 63876602400) ∷ start 1 0 ∷ event.LetOut (id 1) ∷ event.Command 1 ∷ event.Tick (moment 63876600000) ∷ []) ∷ (event.Stage (id 3) 1 ∷ event.OpenSet (id 3) ∷ event.LetOut (id 2) ∷ event.Command 3 ∷ event.Command 2 ∷ event.Tick (moment 63876602400) ∷ start 1 0 ∷ event.LetOut (id 1) ∷ event.Command 1 ∷ event.Tick (moment 63876600000) ∷ []) ∷ (event.Command 4 ∷ event.Tick (moment 63876603000) ∷ event.LetOut (id 4) ∷ event.Stage (id 3) 1 ∷ event.OpenSet (id 3) ∷ event.LetOut (id 2) ∷ event.Command 3 ∷ event.Command 2 ∷ event.Tick (moment 63876602400) ∷ start 1 0 ∷ event.LetOut (id 1) ∷ event.Command 1 ∷ event.Tick (moment 63876600000) ∷ []) ∷ []) ≡ ((None, (false, ((Some (phase.Completed, status.Terminated)) ∷ (Some (phase.Completed, status.Warning)) ∷ (Some (phase.Running, status.Paused)) ∷ (Some (phase.Running, status.Normal)) ∷ (Some (phase.Pending, status.Waiting)) ∷ (Some (phase.Running, status.Paused)) ∷ (Some (phase.Running, status.Normal)) ∷ (Some (phase.Pending, status.Waiting)) ∷ []))) ∷ ((Some (event.Command 3)), (false, ((Some (phase.Running, status.Normal)) ∷ (Some (phase.Pending, status.Standby)) ∷ None ∷ None ∷ None ∷ None ∷ None ∷ None ∷ []))) ∷ ((Some (event.Stage (id 6) 1)), (false, ((Some (phase.Running, status.Terminating)) ∷ (Some (phase.Pending, status.Normal)) ∷ (Some (phase.Running, status.Paused)) ∷ (Some (phase.Pending, status.Normal)) ∷ (Some (phase.Pending, status.Waiting)) ∷ (Some (phase.Running, status.Normal)) ∷ (Some (phase.Pending, status.Waiting)) ∷ (Some (phase.Pending, status.Waiting)) ∷ []))) ∷ ((Some (event.LetOut (id 4))), (false, ((Some (phase.Running, status.Normal)) ∷ (Some (phase.Pending, status.Normal)) ∷ (Some (phase.Running, status.Paused)) ∷ (Some (phase.Pending, status.Standby)) ∷ (Some (phase.Pending, status.Waiting)) ∷ None ∷ None ∷ None ∷ []))) ∷ ((Some (event.Command 5)), (false, ((Some (phase.Running, status.Terminating)) ∷ (Some (phase.Pending, status.Normal)) ∷ (Some (phase.Running, status.Paused)) ∷ (Some (phase.Pending, status.Normal)) ∷ (Some (phase.Pending, status.Waiting)) ∷ None ∷ None ∷ None ∷ []))) ∷ [])
+w23_group_0 : map (answers w23) ((event.Ended (id 1) outcome.Terminated None ∷ start 7 1 ∷ ended 2 outcome.Warning 0 39 ∷ start 4 2 ∷ event.Tick (moment 63876604200) ∷ event.Tick (moment 63876603600) ∷ start 2 1 ∷ event.Tick (moment 63876603000) ∷ event.LetOut (id 7) ∷ event.Stage (id 6) 1 ∷ event.OpenSet (id 6) ∷ event.Command 5 ∷ event.Command 4 ∷ event.Tick (moment 63876603000) ∷ event.LetOut (id 4) ∷ event.Stage (id 3) 1 ∷ event.OpenSet (id 3) ∷ event.LetOut (id 2) ∷ event.Command 3 ∷ event.Command 2 ∷ event.Tick (moment 63876602400) ∷ start 1 0 ∷ event.LetOut (id 1) ∷ event.Command 1 ∷ event.Tick (moment 63876600000) ∷ []) ∷ (event.Command 2 ∷ event.Tick (moment 63876602400) ∷ start 1 0 ∷ event.LetOut (id 1) ∷ event.Command 1 ∷ event.Tick (moment 63876600000) ∷ []) ∷ (event.OpenSet (id 6) ∷ event.Command 5 ∷ event.Command 4 ∷ event.Tick (moment 63876603000) ∷ event.LetOut (id 4) ∷ event.Stage (id 3) 1 ∷ event.OpenSet (id 3) ∷ event.LetOut (id 2) ∷ event.Command 3 ∷ event.Command 2 ∷ event.Tick (moment 63876602400) ∷ start 1 0 ∷ event.LetOut (id 1) ∷ event.Command 1 ∷ event.Tick (moment 63876600000) ∷ []) ∷ (event.Stage (id 3) 1 ∷ event.OpenSet (id 3) ∷ event.LetOut (id 2) ∷ event.Command 3 ∷ event.Command 2 ∷ event.Tick (moment 63876602400) ∷ start 1 0 ∷ event.LetOut (id 1) ∷ event.Command 1 ∷ event.Tick (moment 63876600000) ∷ []) ∷ (event.Command 4 ∷ event.Tick (moment 63876603000) ∷ event.LetOut (id 4) ∷ event.Stage (id 3) 1 ∷ event.OpenSet (id 3) ∷ event.LetOut (id 2) ∷ event.Command 3 ∷ event.Command 2 ∷ event.Tick (moment 63876602400) ∷ start 1 0 ∷ event.LetOut (id 1) ∷ event.Command 1 ∷ event.Tick (moment 63876600000) ∷ []) ∷ []) ≡ ((None, (false, ((Some (phase.Completed, status.Terminated)) ∷ (Some (phase.Completed, status.Warning)) ∷ (Some (phase.Running, status.Paused)) ∷ (Some (phase.Running, status.Normal)) ∷ (Some (phase.Pending, status.Waiting)) ∷ (Some (phase.Running, status.Paused)) ∷ (Some (phase.Running, status.Normal)) ∷ (Some (phase.Pending, status.Waiting)) ∷ []))) ∷ ((Some (event.Command 3)), (false, ((Some (phase.Running, status.Normal)) ∷ (Some (phase.Pending, status.Standby)) ∷ None ∷ None ∷ None ∷ None ∷ None ∷ None ∷ []))) ∷ ((Some (event.Stage (id 6) 1)), (false, ((Some (phase.Running, status.Terminating)) ∷ (Some (phase.Pending, status.Normal)) ∷ (Some (phase.Running, status.Paused)) ∷ (Some (phase.Pending, status.Normal)) ∷ (Some (phase.Pending, status.Waiting)) ∷ (Some (phase.Running, status.Normal)) ∷ (Some (phase.Pending, status.Waiting)) ∷ (Some (phase.Pending, status.Waiting)) ∷ []))) ∷ ((Some (event.LetOut (id 4))), (false, ((Some (phase.Running, status.Normal)) ∷ (Some (phase.Pending, status.Normal)) ∷ (Some (phase.Running, status.Paused)) ∷ (Some (phase.Pending, status.Standby)) ∷ (Some (phase.Pending, status.Waiting)) ∷ None ∷ None ∷ None ∷ []))) ∷ ((Some (event.Command 5)), (false, ((Some (phase.Running, status.Terminating)) ∷ (Some (phase.Pending, status.Normal)) ∷ (Some (phase.Running, status.Paused)) ∷ (Some (phase.Pending, status.Normal)) ∷ (Some (phase.Pending, status.Waiting)) ∷ None ∷ None ∷ None ∷ []))) ∷ [])
 unfolding the_law
 w23_group_0 = refl
 

@@ -26,8 +26,8 @@ abbrev pub ended : ℕ → Outcome → ℕ → ℕ → Event
 ended r o offset length = event.Ended (id r) o (Some (record { offset = offset; length = length }))
 
 -- what is forced, whether the system is at rest, and the statuses of all requests
-abbrev pub state : Plan → List Event → Option Event × (Bool × List (Option (Phase × Status)))
-state plan past = (
+abbrev pub answers : Plan → List Event → Option Event × (Bool × List (Option (Phase × Status)))
+answers plan past = (
   forced plan (state plan past),
   (is_at_rest plan (state plan past), map (status_of plan (state plan past)) plan.requests),
 )
