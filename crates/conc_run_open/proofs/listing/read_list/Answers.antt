@@ -21,4 +21,4 @@ returns-clause-listed g c =
     let found = c.in_ok-opened.ensures in
     let good = c.in_ok-resume_whole.ensures in
     listed c.args.plan.now c.args.digest.now (g.D.Disk.state c.args.journal.now) c.in_ok-opened.opened found.own found.found
-    (subst (LawfulSoFar c.args.plan.now) c.deref.ensures.value good.so_far) good.whole
+    (subst (LawfulSoFar c.args.plan.now) c.deref.ensures.value good.lawful_so_far) good.whole

@@ -45,7 +45,7 @@ returns-in_default-clause-cause g c =
     let opened = c.in_ok-opened.opened in
     let found = c.in_ok-opened.ensures in
     let good = c.in_ok-resume_whole.ensures in
-    let so_far = subst (LawfulSoFar plan) c.deref-2.ensures.value good.so_far in
+    let so_far = subst (LawfulSoFar plan) c.deref-2.ensures.value good.lawful_so_far in
     let long = subst (λ (l : List Event). Reaches spool (counted l)) c.deref.ensures.value c.in_ok-texts.ensures.long in
     record {
       events = opened.events.items;
@@ -69,7 +69,7 @@ returns-in-Ok-clause-text g c =
     let opened = c.in_ok-opened.opened in
     let found = c.in_ok-opened.ensures in
     let good = c.in_ok-resume_whole.ensures in
-    let so_far = subst (LawfulSoFar plan) c.deref-2.ensures.value good.so_far in
+    let so_far = subst (LawfulSoFar plan) c.deref-2.ensures.value good.lawful_so_far in
     let long = subst (λ (l : List Event). Reaches spool (counted l)) c.deref.ensures.value c.in_ok-texts.ensures.long in
     record {
       events = opened.events.items;
