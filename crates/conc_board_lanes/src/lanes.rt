@@ -29,7 +29,7 @@ pub struct HandPass {
 }
 
 impl<'p> Lanes<'p> {
-    ghost use Rattle.std.specs.Prelude.{◌<◌, [], List, replicate, IfNone, IfOk, ⊤};
+    ghost use Rattle.std.specs.Prelude.{◌<◌, [], ℕ, List, replicate, IfNone, IfOk, ⊤};
     ghost use Rattle.crossbeam_queue.specs.Fifo.{Held};
     ghost use Rattle.conc_types.specs.declared.event.RequestId.{RequestId};
     ghost use Rattle.conc_types.specs.Plans.{request};
@@ -46,6 +46,8 @@ impl<'p> Lanes<'p> {
         ensures lead { IfOk result (λ made. IsLeadPassOf made.0 made.1) }
         ensures empty { IfOk result
             (λ made. puts_of made.1 ≡ replicate (length plan.now.setup.managers) []) }
+        ensures room { IfOk result (λ made. (n : ℕ) → 0 < n
+            → IsTrue (are_shorter n (puts_of made.1))) }
         ensures hands { IfOk result (λ made. length made.2.items ≡ hands) }
         ensures passes { IfOk result (λ made. AreHandPasses made.0 made.2.items) }
     {
@@ -90,7 +92,7 @@ impl<'p> Lanes<'p> {
     }
 
     /// Puts a request into the lane of each manager that admits it. A lane is never found full, as long as
-    /// less was put into each than it has room for. It takes no memory.
+    /// less was put into each than it has room for (`lists_grow_by_one`). It takes no memory.
     pub fn put<R: Wait>(&self, rt: &R, pass: &mut LeadPass, r: RequestId)
         requires pass { IsLeadPassOf self.now pass.old }
         requires room { IsTrue (are_shorter (room_for (plan_of self.now)) (puts_of pass.old)) }

@@ -10,5 +10,5 @@ mod laws;
 mod rule;
 
 pub use lanes::{HandPass, Lanes, LeadPass};
-pub use laws::lanes_are_in_order;
+pub use laws::{lanes_are_in_order, lists_grow_by_one};
 pub use rule::{InOrder, Log};
