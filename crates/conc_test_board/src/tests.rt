@@ -1,3 +1,4 @@
 mod board;
 mod gate;
+mod lanes;
 mod rounds;

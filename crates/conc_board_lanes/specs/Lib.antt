@@ -1,0 +1,4 @@
+pub mod Rule
+pub mod Lane
+pub mod Rooms
+pub mod Lanes
