@@ -4,7 +4,7 @@ use Rattle.std.specs.Prelude.{◌⊎◌}
 use mathlib.Core.Option.{some, some-ne-none, some-injective}
 use lib.ListN.{get_elem?}
 use Rattle.crossbeam_queue.specs.Fifo.{Pushes, Pops, Forks, Learns}
-use Rattle.crossbeam_queue.proofs.Lists.{at_set, at_snoc}
+use Rattle.crossbeam_queue.proofs.Lists.{at_set}
 use Rattle.conc_types.specs.declared.event.RequestId.{RequestId}
 use Rattle.conc_board_lanes.specs.declared.rule.Log.{Log}
 use Rattle.conc_board_lanes.specs.Rule.{AreBelow, IsInOrder, putter, taken_by, taker}

@@ -7,7 +7,6 @@ use Rattle.conc_types.specs.declared.event.RequestId.{RequestId}
 use Rattle.conc_types.specs.declared.manager.Manager.{Manager}
 use Rattle.conc_types.specs.declared.plan.Plan.{Plan}
 use Rattle.conc_types.specs.declared.plan.Req.{Req}
-use Rattle.conc_types.specs.Plans.{request}
 use Rattle.conc_law.specs.Managers.{admits}
 use Rattle.conc_board_lanes.specs.Lane.{IsPutterOf, IsTakerOf, put_by, taken_with}
 use Rattle.conc_board_lanes.specs.Rule.{taken_by}
