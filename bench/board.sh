@@ -1,26 +1,20 @@
 #!/usr/bin/env bash
 # bench/board.sh
-# The calls of a board beside the same calls by hand: the program of bench/board, as LLVM builds it, and
+# The calls of a board beside the same calls by hand: crates/conc_bench_board, as LLVM builds it, and
 # bench/board.rs, which `rustc -O` builds, make 60 rounds of 64 requests: a claim whose hint wins, a poll that
 # gives the permit, a post and a collect for each. With 1, 2 and 4 threads of hands, which claim, poll and post
 # at the same time, RUNS runs (15 if RUNS is not set) of each, the two taken in turn. It prints the least
 # nanoseconds of each call, and of ours the part of those by hand. A call's time has its part of two readings
-# of the clock for each batch: 64, 32 or 16 calls of a thread, and 64 collects. The program is no crate of the
-# repository, so that the gate has no work with it: it is proved and built in a copy, in BENCH_WORK if that is set.
+# of the clock for each batch: 64, 32 or 16 calls of a thread, and 64 collects.
 set -euo pipefail
 here=$(cd "$(dirname "$0")/.." && pwd)
 work=${BENCH_WORK:-$(mktemp -d)}
 runs=${RUNS:-15}
-crate=$work/copy/crates/conc_bench_board
-ours=$crate/out/conc_bench_board
+ours=$here/crates/conc_bench_board/out/conc_bench_board
 hand=$work/board
 if [ ! -x "$ours" ]; then
-  mkdir -p "$work/copy"
-  cp -r "$here/crates" "$here/crates.txt" "$here/HANDLES" "$work/copy/"
-  cp -r "$here/bench/board" "$crate"
-  echo 'conc_bench_board: conc_board conc_board_seats conc_law conc_plan conc_rules conc_script conc_setup conc_tables conc_test_board conc_time conc_types' >> "$work/copy/crates.txt"
   # With no word the program ends with status 1.
-  (cd "$crate" && rt run > "$work/build.log" 2>&1) || true
+  (cd "$here/crates/conc_bench_board" && rt run > "$work/build.log" 2>&1) || true
 fi
 [ -x "$ours" ] || { tail -40 "$work/build.log"; exit 1; }
 rustc -O --edition 2021 -o "$hand" "$here/bench/board.rs"
