@@ -100,16 +100,9 @@ impl Plan {
         self.requests.get((number as usize).checked_sub(1)?)
     }
 
-    fn manager_at(&self, place: u32) -> Option<&Manager> {
-        let mut index = place;
-        for manager in &self.managers {
-            let places = manager.places();
-            if index < places {
-                return Some(manager);
-            }
-            index -= places;
-        }
-        None
+    fn owners(&self) -> Vec<usize> {
+        let places = |(owner, manager): (usize, &Manager)| (0..manager.places()).map(move |_| owner);
+        self.managers.iter().enumerate().flat_map(places).collect()
     }
 }
 
@@ -146,6 +139,8 @@ struct Board {
     words: Vec<AtomicU64>,
     slots: Vec<UnsafeCell<Option<Posted>>>,
     requests: usize,
+    // For each place its manager.
+    owners: Vec<usize>,
     hands: Bell,
     lead: Bell,
 }
@@ -171,12 +166,15 @@ enum Polled {
 }
 
 impl Board {
-    fn new(requests: u32, places: u32) -> Self {
-        let words = requests + places + 1;
+    fn new(plan: &Plan) -> Self {
+        let owners = plan.owners();
+        let requests = plan.requests.len();
+        let words = requests + owners.len() + 1;
         Board {
             words: (0..words).map(|_| AtomicU64::new(IDLE)).collect(),
             slots: (0..requests).map(|_| UnsafeCell::new(None)).collect(),
-            requests: requests as usize,
+            requests,
+            owners,
             hands: Bell::default(),
             lead: Bell::default(),
         }
@@ -207,7 +205,7 @@ impl Board {
         if self.words[self.requests + place as usize].load(SeqCst) != 1 {
             return None;
         }
-        let manager = plan.manager_at(place)?;
+        let manager = plan.managers.get(*self.owners.get(place as usize)?)?;
         let admits = |number| plan.request(number).is_some_and(|r| manager.admits(r));
         if admits(hint) {
             if let Some(claim) = self.claim_one(hint, place) {
@@ -474,7 +472,7 @@ impl Bench {
 fn measure(threads: u32) -> Option<Times> {
     let bench = Bench {
         plan: Plan::new(),
-        board: Board::new(REQUESTS, PLACES),
+        board: Board::new(&plan),
         meeting: Meeting {
             threads: u64::from(threads),
             came: AtomicU64::new(0),

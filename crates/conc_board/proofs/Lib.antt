@@ -10,3 +10,4 @@ pub mod PermitsHeld
 pub mod PointsHold
 pub mod Courses
 pub mod Recorded
+pub mod PlaceManagers

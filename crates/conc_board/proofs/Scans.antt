@@ -19,7 +19,8 @@ use Rattle.conc_board_seats.proofs.Facts.{request_eq}
 use Rattle.conc_board.specs.declared.board.Board.{Board}
 use Rattle.conc_board.specs.declared.hand.Claim.{Claim}
 use Rattle.conc_board.specs.declared.hand.Hand.{Hand}
-use Rattle.conc_board.specs.Claims.{AreMissed, ClaimsAt, ClaimsNone, ClaimsOne, FindsNone, FollowsHint, IsMissed, LooksNextAt, LooksNextAtHint, MissesAll, MissesOne, admits_at, admits_request, claim_request, manager_at}
+use Rattle.conc_board.specs.Owners.{manager_at}
+use Rattle.conc_board.specs.Claims.{AreMissed, ClaimsAt, ClaimsNone, ClaimsOne, FindsNone, FollowsHint, IsMissed, LooksNextAt, LooksNextAtHint, MissesAll, MissesOne, admits_at, admits_request, claim_request}
 use Rattle.conc_board.specs.Seats.{AddsOne, IsHandOf, Stays, doing_of, found_by_hand, plan_of}
 use Rattle.conc_board.proofs.Hands.{stays_after}
 

@@ -1,6 +1,5 @@
 -- Claims and permits, and what a hand's calls answer.
 use Rattle.std.specs.Prelude.{◌≡◌, ◌≢◌, ◌⊎◌, ℕ, ◌≤◌, ◌==◌, ◌||◌, Bool, List, [], ◌∷◌, ◌++◌, Option, IsTrue, IfSome}
-use Rattle.std.specs.Option.{option_map}
 use Rattle.conc_types.specs.declared.event.PlaceId.{PlaceId}
 use Rattle.conc_types.specs.declared.event.RequestId.{RequestId}
 use Rattle.conc_types.specs.declared.manager.Manager.{Manager}
@@ -8,8 +7,8 @@ use Rattle.conc_types.specs.declared.plan.Plan.{Plan}
 use Rattle.conc_types.specs.Plans.{request}
 use Rattle.conc_types.specs.Words.{some_and}
 use Rattle.conc_law.specs.Managers.{admits}
-use Rattle.conc_law.specs.Places.{place_of}
 use Rattle.conc_law.specs.Words.{Has}
+use Rattle.conc_board.specs.Owners.{manager_at}
 use Rattle.conc_board_seats.specs.declared.posted.Posted.{Posted}
 use Rattle.conc_board_seats.specs.declared.views.Doing.TheVariants.{Idle, Waits, Serves}
 use Rattle.conc_board_seats.specs.Reports.{MayLeave}
@@ -54,10 +53,6 @@ MayPost plan hand permit posted =
     (stop : Bool) × HasPermitWith stop hand permit × MayLeave plan (permit_request permit) stop posted
 
 -- ---- which requests a place serves
-
--- the manager that has the place
-abbrev pub manager_at : Plan → PlaceId → Option Manager
-manager_at plan place = option_map (λ p. p.manager) (place_of plan place)
 
 -- the manager admits the request with this number
 abbrev pub admits_request : Plan → RequestId → Manager → Bool

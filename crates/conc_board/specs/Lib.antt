@@ -7,3 +7,4 @@ pub mod Ends
 pub mod Permits
 pub mod Points
 pub mod Counts
+pub mod Owners

@@ -3,12 +3,14 @@ ghost use Rattle.conc_types.specs.declared.event.RequestId.{RequestId};
 ghost use Rattle.conc_law.specs.Places.{count_of_places};
 ghost use Rattle.conc_board_seats.specs.Places.{AreAmong, without};
 ghost use Rattle.conc_board_seats.specs.Words.{count_of_requests, count_of_words};
+ghost use Rattle.conc_board.specs.Owners.{AreOwners};
 ghost use Rattle.conc_board_seats.specs.declared.views.Doing.TheVariants as does;
 ghost use Rattle.conc_board_seats.specs.declared.views.Stage.TheVariants as stage;
 
 use crate::bells::Bells;
 use crate::hand::Hand;
 use crate::lead::Lead;
+use crate::owners::owners_of;
 use crate::plays::{Keeping, Passing, SplitsOff, TakesIn};
 use atomic_table::Table;
 use conc_board_seats::{Posted, View};
@@ -25,12 +27,15 @@ pub struct Board {
     pub(crate) table: Table<Option<Posted>, View, Plan, Keeping, Global>,
     pub(crate) requests: usize,
     pub(crate) places: usize,
+    // For each place its manager, by its place in the setup.
+    pub(crate) owners: Vec<u32>,
     pub(crate) bells: Bells,
     ghost words: { table.shared.table_id.words ≡ count_of_words table.shared.key },
     ghost slots: { table.shared.table_id.slots ≡ count_of_requests table.shared.key },
     ghost request_count: { requests ≡ count_of_requests table.shared.key },
     ghost place_count: { places ≡ count_of_places table.shared.key },
     ghost few_places: { places ≤ 64 },
+    ghost managers: { AreOwners table.shared.key places owners.items },
 }
 
 impl Board {
@@ -46,12 +51,14 @@ impl Board {
     {
         let requests = plan.requests.len();
         let places = place_count(plan) as usize;
+        let owners = owners_of(alloc, plan)?;
         let words = vec![in alloc; 0u64; requests + places + 1]?;
         let (table, seat) = Table::vacant(alloc, words.as_slice(), requests, plan)?;
         let board = Board {
             table,
             requests,
             places,
+            owners,
             bells: Bells::new(),
         };
         Ok((board, Lead { seat }))

@@ -4,6 +4,7 @@ ghost use Rattle.conc_board_seats.specs.Places.{has};
 ghost use Rattle.conc_board_seats.specs.Words.{count_of_requests, IsPlace, IsRequest};
 ghost use Rattle.conc_board_seats.specs.declared.views.Doing.TheVariants as does;
 ghost use Rattle.conc_board.specs.Claims as spec;
+ghost use Rattle.conc_board.specs.Owners as owners_spec;
 ghost use Rattle.conc_board.specs.Claims.{admits_at, ClaimsAt, ClaimsOne, FindsNone, FollowsHint, LooksNextAtHint, MissesAll, MissesOne, MissesSome};
 ghost use Rattle.conc_board.specs.Seats.{doing_of, IsHandOf, places_of_hand, plan_of};
 
@@ -13,15 +14,6 @@ use crate::{Board, Claim, Hand};
 use conc_rules::admits;
 use conc_time::place_of;
 use conc_types::{Manager, PlaceId, Plan, RequestId};
-
-fn manager_at(plan: &Plan, place: PlaceId) -> Option<&Manager>
-    ensures { option_copied result ≡ spec.manager_at plan.now place }
-{
-    match place_of(plan, place) {
-        Some((_, manager, _)) => Some(manager),
-        None => None,
-    }
-}
 
 // Whether the manager admits the request with this number.
 fn admits_request(plan: &Plan, r: RequestId, manager: &Manager) -> bool
@@ -77,11 +69,21 @@ impl Board {
         ensures none { IfNone result (MissesAll self.now place hand.old hand.new) }
         ensures hint { LooksNextAtHint plan.now place hint hand.old hand.new }
     {
-        let manager = manager_at(plan, place)?;
+        let manager = self.manager_at(plan, place)?;
         match self.claim_hinted(hand, place, plan, manager, hint) {
             Some(claim) => Some(claim),
             None => self.claim_any(hand, place, plan, manager),
         }
+    }
+
+    // The manager of a place.
+    fn manager_at<'a>(&self, plan: &'a Plan, place: PlaceId) -> Option<&'a Manager>
+        requires plan { plan.now ≡ plan_of self.now }
+        requires place { IsPlace plan.now place }
+        ensures { option_copied result ≡ owners_spec.manager_at plan.now place }
+    {
+        let owner = *self.owners.get(place.index as usize)?;
+        plan.setup.managers.as_slice().get(owner as usize)
     }
 
     // Claims the hinted request, if there is one and the manager admits it.
@@ -98,7 +100,7 @@ impl Board {
         requires idle { doing_of hand.old ≡ does.Idle }
         requires place { IsPlace plan.now place }
         requires own { IsTrue (has (places_of_hand hand.old) place) }
-        requires manager { spec.manager_at plan.now place ≡ Some manager.now }
+        requires manager { owners_spec.manager_at plan.now place ≡ Some manager.now }
         ensures claimed { IfSome result (λ claim. ClaimsAt self.now place hand.old hand.new claim) }
         ensures none { IfNone result (MissesSome self.now hand.old hand.new) }
         ensures hint { LooksNextAtHint plan.now place hint hand.old hand.new }
@@ -123,7 +125,7 @@ impl Board {
         requires idle { doing_of hand.old ≡ does.Idle }
         requires place { IsPlace plan.now place }
         requires own { IsTrue (has (places_of_hand hand.old) place) }
-        requires manager { spec.manager_at plan.now place ≡ Some manager.now }
+        requires manager { owners_spec.manager_at plan.now place ≡ Some manager.now }
         ensures claimed { IfSome result (λ claim. ClaimsAt self.now place hand.old hand.new claim) }
         ensures none { IfNone result (MissesAll self.now place hand.old hand.new) }
     {

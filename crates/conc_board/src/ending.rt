@@ -71,6 +71,7 @@ impl Board {
             table,
             requests: _,
             places: _,
+            owners: _,
             bells: _,
         } = self;
         let Lead { seat } = lead;

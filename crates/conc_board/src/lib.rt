@@ -10,6 +10,7 @@ mod hand;
 mod laws;
 mod lead;
 mod numbers;
+mod owners;
 mod plays;
 
 pub use board::Board;

@@ -1,5 +1,5 @@
 use Rattle.std.proofs.Common.{◌≡◌, None, rules}
-use Rattle.conc_board.specs.Claims.{manager_at}
+use Rattle.conc_board.specs.Owners.{manager_at}
 use Rattle.conc_board.proofs.Scans.{claimed_after, hint_then_any, missed_after, no_manager}
 use Rattle.conc_board.proofs.board.Board.claim_open.Goals as goal
 
