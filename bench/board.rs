@@ -470,9 +470,10 @@ impl Bench {
 }
 
 fn measure(threads: u32) -> Option<Times> {
+    let plan = Plan::new();
     let bench = Bench {
-        plan: Plan::new(),
         board: Board::new(&plan),
+        plan,
         meeting: Meeting {
             threads: u64::from(threads),
             came: AtomicU64::new(0),
