@@ -1,5 +1,6 @@
 pub mod Leads
 pub mod LookedSo
+pub mod ProgressSo
 pub mod StoppedSo
 pub mod Hands
 pub mod Opened

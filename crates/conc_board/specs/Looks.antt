@@ -3,13 +3,15 @@ use Rattle.std.specs.Prelude.{◌≡◌, ◌⊎◌, ℕ, Bool}
 use Rattle.conc_types.specs.declared.event.RequestId.{RequestId}
 use Rattle.conc_types.specs.declared.plan.Plan.{Plan}
 use Rattle.conc_board_seats.specs.declared.views.Stage.{Stage}
-use Rattle.conc_board_seats.specs.declared.views.Stage.TheVariants.{Let, Seen, Gone}
-use Rattle.conc_board_seats.specs.Stages.{IsLet}
+use Rattle.conc_board_seats.specs.declared.views.Stage.TheVariants.{NotLet, Let, Seen, Gone, Done}
+use Rattle.conc_board_seats.specs.Stages.{IsGone, IsLet}
 use Rattle.conc_board_seats.specs.Words.{IsPlace, claimed, ended, released, running, stopping}
 use Rattle.conc_board.specs.declared.board.Board.{Board}
 use Rattle.conc_board.specs.declared.lead.Lead.{Lead}
 use Rattle.conc_board.specs.declared.lead.Looked.{Looked}
 use Rattle.conc_board.specs.declared.lead.Looked.TheVariants.{Free, Claimed, Running, Ended}
+use Rattle.conc_board.specs.declared.lead.Progress.{Progress}
+use Rattle.conc_board.specs.declared.lead.Progress.TheVariants as progress
 use Rattle.conc_board.specs.Seats.{plan_of, stage_of}
 
 -- the word that the answer shows
@@ -30,3 +32,10 @@ Looks plan (Ended p) old new = IsPlace plan p × ((marked : Bool) × (old ≡ Go
 -- the same of a request in the lead's view
 abbrev pub SeesStage : Board → RequestId → Looked → Lead → Lead → Type 0
 SeesStage board r answer old new = Looks (plan_of board) answer (stage_of old r) (stage_of new r)
+
+-- how far a request at a stage has come
+abbrev pub HasProgress : Progress → Stage → Type 0
+HasProgress progress.NotLet stage = stage ≡ NotLet
+HasProgress progress.Let stage = IsLet stage
+HasProgress progress.Gone stage = IsGone stage
+HasProgress progress.Done stage = (marked : Bool) × (stage ≡ Done marked)

@@ -1,13 +1,15 @@
-ghost use Rattle.std.specs.Prelude.{◌≡◌, ◌∷◌, [], true};
+ghost use Rattle.std.specs.Prelude.{◌≡◌, ◌∷◌, [], None, Option, true};
+ghost use Rattle.atomic_table.specs.Table.{rest};
+ghost use Rattle.conc_board_seats.specs.declared.posted.Posted.{Posted};
 ghost use Rattle.conc_board_seats.specs.declared.views.Doing.TheVariants as does;
-ghost use Rattle.conc_board.specs.Answers.{LookedBy};
+ghost use Rattle.conc_board.specs.Answers.{LookedBy, ProgressBy};
 
 use crate::Board;
 use crate::numbers::{DONE, IDLE, RELEASED, STATE, place_named, request_word, running, stopping};
-use crate::plays::{Clears, Gets, Goes, LetsOut, Looks, Stops, Switches, TakesBack};
-use atomic_table::Seat;
+use crate::plays::{Clears, Gets, Goes, Keeping, LetsOut, Looks, Stops, Switches, TakesBack};
+use atomic_table::{Seat, Shared};
 use conc_board_seats::{Posted, View};
-use conc_types::{PlaceId, RequestId};
+use conc_types::{PlaceId, Plan, RequestId};
 
 /// The seat of the one that lets requests out. There is one for each board, and it cannot be copied.
 #[derive(Drop)]
@@ -31,6 +33,19 @@ pub enum Looked {
     Ended(PlaceId),
 }
 
+/// How far a request has come on the board.
+#[derive(Clone, Copy, Debug, PartialEq, Eq)]
+pub enum Progress {
+    /// It is not let out.
+    NotLet,
+    /// It is let out, and has no go.
+    Let,
+    /// It has the go, and nothing was collected.
+    Gone,
+    /// What was left for it was collected.
+    Done,
+}
+
 /// Nothing was left for the request yet.
 #[derive(Clone, Copy, Debug, PartialEq, Eq)]
 pub struct NotYet;
@@ -41,7 +56,7 @@ impl Board {
     ghost use Rattle.conc_board_seats.specs.Words as spec;
     ghost use Rattle.conc_board_seats.specs.Words.{end_word, IsPlace, IsRequest, place_word};
     ghost use Rattle.conc_board_seats.specs.declared.views.Stage.TheVariants as stage;
-    ghost use Rattle.conc_board.specs.Looks.{SeesStage, Shows};
+    ghost use Rattle.conc_board.specs.Looks.{HasProgress, SeesStage, Shows};
     ghost use Rattle.conc_board.specs.Seats.{Changes, FindsFitting, IsApart, IsFlag, IsLeadOf, IsLeftFor, KeepsStages, LeadFinds, plan_of, stage_of};
     ghost use Rattle.conc_board.specs.Stops.{Collects, FindsRunning, Stops as StopsAs, StopsAt};
 
@@ -76,6 +91,23 @@ impl Board {
             .shared
             .load::<Looks>(&mut lead.seat, request_word(r));
         looked_by(word)
+    }
+
+    /// How far a request has come: what the lead's own calls on it have made so far. Its word tells it, so the lead
+    /// needs no list of its own.
+    pub fn progress(&self, lead: &mut Lead, r: RequestId) -> Progress
+        requires lead { IsLeadOf self.now lead.old }
+        requires request { IsRequest (plan_of self.now) r }
+        ensures lead { Changes self.now r lead.old lead.new }
+        ensures before { HasProgress result (stage_of lead.old r) }
+        ensures after { HasProgress result (stage_of lead.new r) }
+        ensures found { FindsFitting r lead.old lead.new }
+    {
+        let word = self
+            .table
+            .shared
+            .load::<Looks>(&mut lead.seat, request_word(r));
+        progress_by(word)
     }
 
     /// Gives the go to a request at the place that was seen to claim it. What was seen may be stale:
@@ -172,7 +204,7 @@ impl Board {
         if shared.load::<Gets>(&mut lead.seat, word) / STATE != 4 {
             return Err(NotYet);
         }
-        let Some(posted) = shared.exchange(&mut lead.seat, word, None) else {
+        let Some(posted) = take_out(shared, &mut lead.seat, word) else {
             unreachable!()
         };
         shared.swap::<Clears>(&mut lead.seat, word, DONE);
@@ -225,6 +257,23 @@ impl Board {
     }
 }
 
+// Takes what the slot holds that the seat took last. It does so in place: an exchange would write the whole
+// slot anew.
+fn take_out(
+    shared: &Shared<Option<Posted>, View, Plan, Keeping>,
+    seat: &mut Seat<Option<Posted>, View>,
+    slot: usize,
+) -> Option<Posted>
+    requires { (seat.old.table_id ≡ shared.now.table_id)
+        × ((held : Option Posted) × (seat.old.me.1 ≡ (slot, held) ∷ rest seat.old.me.1)) }
+    ensures { (seat.new.table_id ≡ seat.old.table_id)
+        × (seat.new.id ≡ seat.old.id)
+        × (seat.old.me.1 ≡ (slot, result) ∷ rest seat.old.me.1)
+        × (seat.new.me ≡ (seat.old.me.0, (slot, None) ∷ rest seat.old.me.1)) }
+{
+    seat.slot_mut(shared, slot).take()
+}
+
 // What a word shows.
 fn looked_by(word: u64) -> Looked
     ensures { LookedBy result word }
@@ -234,5 +283,18 @@ fn looked_by(word: u64) -> Looked
         2 | 3 => Looked::Running(place_named(word)),
         4 => Looked::Ended(place_named(word)),
         _ => Looked::Free,
+    }
+}
+
+// How far the request of a word has come.
+fn progress_by(word: u64) -> Progress
+    ensures { ProgressBy result word }
+{
+    match word {
+        IDLE => Progress::NotLet,
+        RELEASED => Progress::Let,
+        DONE => Progress::Done,
+        _ if word / STATE == 1 => Progress::Let,
+        _ => Progress::Gone,
     }
 }

@@ -21,5 +21,5 @@ pub use laws::{
     marks_stay, permit_has_its_slot, permits_are_apart, reports_come_once, rule_has_points,
     rule_reads_no_finds, steps_are_recorded,
 };
-pub use lead::{Lead, Looked, NotYet};
+pub use lead::{Lead, Looked, NotYet, Progress};
 pub use plays::Keeping;

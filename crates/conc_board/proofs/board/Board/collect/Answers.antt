@@ -51,8 +51,8 @@ load-requires c =
       collects b.table.shared.key _ _ _ c.request_word-word.result t.0 t.1 c.args.lead.now.leads (omega arith) (there ∙ t.2),
     )
 
-pub exchange-requires : goal.exchange-requires
-exchange-requires c =
+pub take_out-requires : goal.take_out-requires
+take_out-requires c =
     let i = c.request_word-word.result in let t = c.load.ensures.2.0 c.if-load-ne4.false in let x = t.2.0 in let e = t.2.1 in
     (c.load.ensures.0 ∙ c.requires.lead.seat, (Some x, e ∙ ap (λ (cs : List (ℕ × Option Posted)). (i, Some x) ∷ cs) (sym (ap rest e))))
 
@@ -62,7 +62,7 @@ swap-requires c =
     let v = c.args.lead.now.seat.me.0 in let all = c.requires.lead.stages in
     let g = gone_place (stage_of c.args.lead.now c.args.r) c.requires.stage in
     let there = stage_there v.stages c.args.r i word q.from_one ∙ g.2 in
-    let e = c.exchange.ensures in let t = c.load.ensures.2.0 c.if-load-ne4.false in
+    let e = c.take_out.ensures in let t = c.load.ensures.2.0 c.if-load-ne4.false in
     let view = ap (λ m. m.0) e.3 in (
       e.0 ∙ (c.load.ensures.0 ∙ c.requires.lead.seat),
       omega (arith, b.words),
@@ -73,22 +73,22 @@ swap-requires c =
 
 pub returns-clause-lead : goal.returns-clause-lead
 returns-clause-lead c =
-    let v = c.args.lead.now.seat.me.0 in let mid = c.exchange.new.seat.me.0 in let w = c.swap.new.seat.me.0 in
+    let v = c.args.lead.now.seat.me.0 in let mid = c.take_out.new.seat.me.0 in let w = c.swap.new.seat.me.0 in
     let g = gone_place (stage_of c.args.lead.now c.args.r) c.requires.stage in
     let t = c.load.ensures.2.0 c.if-load-ne4.false in
-    let one = ap (λ m. m.0) c.exchange.ensures.3 ∙ t.0 in
+    let one = ap (λ m. m.0) c.take_out.ensures.3 ∙ t.0 in
     let plan = c.args.self.now.table.shared.key in let i = c.request_word-word.result in
     changes_twice _ _ _ _ mid i (got (stage_at v.stages i)) (Done g.1) c.load.result c.swap.result c.requires.lead c.requires.request c.request_word-word.ensures
-    (c.swap.ensures.0 ∙ (c.exchange.ensures.0 ∙ c.load.ensures.0)) one
+    (c.swap.ensures.0 ∙ (c.take_out.ensures.0 ∙ c.load.ensures.0)) one
     (done_then plan c.args.r v mid w i g.0 g.1 c.load.result c.swap.result c.requires.lead.stages c.requires.request c.request_word-word.ensures g.2 one c.swap.ensures.2.0)
     (subst (λ (z : Stage). GoesOn z (Done g.1)) (sym g.2) (inr (inr refl))) tt
 
 pub returns-clause-collected : goal.returns-clause-collected
 returns-clause-collected c =
-    let v = c.args.lead.now.seat.me.0 in let mid = c.exchange.new.seat.me.0 in let w = c.swap.new.seat.me.0 in
+    let v = c.args.lead.now.seat.me.0 in let mid = c.take_out.new.seat.me.0 in let w = c.swap.new.seat.me.0 in
     let g = gone_place (stage_of c.args.lead.now c.args.r) c.requires.stage in
     let t = c.load.ensures.2.0 c.if-load-ne4.false in
-    let one = ap (λ m. m.0) c.exchange.ensures.3 ∙ t.0 in
+    let one = ap (λ m. m.0) c.take_out.ensures.3 ∙ t.0 in
     let plan = c.args.self.now.table.shared.key in let i = c.request_word-word.result in
     record {
       place = g.0;

@@ -1,0 +1,75 @@
+-- How far a request has come, by its stage and its word.
+use Rattle.std.proofs.Common.{◌≡◌, ℕ, ◌/◌, ◌≤◌, ◌⊎◌, ◌==◌, if◌then◌else◌, Bool, true, false, refl, inl, inr, ⊎_elim, arith, Some}
+use Rattle.conc_types.specs.declared.event.PlaceId.{PlaceId}
+use Rattle.conc_types.specs.declared.plan.Plan.{Plan}
+use Rattle.conc_law.specs.Places.{count_of_places}
+use Rattle.conc_board_seats.specs.declared.views.Stage.{Stage}
+use Rattle.conc_board_seats.specs.declared.views.Stage.TheVariants.{NotLet, Let, Seen, Gone, Got, Done}
+use Rattle.conc_board_seats.specs.Stages.{IsLet, IsSettled, WordFits, looked}
+use Rattle.conc_board_seats.specs.Steps.{HasPlace, LookFits}
+use Rattle.conc_board_seats.specs.Words.{IsPlace, claimed, done, idle, place_in, released}
+use Rattle.conc_board.specs.declared.lead.Progress.{Progress}
+use Rattle.conc_board.specs.declared.lead.Progress.TheVariants as progress
+use Rattle.conc_board.specs.Answers.{ProgressBy}
+use Rattle.conc_board.specs.Looks.{HasProgress}
+
+-- what was found fits the stage before the load too
+pub fits_before : (st : Stage) (n : ℕ) → LookFits (looked st n) n → WordFits st n
+fits_before NotLet n fits = fits
+fits_before Let n fits = go (n / 256 == 1) fits
+  where
+    go : (b : Bool) → LookFits (if b then Seen (place_in 256 n) else Let) n → WordFits Let n
+    go true fits = inr (place_in 256 n, fits)
+    go false fits = inl fits
+fits_before (Seen p) n fits = fits
+fits_before (Gone p m) n fits = fits
+fits_before (Got p m) n fits = fits
+fits_before (Done m) n fits = fits
+
+module _ (plan : Plan) (few : count_of_places plan ≤ 64) (n : ℕ) where
+  let_so : (answer : Progress) (p : PlaceId) → (n ≡ released) ⊎ (IsPlace plan p × (n ≡ claimed p)) → ProgressBy answer n → (st : Stage) → IsLet st → HasProgress answer st
+  let_so progress.NotLet p (inl e) by st is = absurd (omega arith)
+  let_so progress.NotLet p (inr (near, e)) by st is = absurd (omega arith)
+  let_so progress.Let p fits by st is = is
+  let_so progress.Gone p (inl e) by st is = absurd (omega (arith, by.0))
+  let_so progress.Gone p (inr (near, e)) by st is = absurd (by.1 (omega (arith, near.within)))
+  let_so progress.Done p (inl e) by st is = absurd (omega arith)
+  let_so progress.Done p (inr (near, e)) by st is = absurd (omega arith)
+
+  gone_so : (answer : Progress) (p : PlaceId) (m : Bool) → IsPlace plan p → WordFits (Gone p m) n → ProgressBy answer n → HasProgress answer (Gone p m)
+  gone_so progress.NotLet p m near fits by = absurd (⊎_elim (λ e. omega arith) (λ f. ⊎_elim (λ e. omega arith) (λ e. omega arith) f) fits)
+  gone_so progress.Let p m near fits (inl by) = absurd (⊎_elim (λ e. omega arith) (λ f. ⊎_elim (λ e. omega arith) (λ e. omega arith) f) fits)
+  gone_so progress.Let p m near fits (inr by) =
+      absurd (⊎_elim (λ e. omega (arith, near.within)) (λ f. ⊎_elim (λ e. omega (arith, near.within)) (λ e. omega (arith, near.within)) f) fits)
+  gone_so progress.Gone p m near fits by = tt
+  gone_so progress.Done p m near fits by = absurd (⊎_elim (λ e. omega arith) (λ f. ⊎_elim (λ e. omega arith) (λ e. omega arith) f) fits)
+
+  idle_so : (answer : Progress) → n ≡ idle → ProgressBy answer n → HasProgress answer NotLet
+  idle_so progress.NotLet e by = refl
+  idle_so progress.Let e (inl by) = absurd (omega arith)
+  idle_so progress.Let e (inr by) = absurd (omega arith)
+  idle_so progress.Gone e by = absurd (omega (arith, by.0))
+  idle_so progress.Done e by = absurd (omega arith)
+
+  done_so : (answer : Progress) (m : Bool) → n ≡ done → ProgressBy answer n → HasProgress answer (Done m)
+  done_so progress.NotLet m e by = absurd (omega arith)
+  done_so progress.Let m e (inl by) = absurd (omega arith)
+  done_so progress.Let m e (inr by) = absurd (omega arith)
+  done_so progress.Gone m e by = absurd (omega (arith, by.0))
+  done_so progress.Done m e by = (m, refl)
+
+  let_or_seen : (b : Bool) → HasPlace (Some plan) (if b then Seen (place_in 256 n) else Let) → LookFits (if b then Seen (place_in 256 n) else Let) n
+      → (answer : Progress) → ProgressBy answer n → HasProgress answer Let × HasProgress answer (if b then Seen (place_in 256 n) else Let)
+  let_or_seen true near fits answer by =
+      let is = inr (near, fits) in (let_so answer (place_in 256 n) is by Let tt, let_so answer (place_in 256 n) is by (Seen (place_in 256 n)) tt)
+  let_or_seen false near fits answer by = let so = let_so answer (place_in 256 n) (inl fits) by Let tt in (so, so)
+
+  -- the answer tells how far the request had come, and has come then
+  pub progress_so : (answer : Progress) (st : Stage) → IsSettled st → HasPlace (Some plan) (looked st n) → LookFits (looked st n) n → ProgressBy answer n
+      → HasProgress answer st × HasProgress answer (looked st n)
+  progress_so answer NotLet calm near fits by = let so = idle_so answer fits by in (so, so)
+  progress_so answer Let calm near fits by = let_or_seen (n / 256 == 1) near fits answer by
+  progress_so answer (Seen p) calm near fits by = let so = let_so answer p (inr (near, fits)) by (Seen p) tt in (so, so)
+  progress_so answer (Gone p m) calm near fits by = let so = gone_so answer p m near fits by in (so, so)
+  progress_so answer (Got p m) calm near fits by = absurd calm
+  progress_so answer (Done m) calm near fits by = let so = done_so answer m fits by in (so, so)
