@@ -1,14 +1,18 @@
 -- What each exit means.
-use Rattle.std.specs.Prelude.{Option, None, Some}
+use Rattle.std.specs.Prelude.{ℕ, List, Option, None, Some}
 use Rattle.conc_disk.specs.Disk.{DiskState}
+use Rattle.conc_outside.specs.Files.{ShelfState}
+use Rattle.conc_outside.specs.Taken.{SinkState}
+use Rattle.conc_outside_clock.specs.Clocks.{ClockState}
 use Rattle.conc_top_inputs.specs.Given.{named}
 use Rattle.conc_top_words.specs.declared.command.Command.{Command}
 use Rattle.conc_top_words.specs.declared.command.Command.TheVariants as command
-use Rattle.conc_run_state.specs.Disks.{AreUntouched, Disks}
+use Rattle.conc_top_words.specs.Words.{command_of}
+use Rattle.conc_run_state.specs.Disks.{AreUntouched, Disks, disks}
 use Rattle.conc_top.specs.declared.exit.Exit.{Exit}
 use Rattle.conc_top.specs.declared.exit.Exit.TheVariants as exit
-use Rattle.conc_top.specs.Answers.{AnswersCheck, AnswersMake, AnswersOutput, AnswersPlan, AnswersRun, AnswersStatus, Around}
-use Rattle.conc_top.specs.Printing.{Sunk, TookNothing}
+use Rattle.conc_top.specs.Answers.{AnswersCheck, AnswersMake, AnswersOutput, AnswersPlan, AnswersRun, AnswersStatus, Around, around}
+use Rattle.conc_top.specs.Printing.{Sunk, sunk, TookNothing}
 
 -- words that are no command line are Usage, unless there is no memory to read them; nothing is written
 abbrev pub IsNoCommand : Sunk → Exit → Type 0
@@ -27,6 +31,31 @@ Means (Some (command.Status setup script)) a d end =
     AnswersStatus (named setup script None) a d.journal_before d.journal_after end × AreUntouched d
 Means (Some (command.Output setup script request)) a d end = AnswersOutput (named setup script None) request a d end × AreUntouched d
 Means (Some (command.Make seed size)) a d end = AnswersMake seed size a.sink end × AreUntouched d
+
+-- ---- the whole program
+
+-- all that is outside it at one moment: files and clock, output, journal and spool
+pub record Outside : Type 1 where
+  pub shelf : ShelfState
+  pub clock : ClockState
+  pub output : SinkState
+  pub journal : DiskState
+  pub spool : DiskState
+
+abbrev pub outside : ShelfState → ClockState → SinkState → DiskState → DiskState → Outside
+outside shelf clock output journal spool = record {
+  shelf = shelf;
+  clock = clock;
+  output = output;
+  journal = journal;
+  spool = spool;
+}
+
+-- the words are answered with this exit, and what was outside has become that
+abbrev pub AreAnswered : List (List ℕ) → Exit → Outside → Outside → Type 0
+AreAnswered words end old new =
+    Means (command_of words) (around old.shelf new.shelf old.clock new.clock (sunk old.output new.output))
+    (disks old.journal new.journal old.spool new.spool) end
 
 -- ---- one command: words that ask for anything else are Usage
 

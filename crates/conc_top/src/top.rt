@@ -1,11 +1,7 @@
 ghost use Rattle.std.specs.Prelude.{map};
 ghost use Rattle.std.specs.String.{string_bytes};
 ghost use Rattle.conc_outside.specs.Files.{IsLater};
-ghost use Rattle.conc_top_words.specs.Words.{command_of};
-ghost use Rattle.conc_run_state.specs.Disks.{disks};
-ghost use Rattle.conc_top.specs.Answers.{around};
-ghost use Rattle.conc_top.specs.Meaning.{Means};
-ghost use Rattle.conc_top.specs.Printing.{sunk};
+ghost use Rattle.conc_top.specs.Meaning.{AreAnswered, outside};
 
 use crate::Exit;
 use crate::checking::check_files;
@@ -54,11 +50,11 @@ pub fn conc<Rt: Threads + Wait + Sync, F: Shelf, O: Sink, D: Disk, E: Disk, C: C
     spool: &mut E,
     clock: &mut C,
 ) -> Exit
-    ensures means { Means (command_of (map string_bytes words.now))
-        (around (F.state shelf.old) (F.state shelf.new) (C.state clock.old) (C.state clock.new)
-        (sunk (O.state out.old) (O.state out.new)))
-        (disks (D.state journal.old) (D.state journal.new) (E.state spool.old) (E.state spool.new))
-        result }
+    ensures answered { AreAnswered (map string_bytes words.now) result
+        (outside (F.state shelf.old) (C.state clock.old) (O.state out.old)
+        (D.state journal.old) (E.state spool.old))
+        (outside (F.state shelf.new) (C.state clock.new) (O.state out.new)
+        (D.state journal.new) (E.state spool.new)) }
     ensures later { IsLater (F.state shelf.old) (F.state shelf.new) }
 {
     let _rt = rt;

@@ -1,9 +1,10 @@
 -- What words say, by the first of them, and how many they can be.
 use Rattle.std.proofs.Common.{◌≡◌, ◌≤◌, ◌<◌, ◌+◌, ◌*◌, Bool, true, false, refl, sym, subst, map, ap, ◌∙◌, ℕ, zero, suc, List, [], ◌∷◌, length, Option, None, Some, arith}
 use Rattle.std.specs.Option.{option_and_then, option_map}
-use Rattle.std.proofs.lemmas.List.{length-map, nil_from_length}
+use Rattle.std.proofs.lemmas.List.{append-nil, length-map, nil_from_length}
 use Rattle.std.specs.Prelude.{if◌then◌else◌, ◌&&◌, codes}
 use Rattle.conc_top_words.specs.declared.command.Command.{Command}
+use Rattle.conc_top_words.specs.Saying.{before}
 use Rattle.conc_top_words.specs.Words.{behind, is, is_positional, is_zero, run_among, run_said, nothing_said, said, Said, said_by, said_by_threads, said_by_watch, takes_next, with_file, with_option, with_threads, with_watch}
 
 -- a word that is no option before its value
@@ -54,6 +55,50 @@ module _ {S : Type 0} (f : S → List ℕ) where
 
   pub said-alone : (words rest : List S) (word : S) (bytes : List ℕ) → words ≡ word ∷ rest → length rest ≡ 0 → bytes ≡ f word → takes_next bytes ≡ true → said (map f words) ≡ None
   said-alone words rest word bytes e none same takes = rw (e, nil_from_length rest none) (said-last (f word) (subst (λ b. takes_next b ≡ true) same takes))
+
+-- ---- words that were read, before others
+
+before-nothing : (more : Option Said) → option_map (before nothing_said) more ≡ more
+before-nothing None = refl
+before-nothing (Some m) = refl
+
+before-all : (s : Said) → before s nothing_said ≡ s
+before-all s = rw (append-nil s.threads, append-nil s.watch, append-nil s.files) refl
+
+mapped-twice : (f g h : Said → Said) → ((m : Said) → f m ≡ g (h m)) → (more : Option Said) → option_map f more ≡ option_map g (option_map h more)
+mapped-twice f g h same None = refl
+mapped-twice f g h same (Some m) = ap (λ s. Some s) (same m)
+
+-- where nothing was read yet
+pub reads-nothing : (s : Said) (all : Option Said) → s ≡ nothing_said → all ≡ option_map (before s) all
+reads-nothing s all none = sym (ap (λ z. option_map (before z) all) none ∙ before-nothing all)
+
+module _ {S : Type 0} (f : S → List ℕ) (old new : Said) (all : Option Said) (words : List S) (read : all ≡ option_map (before old) (said (map f words))) where
+  -- where no word is left
+  pub reads-all : length words ≡ 0 → Some old ≡ all
+  reads-all none = sym (read ∙ (ap (option_map (before old)) (said-nothing f words none) ∙ ap (λ s. Some s) (before-all old)))
+
+  module _ (word : S) (rest : List S) (bytes : List ℕ) (first : words ≡ word ∷ rest) (is : bytes ≡ f word) where
+    pub reads-word : takes_next bytes ≡ false
+        → ((more : Option Said) → option_map (before new) more ≡ option_map (before old) (said_by bytes more))
+        → all ≡ option_map (before new) (said (map f rest))
+    reads-word plain added =
+        read ∙ (ap (option_map (before old)) (said-file f words rest word bytes (said (map f rest)) first is plain refl) ∙ sym (added (said (map f rest))))
+
+    pub reads-neither : takes_next bytes ≡ false → ((more : Option Said) → said_by bytes more ≡ None) → None ≡ all
+    reads-neither plain neither =
+        sym (read ∙ ap (option_map (before old)) (said-file f words rest word bytes (said (map f rest)) first is plain refl ∙ neither (said (map f rest))))
+
+    pub reads-option : (later : List S) (value : S) (shown : List ℕ) → rest ≡ value ∷ later → shown ≡ f value → takes_next bytes ≡ true
+        → ((more : Said) → before new more ≡ before old (with_option bytes shown more))
+        → all ≡ option_map (before new) (said (map f later))
+    reads-option later value shown second is' takes added =
+        read
+        ∙ (ap (option_map (before old)) (said-before f words rest later word value bytes shown (said (map f later)) first second is is' takes refl)
+        ∙ sym (mapped-twice (before new) (before old) (with_option bytes shown) added (said (map f later))))
+
+    pub reads-alone : length rest ≡ 0 → takes_next bytes ≡ true → None ≡ all
+    reads-alone none takes = sym (read ∙ ap (option_map (before old)) (said-alone f words rest word bytes first none is takes))
 
 -- ---- how many words there are
 

@@ -1,4 +1,4 @@
-ghost use Rattle.std.specs.Prelude.{◌≡◌, ◌∷◌, IfOk, OnOk, Some, map};
+ghost use Rattle.std.specs.Prelude.{◌≡◌, ◌∷◌, ◌++◌, [], IfOk, None, OnOk, map};
 ghost use Rattle.std.specs.Option.{option_map};
 ghost use Rattle.std.specs.String.{string_bytes};
 ghost use Rattle.conc_top_words.specs.Saying.{shown};
@@ -21,68 +21,11 @@ pub(crate) struct Said<'a> {
     files: Vec<&'a [u8]>,
 }
 
-fn nothing<'a>(alloc: Global) -> Said<'a>
-    ensures { shown result ≡ nothing_said }
-{
-    Said {
-        threads: Vec::new(alloc),
-        watch: Vec::new(alloc),
-        files: Vec::new(alloc),
-    }
-}
-
-// Puts a word before others.
-fn put_first<'a>(words: &mut Vec<&'a [u8]>, word: &'a [u8]) -> Result<(), NoMemory>
-    ensures { OnOk result (map (λ w. w.now) words.new.items ≡ word.now
-        ∷ map (λ w. w.now) words.old.items) }
-{
-    words.insert(0, word)?;
-    Ok(())
-}
-
-fn with_threads<'a>(value: &'a [u8], mut said: Said<'a>) -> Result<Said<'a>, NoMemory>
-    ensures { IfOk result (λ s. shown s ≡ spec.with_threads value.now (shown said.entry)) }
-{
-    put_first(&mut said.threads, value)?;
-    Ok(said)
-}
-
-fn with_watch<'a>(value: &'a [u8], mut said: Said<'a>) -> Result<Said<'a>, NoMemory>
-    ensures { IfOk result (λ s. shown s ≡ spec.with_watch value.now (shown said.entry)) }
-{
-    put_first(&mut said.watch, value)?;
-    Ok(said)
-}
-
-fn with_file<'a>(word: &'a [u8], mut said: Said<'a>) -> Result<Said<'a>, NoMemory>
-    ensures { IfOk result (λ s. shown s ≡ spec.with_file word.now (shown said.entry)) }
-{
-    put_first(&mut said.files, word)?;
-    Ok(said)
-}
-
 // What stands behind the beginning of a word, if it begins so.
 fn behind<'a>(text: &[u8], word: &'a [u8]) -> Option<&'a [u8]>
     ensures { option_map (λ w. w.now) result ≡ spec.behind text.now word.now }
 {
     word.strip_prefix(text)
-}
-
-// A word that is a file or an option with its value, before words that say more.
-fn said_by<'a>(word: &'a [u8], more: Said<'a>) -> Result<Option<Said<'a>>, NoMemory>
-    ensures { IfOk result (λ s. option_map shown s
-        ≡ spec.said_by word.now (Some (shown more.entry))) }
-{
-    if let Some(value) = behind(b"--threads=", word) {
-        return Ok(Some(with_threads(value, more)?));
-    }
-    if let Some(value) = behind(b"--watch=", word) {
-        return Ok(Some(with_watch(value, more)?));
-    }
-    if is_positional(word) {
-        return Ok(Some(with_file(word, more)?));
-    }
-    Ok(None)
 }
 
 // Whether a word is an option whose value is the next word.
@@ -92,15 +35,81 @@ fn takes_next(word: &[u8]) -> bool
     is(b"--threads", word) || is(b"--watch", word)
 }
 
-// An option with its value, before words that say more.
-fn with_option<'a>(option: &[u8], value: &'a [u8], more: Said<'a>) -> Result<Said<'a>, NoMemory>
-    ensures { IfOk result (λ s. shown s
-        ≡ spec.with_option option.now value.now (shown more.entry)) }
+// Puts a word behind others.
+fn push<'a>(words: &mut Vec<&'a [u8]>, word: &'a [u8]) -> Result<(), NoMemory>
+    ensures { OnOk result (map (λ w. w.now) words.new.items
+        ≡ map (λ w. w.now) words.old.items ++ word.now ∷ []) }
 {
-    if is(b"--threads", option) {
-        with_threads(value, more)
-    } else {
-        with_watch(value, more)
+    words.push(word)?;
+    Ok(())
+}
+
+impl<'a> Said<'a> {
+    ghost use Rattle.std.specs.Prelude.{IsFalse, IsTrue, Option};
+    ghost use Rattle.conc_top_words.specs.Saying.{before};
+    ghost use Rattle.conc_top_words.specs.Words.{Said as Meant};
+
+    fn nothing(alloc: Global) -> Self
+        ensures { shown result ≡ nothing_said }
+    {
+        Said {
+            threads: Vec::new(alloc),
+            watch: Vec::new(alloc),
+            files: Vec::new(alloc),
+        }
+    }
+
+    fn add_threads(&mut self, value: &'a [u8]) -> Result<(), NoMemory>
+        ensures { OnOk result ((more : Meant) → before (shown self.new) more
+            ≡ before (shown self.old) (spec.with_threads value.now more)) }
+    {
+        push(&mut self.threads, value)
+    }
+
+    fn add_watch(&mut self, value: &'a [u8]) -> Result<(), NoMemory>
+        ensures { OnOk result ((more : Meant) → before (shown self.new) more
+            ≡ before (shown self.old) (spec.with_watch value.now more)) }
+    {
+        push(&mut self.watch, value)
+    }
+
+    fn add_file(&mut self, word: &'a [u8]) -> Result<(), NoMemory>
+        ensures { OnOk result ((more : Meant) → before (shown self.new) more
+            ≡ before (shown self.old) (spec.with_file word.now more)) }
+    {
+        push(&mut self.files, word)
+    }
+
+    // Adds an option with its value.
+    fn add_option(&mut self, option: &[u8], value: &'a [u8]) -> Result<(), NoMemory>
+        ensures { OnOk result ((more : Meant) → before (shown self.new) more
+            ≡ before (shown self.old) (spec.with_option option.now value.now more)) }
+    {
+        if is(b"--threads", option) {
+            self.add_threads(value)
+        } else {
+            self.add_watch(value)
+        }
+    }
+
+    // Adds a word that is a file or an option with its value. False where it is neither.
+    fn add_word(&mut self, word: &'a [u8]) -> Result<bool, NoMemory>
+        ensures added { IfOk result (λ added. IsTrue added → (more : Option Meant)
+            → option_map (before (shown self.new)) more
+            ≡ option_map (before (shown self.old)) (spec.said_by word.now more)) }
+        ensures neither { IfOk result (λ added. IsFalse added → (more : Option Meant)
+            → spec.said_by word.now more ≡ None) }
+    {
+        if let Some(value) = behind(b"--threads=", word) {
+            self.add_threads(value)?;
+        } else if let Some(value) = behind(b"--watch=", word) {
+            self.add_watch(value)?;
+        } else if is_positional(word) {
+            self.add_file(word)?;
+        } else {
+            return Ok(false);
+        }
+        Ok(true)
     }
 }
 
@@ -108,22 +117,23 @@ fn with_option<'a>(option: &[u8], value: &'a [u8], more: Said<'a>) -> Result<Sai
 fn read_said<'a>(alloc: Global, words: &'a [String]) -> Result<Option<Said<'a>>, NoMemory>
     ensures { IfOk result (λ s. option_map shown s ≡ spec.said (map string_bytes words.now)) }
 {
-    let Some((word, rest)) = words.split_first() else {
-        return Ok(Some(nothing(alloc)));
-    };
-    if !takes_next(word.as_bytes()) {
-        return match read_said(alloc, rest)? {
-            Some(more) => said_by(word.as_bytes(), more),
-            None => Ok(None),
+    let mut said = Said::nothing(alloc);
+    let mut rest = words;
+    while let Some((word, behind)) = rest.split_first() {
+        rest = behind;
+        if !takes_next(word.as_bytes()) {
+            if !said.add_word(word.as_bytes())? {
+                return Ok(None);
+            }
+            continue;
+        }
+        let Some((value, behind)) = rest.split_first() else {
+            return Ok(None);
         };
+        rest = behind;
+        said.add_option(word.as_bytes(), value.as_bytes())?;
     }
-    let Some((value, rest)) = rest.split_first() else {
-        return Ok(None);
-    };
-    match read_said(alloc, rest)? {
-        Some(more) => Ok(Some(with_option(word.as_bytes(), value.as_bytes(), more)?)),
-        None => Ok(None),
-    }
+    Ok(Some(said))
 }
 
 fn is_zero(word: &[u8]) -> bool
