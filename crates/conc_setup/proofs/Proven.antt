@@ -6,6 +6,7 @@ use Rattle.std.specs.List.{sum_by}
 use Rattle.std.specs.Option.{option_map}
 use Rattle.std.proofs.lemmas.Bool.{and_from, and_parts, false≢true, le-leb, leb-true}
 use mathlib.Core.Bool.{Bool-set}
+use Rattle.conc_types.specs.declared.kind.RefusalKind.{RefusalKind}
 use Rattle.conc_types.specs.declared.item.Entry.{Entry}
 use Rattle.conc_types.specs.declared.manager.Manager.{Manager}
 use Rattle.conc_types.specs.declared.manager.Rule.{Rule}
@@ -100,7 +101,7 @@ module _ (tables : Counted (List ℕ) 0 64) (programs : List Program) (entries :
   setup-made few_tables few_programs few_entries few_managers few_sets few_places named references =
       let few : IsTrue (are_few programs entries managers sets) =
       and_from _ _ (le-leb _ _ few_programs) (and_from _ _ (le-leb _ _ few_entries) (and_from _ _ (le-leb _ _ few_managers) (and_from _ _ (le-leb _ _ few_sets) (le-leb _ _ few_places)))) in
-      ap (λ (r : Result Setup ℕ). on_line 0 r) (proven-from _ _ 6 _ (λ fact.
+      ap (λ (r : Result Setup RefusalKind). on_line 0 r) (proven-from _ _ 6 _ (λ fact.
       let p = and_parts (are_few programs entries managers sets) (are_named tables.list programs managers sets && are_references programs entries managers sets) fact in
       let q = and_parts (are_named tables.list programs managers sets) (are_references programs entries managers sets) p.1 in
       let f = few_parts programs entries managers sets p.0 in

@@ -14,9 +14,9 @@ use std::alloc::Global;
 /// The entries of a setup with what they refer to, each with the least kind of what is wrong with it.
 #[derive(Drop)]
 struct Resolved {
-    entries: Seq<Result<Entry, u8>>,
-    managers: Seq<Result<Manager, u8>>,
-    sets: Seq<Result<SetDef, u8>>,
+    entries: Seq<Judged<Entry>>,
+    managers: Seq<Judged<Manager>>,
+    sets: Seq<Judged<SetDef>>,
 }
 
 fn resolve_each(alloc: Global, raw: &RawSetup) -> Result<Resolved, NoMemory>
