@@ -110,7 +110,7 @@ rule-stands programs raw program e =
 
 to_rule-program : (raw : RawRule) (program : Option ℕ) (rule : Rule) → to_rule raw program ≡ Ok rule → rule.program ≡ program
 to_rule-program raw program rule e =
-    let p = proven-ok _ _ 3 rule e in ap (λ (r : Rule). r.program) (sym p.1)
+    let p = proven-ok _ _ _ rule e in ap (λ (r : Rule). r.program) (sym p.1)
 
 pub rule-kept : (programs : List Program) (raw : RawRule) (rule : Rule) → resolved_rule programs raw ≡ Ok rule → IsTrue (names_program programs rule)
 unfolding resolved_rule
@@ -124,7 +124,7 @@ rule-kept programs raw rule e =
 to_manager-same : (raw : RawManager) (rules : List Rule × List Rule) (manager : Manager) → to_manager raw rules ≡ Ok manager
     → (manager.name ≡ raw.name) × (manager.shifts ≡ raw.shifts.list) × (manager.include ≡ rules.0) × (manager.exclude ≡ rules.1)
 to_manager-same raw rules manager e =
-    let p = proven-ok _ _ 10 manager e in
+    let p = proven-ok _ _ _ manager e in
     (ap (λ (m : Manager). m.name) (sym p.1), ap (λ (m : Manager). m.shifts) (sym p.1), ap (λ (m : Manager). m.include) (sym p.1), ap (λ (m : Manager). m.exclude) (sym p.1))
 
 module _ (programs : List Program) (raw : RawManager) (manager : Manager) (e : resolved_manager programs raw ≡ Ok manager) where
@@ -156,7 +156,7 @@ manager-resolved programs raw include exclude rules manager i e both_ok made = r
 
 -- ---- stages
 
-later-if : (test : Bool) (place kind found : ℕ) → (if test then Ok place else Err kind) ≡ Ok found → (test ≡ true) × (place ≡ found)
+later-if : (test : Bool) (place : ℕ) (kind : RefusalKind) (found : ℕ) → (if test then Ok place else Err kind) ≡ Ok found → (test ≡ true) × (place ≡ found)
 later-if true place kind found e = (refl, cc)
 later-if false place kind found e = absurd (cc)
 
@@ -165,7 +165,7 @@ later-ok at place found e = later-if (nat_lt at place) place 9 found e
 
 link-kept : (stages : List RawStage) (at : ℕ) (name : List ℕ) (place : ℕ) → link_of stages at name ≡ Ok place → IsTrue (nat_lt at place && nat_lt place (length stages))
 link-kept stages at name place e =
-    let p = or_kind-ok 6 (later at) (stage_named stages name) place e in
+    let p = or_kind-ok refused.UnknownName (later at) (stage_named stages name) place e in
     let q = later-ok at p.0 place p.2 in
     subst (λ (n : ℕ). IsTrue (nat_lt at n && nat_lt n (length stages))) q.1
     (and_from _ _ q.0 (position-below (λ s. bytes_eq name s.name) stages p.0 p.1))
@@ -173,7 +173,7 @@ link-kept stages at name place e =
 stage_with-same : (raw : RawStage) (links : List (Option ℕ)) (members : List ℕ) (stage : Stage) → stage_with raw links members ≡ Ok stage
     → (stage.name ≡ raw.name) × (stage.links ≡ links) × (stage.members ≡ members)
 stage_with-same raw links members stage e =
-    let p = proven-ok _ _ 9 stage e in
+    let p = proven-ok _ _ _ stage e in
     (ap (λ (s : Stage). s.name) (sym p.1), ap (λ (s : Stage). s.links) (sym p.1), ap (λ (s : Stage). s.members) (sym p.1))
 
 -- the parts of a stage are right each by itself
@@ -257,7 +257,7 @@ module _ (programs : List Program) (raws : List RawStage) (stages : List Stage) 
 
 to_set-same : (name : List ℕ) (stages : List Stage) (set : SetDef) → to_set name stages ≡ Ok set → (set.name ≡ name) × (set.stages ≡ stages)
 to_set-same name stages set e =
-    let p = proven-ok _ _ 9 set e in (ap (λ (s : SetDef). s.name) (sym p.1), ap (λ (s : SetDef). s.stages) (sym p.1))
+    let p = proven-ok _ _ _ set e in (ap (λ (s : SetDef). s.name) (sym p.1), ap (λ (s : SetDef). s.stages) (sym p.1))
 
 module _ (programs : List Program) (raw : RawSet) (set : SetDef) (e : resolved_set programs raw ≡ Ok set) where
   set-stages : (stages : List Stage) × (all_good (map (resolved_stage programs raw.stages.list) (enumerate_from 0 raw.stages.list)) ≡ Ok stages) × (to_set raw.name stages ≡ Ok set)

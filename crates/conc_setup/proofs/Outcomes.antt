@@ -22,15 +22,15 @@ both-ok (Ok x) (Err k) a b e = absurd (cc)
 both-ok (Err j) (Ok y) a b e = absurd (cc)
 both-ok (Err j) (Err k) a b e = absurd (cc)
 
-pub or_kind-ok : {A B : Type 0} (k : ℕ) (f : A → Result B RefusalKind) (o : Option A) (b : B) → or_kind k f o ≡ Ok b → (a : A) × (o ≡ Some a) × (f a ≡ Ok b)
+pub or_kind-ok : {A B : Type 0} (k : RefusalKind) (f : A → Result B RefusalKind) (o : Option A) (b : B) → or_kind k f o ≡ Ok b → (a : A) × (o ≡ Some a) × (f a ≡ Ok b)
 or_kind-ok k f None b e = absurd (cc)
 or_kind-ok k f (Some a) b e = (a, refl, e)
 
-pub proven-ok : {A : Type 0} (test : Bool) (make : IsTrue test → A) (k : ℕ) (a : A) → proven test make k ≡ Ok a → (fact : IsTrue test) × (make fact ≡ a)
+pub proven-ok : {A : Type 0} (test : Bool) (make : IsTrue test → A) (k : RefusalKind) (a : A) → proven test make k ≡ Ok a → (fact : IsTrue test) × (make fact ≡ a)
 proven-ok true make k a e = (refl, cc)
 proven-ok false make k a e = absurd (cc)
 
-never_none : (A : Type 0) (k : ℕ) (o : Option ℕ) → lesser {A = A} (Err k) o ≡ None → ⊥
+never_none : (A : Type 0) (k : RefusalKind) (o : Option RefusalKind) → lesser {A = A} (Err k) o ≡ None → ⊥
 never_none A k None e = cc
 never_none A k (Some j) e = cc
 
@@ -40,7 +40,7 @@ goods-all [] e = refl
 goods-all (Ok a ∷ rs) e = ap (λ later. Ok a ∷ later) (goods-all rs e)
 goods-all {A = A} (Err k ∷ rs) e = absurd (never_none A k (worst rs) e)
 
-unless-ok : {A : Type 0} (o : Option ℕ) (a b : A) → unless o a ≡ Ok b → (o ≡ None) × (a ≡ b)
+unless-ok : {A : Type 0} (o : Option RefusalKind) (a b : A) → unless o a ≡ Ok b → (o ≡ None) × (a ≡ b)
 unless-ok None a b e = (refl, cc)
 unless-ok (Some k) a b e = absurd (cc)
 

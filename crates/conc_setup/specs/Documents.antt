@@ -30,7 +30,7 @@ top_keys = codes "tables" ∷ codes "program" ∷ codes "incompatible" ∷ codes
 abbrev pub entries_of : {A : Type 0} (most : ℕ) → (Data → Result A RefusalKind) → Items → Result (Counted (Result A RefusalKind) 0 most) RefusalKind
 entries_of most form items = counted 0 most (read_all form items)
 
--- an array of entries: another value is kind 4, more entries than that are kind 10
+-- an array of entries: another value is `WrongKind`, more entries than that are `TooMany`
 unfoldable pub entries_in : {A : Type 0} (most : ℕ) → (Data → Result A RefusalKind) → Data → Result (Counted (Result A RefusalKind) 0 most) RefusalKind
 entries_in most form value = or_kind refused.WrongKind (entries_of most form) (as_array value)
 
@@ -39,7 +39,7 @@ DocumentParts =
     Counted (List ℕ) 0 64 × (Counted (Result Program RefusalKind) 0 1024 × (Counted (Result RawEntry RefusalKind) 0 4096
     × (Counted (Result RawManager RefusalKind) 0 64 × Counted (Result RawSet RefusalKind) 0 256)))
 
--- more than 64 places of the managers with which nothing is wrong are kind 10
+-- more than 64 places of the managers with which nothing is wrong are `TooMany`
 abbrev pub to_document : DocumentParts → Result Document RefusalKind
 to_document parts =
     proven (nat_le (places_in_all (goods parts.1.1.1.0.list)) 64) (λ few. record {
@@ -49,7 +49,7 @@ to_document parts =
       managers = parts.1.1.1.0;
       sets = parts.1.1.1.1;
       few_places = few;
-    }) 10
+    }) refused.TooMany
 
 -- the top level of a file, or the least kind of what is wrong with the file as a whole
 unfoldable pub document_of : Members → Result Document RefusalKind
@@ -66,6 +66,6 @@ document_of file = beside (keys_kind top_keys file) (judged to_document (
 abbrev pub table_in : List ℕ → Option Members
 table_in bytes = if is_utf8 bytes then parse_document bytes else None
 
--- a file of more than 67,108,864 bytes is kind 10, and one that is not TOML kind 1
+-- a file of more than 67,108,864 bytes is `TooMany`, and one that is not TOML `NotToml`
 unfoldable pub document_in : List ℕ → Result Document RefusalKind
 document_in bytes = if nat_le (length bytes) 67108864 then or_kind refused.NotToml document_of (table_in bytes) else Err refused.TooMany

@@ -1,4 +1,4 @@
--- The second pass: names that stand twice, which is kind 5.
+-- The second pass: names that stand twice, which are `Duplicate`.
 use Rattle.std.specs.Prelude.{ℕ, ◌+◌, if◌then◌else◌, Bool, not, ◌||◌, List, [], ◌∷◌, ◌++◌, length, map, Option, None, Some, Result}
 use Rattle.std.specs.List.{list_any}
 use Rattle.std.specs.Option.{option_or}

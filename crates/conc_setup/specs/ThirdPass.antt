@@ -1,5 +1,5 @@
--- The third pass: names that are looked up. A name that is not there is kind 6, and a link to its own
--- or an earlier stage kind 9.
+-- The third pass: names that are looked up. A name that is not there is `UnknownName`, and a
+-- link to its own or an earlier stage `BackLink`.
 use Rattle.std.specs.Prelude.{◌≡◌, ℕ, ◌+◌, ◌≤◌, if◌then◌else◌, Bool, true, ◌&&◌, nat_le, nat_lt, List, [], ◌∷◌, map, length, Option, None, Some, Result, Ok, Err}
 use Rattle.std.specs.List.{enumerate_from, position, sum_by}
 use Rattle.std.specs.Option.{option_map, option_or}
@@ -77,7 +77,7 @@ to_rule raw program =
       request_type = option_map (λ t. t.text) raw.request_type;
       user = raw.user;
       names = names;
-    }) 3
+    }) refused.Missing
 
 unfoldable pub resolved_rule : List Program → RawRule → Result Rule RefusalKind
 resolved_rule programs raw = judged (to_rule raw) (if_named (program_of programs) raw.program)
@@ -92,7 +92,7 @@ to_manager raw rules =
       shifts = raw.shifts.list;
       few_rules = leb-true _ _ few;
       few_shifts = within_most raw.shifts;
-    }) 10
+    }) refused.TooMany
 
 unfoldable pub resolved_manager : List Program → RawManager → Result Manager RefusalKind
 resolved_manager programs raw =
@@ -121,7 +121,7 @@ stage_with raw links members =
       members = members;
       near = (and_parts _ _ kept).0;
       some = (and_parts _ _ kept).1;
-    }) 9
+    }) refused.BackLink
 
 abbrev pub to_stage : RawStage → StageParts → Result Stage RefusalKind
 to_stage raw parts = stage_with raw (parts.0 ∷ parts.1.0 ∷ parts.1.1.0 ∷ []) parts.1.1.1
@@ -143,7 +143,7 @@ to_set name stages =
       stages = stages;
       some = (and_parts _ _ kept).0;
       forward = (and_parts _ _ kept).1;
-    }) 9
+    }) refused.BackLink
 
 unfoldable pub resolved_set : List Program → RawSet → Result SetDef RefusalKind
 resolved_set programs raw =
@@ -217,7 +217,7 @@ to_setup tables programs entries managers sets =
       few_places = (few_parts programs entries managers sets (and_parts _ _ kept).0).places_few;
       named = (and_parts _ _ (and_parts _ _ kept).1).0;
       references = (and_parts _ _ (and_parts _ _ kept).1).1;
-    }) 6)
+    }) refused.UnknownName)
 
 -- the setup with places in its lists in the place of names
 abbrev pub resolved : RawSetup → Result Setup Fault

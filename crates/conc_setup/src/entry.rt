@@ -4,7 +4,7 @@ ghost use Rattle.conc_setup.specs.ThirdPass as spec;
 
 use crate::resolve::{Items, Resolve, item_of};
 use conc_setup_entries::RawEntry;
-use conc_setup_fields::both;
+use conc_setup_fields::{Judged, both};
 use conc_types::{Entry, Item, NoMemory};
 use std::alloc::Global;
 

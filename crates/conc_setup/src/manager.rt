@@ -6,7 +6,7 @@ ghost use Rattle.conc_setup.specs.ThirdPass as spec;
 use crate::copies::{copy_of_name, copy_of_text};
 use crate::resolve::{Items, Resolve, program_of, resolve_good};
 use conc_setup_entries::{RawManager, RawRule};
-use conc_setup_fields::both;
+use conc_setup_fields::{Judged, both};
 use conc_types::{Manager, Name, NoMemory, Rule, Seq};
 use std::alloc::Global;
 

@@ -5,7 +5,7 @@ ghost use Rattle.conc_setup_fields.specs.Arrays.{goods};
 ghost use Rattle.conc_setup.specs.Places as places_spec;
 
 use conc_setup_entries::RawManager;
-use conc_setup_fields::Counted;
+use conc_setup_fields::{Counted, Judged};
 use conc_types::Shift;
 
 fn greatest_shift(shifts: &[Shift]) -> u32

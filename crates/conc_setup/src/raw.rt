@@ -3,8 +3,8 @@ ghost use Rattle.conc_setup_fields.specs.Arrays.{goods};
 ghost use Rattle.conc_setup.specs.Places.{places_in_all};
 
 use conc_setup_entries::{RawEntry, RawManager, RawSet};
-use conc_setup_fields::Counted;
-use conc_types::{Name, Program, Seq};
+use conc_setup_fields::{Counted, Judged};
+use conc_types::{Name, Program, RefusalKind, Seq};
 
 /// A line of a file, where 0 is the file as a whole, and the kind of the rule that it breaks.
 pub(crate) type Fault = (u64, RefusalKind);

@@ -1,4 +1,5 @@
-ghost use Rattle.std.specs.Prelude.{◌≡◌, ◌≤◌, IfOk, List, Result, length, map, ℕ};
+ghost use Rattle.std.specs.Prelude.{◌≡◌, ◌≤◌, IfOk, List, Result, length, map};
+ghost use Rattle.conc_types.specs.declared.kind.RefusalKind.{RefusalKind};
 ghost use Rattle.conc_types.specs.declared.program.Program.{Program};
 ghost use Rattle.conc_setup_fields.specs.Arrays as arrays_spec;
 ghost use Rattle.conc_setup_entries.specs.declared.raw.RawSet.{RawSet};
@@ -7,8 +8,8 @@ ghost use Rattle.conc_setup.specs.ThirdPass as spec;
 use crate::RefusalKind::UnknownName;
 use crate::names::place_of;
 use conc_setup_entries::RawSet;
-use conc_setup_fields::all_good;
-use conc_types::{Item, Name, NoMemory, Program, Seq};
+use conc_setup_fields::{Judged, all_good};
+use conc_types::{Item, Name, NoMemory, Program, RefusalKind, Seq};
 use std::alloc::Global;
 
 /// The programs and sets, in which names are looked up.
@@ -49,7 +50,7 @@ pub(crate) trait Resolve {
     /// What it is made into.
     type Out: Drop;
 
-    ghost resolved: { List Program → List RawSet → Self → Result Self.Out ℕ };
+    ghost resolved: { List Program → List RawSet → Self → Result Self.Out RefusalKind };
 
     /// The value with places, or the least kind of what is wrong with a name. Where memory lacks there
     /// is neither.

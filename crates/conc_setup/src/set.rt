@@ -10,8 +10,8 @@ use crate::copies::copy_of_name;
 use crate::names::place_of;
 use crate::resolve::{Items, resolve_good};
 use conc_setup_entries::{RawSet, RawStage};
-use conc_setup_fields::{all_good, both};
-use conc_types::{Name, NoMemory, Seq, SetDef, Stage};
+use conc_setup_fields::{Judged, all_good, both};
+use conc_types::{Name, NoMemory, RefusalKind, Seq, SetDef, Stage};
 use std::alloc::Global;
 
 // The place of the stage with this name, to which the stage at the place given leads.

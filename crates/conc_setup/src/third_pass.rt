@@ -7,7 +7,7 @@ ghost use Rattle.conc_setup.specs.ThirdPass as spec;
 use crate::raw::{Fault, RawSetup};
 use crate::resolve::{Items, resolve_all};
 use crate::set::resolve_sets;
-use conc_setup_fields::{Counted, first_wrong, goods};
+use conc_setup_fields::{Counted, Judged, first_wrong, goods};
 use conc_types::{Entry, Manager, Name, NoMemory, Program, Seq, SetDef, Setup};
 use std::alloc::Global;
 

@@ -36,13 +36,13 @@ unfoldable forms : Unit {0}
 unfolding manager_in manager_of rule_in rule_of shift_in shift_of days_in program_in program_of job_of filter_in filter_of entry_in entry_of set_in set_of stage_in stage_of list_in array_in read_all only worst goods toml_on_literals chars is_utf8 lib.Utf8.encode civil_of civil_text days_before is_civil is_spelling moment_at moment_of month_lengths seconds_of is_leap
 forms = tt
 
--- the first item of an array of a document, read in a form; where there is none, 0
+-- the first item of an array of a document, read in a form; where there is none, `NotToml`
 abbrev read_first : {A : Type 0} → (Data → Result A RefusalKind) → Option Data → Result A RefusalKind
 read_first form (Some (array (item value rest))) = form value
-read_first form _ = Err refused.ZZ
+read_first form _ = Err refused.NotToml
 
 abbrev first_in : {A : Type 0} → List ℕ → (Data → Result A RefusalKind) → Option Members → Result A RefusalKind
-first_in key form None = Err refused.ZZ
+first_in key form None = Err refused.NotToml
 first_in key form (Some document) = read_first form (get_member key document)
 
 abbrev shift_parts : Shift → Option ℕ × (ℕ × (Option (ℕ × ℕ) × ℕ))

@@ -18,11 +18,11 @@ use Rattle.conc_setup_entries.specs.declared.raw.RawRule.{RawRule}
 abbrev pub manager_keys : List (List ℕ)
 manager_keys = codes "name" ∷ codes "include" ∷ codes "exclude" ∷ codes "shift" ∷ []
 
--- more than 64 rules in all are kind 10
+-- more than 64 rules in all are `TooMany`
 abbrev pub to_manager : List ℕ × (List RawRule × (List RawRule × Counted Shift 0 64)) → Result RawManager RefusalKind
 to_manager parts =
     proven (nat_le (length parts.1.0 + length parts.1.1.0) 64)
-    (λ few. record { name = parts.0; include = parts.1.0; exclude = parts.1.1.0; shifts = parts.1.1.1; few_rules = leb-true _ _ few }) 10
+    (λ few. record { name = parts.0; include = parts.1.0; exclude = parts.1.1.0; shifts = parts.1.1.1; few_rules = leb-true _ _ few }) refused.TooMany
 
 unfoldable pub manager_of : Members → Result RawManager RefusalKind
 manager_of table = beside (keys_kind manager_keys table) (judged to_manager (

@@ -13,10 +13,10 @@ use Rattle.conc_setup_entries.specs.declared.raw.RawRule.{RawRule}
 abbrev pub rule_keys : List (List ℕ)
 rule_keys = codes "program" ∷ codes "type" ∷ codes "user" ∷ []
 
--- a rule that names nothing lacks a name, which is kind 3
+-- a rule that names nothing lacks a name, which is `Missing`
 abbrev pub to_rule : Option (List ℕ) × (Option (ShortText 80) × Option (List ℕ)) → Result RawRule RefusalKind
 to_rule parts =
-    proven (names_any parts.0 parts.1.0 parts.1.1) (λ names. record { program = parts.0; request_type = parts.1.0; user = parts.1.1; names = names }) 3
+    proven (names_any parts.0 parts.1.0 parts.1.1) (λ names. record { program = parts.0; request_type = parts.1.0; user = parts.1.1; names = names }) refused.Missing
 
 unfoldable pub rule_of : Members → Result RawRule RefusalKind
 rule_of table = beside (keys_kind rule_keys table) (judged to_rule (

@@ -74,7 +74,7 @@ abbrev pub day_bits : List ℕ → ℕ
 day_bits days =
     day_bit 1 0 days + (day_bit 2 1 days + (day_bit 4 2 days + (day_bit 8 3 days + (day_bit 16 4 days + (day_bit 32 5 days + day_bit 64 6 days)))))
 
--- no day, or one twice, is kind 8
+-- no day, or one twice, is `BadShift`
 abbrev pub days_of : List ℕ → Result ℕ RefusalKind
 days_of days = if not (is_empty days) && are_distinct ◌==◌ days then Ok (day_bits days) else Err refused.BadShift
 
@@ -93,17 +93,17 @@ places_in value = judged places_of (whole_in value)
 abbrev pub shift_keys : List (List ℕ)
 shift_keys = codes "date" ∷ codes "days" ∷ codes "from" ∷ codes "to" ∷ codes "places" ∷ []
 
--- one time without the other is kind 8
+-- one time without the other is `BadShift`
 abbrev pub times_of : Option ℕ → Option ℕ → Result (Option (ℕ × ℕ)) RefusalKind
 times_of None None = Ok None
 times_of (Some from) (Some to) = Ok (Some (from, to))
 times_of None (Some to) = Err refused.BadShift
 times_of (Some from) None = Err refused.BadShift
 
--- a date beside days, and a first time that is not before the second, make no shift, which is kind 8
+-- a date beside days, and a first time that is not before the second, make no shift, which is `BadShift`
 abbrev pub shift_of_parts : Option ℕ → ℕ → ℕ → Option (ℕ × ℕ) → Result Shift RefusalKind
 shift_of_parts date days places times =
-    proven (is_shift date days times places) (λ valid. record { date = date; days = days; times = times; places = places; valid = valid }) 8
+    proven (is_shift date days times places) (λ valid. record { date = date; days = days; times = times; places = places; valid = valid }) refused.BadShift
 
 abbrev pub to_shift : Option ℕ × (ℕ × (Option ℕ × (Option ℕ × ℕ))) → Result Shift RefusalKind
 to_shift parts = judged (shift_of_parts parts.0 parts.1.0 parts.1.1.1.1) (times_of parts.1.1.0 parts.1.1.1.0)

@@ -5,8 +5,8 @@ ghost use Rattle.conc_setup_entries.specs.Entries as spec;
 ghost use Rattle.toml.specs.View.{table_view, view};
 
 use crate::RawEntry;
-use conc_setup_fields::{Form, NameForm, beside, both, default, keys_kind, kind, required};
-use conc_types::{Name, NoMemory, Reach, Scope};
+use conc_setup_fields::{Form, Judged, NameForm, beside, both, default, keys_kind, required};
+use conc_types::{Name, NoMemory, Reach, RefusalKind, Scope};
 use std::alloc::Global;
 use toml::{Table, Value};
 

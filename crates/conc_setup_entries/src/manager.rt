@@ -7,11 +7,8 @@ ghost use Rattle.toml.specs.View.{table_view, view};
 use crate::rule::RuleForm;
 use crate::shift::ShiftForm;
 use crate::{RawManager, RawRule};
-use conc_setup_fields::{
-    ArrayForm, Counted, Form, ListForm, NameForm, beside, both, default, keys_kind, kind,
-    no_values, required,
-};
-use conc_types::{Name, NoMemory, Seq, Shift};
+use conc_setup_fields::{ArrayForm, Counted, Form, Judged, ListForm, NameForm, beside, both, default, keys_kind, no_values, required};
+use conc_types::{Name, NoMemory, RefusalKind, Seq, Shift};
 use std::alloc::Global;
 use toml::{Table, Value};
 

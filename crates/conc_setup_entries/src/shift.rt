@@ -7,8 +7,8 @@ ghost use Rattle.conc_types.specs.Words.{none_or};
 ghost use Rattle.toml.specs.View.{table_view, view};
 
 use crate::shift_values::{DateForm, DaysForm, PlacesForm, TimeForm};
-use conc_setup_fields::{Form, beside, both, default, keys_kind, kind, optional, required};
-use conc_types::{NoMemory, Shift};
+use conc_setup_fields::{Form, Judged, beside, both, default, keys_kind, optional, required};
+use conc_types::{NoMemory, RefusalKind, Shift};
 use std::alloc::Global;
 use toml::{Table, Value};
 

@@ -4,9 +4,9 @@ ghost use Rattle.conc_setup_entries.specs.Shifts as spec;
 ghost use Rattle.conc_types.specs.Words as words_spec;
 ghost use Rattle.toml.specs.View.{view};
 
-use conc_setup_fields::{Form, ListForm, WholeForm, kind};
+use conc_setup_fields::{Form, Judged, ListForm, WholeForm};
 use conc_time::read_moment;
-use conc_types::{NoMemory, Seq};
+use conc_types::{NoMemory, RefusalKind, Seq};
 use std::alloc::Global;
 use toml::Value;
 
