@@ -53,7 +53,11 @@ fn form<'a>(at: Moment, item: Item, fields: &Fields<'a>) -> Option<Submission<'a
 
 // The submission that the fields say at a moment, or the rule that they break.
 #[tactic(auto, unfolding(crate::specs::Script::submission_of))]
-fn submission<'a>(setup: &Setup, at: Moment, fields: &Fields<'a>) -> Result<Submission<'a>, RefusalKind>
+fn submission<'a>(
+    setup: &Setup,
+    at: Moment,
+    fields: &Fields<'a>,
+) -> Result<Submission<'a>, RefusalKind>
     ensures rules { first_broken (submit_rules setup.now (list_of fields.now)) ≡ result_err result }
     ensures said { IfOk result (λ s. submission_of setup.now at (list_of fields.now)
         ≡ Some (submit_by s)) }

@@ -12,7 +12,10 @@ use crate::raw::Document;
 use conc_setup_entries::{
     EntryForm, ManagerForm, ProgramForm, RawEntry, RawManager, RawSet, SetForm,
 };
-use conc_setup_fields::{ArrayForm, Counted, Form, Judged, NameForm, beside, both, counted, default, keys_kind, no_values, read_all};
+use conc_setup_fields::{
+    ArrayForm, Counted, Form, Judged, NameForm, beside, both, counted, default, keys_kind,
+    no_values, read_all,
+};
 use conc_types::{Name, NoMemory, Program, RefusalKind};
 use std::alloc::Global;
 use std::marker::PhantomData;

@@ -7,7 +7,10 @@ ghost use Rattle.toml.specs.View.{table_view, view};
 use crate::rule::RuleForm;
 use crate::shift::ShiftForm;
 use crate::{RawManager, RawRule};
-use conc_setup_fields::{ArrayForm, Counted, Form, Judged, ListForm, NameForm, beside, both, default, keys_kind, no_values, required};
+use conc_setup_fields::{
+    ArrayForm, Counted, Form, Judged, ListForm, NameForm, beside, both, default, keys_kind,
+    no_values, required,
+};
 use conc_types::{Name, NoMemory, RefusalKind, Seq, Shift};
 use std::alloc::Global;
 use toml::{Table, Value};

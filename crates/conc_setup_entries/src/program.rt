@@ -4,7 +4,10 @@ ghost use Rattle.conc_setup_fields.specs.Kinds.{good};
 ghost use Rattle.conc_setup_entries.specs.Programs as spec;
 ghost use Rattle.toml.specs.View.{table_view, view};
 
-use conc_setup_fields::{ArrayForm, Counted, Form, Judged, NameForm, ShortText, TextForm, TruthForm, WholeForm, beside, both, default, keys_kind, no_text, no_values, optional, required};
+use conc_setup_fields::{
+    ArrayForm, Counted, Form, Judged, NameForm, ShortText, TextForm, TruthForm, WholeForm, beside,
+    both, default, keys_kind, no_text, no_values, optional, required,
+};
 use conc_types::{Filter, Job, Name, NoMemory, Program, RefusalKind, Test};
 use std::alloc::Global;
 use toml::{Table, Value};

@@ -5,7 +5,9 @@ ghost use Rattle.conc_setup_entries.specs.Rules as spec;
 ghost use Rattle.toml.specs.View.{table_view, view};
 
 use crate::RawRule;
-use conc_setup_fields::{Form, Judged, NameForm, ShortText, TextForm, beside, both, keys_kind, optional};
+use conc_setup_fields::{
+    Form, Judged, NameForm, ShortText, TextForm, beside, both, keys_kind, optional,
+};
 use conc_types::{Name, NoMemory, RefusalKind};
 use std::alloc::Global;
 use toml::{Table, Value};

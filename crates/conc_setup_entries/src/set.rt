@@ -5,7 +5,10 @@ ghost use Rattle.conc_setup_entries.specs.Sets as spec;
 ghost use Rattle.toml.specs.View.{table_view, view};
 
 use crate::{RawSet, RawStage};
-use conc_setup_fields::{ArrayForm, Counted, Form, Judged, NameForm, TruthForm, beside, both, default, keys_kind, optional, required};
+use conc_setup_fields::{
+    ArrayForm, Counted, Form, Judged, NameForm, TruthForm, beside, both, default, keys_kind,
+    optional, required,
+};
 use conc_types::{Name, NoMemory, RefusalKind};
 use std::alloc::Global;
 use toml::{Table, Value};

@@ -6,6 +6,7 @@ ghost use Rattle.conc_types.specs.Pieces.{concat};
 ghost use Rattle.conc_tables.specs.Rows as spec;
 ghost use Rattle.conc_tables.specs.Rows.{rows_fault};
 ghost use Rattle.conc_tables.specs.Tables.{table_fault, SpellsTable};
+ghost use Rattle.conc_tables.specs.declared.reading.TheConstants.{MOST_ROWS};
 
 use crate::columns::{are_distinct, columns_of};
 use conc_records::{ByteRecord, Records};
@@ -15,8 +16,11 @@ use std::alloc::Global;
 /// How many bytes a table's file has at most.
 const MOST_BYTES: usize = 67_108_864;
 
+/// How many rows a table has at most.
+pub const MOST_ROWS: u64 = 1_048_576;
+
 /// The line of the last row that a table may have. The columns are line 1.
-const LAST_LINE: u64 = 1_048_577;
+const LAST_LINE: u64 = MOST_ROWS + 1;
 
 // The kind of the first rule that a row on this line breaks, with so many fields under so many columns.
 fn row_fault(width: usize, line: u64, fields: usize) -> Option<RefusalKind>
@@ -76,7 +80,7 @@ fn read_rows(
 /// column (`RaggedRow`). `NoMemory` tells that there was no memory, whatever the file.
 pub fn read_table(alloc: Global, bytes: &[u8], number: u32) -> Result<Table, ReadFail>
     ensures ok { IfOk result (λ table. SpellsTable bytes.now table) }
-    ensures few { IfOk result (λ table. length table.rows ≤ 1048576) }
+    ensures few { IfOk result (λ table. length table.rows ≤ MOST_ROWS) }
     ensures err { IfErr result (IsFailure (file.Table number) (table_fault bytes.now)) }
 {
     if MOST_BYTES < bytes.len() {

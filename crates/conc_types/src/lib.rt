@@ -9,6 +9,7 @@ mod event;
 mod facts;
 mod item;
 mod kind;
+mod limits;
 mod manager;
 mod name;
 mod plan;
@@ -29,6 +30,7 @@ pub use event::{Event, Extent, Moment, Outcome, Phase, PlaceId, RequestId, Statu
 pub use facts::{Facts, State};
 pub use item::{Entry, Item, Reach, Scope};
 pub use kind::RefusalKind;
+pub use limits::MOST_REPORT_BYTES;
 pub use manager::{Manager, Rule, Shift};
 pub use name::{Name, is_name};
 pub use plan::{Plan, Req};

@@ -1,7 +1,10 @@
 use super::expect::{same, same_at};
 use conc_script::{read_clock, read_script};
 use conc_setup::read_setup;
-use conc_types::{Act, FileKind, Item, Moment, NoMemory, Order, ReadFail, Reading, Refusal, RefusalKind, RequestId, Script, Setup};
+use conc_types::{
+    Act, FileKind, Item, Moment, NoMemory, Order, ReadFail, Reading, Refusal, RefusalKind,
+    RequestId, Script, Setup,
+};
 use std::alloc::Global;
 use std::process::Abort;
 use std::test::Fail;
@@ -45,13 +48,21 @@ static CLOCKS: [(&str, u64, RefusalKind); 7] = [
     ("2025-03-03T09:00:00  !\n", 1, RefusalKind::BadField),
     ("2025-03-03T09:00:00!\n", 1, RefusalKind::BadField),
     ("2025-03-03T09:00:00\nx\n", 2, RefusalKind::BadField),
-    ("2025-03-03T09:00:00\n\n2025-03-03T09:00:01\n", 2, RefusalKind::BadField),
+    (
+        "2025-03-03T09:00:00\n\n2025-03-03T09:00:01\n",
+        2,
+        RefusalKind::BadField,
+    ),
     (
         "2025-03-03T09:00:00\n2025-03-03T09:00:01\n2025-03-03T09:00:00\n",
         3,
         RefusalKind::ClockBack,
     ),
-    ("2025-03-03T09:00:01\n2025-03-03T09:00:00 x\n", 2, RefusalKind::BadField),
+    (
+        "2025-03-03T09:00:01\n2025-03-03T09:00:00 x\n",
+        2,
+        RefusalKind::BadField,
+    ),
 ];
 
 #[test]
@@ -103,8 +114,16 @@ fn reads_clocks(rt: HostRuntime) -> Result<(), Fail> {
 
 // Records behind the header, and the record and the rule for which they are refused.
 static REFUSED: [(&str, u64, RefusalKind); 17] = [
-    ("2025-03-03T09:00:00,submit,daily,ann,,,\n", 2, RefusalKind::NotCsv),
-    ("2025-03-03,submit,daily,ann,,,,\n", 2, RefusalKind::BadField),
+    (
+        "2025-03-03T09:00:00,submit,daily,ann,,,\n",
+        2,
+        RefusalKind::NotCsv,
+    ),
+    (
+        "2025-03-03,submit,daily,ann,,,,\n",
+        2,
+        RefusalKind::BadField,
+    ),
     (
         "2025-03-03T09:00:01,submit,daily,ann,,,,\n2025-03-03T09:00:00,submit,daily,ann,,,,\n",
         3,
@@ -120,8 +139,16 @@ static REFUSED: [(&str, u64, RefusalKind); 17] = [
         3,
         RefusalKind::BadField,
     ),
-    ("2025-03-03T09:00:00,start,daily,ann,,,,\n", 2, RefusalKind::UnknownWord),
-    ("2025-03-03T09:00:00,submit,weekly,ann,,,,\n", 2, RefusalKind::UnknownItem),
+    (
+        "2025-03-03T09:00:00,start,daily,ann,,,,\n",
+        2,
+        RefusalKind::UnknownWord,
+    ),
+    (
+        "2025-03-03T09:00:00,submit,weekly,ann,,,,\n",
+        2,
+        RefusalKind::UnknownItem,
+    ),
     (
         "2025-03-03T09:00:00,submit,daily,ann,,,,\n2025-03-03T09:00:00,hold,x,,,,,\n",
         3,
@@ -142,10 +169,26 @@ static REFUSED: [(&str, u64, RefusalKind); 17] = [
         3,
         RefusalKind::UnknownRequest,
     ),
-    ("2025-03-03T09:00:00,submit,daily,ann,0,,,\n", 2, RefusalKind::BadField),
-    ("2025-03-03T09:00:00,submit,daily,ann,100,,,\n", 2, RefusalKind::BadField),
-    ("2025-03-03T09:00:00,submit,daily,ann,,9:00,,\n", 2, RefusalKind::BadField),
-    ("2025-03-03T09:00:00,submit,daily,,,,,\n", 2, RefusalKind::BadField),
+    (
+        "2025-03-03T09:00:00,submit,daily,ann,0,,,\n",
+        2,
+        RefusalKind::BadField,
+    ),
+    (
+        "2025-03-03T09:00:00,submit,daily,ann,100,,,\n",
+        2,
+        RefusalKind::BadField,
+    ),
+    (
+        "2025-03-03T09:00:00,submit,daily,ann,,9:00,,\n",
+        2,
+        RefusalKind::BadField,
+    ),
+    (
+        "2025-03-03T09:00:00,submit,daily,,,,,\n",
+        2,
+        RefusalKind::BadField,
+    ),
     (
         "2025-03-03T09:00:00,submit,daily,ann,,,,\n2025-03-03T09:00:00,hold,1,,50,,,\n",
         3,

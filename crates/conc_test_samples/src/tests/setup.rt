@@ -1,6 +1,8 @@
 use super::expect::{same, same_at};
 use conc_setup::read_setup;
-use conc_types::{Entry, FileKind, Item, Manager, Reach, ReadFail, Refusal, RefusalKind, Scope, SetDef, Setup};
+use conc_types::{
+    Entry, FileKind, Item, Manager, Reach, ReadFail, Refusal, RefusalKind, Scope, SetDef, Setup,
+};
 use std::process::Abort;
 use std::test::Fail;
 
@@ -20,7 +22,11 @@ static REFUSED: [(&str, u64, RefusalKind); 30] = [
     // A program without a table.
     ("[[program]]\nname = \"P\"\n", 1, RefusalKind::Missing),
     // A rule that names nothing.
-    ("[[manager]]\nname = \"M\"\ninclude = [{}]\n", 1, RefusalKind::Missing),
+    (
+        "[[manager]]\nname = \"M\"\ninclude = [{}]\n",
+        1,
+        RefusalKind::Missing,
+    ),
     // A table in the place of an array of tables.
     ("[program]\nname = \"P\"\n", 0, RefusalKind::WrongKind),
     // A number in the place of a table.
@@ -32,7 +38,11 @@ static REFUSED: [(&str, u64, RefusalKind); 30] = [
         RefusalKind::WrongKind,
     ),
     // A table twice.
-    ("tables = [\"t.csv\", \"u.csv\", \"t.csv\"]\n", 0, RefusalKind::Duplicate),
+    (
+        "tables = [\"t.csv\", \"u.csv\", \"t.csv\"]\n",
+        0,
+        RefusalKind::Duplicate,
+    ),
     // A set with the name of a program.
     (
         "[[program]]\nname = \"P\"\ntable = \"t.csv\"\n\n[[set]]\nname = \"P\"\nstage = [{ name = \"A\", members = [\"P\"] }]\n",
@@ -88,7 +98,11 @@ static REFUSED: [(&str, u64, RefusalKind); 30] = [
         RefusalKind::OutOfRange,
     ),
     // A set without a stage.
-    ("[[set]]\nname = \"S\"\nstage = []\n", 1, RefusalKind::OutOfRange),
+    (
+        "[[set]]\nname = \"S\"\nstage = []\n",
+        1,
+        RefusalKind::OutOfRange,
+    ),
     // A time without the other.
     (
         "[[manager]]\nname = \"M\"\nshift = [{ from = \"08:00\", places = 1 }]\n",
@@ -126,7 +140,11 @@ static REFUSED: [(&str, u64, RefusalKind); 30] = [
         RefusalKind::UnknownKey,
     ),
     // Two faults on one line: an unknown key where another one is missing.
-    ("[[program]]\nname = \"P\"\ntype = 3\nowner = \"x\"\n", 1, RefusalKind::UnknownKey),
+    (
+        "[[program]]\nname = \"P\"\ntype = 3\nowner = \"x\"\n",
+        1,
+        RefusalKind::UnknownKey,
+    ),
     // Two faults on one line: a link to the same stage, and a member that is not there.
     (
         "[[set]]\nname = \"S\"\nstage = [{ name = \"A\", members = [\"P\"], on_success = \"A\" }]\n",
