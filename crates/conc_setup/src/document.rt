@@ -6,7 +6,6 @@ ghost use Rattle.conc_setup.specs.Documents as spec;
 ghost use Rattle.toml.specs.Parse.{parse_document};
 ghost use Rattle.toml.specs.View.{table_view, view};
 
-use crate::RefusalKind::NotToml;
 use crate::places::places_in_all;
 use crate::raw::Document;
 use conc_setup_entries::{

@@ -5,7 +5,6 @@ ghost use Rattle.conc_setup_fields.specs.Arrays as arrays_spec;
 ghost use Rattle.conc_setup_entries.specs.declared.raw.RawSet.{RawSet};
 ghost use Rattle.conc_setup.specs.ThirdPass as spec;
 
-use crate::RefusalKind::UnknownName;
 use crate::names::place_of;
 use conc_setup_entries::RawSet;
 use conc_setup_fields::{Judged, all_good};

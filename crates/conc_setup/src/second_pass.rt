@@ -2,7 +2,6 @@ ghost use Rattle.std.specs.Prelude.{◌≡◌, ◌≤◌, ◌+◌, ◌<◌, ◌-
 ghost use Rattle.conc_setup.specs.FirstPass.{IsFew};
 ghost use Rattle.conc_setup.specs.SecondPass as spec;
 
-use crate::RefusalKind::Duplicate;
 use crate::names::{Named, are_distinct, is_among};
 use crate::raw::{Fault, RawSetup};
 use conc_setup_entries::RawSet;
