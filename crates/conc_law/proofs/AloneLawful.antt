@@ -9,6 +9,7 @@ use Rattle.std.proofs.lemmas.Bool.Decides.{nat_tests}
 use Rattle.std.proofs.lemmas.Fmt.{length-decimal-le}
 use Rattle.std.proofs.lemmas.List.{length-append}
 use Rattle.std.proofs.lemmas.Bool.{and_from, cases_Bool, lt-ltb, cond-true, cond-false}
+use Rattle.conc_types.specs.declared.limits.TheConstants.{MOST_REPORT_BYTES}
 use Rattle.conc_types.specs.declared.event.Event.{Event}
 use Rattle.conc_types.specs.declared.event.Event.TheVariants as event
 use Rattle.conc_types.specs.declared.event.Extent.{Extent}
@@ -43,11 +44,11 @@ use Rattle.conc_law.proofs.Options.{and_then-some, map-some, or-some, then_some-
 
 -- ---- a report has a text, and one of three outcomes
 
--- the report has a text of 1 to 2^20 bytes, and the outcome of one that ran to its end
+-- the report has a text that is not empty and within the limit, and the outcome of one that ran to its end
 pub record IsGood (made : Report) : Type 0 where
   pub outcome : is_report_outcome made.outcome ≡ true
   pub some : 0 < length made.text
-  pub short : length made.text ≤ 1048576
+  pub short : length made.text ≤ MOST_REPORT_BYTES
 
 -- the outcome by the number of rows is one of the three
 outcome_by-good : (job : Job) (rows : List Row) → is_report_outcome (outcome_by job rows) ≡ true
@@ -99,9 +100,9 @@ bad_row-good row h =
 
 -- a text within the limit is the report, and else the report says that it is too long
 long-good : (job : Job) (table : Table) (rows : List Row) → IsGood (report_by job table rows None)
-long-good job table rows = elim (cases_Bool (nat_lt 1048576 (length (full_text job table rows)))) [
-  | inl long ↦ subst IsGood (sym (cond-true (nat_lt 1048576 (length (full_text job table rows))) _ _ long)) (record { outcome = refl; some = omega arith; short = omega arith })
-  | inr fits ↦ subst IsGood (sym (cond-false (nat_lt 1048576 (length (full_text job table rows))) _ _ fits))
+long-good job table rows = elim (cases_Bool (nat_lt MOST_REPORT_BYTES (length (full_text job table rows)))) [
+  | inl long ↦ subst IsGood (sym (cond-true (nat_lt MOST_REPORT_BYTES (length (full_text job table rows))) _ _ long)) (record { outcome = refl; some = omega arith; short = omega arith })
+  | inr fits ↦ subst IsGood (sym (cond-false (nat_lt MOST_REPORT_BYTES (length (full_text job table rows))) _ _ fits))
       (record { outcome = outcome_by-good job rows; some = full_text-long job table rows; short = grind (arith, nat_tests) })
 ]
 

@@ -9,6 +9,7 @@ use Rattle.std.specs.Ordering.{nat_cmp, is_lt}
 use Rattle.std.specs.Str.{bytes_eq}
 use Rattle.conc_types.specs.declared.event.Outcome.{Outcome}
 use Rattle.conc_types.specs.declared.event.Outcome.TheVariants as outcome
+use Rattle.conc_types.specs.declared.limits.TheConstants.{MOST_REPORT_BYTES}
 use Rattle.conc_types.specs.declared.table.Table.{Table}
 use Rattle.conc_types.specs.declared.program.Filter.{Filter}
 use Rattle.conc_types.specs.declared.program.Job.{Job}
@@ -123,7 +124,7 @@ abbrev pub report_by : Job → Table → List Row → Option Row → Report
 report_by job table rows (Some row) =
     record { outcome = outcome.Error; text = codes "row " ++ decimal row.0 ++ codes ": not a whole number\n" }
 report_by job table rows None =
-    if nat_lt 1048576 (length (full_text job table rows))
+    if nat_lt MOST_REPORT_BYTES (length (full_text job table rows))
     then record { outcome = outcome.Error; text = codes "too long\n" }
     else record { outcome = outcome_by job rows; text = full_text job table rows }
 

@@ -27,6 +27,7 @@ ghost use Rattle.conc_law.specs.Overlap.{NoOverlap};
 ghost use Rattle.conc_law.specs.Before.{stands, stands_since};
 ghost use Rattle.conc_law.specs.Remaining.{remaining};
 ghost use Rattle.conc_law.specs.Report.{report};
+ghost use Rattle.conc_types.specs.declared.limits.TheConstants.{MOST_REPORT_BYTES};
 ghost use Rattle.conc_law.specs.Words.{Has};
 
 // ---- exclusion and plans
@@ -45,7 +46,7 @@ pub fn requests_are_numbered()
 /// The text of a report is short.
 pub fn report_is_short()
     ensures { (job : Job) (argument : List ℕ) (table : Table)
-        → length (report job argument table).text ≤ 1048576 }
+        → length (report job argument table).text ≤ MOST_REPORT_BYTES }
 {}
 
 // ---- every lawful history

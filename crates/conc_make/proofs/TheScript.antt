@@ -8,6 +8,7 @@ use Rattle.std.proofs.lemmas.Bool.Decides.{nat_tests}
 use Rattle.std.proofs.lemmas.List.FromFn.{get_or-map-range_with_len, length-map-range_with_len}
 use lib.Utf8.{encode}
 use Rattle.csv.specs.Reading.{strip_bom}
+use Rattle.conc_types.specs.declared.kind.RefusalKind.{RefusalKind}
 use Rattle.conc_types.specs.declared.item.Item.{Item}
 use Rattle.conc_types.specs.declared.script.Act.TheVariants as act
 use Rattle.conc_types.specs.declared.script.Order.{Order}
@@ -151,7 +152,7 @@ script-short seed size = made-short script_header submission 4 size (after 128 s
 
 -- ---- no fault
 
-pub no-fault : (kind_at : ℕ → Option ℕ) (first count : ℕ) → ((i : ℕ) → i < count → kind_at (first + i) ≡ None) → first_fault kind_at first count ≡ None
+pub no-fault : (kind_at : ℕ → Option RefusalKind) (first count : ℕ) → ((i : ℕ) → i < count → kind_at (first + i) ≡ None) → first_fault kind_at first count ≡ None
 unfolding first_fault
 no-fault kind_at first zero none = refl
 no-fault kind_at first (suc count) none =

@@ -6,6 +6,7 @@ use Rattle.std.specs.Prelude.{slice_get}
 use Rattle.std.proofs.lemmas.Bool.Decides.{nat_tests}
 use Rattle.std.proofs.lemmas.List.{append-nil, length-take-le, take_more}
 use Rattle.std.proofs.lemmas.List.Sums.{sum_by-cons}
+use Rattle.conc_types.specs.declared.kind.RefusalKind.TheVariants as refused
 use Rattle.conc_types.specs.declared.item.Item.TheVariants as item
 use Rattle.conc_types.specs.declared.plan.Req.{Req}
 use Rattle.conc_types.specs.declared.script.Act.{Act}
@@ -103,14 +104,14 @@ count-more setup orders i order out below here so_far =
 -- the record of the command is the one
 pub record-fails : (setup : Setup) (orders : List Order) (i line : ℕ) (order : Order) (out : List Req) (wanted : Option Fault) → i < length orders → order ≡ get_or orders i order
     → out ≡ expansion setup (take i orders) → line ≡ 2 + i → 16384 < length out + length (parts_by setup order.act)
-    → first_fault (record_kind setup orders) (2 + i) (length orders - i) ≡ wanted → wanted ≡ Some (line, 42)
+    → first_fault (record_kind setup orders) (2 + i) (length orders - i) ≡ wanted → wanted ≡ Some (line, refused.TooManyRequests)
 unfolding record_kind
 record-fails setup orders i line order out wanted below here so_far at many rest =
     let before : 2 + i - 1 ≡ i + 1 = omega arith in
-    let kind : record_kind setup orders (2 + i) ≡ Some 42 = rw (before, count-more setup orders i order out below here so_far) (grind (arith, nat_tests)) in
+    let kind : record_kind setup orders (2 + i) ≡ Some refused.TooManyRequests = rw (before, count-more setup orders i order out below here so_far) (grind (arith, nat_tests)) in
     sym rest ∙ fault_next (record_kind setup orders) (2 + i) (length orders) i below
     ∙ ap (λ k. fault_or (2 + i) k (first_fault (record_kind setup orders) (2 + i + 1) (length orders - (i + 1)))) kind
-    ∙ ap (λ n. Some (n, 42)) (sym at)
+    ∙ ap (λ n. Some (n, refused.TooManyRequests)) (sym at)
 
 -- it is not
 pub record-passes : (setup : Setup) (orders : List Order) (i : ℕ) (order : Order) (out : List Req) (wanted : Option Fault) → i < length orders → order ≡ get_or orders i order

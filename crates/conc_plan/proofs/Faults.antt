@@ -6,6 +6,8 @@ use Rattle.std.proofs.lemmas.Bool.Decides.{nat_tests}
 use Rattle.std.proofs.lemmas.Option.{slice_get_cases, slice_get_read}
 use Rattle.std.proofs.lemmas.List.{drop_more}
 use Rattle.std.proofs.Math.Seq.{drop-length}
+use Rattle.conc_types.specs.declared.kind.RefusalKind.TheVariants as refused
+use Rattle.conc_types.specs.declared.kind.RefusalKind.{RefusalKind}
 use Rattle.conc_types.specs.declared.program.Program.{Program}
 use Rattle.conc_types.specs.declared.setup.Setup.{Setup}
 use Rattle.conc_types.specs.declared.table.Table.{Table}
@@ -15,7 +17,7 @@ use Rattle.conc_types.specs.Words.{numbered}
 use Rattle.conc_plan.specs.Faults.{kind_for, program_kind}
 
 -- the faults from one line on, by what that line has
-pub fault_next : (kind_at : ℕ → Option ℕ) (line last i : ℕ) → i < last → first_fault kind_at line (last - i) ≡ fault_or line (kind_at line) (first_fault kind_at (line + 1) (last - (i + 1)))
+pub fault_next : (kind_at : ℕ → Option RefusalKind) (line last i : ℕ) → i < last → first_fault kind_at line (last - i) ≡ fault_or line (kind_at line) (first_fault kind_at (line + 1) (last - (i + 1)))
 unfolding first_fault
 fault_next kind_at line last i below =
     let count : last - i ≡ suc (last - (i + 1)) = omega arith in
@@ -34,7 +36,7 @@ kind_at_program setup tables number i program items same is below here =
     rw (is, at_number setup.programs i program (subst (λ l. i < length l) same below) (here ∙ ap (λ l. get_or l i program) same)) refl
 
 -- it has a fault, and those before it have none
-pub program_fails : (setup : Setup) (tables : List Table) (number i kind : ℕ) (program : Program) (items : List Program) (wanted : Option Fault) → items ≡ setup.programs
+pub program_fails : (setup : Setup) (tables : List Table) (number i : ℕ) (kind : RefusalKind) (program : Program) (items : List Program) (wanted : Option Fault) → items ≡ setup.programs
     → number ≡ 1 + i → i < length items → program ≡ get_or items i program → kind_for setup tables program ≡ Some kind
     → first_fault (program_kind setup tables) number (length setup.programs - i) ≡ wanted → Some (number, kind) ≡ wanted
 program_fails setup tables number i kind program items wanted same is below here fails rest =
@@ -53,7 +55,7 @@ program_passes setup tables number i program items wanted same is below here pas
     sym (ap (λ k. fault_or number k (first_fault (program_kind setup tables) (number + 1) (length setup.programs - (i + 1)))) at) ∙ sym next ∙ rest
 
 -- past the last line there is no fault
-pub no_more_faults : (kind_at : ℕ → Option ℕ) (line last i : ℕ) (wanted : Option Fault) → last ≤ i → first_fault kind_at line (last - i) ≡ wanted → None ≡ wanted
+pub no_more_faults : (kind_at : ℕ → Option RefusalKind) (line last i : ℕ) (wanted : Option Fault) → last ≤ i → first_fault kind_at line (last - i) ≡ wanted → None ≡ wanted
 unfolding first_fault
 no_more_faults kind_at line last i wanted past rest =
     let count : last - i ≡ 0 = omega arith in
@@ -61,12 +63,12 @@ no_more_faults kind_at line last i wanted past rest =
 
 -- ---- without a fault
 
-second_holds : (a b : Bool) (m n : ℕ) → first_broken ((a, m) ∷ (not b, n) ∷ []) ≡ None → b ≡ true
+second_holds : (a b : Bool) (m n : RefusalKind) → first_broken ((a, m) ∷ (not b, n) ∷ []) ≡ None → b ≡ true
 second_holds true b m n e = absurd (cc e)
 second_holds false true m n e = refl
 second_holds false false m n e = absurd (cc e)
 
-later_is_none : (line : ℕ) (k : Option ℕ) (later : Option Fault) → fault_or line k later ≡ None → (k ≡ None) × (later ≡ None)
+later_is_none : (line : ℕ) (k : Option RefusalKind) (later : Option Fault) → fault_or line k later ≡ None → (k ≡ None) × (later ≡ None)
 later_is_none line None later e = (refl, e)
 later_is_none line (Some n) later e = absurd (cc e)
 
@@ -83,7 +85,7 @@ programs_pass setup tables (suc k) i count none =
     elim (slice_get_cases setup.programs i).1 [
       | inl found ↦
           let kind = kind_at_program setup tables (1 + i) i found.0 setup.programs refl refl found.1 (sym found.3) in
-          let holds = second_holds (is_none (table_named setup tables found.0.job.table)) (can_report setup tables found.0) 40 41 (sym kind ∙ both.0) in
+          let holds = second_holds (is_none (table_named setup tables found.0.job.table)) (can_report setup tables found.0) refused.UnknownTable refused.UnknownColumn (sym kind ∙ both.0) in
           rw (drop_more setup.programs i found.0 found.1, found.3, holds, rest) refl
       | inr past ↦ absurd (omega arith)
     ]

@@ -5,7 +5,7 @@ ghost use Rattle.conc_types.specs.declared.refusal.FileKind.TheVariants as file;
 ghost use Rattle.conc_plan.specs.Faults.{record_kind};
 
 use crate::entering::enter;
-use conc_types::{Act, FileKind, Order, ReadFail, Req, Setup};
+use conc_types::{Act, FileKind, Order, ReadFail, RefusalKind, Req, Setup};
 use std::alloc::Global;
 
 const MOST_REQUESTS: usize = 16384;
@@ -36,7 +36,11 @@ pub fn expand(alloc: Global, setup: &Setup, orders: &[Order]) -> Result<Vec<Req>
     let mut command = 1;
     for order in orders {
         if requests.len() + entered_count(setup, order) > MOST_REQUESTS {
-            return Err(ReadFail::refused(FileKind::Script, u64::from(command) + 1, 42));
+            return Err(ReadFail::refused(
+                FileKind::Script,
+                u64::from(command) + 1,
+                RefusalKind::TooManyRequests,
+            ));
         }
         enter(alloc, setup, command, order, &mut requests)?;
         command += 1;

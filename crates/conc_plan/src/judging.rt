@@ -6,7 +6,7 @@ ghost use Rattle.conc_types.specs.Words.{none_or};
 ghost use Rattle.conc_plan.specs.Faults as faults_spec;
 ghost use Rattle.conc_plan.specs.Faults.{program_kind};
 
-use conc_types::{Filter, Job, Name, Program, Setup, Table};
+use conc_types::{Filter, Job, Name, Program, RefusalKind, Setup, Table};
 
 fn has_column(table: &Table, name: &[u8]) -> bool
     ensures { result ≡ tables_spec.has_column table.now name.now }
@@ -44,18 +44,18 @@ fn has_columns(job: &Job, table: &Table) -> bool
 
 // The kind of the first rule that the program breaks.
 #[tactic(auto, unfolding(crate::specs::Faults::kind_for))]
-fn kind_for(setup: &Setup, tables: &[Table], program: &Program) -> Option<u8>
+fn kind_for(setup: &Setup, tables: &[Table], program: &Program) -> Option<RefusalKind>
     ensures { result ≡ faults_spec.kind_for setup.now tables.now program.now }
 {
     match setup.table_named(tables, &program.job.table) {
-        None => Some(40),
+        None => Some(RefusalKind::UnknownTable),
         Some(table) if has_columns(&program.job, table) => None,
-        Some(_) => Some(41),
+        Some(_) => Some(RefusalKind::UnknownColumn),
     }
 }
 
 /// The number of the first program that breaks a rule, and the kind of the first rule that it breaks.
-pub(crate) fn first_bad_program(setup: &Setup, tables: &[Table]) -> Option<(u64, u8)>
+pub(crate) fn first_bad_program(setup: &Setup, tables: &[Table]) -> Option<(u64, RefusalKind)>
     ensures { result ≡ first_fault (program_kind setup.now tables.now) 1
         (length setup.now.programs) }
 {

@@ -11,9 +11,10 @@ use std::alloc::Global;
 /// them, the requests that the script enters, numbered from 1 in the order in which the submissions
 /// stand in it, a set before its members.
 ///
-/// It is refused in the setup, at the first program whose table is not one of the setup's (40) or
-/// whose table lacks a column that its filters, group or sum name (41); else in the script, at the
-/// record with which there are more than 16,384 requests (42). What was handed in is dropped then.
+/// It is refused in the setup, at the first program whose table is not one of the setup's
+/// (`UnknownTable`) or whose table lacks a column that its filters, group or sum name
+/// (`UnknownColumn`); else in the script, at the record with which there are more than 16,384 requests
+/// (`TooManyRequests`). What was handed in is dropped then.
 #[tactic(auto, unfolding(crate::specs::Faults::plan_fault))]
 pub fn make_plan(
     alloc: Global,

@@ -4,6 +4,7 @@ use Rattle.std.specs.Borrow.{Bor}
 use Rattle.std.specs.Fmt.{decimal, signed_decimal}
 use Rattle.std.specs.List.{concat}
 use Rattle.std.specs.Option.{option_map_or}
+use Rattle.conc_types.specs.declared.limits.TheConstants.{MOST_REPORT_BYTES}
 use Rattle.conc_types.specs.declared.event.Outcome.{Outcome}
 use Rattle.conc_types.specs.declared.event.Outcome.TheVariants as outcome
 use Rattle.conc_types.specs.declared.program.Job.{Job}
@@ -41,6 +42,6 @@ outcome_by_count job count =
 
 unfoldable pub tally_report : Job → ℕ × ℤ → List Group → Report
 tally_report job all groups =
-    if nat_lt 1048576 (length (tally_text job all groups))
+    if nat_lt MOST_REPORT_BYTES (length (tally_text job all groups))
     then record { outcome = outcome.Error; text = codes "too long\n" }
     else record { outcome = outcome_by_count job all.0; text = tally_text job all groups }

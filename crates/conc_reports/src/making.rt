@@ -4,6 +4,7 @@ ghost use Rattle.std.specs.Cmp.Lexicographic.{slice_cmp};
 ghost use Rattle.std.specs.Fmt.{decimal, signed_decimal};
 ghost use Rattle.std.specs.Option.{option_map_or};
 ghost use Rattle.std.specs.Ordering.{nat_cmp};
+ghost use Rattle.conc_types.specs.declared.limits.TheConstants.{MOST_REPORT_BYTES};
 ghost use Rattle.conc_law.specs.Report as report_spec;
 ghost use Rattle.conc_law.specs.Report.{quoted};
 ghost use Rattle.conc_reports.specs.Figures.{shown};
@@ -15,12 +16,9 @@ use crate::groups::Groups;
 use crate::quotes::put_quoted;
 use crate::tally::{Tallied, Tally, tally_rows};
 use conc_law::report_is_short;
-use conc_types::{Bytes, Job, NoMemory, Outcome, Table, put_decimal};
+use conc_types::{Bytes, Job, MOST_REPORT_BYTES, NoMemory, Outcome, Table, put_decimal};
 use itoa::Buffer;
 use std::alloc::Global;
-
-/// How many bytes a report has at most.
-const MOST_BYTES: usize = 1_048_576;
 
 // About what the header and the total take, and what the line of a key takes.
 const HEAD_BYTES: usize = 64;
@@ -103,7 +101,7 @@ fn header(job: &Job) -> &'static [u8]
 fn room_for(keys: usize) -> usize {
     keys.saturating_mul(LINE_BYTES)
         .saturating_add(HEAD_BYTES)
-        .min(MOST_BYTES)
+        .min(MOST_REPORT_BYTES)
 }
 
 #[tactic(auto, unfolding(crate::specs::Texts::tally_text))]
@@ -185,7 +183,7 @@ fn report_of_tally(alloc: Global, job: &Job, tally: &Tally<'_>) -> Result<Made, 
         tally.now.groups) }
 {
     let text = tally_text(alloc, job, tally)?;
-    if text.len() > MOST_BYTES {
+    if text.len() > MOST_REPORT_BYTES {
         return too_long(alloc);
     }
     Ok(Made {
@@ -216,7 +214,7 @@ fn report_by_rows(
 pub fn report(alloc: Global, job: &Job, argument: &[u8], table: &Table) -> Result<Made, NoMemory>
     ensures outcome { IfOk result (λ made. made.outcome
         ≡ (report_spec.report job.now argument.now table.now).outcome) }
-    ensures short { IfOk result (λ made. length made.text ≤ 1048576) }
+    ensures short { IfOk result (λ made. length made.text ≤ MOST_REPORT_BYTES) }
     ensures text { IfOk result (λ made. made.text
         ≡ (report_spec.report job.now argument.now table.now).text) }
 {

@@ -1,6 +1,7 @@
 -- The rules and the meaning of a record, by its word.
 use Rattle.std.proofs.Common.{◌≡◌, refl, ◌∙◌, ap, sym, ℕ, Bool, true, false, List, codes}
 use Rattle.std.specs.Prelude.{◌||◌, if◌then◌else◌, is_some, Option, None, Some}
+use Rattle.conc_types.specs.declared.kind.RefusalKind.TheVariants as refused
 use Rattle.conc_types.specs.declared.event.Moment.{Moment}
 use Rattle.conc_types.specs.declared.event.RequestId.{RequestId}
 use Rattle.conc_types.specs.declared.script.Act.{Act}
@@ -56,7 +57,7 @@ rules_of_request setup entered r v e known =
     rw (word, e) refl
 
 pub rules_of_unknown : (setup : Setup) (entered : ℕ) (r : Record) → is_submit r ≡ false → verb_of (word_field r) ≡ None
-    → first_broken (action_rules setup entered r) ≡ Some 21
+    → first_broken (action_rules setup entered r) ≡ Some refused.UnknownWord
 rules_of_unknown setup entered r e unknown =
     let word : is_word (word_field r) ≡ false = word_is_verb (word_field r) e ∙ ap (λ (o : Option Verb). is_some o) unknown in
     rw word refl

@@ -2,6 +2,7 @@
 use Rattle.std.proofs.Common.{◌≡◌, refl, ℕ, suc, true, false, List, [], ◌∷◌, length, map, arith}
 use Rattle.std.specs.Prelude.{◌==◌, if◌then◌else◌, nat_lt, None, Some}
 use Rattle.std.proofs.lemmas.Bool.{ne_eqb}
+use Rattle.conc_types.specs.declared.kind.RefusalKind.TheVariants as refused
 use Rattle.conc_types.specs.declared.refusal.FileKind.{FileKind}
 use Rattle.conc_types.specs.declared.refusal.ReadFail.{ReadFail}
 use Rattle.conc_types.specs.declared.refusal.ReadFail.TheVariants as fail
@@ -19,13 +20,13 @@ none_read (line ∷ lines) [] e = absurd cc
 none_read (line ∷ lines) (q ∷ readings) e = ne_eqb (suc (length readings)) 0 (λ n. omega arith)
 
 -- the file is too long
-pub long_file : (bytes : List ℕ) → nat_lt 67108864 (length bytes) ≡ true → clock_fault bytes ≡ Some (0, 26)
+pub long_file : (bytes : List ℕ) → nat_lt 67108864 (length bytes) ≡ true → clock_fault bytes ≡ Some (0, refused.TooManyLines)
 unfolding clock_fault
 long_file bytes long = rw long refl
 
 -- no line is read of it
 pub empty_file : (bytes : List ℕ) (readings : List Reading) (count : ℕ) → count ≡ length readings → nat_lt 67108864 (length bytes) ≡ false → ReadsLines (lines_of bytes) readings → (count == 0) ≡ true
-    → clock_fault bytes ≡ Some (1, 22)
+    → clock_fault bytes ≡ Some (1, refused.BadField)
 unfolding clock_fault
 empty_file bytes readings count many short r none = rw (short, ← none_read (lines_of bytes) readings r.list, ← many, none) refl
 
@@ -36,7 +37,7 @@ unfolding clock_fault
 no_fault bytes readings count many short r some = rw (short, ← none_read (lines_of bytes) readings r.list, ← many, some) r.faultless
 
 fault_of_lines : (lines : List (List ℕ)) (fault : Fault) → first_fault (line_kind lines) 1 (length lines) ≡ Some fault
-    → (if is_empty lines then Some (1, 22) else first_fault (line_kind lines) 1 (length lines)) ≡ Some fault
+    → (if is_empty lines then Some (1, refused.BadField) else first_fault (line_kind lines) 1 (length lines)) ≡ Some fault
 fault_of_lines [] fault e = let none = fault_none (line_kind []) 1 in absurd cc
 fault_of_lines (line ∷ lines) fault e = e
 

@@ -5,6 +5,8 @@ use Rattle.std.specs.List.{list_all}
 use Rattle.std.specs.Option.{option_and_then}
 use Rattle.std.proofs.lemmas.Bool.{and_from, and_parts, le-leb, leb-true, ltb-false, ne_eqb}
 use Rattle.std.proofs.lemmas.List.{append-nil, length-map, length_push, map-append}
+use Rattle.conc_types.specs.declared.kind.RefusalKind.{RefusalKind}
+use Rattle.conc_types.specs.declared.kind.RefusalKind.TheVariants as refused
 use Rattle.conc_types.specs.declared.script.Reading.{Reading}
 use Rattle.conc_types.specs.Faults.{first_broken, first_fault}
 use Rattle.conc_types.specs.Scripts.{are_in_order}
@@ -100,7 +102,7 @@ kind_next lines after line readings r =
     same_rules (length readings + 1) (reading_at lines (length readings + 1)) (reading_of line) (reading_at lines (length readings + 1 - 1)) (slice_get readings (length readings - 1))
     (ap (option_and_then reading_of) here) (rw place before)
 
-none_broken : (many back : Bool) → first_broken ((many, 26) ∷ (false, 22) ∷ (back, 27) ∷ []) ≡ None → (many ≡ false) × (back ≡ false)
+none_broken : (many back : Bool) → first_broken ((many, refused.TooManyLines) ∷ (false, refused.BadField) ∷ (back, refused.ClockBack) ∷ []) ≡ None → (many ≡ false) × (back ≡ false)
 none_broken true back e = absurd cc
 none_broken false true e = absurd cc
 none_broken false false e = (refl, refl)
@@ -128,7 +130,7 @@ reads_more lines after line readings more q number before r n b is passes m =
     }
 
 -- the next line breaks a rule
-pub reads_fault : (lines after : List (List ℕ)) (line : List ℕ) (readings : List Reading) (kind number : ℕ) (before : Option Reading) → Reads lines (line ∷ after) readings
+pub reads_fault : (lines after : List (List ℕ)) (line : List ℕ) (readings : List Reading) (kind : RefusalKind) (number : ℕ) (before : Option Reading) → Reads lines (line ∷ after) readings
     → number ≡ length readings + 1 → before ≡ slice_get readings (length readings - 1) → first_broken (line_rules number (reading_of line) before) ≡ Some kind
     → first_fault (line_kind lines) 1 (length lines) ≡ Some (number, kind)
 reads_fault lines after line readings kind number before r n b broken =

@@ -6,6 +6,8 @@ use Rattle.std.specs.Option.{option_map_or}
 use Rattle.std.proofs.lemmas.Bool.{and_from, le-leb, ltb-false}
 use Rattle.std.proofs.lemmas.List.{append-nil, get_or_append_left, get_or_at, length-map, length_push, map-append, take_at}
 use Rattle.std.proofs.lemmas.List.Sums.{sum_by-append}
+use Rattle.conc_types.specs.declared.kind.RefusalKind.{RefusalKind}
+use Rattle.conc_types.specs.declared.kind.RefusalKind.TheVariants as refused
 use Rattle.conc_types.specs.declared.event.Moment.{Moment}
 use Rattle.conc_types.specs.declared.script.Act.{Act}
 use Rattle.conc_types.specs.declared.script.Order.{Order}
@@ -68,7 +70,7 @@ kind_next setup records after r commands entered before reads =
     let front : take (suc (length reads.done)) (header ∷ records) ≡ header ∷ reads.done = rw reads.all (take_at (header ∷ reads.done) (r ∷ after) (suc (length reads.done)) refl) in
     rw (place, place_before, here, last, front, ← reads.entered_is, ← reads.before_is) refl
 
-few_broken : (fields many : Bool) (rest : List (Bool × ℕ)) → first_broken ((fields, 20) ∷ (many, 26) ∷ rest) ≡ None → many ≡ false
+few_broken : (fields many : Bool) (rest : List (Bool × RefusalKind)) → first_broken ((fields, refused.NotCsv) ∷ (many, refused.TooManyLines) ∷ rest) ≡ None → many ≡ false
 few_broken true many rest e = absurd cc
 few_broken false true rest e = absurd cc
 few_broken false false rest e = refl
@@ -86,7 +88,7 @@ pub reads_more : (setup : Setup) (records after : List Record) (r : Record) (com
 reads_more setup records after r commands more entered entered' number before at a reads n passes said moment later fit enters total few m =
     let order : Order = record { at = at; act = a } in
     let passes' = rw n at passes in
-    let rest_of = (is_none (moment_of (at_field r)), 22) ∷ (is_earlier (moment_of (at_field r)) before, 25) ∷ action_rules setup entered r in
+    let rest_of = (is_none (moment_of (at_field r)), refused.BadField) ∷ (is_earlier (moment_of (at_field r)) before, refused.MomentBack) ∷ action_rules setup entered r in
     let under : length commands + 2 ≤ 4097 = ltb-false 4097 (length commands + 2) (few_broken (not (is_record r)) (nat_lt 4097 (length commands + 2)) rest_of passes') in
     let many : length more ≡ length commands + 1 = rw m (length_push commands order) in
     let behind : length (reads.done ++ r ∷ []) ≡ length reads.done + 1 = length_push reads.done r in
@@ -111,7 +113,7 @@ reads_more setup records after r commands more entered entered' number before at
     }
 
 -- the next record breaks a rule
-pub reads_fault : (setup : Setup) (records after : List Record) (r : Record) (commands : List Order) (entered number kind : ℕ) (before : Option Moment)
+pub reads_fault : (setup : Setup) (records after : List Record) (r : Record) (commands : List Order) (entered number : ℕ) (kind : RefusalKind) (before : Option Moment)
     → ReadsOn setup records (r ∷ after) commands entered before → number ≡ length commands + 2 → first_broken (record_rules setup number entered before r) ≡ Some kind
     → fault_behind setup records ≡ Some (number, kind)
 reads_fault setup records after r commands entered number kind before reads n broken =

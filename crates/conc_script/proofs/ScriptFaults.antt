@@ -1,6 +1,7 @@
 -- The first fault of a script, by what was read of its records.
 use Rattle.std.proofs.Common.{◌≡◌, refl, ◌∙◌, ap, sym, ℕ, true, false, List, [], ◌∷◌, length, map, drop}
 use Rattle.std.specs.Prelude.{nat_lt, Some}
+use Rattle.conc_types.specs.declared.kind.RefusalKind.TheVariants as refused
 use Rattle.conc_types.specs.declared.script.Order.{Order}
 use Rattle.conc_types.specs.declared.setup.Setup.{Setup}
 use Rattle.conc_records.specs.Records.{Record, records_of}
@@ -9,16 +10,16 @@ use Rattle.conc_script.specs.Script.{header, order_of, records_fault, same_field
 use Rattle.conc_script.proofs.HeaderRecord.{same_record}
 
 -- the file is too long
-pub long_script : (setup : Setup) (bytes : List ℕ) → nat_lt 67108864 (length bytes) ≡ true → script_fault setup bytes ≡ Some (0, 26)
+pub long_script : (setup : Setup) (bytes : List ℕ) → nat_lt 67108864 (length bytes) ≡ true → script_fault setup bytes ≡ Some (0, refused.TooManyLines)
 unfolding script_fault
 long_script setup bytes long = rw long refl
 
-no_header : (setup : Setup) (records : List Record) → begins_with_header records ≡ false → records_fault setup records ≡ Some (1, 20)
+no_header : (setup : Setup) (records : List Record) → begins_with_header records ≡ false → records_fault setup records ≡ Some (1, refused.NotCsv)
 no_header setup [] e = refl
 no_header setup (first ∷ rest) e = rw e refl
 
 -- its first record is not the header, or not there
-pub headless_script : (setup : Setup) (bytes : List ℕ) → nat_lt 67108864 (length bytes) ≡ false → begins_with_header (records_of bytes) ≡ false → script_fault setup bytes ≡ Some (1, 20)
+pub headless_script : (setup : Setup) (bytes : List ℕ) → nat_lt 67108864 (length bytes) ≡ false → begins_with_header (records_of bytes) ≡ false → script_fault setup bytes ≡ Some (1, refused.NotCsv)
 unfolding script_fault
 headless_script setup bytes short e = rw short (no_header setup (records_of bytes) e)
 

@@ -2,6 +2,8 @@
 use Rattle.std.specs.Prelude.{◌≡◌, ℕ, ◌-◌, Bool, true, false, ◌&&◌, ◌==◌, nat_lt, if◌then◌else◌, List, [], ◌∷◌, codes, drop, length, map, take, Option, None, Some, is_none}
 use Rattle.std.specs.Option.{option_and_then, option_map}
 use Rattle.std.specs.Str.{bytes_eq}
+use Rattle.conc_types.specs.declared.kind.RefusalKind.{RefusalKind}
+use Rattle.conc_types.specs.declared.kind.RefusalKind.TheVariants as refused
 use Rattle.conc_types.specs.declared.event.Moment.{Moment}
 use Rattle.conc_types.specs.declared.script.Reading.{Reading}
 use Rattle.conc_types.specs.declared.script.Readings.{Readings}
@@ -52,15 +54,15 @@ is_earlier (Some q) (Some before) = nat_lt q.moment.seconds before.moment.second
 is_earlier _ _ = false
 
 -- the first rule that a line breaks: there are at most 65,536 lines, each is a reading, none is earlier than the one before
-unfoldable pub line_kind : List (List ℕ) → ℕ → Option ℕ
+unfoldable pub line_kind : List (List ℕ) → ℕ → Option RefusalKind
 line_kind lines n =
-    first_broken ((nat_lt 65536 n, 26) ∷ (is_none (reading_at lines n), 22) ∷ (is_earlier (reading_at lines n) (reading_at lines (n - 1)), 27) ∷ [])
+    first_broken ((nat_lt 65536 n, refused.TooManyLines) ∷ (is_none (reading_at lines n), refused.BadField) ∷ (is_earlier (reading_at lines n) (reading_at lines (n - 1)), refused.ClockBack) ∷ [])
 
 -- the first fault of a clock file: its size, that it is empty, or that of a line
 unfoldable pub clock_fault : List ℕ → Option Fault
 clock_fault bytes =
-    if nat_lt 67108864 (length bytes) then Some (0, 26)
-    else (if is_empty (lines_of bytes) then Some (1, 22) else first_fault (line_kind (lines_of bytes)) 1 (length (lines_of bytes)))
+    if nat_lt 67108864 (length bytes) then Some (0, refused.TooManyLines)
+    else (if is_empty (lines_of bytes) then Some (1, refused.BadField) else first_fault (line_kind (lines_of bytes)) 1 (length (lines_of bytes)))
 
 -- the bytes have no fault, and their lines are these readings
 pub record SpellsClock (bytes : List ℕ) (readings : Readings) : Type 0 where

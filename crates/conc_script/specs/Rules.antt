@@ -1,6 +1,8 @@
 -- The rules of one record of a script.
 use Rattle.std.specs.Prelude.{ℕ, Bool, not, ◌&&◌, ◌||◌, nat_lt, List, [], ◌∷◌, ◌++◌, Option, is_none}
 use Rattle.std.specs.Option.{option_and_then, option_map}
+use Rattle.conc_types.specs.declared.kind.RefusalKind.{RefusalKind}
+use Rattle.conc_types.specs.declared.kind.RefusalKind.TheVariants as refused
 use Rattle.conc_types.specs.declared.event.Moment.{Moment}
 use Rattle.conc_types.specs.declared.item.Item.{Item}
 use Rattle.conc_types.specs.declared.script.Act.{Act}
@@ -35,22 +37,22 @@ submission_by at what r =
     (domain_of (domain_field r))) (start_of at (start_field r))) (priority_of (priority_field r))
 
 -- the rules of a submission
-abbrev pub submit_rules : Setup → Record → List (Bool × ℕ)
-submit_rules setup r = (is_none (item_named setup (what_field r)), 23) ∷ (not (submit_form r), 22) ∷ []
+abbrev pub submit_rules : Setup → Record → List (Bool × RefusalKind)
+submit_rules setup r = (is_none (item_named setup (what_field r)), refused.UnknownItem) ∷ (not (submit_form r), refused.BadField) ∷ []
 
 -- the rules of a command on a request, after so many requests that were entered
-abbrev pub request_rules : ℕ → Record → List (Bool × ℕ)
+abbrev pub request_rules : ℕ → Record → List (Bool × RefusalKind)
 request_rules entered r =
-    (is_none (decimal_value (what_field r)), 22)
-    ∷ (not (some_and (is_between 1 entered) (decimal_value (what_field r))), 24)
-    ∷ (not (bare_form r), 22) ∷ []
+    (is_none (decimal_value (what_field r)), refused.BadField)
+    ∷ (not (some_and (is_between 1 entered) (decimal_value (what_field r))), refused.UnknownRequest)
+    ∷ (not (bare_form r), refused.BadField) ∷ []
 
 -- the rules of what a command does, from its word on
-abbrev pub action_rules : Setup → ℕ → Record → List (Bool × ℕ)
-action_rules setup entered r = (not (is_word (word_field r)), 21) ∷ what_rules setup entered r ++ (not (has_form r), 22) ∷ []
+abbrev pub action_rules : Setup → ℕ → Record → List (Bool × RefusalKind)
+action_rules setup entered r = (not (is_word (word_field r)), refused.UnknownWord) ∷ what_rules setup entered r ++ (not (has_form r), refused.BadField) ∷ []
 
 -- all rules of the record with a number, after so many requests, and after a record of this moment
-abbrev pub record_rules : Setup → ℕ → ℕ → Option Moment → Record → List (Bool × ℕ)
+abbrev pub record_rules : Setup → ℕ → ℕ → Option Moment → Record → List (Bool × RefusalKind)
 record_rules setup number entered before r =
-    (not (is_record r), 20) ∷ (nat_lt 4097 number, 26) ∷ (is_none (moment_of (at_field r)), 22)
-    ∷ (is_earlier (moment_of (at_field r)) before, 25) ∷ action_rules setup entered r
+    (not (is_record r), refused.NotCsv) ∷ (nat_lt 4097 number, refused.TooManyLines) ∷ (is_none (moment_of (at_field r)), refused.BadField)
+    ∷ (is_earlier (moment_of (at_field r)) before, refused.MomentBack) ∷ action_rules setup entered r

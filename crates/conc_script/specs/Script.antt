@@ -4,6 +4,8 @@ use Rattle.std.specs.Bool.{then_some}
 use Rattle.std.specs.List.{list_all, position, sum_by}
 use Rattle.std.specs.Option.{option_and_then, option_map, option_map_or, option_or}
 use Rattle.std.specs.Str.{bytes_eq, is_utf8}
+use Rattle.conc_types.specs.declared.kind.RefusalKind.{RefusalKind}
+use Rattle.conc_types.specs.declared.kind.RefusalKind.TheVariants as refused
 use Rattle.conc_types.specs.declared.event.Moment.{Moment}
 use Rattle.conc_types.specs.declared.event.RequestId.{RequestId}
 use Rattle.conc_types.specs.declared.item.Item.{Item}
@@ -135,10 +137,10 @@ is_earlier (Some t) (Some before) = nat_lt t.seconds before.seconds
 is_earlier _ _ = false
 
 -- a submission names a program or set; any other command names, by a decimal, a request that an earlier record enters
-unfoldable pub what_rules : Setup → ℕ → Record → List (Bool × ℕ)
+unfoldable pub what_rules : Setup → ℕ → Record → List (Bool × RefusalKind)
 what_rules setup entered r =
-    if is_submit r then (is_none (item_named setup (what_field r)), 23) ∷ []
-    else (is_none (decimal_value (what_field r)), 22) ∷ (not (some_and (is_between 1 entered) (decimal_value (what_field r))), 24) ∷ []
+    if is_submit r then (is_none (item_named setup (what_field r)), refused.UnknownItem) ∷ []
+    else (is_none (decimal_value (what_field r)), refused.BadField) ∷ (not (some_and (is_between 1 entered) (decimal_value (what_field r))), refused.UnknownRequest) ∷ []
 
 -- the form of the fields behind: a user, priority, start, domain and argument; or the user alone, which may lack
 unfoldable pub has_form : Record → Bool
@@ -152,15 +154,15 @@ has_form r =
     && (is_empty (priority_field r) && (is_empty (start_field r) && (is_empty (domain_field r) && is_empty (argument_field r))))
 
 -- the first rule that the record with this number breaks
-unfoldable pub record_kind : Setup → List Record → ℕ → Option ℕ
+unfoldable pub record_kind : Setup → List Record → ℕ → Option RefusalKind
 record_kind setup records n =
     first_broken (
-    (not (is_record (record_at records n)), 20) ∷ (nat_lt 4097 n, 26)
-    ∷ (is_none (moment_of (at_field (record_at records n))), 22)
-    ∷ (is_earlier (moment_of (at_field (record_at records n))) (moment_of (at_field (record_at records (n - 1)))), 25)
-    ∷ (not (is_word (word_field (record_at records n))), 21)
+    (not (is_record (record_at records n)), refused.NotCsv) ∷ (nat_lt 4097 n, refused.TooManyLines)
+    ∷ (is_none (moment_of (at_field (record_at records n))), refused.BadField)
+    ∷ (is_earlier (moment_of (at_field (record_at records n))) (moment_of (at_field (record_at records (n - 1)))), refused.MomentBack)
+    ∷ (not (is_word (word_field (record_at records n))), refused.UnknownWord)
     ∷ what_rules setup (entered_before setup records n) (record_at records n)
-    ++ (not (has_form (record_at records n)), 22) ∷ [])
+    ++ (not (has_form (record_at records n)), refused.BadField) ∷ [])
 
 abbrev pub same_fields : Record → Record → Bool
 same_fields [] [] = true
@@ -169,14 +171,14 @@ same_fields _ _ = false
 
 -- the first fault of these records: that the first one is not the header or is not there, or that of a later one
 abbrev pub records_fault : Setup → List Record → Option Fault
-records_fault setup [] = Some (1, 20)
+records_fault setup [] = Some (1, refused.NotCsv)
 records_fault setup (first ∷ rest) =
-    if same_fields first header then first_fault (record_kind setup (first ∷ rest)) 2 (length rest) else Some (1, 20)
+    if same_fields first header then first_fault (record_kind setup (first ∷ rest)) 2 (length rest) else Some (1, refused.NotCsv)
 
 -- the first fault of a script: its size, or that of a record
 unfoldable pub script_fault : Setup → List ℕ → Option Fault
 script_fault setup bytes =
-    if nat_lt 67108864 (length bytes) then Some (0, 26) else records_fault setup (records_of bytes)
+    if nat_lt 67108864 (length bytes) then Some (0, refused.TooManyLines) else records_fault setup (records_of bytes)
 
 -- the bytes have no fault, and the records after the header are these commands
 pub record SpellsScript (setup : Setup) (bytes : List ℕ) (script : Script) : Type 0 where

@@ -7,9 +7,8 @@ ghost use Rattle.conc_script.specs.Clock.{clock_fault, line_kind, lines_of, read
 ghost use Rattle.conc_script.specs.Readings.{line_rules, ReadsLines};
 
 use crate::lines::split_line;
-use crate::rule;
 use conc_time::read_moment;
-use conc_types::{FileKind, ReadFail, Reading, Readings, Seq};
+use conc_types::{FileKind, ReadFail, Reading, Readings, RefusalKind, Seq};
 use std::alloc::Global;
 
 // The greatest length of a clock file, in bytes.
@@ -39,17 +38,17 @@ fn is_earlier(reading: Reading, before: Option<Reading>) -> bool
 
 // The reading of the line with this number, from 1, after the one before, or the rule that the line
 // breaks.
-fn accept(number: usize, line: &[u8], before: Option<Reading>) -> Result<Reading, u8>
+fn accept(number: usize, line: &[u8], before: Option<Reading>) -> Result<Reading, RefusalKind>
     ensures ok { IfOk result (λ reading. reading_of line.now ≡ Some reading) }
     ensures rules { first_broken (line_rules number (reading_of line.now) before)
         ≡ result_err result }
 {
     if number > MOST_READINGS {
-        return Err(rule::SIZE);
+        return Err(RefusalKind::TooManyLines);
     }
-    let reading = read_reading(line).ok_or(rule::FORM)?;
+    let reading = read_reading(line).ok_or(RefusalKind::BadField)?;
     if is_earlier(reading, before) {
-        return Err(rule::READING);
+        return Err(RefusalKind::ClockBack);
     }
     Ok(reading)
 }
@@ -77,19 +76,20 @@ fn read_lines(alloc: Global, bytes: &[u8]) -> Result<Vec<Reading>, ReadFail>
 /// behind it a blank and `!` where the reading is early. A line ends with LF or CR LF; the last one
 /// may lack its end. Where the file breaks a rule it is refused for the first line that does, numbered
 /// from 1, and of that line for the first rule in this order: it is one of at most 65,536 lines
-/// (kind 26), it is a reading (22), and it is not earlier than the line before (27). A file without a
-/// line is refused at line 1 (22), and one of more than 67,108,864 bytes at line 0 (26). Where memory
-/// lacks there is neither readings nor a refusal.
+/// (`TooManyLines`), it is a reading (`BadField`), and it is not earlier than the line before
+/// (`ClockBack`). A file without a line is refused at line 1 (`BadField`), and one of more than
+/// 67,108,864 bytes at line 0 (`TooManyLines`). Where memory lacks there is neither readings nor a
+/// refusal.
 pub fn read_clock(alloc: Global, bytes: &[u8]) -> Result<Readings, ReadFail>
     ensures ok { IfOk result (λ readings. SpellsClock bytes.now readings) }
     ensures err { IfErr result (IsFailure kind.Clock (clock_fault bytes.now)) }
 {
     if bytes.len() > MOST_BYTES {
-        return Err(ReadFail::refused(FileKind::Clock, 0, rule::SIZE));
+        return Err(ReadFail::refused(FileKind::Clock, 0, RefusalKind::TooManyLines));
     }
     let readings = read_lines(alloc, bytes)?;
     if readings.is_empty() {
-        return Err(ReadFail::refused(FileKind::Clock, 1, rule::FORM));
+        return Err(ReadFail::refused(FileKind::Clock, 1, RefusalKind::BadField));
     }
     Ok(Readings {
         list: Seq::from_vec(readings),

@@ -16,11 +16,10 @@ ghost use Rattle.conc_script.specs.Script.{act_of, at_field, entered_by_record, 
 
 use crate::actions::{Action, Submission, Verb};
 use crate::fields::{Fields, fields_in};
-use crate::rule;
 use crate::words::{domain_of, item_named, priority_of, start_of};
 use conc_records::ByteRecord;
 use conc_time::read_moment;
-use conc_types::{Item, Moment, RequestId, Setup, is_name, is_text, read_decimal};
+use conc_types::{Item, Moment, RefusalKind, RequestId, Setup, is_name, is_text, read_decimal};
 
 // How many records a script can have, with its header.
 const MOST_RECORDS: usize = 4097;
@@ -54,7 +53,11 @@ fn form<'a>(at: Moment, item: Item, fields: &Fields<'a>) -> Option<Submission<'a
 
 // The submission that the fields say at a moment, or the rule that they break.
 #[tactic(auto, unfolding(crate::specs::Script::submission_of))]
-fn submission<'a>(setup: &Setup, at: Moment, fields: &Fields<'a>) -> Result<Submission<'a>, u8>
+fn submission<'a>(
+    setup: &Setup,
+    at: Moment,
+    fields: &Fields<'a>,
+) -> Result<Submission<'a>, RefusalKind>
     ensures rules { first_broken (submit_rules setup.now (list_of fields.now)) ≡ result_err result }
     ensures said { IfOk result (λ s. submission_of setup.now at (list_of fields.now)
         ≡ Some (submit_by s)) }
@@ -62,8 +65,8 @@ fn submission<'a>(setup: &Setup, at: Moment, fields: &Fields<'a>) -> Result<Subm
         ≡ Some s.item) }
     ensures fits { IfOk result (λ s. (next : ℕ) → IsTrue (is_act setup.now next (submit_by s))) }
 {
-    let item = item_named(setup, fields.what).ok_or(rule::NAME)?;
-    form(at, item, fields).ok_or(rule::FORM)
+    let item = item_named(setup, fields.what).ok_or(RefusalKind::UnknownItem)?;
+    form(at, item, fields).ok_or(RefusalKind::BadField)
 }
 
 fn verb_of(word: &[u8]) -> Option<Verb>
@@ -94,19 +97,19 @@ fn is_bare(fields: &Fields) -> bool
 }
 
 // The request that the fields name, one of so many that were entered, or the rule that they break.
-fn request(entered: u64, fields: &Fields) -> Result<RequestId, u8>
+fn request(entered: u64, fields: &Fields) -> Result<RequestId, RefusalKind>
     requires { entered < 2 ^ 32 }
     ensures rules { first_broken (request_rules entered (list_of fields.now)) ≡ result_err result }
     ensures said { IfOk result (λ request. decimal_value fields.now.what.now
         ≡ Some request.number) }
     ensures fits { IfOk result (λ request. IsTrue (is_between 1 entered request.number)) }
 {
-    let number = read_decimal(fields.what).ok_or(rule::FORM)?;
+    let number = read_decimal(fields.what).ok_or(RefusalKind::BadField)?;
     if number < 1 || number > entered {
-        return Err(rule::REQUEST);
+        return Err(RefusalKind::UnknownRequest);
     }
     if !is_bare(fields) {
-        return Err(rule::FORM);
+        return Err(RefusalKind::BadField);
     }
     Ok(RequestId {
         number: number as u32,
@@ -126,7 +129,7 @@ fn action<'a>(
     at: Moment,
     entered: u64,
     fields: &Fields<'a>,
-) -> Result<Action<'a>, u8>
+) -> Result<Action<'a>, RefusalKind>
     requires { entered < 2 ^ 32 }
     ensures rules { first_broken (action_rules setup.now entered (list_of fields.now))
         ≡ result_err result }
@@ -140,7 +143,7 @@ fn action<'a>(
         let submission = submission(setup, at, fields)?;
         return Ok(Action::Submit(submission));
     }
-    let verb = verb_of(fields.word).ok_or(rule::WORD)?;
+    let verb = verb_of(fields.word).ok_or(RefusalKind::UnknownWord)?;
     let request = request(entered, fields)?;
     Ok(Action::On(verb, request))
 }
@@ -159,7 +162,7 @@ pub(crate) fn judge<'a>(
     entered: u64,
     before: Option<Moment>,
     row: &'a ByteRecord,
-) -> Result<(Moment, Action<'a>), u8>
+) -> Result<(Moment, Action<'a>), RefusalKind>
     requires { entered < 2 ^ 32 }
     ensures rules { first_broken (record_rules setup.now number entered before (fields_of row.now))
         ≡ result_err result }
@@ -171,13 +174,13 @@ pub(crate) fn judge<'a>(
     ensures enters { IfOk result (λ p. entered_by_record setup.now (fields_of row.now)
         ≡ entered_by setup.now (act_by p.1)) }
 {
-    let fields = fields_in(row).ok_or(rule::RECORD)?;
+    let fields = fields_in(row).ok_or(RefusalKind::NotCsv)?;
     if number > MOST_RECORDS {
-        return Err(rule::SIZE);
+        return Err(RefusalKind::TooManyLines);
     }
-    let at = read_moment(fields.at).ok_or(rule::FORM)?;
+    let at = read_moment(fields.at).ok_or(RefusalKind::BadField)?;
     if is_earlier(at, before) {
-        return Err(rule::MOMENT);
+        return Err(RefusalKind::MomentBack);
     }
     let action = action(setup, at, entered, &fields)?;
     Ok((at, action))

@@ -7,7 +7,6 @@ mod fields;
 mod judging;
 mod lines;
 mod owning;
-mod rule;
 mod script;
 mod words;
 

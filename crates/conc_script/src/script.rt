@@ -9,9 +9,8 @@ ghost use Rattle.conc_script.specs.Script.{header, same_fields, script_fault, Sp
 use crate::fields::{are_header, fields_in};
 use crate::judging::judge;
 use crate::owning::{entered_with, own};
-use crate::rule;
 use conc_records::{ByteRecord, Records};
-use conc_types::{FileKind, NoMemory, Order, ReadFail, Script, Seq, Setup};
+use conc_types::{FileKind, NoMemory, Order, ReadFail, RefusalKind, Script, Seq, Setup};
 use std::alloc::Global;
 
 // The greatest length of a script, in bytes.
@@ -77,22 +76,24 @@ fn read_commands(
 ///
 /// Where the script breaks a rule it is refused for the first record that does, numbered from 1 with
 /// the header, and of that record for the first rule in this order: it has eight fields of UTF-8, and
-/// the first record is the header (kind 20); it is one of at most 4,097 records (26); `at` is a moment
-/// (22), and not earlier than in the record before (25); the word is one of the five (21); a submission
-/// names a program or set of the setup (23), any other command a number (22), which is that of a request
-/// of an earlier record (24); the fields behind have their form (22). A script of more than 67,108,864
-/// bytes is refused at line 0 (26). Where memory lacks there is neither a script nor a refusal.
+/// the first record is the header (`NotCsv`); it is one of at most 4,097 records (`TooManyLines`); `at`
+/// is a moment (`BadField`), and not earlier than in the record before (`MomentBack`); the word is one
+/// of the five (`UnknownWord`); a submission names a program or set of the setup (`UnknownItem`), any
+/// other command a number (`BadField`), which is that of a request of an earlier record
+/// (`UnknownRequest`); the fields behind have their form (`BadField`). A script of more than 67,108,864
+/// bytes is refused at line 0 (`TooManyLines`). Where memory lacks there is neither a script nor a
+/// refusal.
 pub fn read_script(alloc: Global, bytes: &[u8], setup: &Setup) -> Result<Script, ReadFail>
     ensures ok { IfOk result (λ script. SpellsScript setup.now bytes.now script) }
     ensures fits { IfOk result (λ script. IsTrue (are_commands setup.now script.commands)) }
     ensures err { IfErr result (IsFailure kind.Script (script_fault setup.now bytes.now)) }
 {
     if bytes.len() > MOST_BYTES {
-        return Err(ReadFail::refused(FileKind::Script, 0, rule::SIZE));
+        return Err(ReadFail::refused(FileKind::Script, 0, RefusalKind::TooManyLines));
     }
     let mut records = Records::of_text(alloc, bytes);
     if !read_header(alloc, &mut records)? {
-        return Err(ReadFail::refused(FileKind::Script, 1, rule::RECORD));
+        return Err(ReadFail::refused(FileKind::Script, 1, RefusalKind::NotCsv));
     }
     let commands = read_commands(alloc, setup, &mut records)?;
     Ok(Script {

@@ -6,8 +6,9 @@ use Rattle.std.proofs.lemmas.Bool.{and_from}
 use Rattle.std.proofs.lemmas.List.{map-append, take_all, take_more}
 use Rattle.std.proofs.lemmas.List.FromFn.{get_or-enumerate_from, length-enumerate_from}
 use Rattle.std.proofs.lemmas.List.Sums.{sum_by-cons}
+use Rattle.conc_types.specs.declared.kind.RefusalKind.{RefusalKind}
 
-module _ {A B : Type 0} (f : A → Result B ℕ) where
+module _ {A B : Type 0} (f : A → Result B RefusalKind) where
   -- a test that each passes
   pub each_passes : (test : B → Bool) → ((x : A) (y : B) → f x ≡ Ok y → IsTrue (test y)) → (xs : List A) (ys : List B) → map f xs ≡ map Ok ys → IsTrue (list_all test ys)
   each_passes test passes [] [] e = refl
@@ -43,7 +44,7 @@ module _ {A B : Type 0} (f : A → Result B ℕ) where
   each_count (x ∷ xs) [] e = absurd (cc)
   each_count (x ∷ xs) (y ∷ ys) e = let later : length ys ≡ length xs = each_count xs ys (cc) in omega arith
 
-module _ {A B : Type 0} (f : ℕ × A → Result B ℕ) where
+module _ {A B : Type 0} (f : ℕ × A → Result B RefusalKind) where
   -- a test that each passes with its place
   pub each_passes_at : (test : ℕ × B → Bool) → ((at : ℕ) (x : A) (y : B) → f (at, x) ≡ Ok y → IsTrue (test (at, y)))
       → (n : ℕ) (xs : List A) (ys : List B) → map f (enumerate_from n xs) ≡ map Ok ys → IsTrue (list_all test (enumerate_from n ys))

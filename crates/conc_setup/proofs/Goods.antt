@@ -1,12 +1,13 @@
 -- The limits of what is read hold of what is right among it.
 use Rattle.std.proofs.Common.{◌≤◌, ℕ, List, [], ◌∷◌, length, Result, Ok, Err, arith}
+use Rattle.conc_types.specs.declared.kind.RefusalKind.{RefusalKind}
 use Rattle.conc_setup_fields.specs.Arrays.{goods}
 use Rattle.conc_setup.specs.FirstPass.{IsFew, accepted}
 use Rattle.conc_setup.specs.declared.raw.Document.{Document}
 use Rattle.conc_setup_fields.specs.Arrays.{within_most}
 use Rattle.std.proofs.lemmas.Bool.{leb-true}
 
-goods-few : {A : Type 0} (rs : List (Result A ℕ)) → length (goods rs) ≤ length rs
+goods-few : {A : Type 0} (rs : List (Result A RefusalKind)) → length (goods rs) ≤ length rs
 unfolding goods
 goods-few [] = omega arith
 goods-few (Ok a ∷ rs) = let few = goods-few rs in omega arith

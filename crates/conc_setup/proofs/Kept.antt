@@ -5,6 +5,7 @@ use Rattle.std.specs.List.{list_all, sum_by}
 use Rattle.std.specs.Option.{option_or}
 use Rattle.std.specs.Str.{bytes_eq}
 use Rattle.std.proofs.lemmas.Bool.{and_from, le-leb}
+use Rattle.conc_types.specs.declared.kind.RefusalKind.{RefusalKind}
 use Rattle.conc_types.specs.declared.manager.Manager.{Manager}
 use Rattle.conc_types.specs.declared.program.Program.{Program}
 use Rattle.conc_types.specs.declared.set.SetDef.{SetDef}
@@ -27,7 +28,7 @@ neither : {A : Type 0} (o p : Option A) → option_or o p ≡ None → (o ≡ No
 neither None p e = (refl, e)
 neither (Some a) p e = absurd (cc)
 
-none_wrong : {A : Type 0} (line : ℕ) (all : List (Result A ℕ)) → first_wrong line all ≡ None → all ≡ map Ok (goods all)
+none_wrong : {A : Type 0} (line : ℕ) (all : List (Result A RefusalKind)) → first_wrong line all ≡ None → all ≡ map Ok (goods all)
 none_wrong line all e = first_wrong-none line all (rw e refl)
 
 module _ (raw : RawSetup) (few : IsFew raw) where

@@ -6,6 +6,8 @@ use Rattle.std.specs.Option.{option_map, option_or}
 use Rattle.std.specs.Str.{bytes_eq}
 use Rattle.std.proofs.lemmas.List.FromFn.{length-enumerate_from}
 use Rattle.std.proofs.lemmas.Bool.{and_from}
+use Rattle.conc_types.specs.declared.kind.RefusalKind.{RefusalKind}
+use Rattle.conc_types.specs.declared.kind.RefusalKind.TheVariants as refused
 use Rattle.conc_types.specs.declared.item.Entry.{Entry}
 use Rattle.conc_types.specs.declared.item.Item.{Item}
 use Rattle.conc_types.specs.declared.item.Item.TheVariants as item
@@ -42,7 +44,7 @@ position-below test xs i e =
     let p = below-if (nat_lt (position_or_len test xs) (length xs)) (position_or_len test xs) i e in
     rw (← p.1) p.0
 
-known : (o : Option ℕ) (i : ℕ) → or_kind 6 Ok o ≡ Ok i → o ≡ Some i
+known : (o : Option ℕ) (i : ℕ) → or_kind refused.UnknownName Ok o ≡ Ok i → o ≡ Some i
 known None i e = absurd (cc)
 known (Some j) i e = cc
 
@@ -53,7 +55,7 @@ program-below programs name n e =
 -- what is an item, where there are as many sets as were looked through
 item-there : (programs : List Program) (sets : List RawSet) (defs : List SetDef) → length defs ≡ length sets → (p s : Option ℕ)
     → ((n : ℕ) → p ≡ Some n → IsTrue (nat_lt n (length programs))) → ((n : ℕ) → s ≡ Some n → IsTrue (nat_lt n (length sets)))
-    → (i : Item) → or_kind 6 Ok (option_or (option_map (λ n. item.Program n) p) (option_map (λ n. item.Set n) s)) ≡ Ok i → IsTrue (is_item programs defs i)
+    → (i : Item) → or_kind refused.UnknownName Ok (option_or (option_map (λ n. item.Program n) p) (option_map (λ n. item.Set n) s)) ≡ Ok i → IsTrue (is_item programs defs i)
 item-there programs sets defs same (Some n) s hp hs i e =
     let q : item.Program n ≡ i = cc in subst (λ (j : Item). IsTrue (is_item programs defs j)) q (hp n refl)
 item-there programs sets defs same None (Some n) hp hs i e =
@@ -80,7 +82,7 @@ entry-kept programs sets defs same raw entry e =
 
 -- ---- rules
 
-if_named-ok : {A : Type 0} (look : List ℕ → Result A ℕ) (test : A → Bool) → ((name : List ℕ) (a : A) → look name ≡ Ok a → IsTrue (test a))
+if_named-ok : {A : Type 0} (look : List ℕ → Result A RefusalKind) (test : A → Bool) → ((name : List ℕ) (a : A) → look name ≡ Ok a → IsTrue (test a))
     → (name : Option (List ℕ)) (found : Option A) → if_named look name ≡ Ok found → IsTrue (none_or test found)
 if_named-ok look test passes None None e = refl
 if_named-ok look test passes None (Some a) e = absurd (cc)
@@ -88,7 +90,7 @@ if_named-ok look test passes (Some name) found e =
     let p = good-ok (λ (a : _). Some a) (look name) found e in
     subst (λ (o : Option _). IsTrue (none_or test o)) p.2 (passes name p.0 p.1)
 
-if_named-some : {A : Type 0} (look : List ℕ → Result A ℕ) (name : Option (List ℕ)) (found : Option A) → if_named look name ≡ Ok found → is_some found ≡ is_some name
+if_named-some : {A : Type 0} (look : List ℕ → Result A RefusalKind) (name : Option (List ℕ)) (found : Option A) → if_named look name ≡ Ok found → is_some found ≡ is_some name
 if_named-some look None None e = refl
 if_named-some look None (Some a) e = absurd (cc)
 if_named-some look (Some name) found e =
@@ -108,7 +110,7 @@ rule-stands programs raw program e =
 
 to_rule-program : (raw : RawRule) (program : Option ℕ) (rule : Rule) → to_rule raw program ≡ Ok rule → rule.program ≡ program
 to_rule-program raw program rule e =
-    let p = proven-ok _ _ 3 rule e in ap (λ (r : Rule). r.program) (sym p.1)
+    let p = proven-ok _ _ _ rule e in ap (λ (r : Rule). r.program) (sym p.1)
 
 pub rule-kept : (programs : List Program) (raw : RawRule) (rule : Rule) → resolved_rule programs raw ≡ Ok rule → IsTrue (names_program programs rule)
 unfolding resolved_rule
@@ -122,7 +124,7 @@ rule-kept programs raw rule e =
 to_manager-same : (raw : RawManager) (rules : List Rule × List Rule) (manager : Manager) → to_manager raw rules ≡ Ok manager
     → (manager.name ≡ raw.name) × (manager.shifts ≡ raw.shifts.list) × (manager.include ≡ rules.0) × (manager.exclude ≡ rules.1)
 to_manager-same raw rules manager e =
-    let p = proven-ok _ _ 10 manager e in
+    let p = proven-ok _ _ _ manager e in
     (ap (λ (m : Manager). m.name) (sym p.1), ap (λ (m : Manager). m.shifts) (sym p.1), ap (λ (m : Manager). m.include) (sym p.1), ap (λ (m : Manager). m.exclude) (sym p.1))
 
 module _ (programs : List Program) (raw : RawManager) (manager : Manager) (e : resolved_manager programs raw ≡ Ok manager) where
@@ -146,7 +148,7 @@ module _ (programs : List Program) (raw : RawManager) (manager : Manager) (e : r
       let excluded : IsTrue (list_all (names_program programs) manager.exclude) = rw same.3 exclude in
       and_from _ _ included excluded
 
-pub manager-resolved : (programs : List Program) (raw : RawManager) (include exclude : Result (List Rule) ℕ) (rules : List Rule × List Rule) (manager : Manager)
+pub manager-resolved : (programs : List Program) (raw : RawManager) (include exclude : Result (List Rule) RefusalKind) (rules : List Rule × List Rule) (manager : Manager)
     → include ≡ all_good (map (resolved_rule programs) raw.include) → exclude ≡ all_good (map (resolved_rule programs) raw.exclude)
     → both include exclude ≡ Ok rules → to_manager raw rules ≡ Ok manager → Ok manager ≡ resolved_manager programs raw
 unfolding resolved_manager
@@ -154,7 +156,7 @@ manager-resolved programs raw include exclude rules manager i e both_ok made = r
 
 -- ---- stages
 
-later-if : (test : Bool) (place kind found : ℕ) → (if test then Ok place else Err kind) ≡ Ok found → (test ≡ true) × (place ≡ found)
+later-if : (test : Bool) (place : ℕ) (kind : RefusalKind) (found : ℕ) → (if test then Ok place else Err kind) ≡ Ok found → (test ≡ true) × (place ≡ found)
 later-if true place kind found e = (refl, cc)
 later-if false place kind found e = absurd (cc)
 
@@ -163,7 +165,7 @@ later-ok at place found e = later-if (nat_lt at place) place 9 found e
 
 link-kept : (stages : List RawStage) (at : ℕ) (name : List ℕ) (place : ℕ) → link_of stages at name ≡ Ok place → IsTrue (nat_lt at place && nat_lt place (length stages))
 link-kept stages at name place e =
-    let p = or_kind-ok 6 (later at) (stage_named stages name) place e in
+    let p = or_kind-ok refused.UnknownName (later at) (stage_named stages name) place e in
     let q = later-ok at p.0 place p.2 in
     subst (λ (n : ℕ). IsTrue (nat_lt at n && nat_lt n (length stages))) q.1
     (and_from _ _ q.0 (position-below (λ s. bytes_eq name s.name) stages p.0 p.1))
@@ -171,11 +173,11 @@ link-kept stages at name place e =
 stage_with-same : (raw : RawStage) (links : List (Option ℕ)) (members : List ℕ) (stage : Stage) → stage_with raw links members ≡ Ok stage
     → (stage.name ≡ raw.name) × (stage.links ≡ links) × (stage.members ≡ members)
 stage_with-same raw links members stage e =
-    let p = proven-ok _ _ 9 stage e in
+    let p = proven-ok _ _ _ stage e in
     (ap (λ (s : Stage). s.name) (sym p.1), ap (λ (s : Stage). s.links) (sym p.1), ap (λ (s : Stage). s.members) (sym p.1))
 
 -- the parts of a stage are right each by itself
-pub parts-ok : (success warning error : Result (Option ℕ) ℕ) (members : Result (List ℕ) ℕ) (parts : StageParts) → both success (both warning (both error members)) ≡ Ok parts
+pub parts-ok : (success warning error : Result (Option ℕ) RefusalKind) (members : Result (List ℕ) RefusalKind) (parts : StageParts) → both success (both warning (both error members)) ≡ Ok parts
     → (success ≡ Ok parts.0) × (warning ≡ Ok parts.1.0) × (error ≡ Ok parts.1.1.0) × (members ≡ Ok parts.1.1.1)
 parts-ok success warning error members parts e =
     let first = both-ok success (both warning (both error members)) parts.0 parts.1 e in
@@ -183,7 +185,7 @@ parts-ok success warning error members parts e =
     let third = both-ok error members parts.1.1.0 parts.1.1.1 second.1 in
     (first.0, second.0, third.0, third.1)
 
-pub stage-resolved : (programs : List Program) (stages : List RawStage) (at : ℕ) (raw : RawStage) (success warning error : Result (Option ℕ) ℕ) (members : Result (List ℕ) ℕ) (parts : StageParts) (stage : Stage)
+pub stage-resolved : (programs : List Program) (stages : List RawStage) (at : ℕ) (raw : RawStage) (success warning error : Result (Option ℕ) RefusalKind) (members : Result (List ℕ) RefusalKind) (parts : StageParts) (stage : Stage)
     → success ≡ if_named (link_of stages at) raw.on_success → warning ≡ if_named (link_of stages at) raw.on_warning → error ≡ if_named (link_of stages at) raw.on_error
     → members ≡ all_good (map (program_of programs) raw.members.list)
     → both success (both warning (both error members)) ≡ Ok parts → to_stage raw parts ≡ Ok stage → Ok stage ≡ resolved_stage programs stages (at, raw)
@@ -191,10 +193,10 @@ unfolding resolved_stage
 stage-resolved programs stages at raw success warning error members parts stage s w e m both_ok made = rw (← s, ← w, ← e, ← m, both_ok) (sym made)
 
 module _ (programs : List Program) (stages : List RawStage) (at : ℕ) (raw : RawStage) (stage : Stage) (e : resolved_stage programs stages (at, raw) ≡ Ok stage) where
-  abbrev look : Option (List ℕ) → Result (Option ℕ) ℕ
+  abbrev look : Option (List ℕ) → Result (Option ℕ) RefusalKind
   look = if_named (link_of stages at)
 
-  abbrev members : Result (List ℕ) ℕ
+  abbrev members : Result (List ℕ) RefusalKind
   members = all_good (map (program_of programs) raw.members.list)
 
   stage-parts : (parts : StageParts) × (both (look raw.on_success) (both (look raw.on_warning) (both (look raw.on_error) members)) ≡ Ok parts) × (to_stage raw parts ≡ Ok stage)
@@ -255,7 +257,7 @@ module _ (programs : List Program) (raws : List RawStage) (stages : List Stage) 
 
 to_set-same : (name : List ℕ) (stages : List Stage) (set : SetDef) → to_set name stages ≡ Ok set → (set.name ≡ name) × (set.stages ≡ stages)
 to_set-same name stages set e =
-    let p = proven-ok _ _ 9 set e in (ap (λ (s : SetDef). s.name) (sym p.1), ap (λ (s : SetDef). s.stages) (sym p.1))
+    let p = proven-ok _ _ _ set e in (ap (λ (s : SetDef). s.name) (sym p.1), ap (λ (s : SetDef). s.stages) (sym p.1))
 
 module _ (programs : List Program) (raw : RawSet) (set : SetDef) (e : resolved_set programs raw ≡ Ok set) where
   set-stages : (stages : List Stage) × (all_good (map (resolved_stage programs raw.stages.list) (enumerate_from 0 raw.stages.list)) ≡ Ok stages) × (to_set raw.name stages ≡ Ok set)

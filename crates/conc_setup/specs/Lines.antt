@@ -1,9 +1,10 @@
 -- What is wrong, by lines.
 use Rattle.std.specs.Prelude.{ℕ, Option, None, Some, Result, Ok, Err}
+use Rattle.conc_types.specs.declared.kind.RefusalKind.{RefusalKind}
 use Rattle.conc_types.specs.Faults.{Fault}
 
 -- what is wrong on a line
-abbrev pub on_line : {A : Type 0} → ℕ → Result A ℕ → Result A Fault
+abbrev pub on_line : {A : Type 0} → ℕ → Result A RefusalKind → Result A Fault
 on_line line (Ok a) = Ok a
 on_line line (Err kind) = Err (line, kind)
 

@@ -1,8 +1,9 @@
--- The second pass: names that stand twice, which is kind 5.
+-- The second pass: names that stand twice, which are `Duplicate`.
 use Rattle.std.specs.Prelude.{ℕ, ◌+◌, if◌then◌else◌, Bool, not, ◌||◌, List, [], ◌∷◌, ◌++◌, length, map, Option, None, Some, Result}
 use Rattle.std.specs.List.{list_any}
 use Rattle.std.specs.Option.{option_or}
 use Rattle.std.specs.Str.{bytes_eq}
+use Rattle.conc_types.specs.declared.kind.RefusalKind.TheVariants as refused
 use Rattle.conc_types.specs.Faults.{Fault}
 use Rattle.conc_types.specs.Words.{are_distinct}
 use Rattle.conc_setup_entries.specs.declared.raw.RawSet.{RawSet}
@@ -17,7 +18,7 @@ is_among names name = list_any (bytes_eq name) names
 unfoldable pub first_again : ℕ → List (List ℕ) → List (List ℕ) → Option Fault
 first_again line before [] = None
 first_again line before (name ∷ names) =
-    if is_among before name then Some (line, 5) else first_again (line + 1) (before ++ name ∷ []) names
+    if is_among before name then Some (line, refused.Duplicate) else first_again (line + 1) (before ++ name ∷ []) names
 
 -- the names of a set's stages
 abbrev pub stage_names : RawSet → List (List ℕ)
@@ -35,12 +36,12 @@ is_again programs before set =
 unfoldable pub first_set_again : ℕ → List (List ℕ) → List (List ℕ) → List RawSet → Option Fault
 first_set_again line programs before [] = None
 first_set_again line programs before (set ∷ sets) =
-    if is_again programs before set then Some (line, 5)
+    if is_again programs before set then Some (line, refused.Duplicate)
     else first_set_again (line + 1) programs (before ++ set.name ∷ []) sets
 
 -- a table that stands twice is on line 0
 abbrev pub table_again : List (List ℕ) → Option Fault
-table_again tables = if are_distinct bytes_eq tables then None else Some (0, 5)
+table_again tables = if are_distinct bytes_eq tables then None else Some (0, refused.Duplicate)
 
 -- the first line with a name that stands twice
 unfoldable pub name_again : RawSetup → Option Fault

@@ -1,10 +1,12 @@
--- The third pass: names that are looked up. A name that is not there is kind 6, and a link to its own
--- or an earlier stage kind 9.
+-- The third pass: names that are looked up. A name that is not there is `UnknownName`, and a
+-- link to its own or an earlier stage `BackLink`.
 use Rattle.std.specs.Prelude.{◌≡◌, ℕ, ◌+◌, ◌≤◌, if◌then◌else◌, Bool, true, ◌&&◌, nat_le, nat_lt, List, [], ◌∷◌, map, length, Option, None, Some, Result, Ok, Err}
 use Rattle.std.specs.List.{enumerate_from, position, sum_by}
 use Rattle.std.specs.Option.{option_map, option_or}
 use Rattle.std.specs.Str.{bytes_eq}
 use Rattle.std.proofs.lemmas.Bool.{and_parts, leb-true}
+use Rattle.conc_types.specs.declared.kind.RefusalKind.{RefusalKind}
+use Rattle.conc_types.specs.declared.kind.RefusalKind.TheVariants as refused
 use Rattle.conc_types.specs.declared.item.Entry.{Entry}
 use Rattle.conc_types.specs.declared.item.Item.{Item}
 use Rattle.conc_types.specs.declared.item.Item.TheVariants as item
@@ -43,16 +45,16 @@ set_named sets name = position (λ s. bytes_eq name s.name) sets
 abbrev pub stage_named : List RawStage → List ℕ → Option ℕ
 stage_named stages name = position (λ s. bytes_eq name s.name) stages
 
-abbrev pub program_of : List Program → List ℕ → Result ℕ ℕ
-program_of programs name = or_kind 6 Ok (program_named programs name)
+abbrev pub program_of : List Program → List ℕ → Result ℕ RefusalKind
+program_of programs name = or_kind refused.UnknownName Ok (program_named programs name)
 
 -- the program or set with this name
-unfoldable pub item_of : List Program → List RawSet → List ℕ → Result Item ℕ
+unfoldable pub item_of : List Program → List RawSet → List ℕ → Result Item RefusalKind
 item_of programs sets name =
-    or_kind 6 Ok (option_or (option_map (λ n. item.Program n) (program_named programs name)) (option_map (λ n. item.Set n) (set_named sets name)))
+    or_kind refused.UnknownName Ok (option_or (option_map (λ n. item.Program n) (program_named programs name)) (option_map (λ n. item.Set n) (set_named sets name)))
 
 -- what is looked up of a name that may be absent
-abbrev pub if_named : {A : Type 0} → (List ℕ → Result A ℕ) → Option (List ℕ) → Result (Option A) ℕ
+abbrev pub if_named : {A : Type 0} → (List ℕ → Result A RefusalKind) → Option (List ℕ) → Result (Option A) RefusalKind
 if_named look None = Ok None
 if_named look (Some name) = good Some (look name)
 
@@ -61,27 +63,27 @@ if_named look (Some name) = good Some (look name)
 abbrev pub to_entry : RawEntry → Item × Item → Entry
 to_entry raw items = record { owner = items.0; other = items.1; scope = raw.scope; reach = raw.reach }
 
-unfoldable pub resolved_entry : List Program → List RawSet → RawEntry → Result Entry ℕ
+unfoldable pub resolved_entry : List Program → List RawSet → RawEntry → Result Entry RefusalKind
 resolved_entry programs sets raw =
     good (to_entry raw) (both (item_of programs sets raw.owner) (item_of programs sets raw.other))
 
 -- ---- managers
 
 -- a rule names as much as it named before
-abbrev pub to_rule : RawRule → Option ℕ → Result Rule ℕ
+abbrev pub to_rule : RawRule → Option ℕ → Result Rule RefusalKind
 to_rule raw program =
     proven (is_rule program (option_map (λ t. t.text) raw.request_type) raw.user) (λ names. record {
       program = program;
       request_type = option_map (λ t. t.text) raw.request_type;
       user = raw.user;
       names = names;
-    }) 3
+    }) refused.Missing
 
-unfoldable pub resolved_rule : List Program → RawRule → Result Rule ℕ
+unfoldable pub resolved_rule : List Program → RawRule → Result Rule RefusalKind
 resolved_rule programs raw = judged (to_rule raw) (if_named (program_of programs) raw.program)
 
 -- there are as many rules as before
-abbrev pub to_manager : RawManager → List Rule × List Rule → Result Manager ℕ
+abbrev pub to_manager : RawManager → List Rule × List Rule → Result Manager RefusalKind
 to_manager raw rules =
     proven (nat_le (length rules.0 + length rules.1) 64) (λ few. record {
       name = raw.name;
@@ -90,27 +92,27 @@ to_manager raw rules =
       shifts = raw.shifts.list;
       few_rules = leb-true _ _ few;
       few_shifts = within_most raw.shifts;
-    }) 10
+    }) refused.TooMany
 
-unfoldable pub resolved_manager : List Program → RawManager → Result Manager ℕ
+unfoldable pub resolved_manager : List Program → RawManager → Result Manager RefusalKind
 resolved_manager programs raw =
     judged (to_manager raw) (both (all_good (map (resolved_rule programs) raw.include)) (all_good (map (resolved_rule programs) raw.exclude)))
 
 -- ---- sets
 
 -- a later stage than the one at this place
-abbrev pub later : ℕ → ℕ → Result ℕ ℕ
-later at place = if nat_lt at place then Ok place else Err 9
+abbrev pub later : ℕ → ℕ → Result ℕ RefusalKind
+later at place = if nat_lt at place then Ok place else Err refused.BackLink
 
 -- the place of the stage with this name, which the stage at the place given leads to
-abbrev pub link_of : List RawStage → ℕ → List ℕ → Result ℕ ℕ
-link_of stages at name = or_kind 6 (later at) (stage_named stages name)
+abbrev pub link_of : List RawStage → ℕ → List ℕ → Result ℕ RefusalKind
+link_of stages at name = or_kind refused.UnknownName (later at) (stage_named stages name)
 
 abbrev pub StageParts : Type 0
 StageParts = Option ℕ × (Option ℕ × (Option ℕ × List ℕ))
 
 -- the links lead to one of 64 stages, and there are as many members as before
-abbrev pub stage_with : RawStage → List (Option ℕ) → List ℕ → Result Stage ℕ
+abbrev pub stage_with : RawStage → List (Option ℕ) → List ℕ → Result Stage RefusalKind
 stage_with raw links members =
     proven (are_links links && is_between 1 64 (length members)) (λ kept. record {
       name = raw.name;
@@ -119,13 +121,13 @@ stage_with raw links members =
       members = members;
       near = (and_parts _ _ kept).0;
       some = (and_parts _ _ kept).1;
-    }) 9
+    }) refused.BackLink
 
-abbrev pub to_stage : RawStage → StageParts → Result Stage ℕ
+abbrev pub to_stage : RawStage → StageParts → Result Stage RefusalKind
 to_stage raw parts = stage_with raw (parts.0 ∷ parts.1.0 ∷ parts.1.1.0 ∷ []) parts.1.1.1
 
 -- a stage, which is given with its place
-unfoldable pub resolved_stage : List Program → List RawStage → ℕ × RawStage → Result Stage ℕ
+unfoldable pub resolved_stage : List Program → List RawStage → ℕ × RawStage → Result Stage RefusalKind
 resolved_stage programs stages stage =
     judged (to_stage stage.1) (
     both (if_named (link_of stages stage.0) stage.1.on_success) (
@@ -134,28 +136,28 @@ resolved_stage programs stages stage =
     (all_good (map (program_of programs) stage.1.members.list)))))
 
 -- there are as many stages as before, of distinct names, and each link leads on
-abbrev pub to_set : List ℕ → List Stage → Result SetDef ℕ
+abbrev pub to_set : List ℕ → List Stage → Result SetDef RefusalKind
 to_set name stages =
     proven (is_between 1 64 (length stages) && are_stages stages) (λ kept. record {
       name = name;
       stages = stages;
       some = (and_parts _ _ kept).0;
       forward = (and_parts _ _ kept).1;
-    }) 9
+    }) refused.BackLink
 
-unfoldable pub resolved_set : List Program → RawSet → Result SetDef ℕ
+unfoldable pub resolved_set : List Program → RawSet → Result SetDef RefusalKind
 resolved_set programs raw =
     judged (to_set raw.name) (all_good (map (resolved_stage programs raw.stages.list) (enumerate_from 0 raw.stages.list)))
 
 -- ---- the whole
 
-abbrev pub entries_of : RawSetup → List (Result Entry ℕ)
+abbrev pub entries_of : RawSetup → List (Result Entry RefusalKind)
 entries_of raw = map (resolved_entry raw.programs raw.sets) raw.entries
 
-abbrev pub managers_of : RawSetup → List (Result Manager ℕ)
+abbrev pub managers_of : RawSetup → List (Result Manager RefusalKind)
 managers_of raw = map (resolved_manager raw.programs) raw.managers
 
-abbrev pub sets_of : RawSetup → List (Result SetDef ℕ)
+abbrev pub sets_of : RawSetup → List (Result SetDef RefusalKind)
 sets_of raw = map (resolved_set raw.programs) raw.sets
 
 -- the first line with a name that is not there, or with a link that does not lead on
@@ -215,7 +217,7 @@ to_setup tables programs entries managers sets =
       few_places = (few_parts programs entries managers sets (and_parts _ _ kept).0).places_few;
       named = (and_parts _ _ (and_parts _ _ kept).1).0;
       references = (and_parts _ _ (and_parts _ _ kept).1).1;
-    }) 6)
+    }) refused.UnknownName)
 
 -- the setup with places in its lists in the place of names
 abbrev pub resolved : RawSetup → Result Setup Fault

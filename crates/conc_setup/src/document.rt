@@ -6,17 +6,16 @@ ghost use Rattle.conc_setup.specs.Documents as spec;
 ghost use Rattle.toml.specs.Parse.{parse_document};
 ghost use Rattle.toml.specs.View.{table_view, view};
 
-use crate::kind::NOT_TOML;
 use crate::places::places_in_all;
 use crate::raw::Document;
 use conc_setup_entries::{
     EntryForm, ManagerForm, ProgramForm, RawEntry, RawManager, RawSet, SetForm,
 };
 use conc_setup_fields::{
-    ArrayForm, Counted, Form, NameForm, beside, both, counted, default, keys_kind, kind, no_values,
-    read_all,
+    ArrayForm, Counted, Form, Judged, NameForm, beside, both, counted, default, keys_kind,
+    no_values, read_all,
 };
-use conc_types::{Name, NoMemory, Program};
+use conc_types::{Name, NoMemory, Program, RefusalKind};
 use std::alloc::Global;
 use std::marker::PhantomData;
 use toml::{Table, Value};
@@ -24,13 +23,13 @@ use toml::{Table, Value};
 // The greatest length of a setup file, in bytes.
 const MOST_BYTES: usize = 67_108_864;
 
-/// An array of at most `MOST` entries, each of which is read by itself. More are `TOO_MANY`.
+/// An array of at most `MOST` entries, each of which is read by itself. More are `TooMany`.
 struct EntriesForm<F, const MOST: usize> {
     entry: PhantomData<F>,
 }
 
 impl<F: Form, const MOST: usize> Form for EntriesForm<F, MOST> {
-    type Out = Counted<Result<F::Out, u8>, 0, MOST>;
+    type Out = Counted<Judged<F::Out>, 0, MOST>;
 
     ghost form = { spec.entries_in MOST F.form };
 
@@ -38,15 +37,15 @@ impl<F: Form, const MOST: usize> Form for EntriesForm<F, MOST> {
     fn read(
         alloc: Global,
         value: &Value,
-    ) -> Result<Result<Counted<Result<F::Out, u8>, 0, MOST>, u8>, NoMemory> {
+    ) -> Result<Judged<Counted<Judged<F::Out>, 0, MOST>>, NoMemory> {
         match value.as_array() {
-            None => Ok(Err(kind::WRONG_KIND)),
+            None => Ok(Err(RefusalKind::WrongKind)),
             Some(items) => Ok(counted(read_all::<F>(alloc, items)?)),
         }
     }
 }
 
-fn top_keys(file: &Table) -> Option<u8>
+fn top_keys(file: &Table) -> Option<RefusalKind>
     ensures { result ≡ fields_spec.keys_kind spec.top_keys (table_view file.now) }
 {
     keys_kind(
@@ -55,13 +54,13 @@ fn top_keys(file: &Table) -> Option<u8>
     )
 }
 
-type Programs = Counted<Result<Program, u8>, 0, 1024>;
+type Programs = Counted<Judged<Program>, 0, 1024>;
 
-type Entries = Counted<Result<RawEntry, u8>, 0, 4096>;
+type Entries = Counted<Judged<RawEntry>, 0, 4096>;
 
-type Managers = Counted<Result<RawManager, u8>, 0, 64>;
+type Managers = Counted<Judged<RawManager>, 0, 64>;
 
-type Sets = Counted<Result<RawSet, u8>, 0, 256>;
+type Sets = Counted<Judged<RawSet>, 0, 256>;
 
 fn document_of_parts(
     tables: Counted<Name, 0, 64>,
@@ -69,7 +68,7 @@ fn document_of_parts(
     entries: Entries,
     managers: Managers,
     sets: Sets,
-) -> Result<Document, u8>
+) -> Judged<Document>
     ensures { result ≡ spec.to_document (tables, (programs, (entries, (managers, sets)))) }
 {
     if places_in_all(&managers) <= 64 {
@@ -81,7 +80,7 @@ fn document_of_parts(
             sets,
         })
     } else {
-        Err(kind::TOO_MANY)
+        Err(RefusalKind::TooMany)
     }
 }
 
@@ -90,7 +89,7 @@ type DocumentParts = (
     (Programs, (Entries, (Managers, Sets))),
 );
 
-fn to_document(parts: Result<DocumentParts, u8>) -> Result<Document, u8>
+fn to_document(parts: Judged<DocumentParts>) -> Judged<Document>
     ensures { result ≡ judged spec.to_document parts }
 {
     match parts {
@@ -102,7 +101,7 @@ fn to_document(parts: Result<DocumentParts, u8>) -> Result<Document, u8>
 }
 
 #[tactic(auto, unfolding(crate::specs::Documents::document_of))]
-fn document_of(alloc: Global, file: &Table) -> Result<Result<Document, u8>, NoMemory>
+fn document_of(alloc: Global, file: &Table) -> Result<Judged<Document>, NoMemory>
     ensures { IfOk result (λ r. r ≡ spec.document_of (table_view file.now)) }
 {
     let tables = default::<ArrayForm<NameForm, 0, 64>>(alloc, no_values(alloc), file, "tables")?;
@@ -160,14 +159,14 @@ fn table_in(alloc: Global, bytes: &[u8]) -> Result<Option<Table>, NoMemory>
 /// something than its limit allows; and more than 64 places, counted over the managers with which
 /// nothing is wrong.
 #[tactic(auto, unfolding(crate::specs::Documents::document_in))]
-pub(crate) fn document_in(alloc: Global, bytes: &[u8]) -> Result<Result<Document, u8>, NoMemory>
+pub(crate) fn document_in(alloc: Global, bytes: &[u8]) -> Result<Judged<Document>, NoMemory>
     ensures { IfOk result (λ r. r ≡ spec.document_in bytes.now) }
 {
     if bytes.len() > MOST_BYTES {
-        return Ok(Err(kind::TOO_MANY));
+        return Ok(Err(RefusalKind::TooMany));
     }
     match table_in(alloc, bytes)? {
-        None => Ok(Err(NOT_TOML)),
+        None => Ok(Err(RefusalKind::NotToml)),
         Some(file) => document_of(alloc, &file),
     }
 }

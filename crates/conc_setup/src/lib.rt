@@ -5,7 +5,6 @@ mod copies;
 mod document;
 mod entry;
 mod first_pass;
-mod kind;
 mod manager;
 mod names;
 mod places;

@@ -6,11 +6,11 @@ ghost use Rattle.conc_setup.specs.ThirdPass as spec;
 use crate::copies::{copy_of_name, copy_of_text};
 use crate::resolve::{Items, Resolve, program_of, resolve_good};
 use conc_setup_entries::{RawManager, RawRule};
-use conc_setup_fields::both;
+use conc_setup_fields::{Judged, both};
 use conc_types::{Manager, Name, NoMemory, Rule, Seq};
 use std::alloc::Global;
 
-fn program_if_named(items: &Items, name: &Option<Name>) -> Result<Option<u32>, u8>
+fn program_if_named(items: &Items, name: &Option<Name>) -> Judged<Option<u32>>
     ensures { result ≡ spec.if_named (spec.program_of items.now.programs.now) name.now }
 {
     match name {
@@ -42,7 +42,7 @@ impl Resolve for RawRule {
     ghost resolved = { λ programs sets raw. spec.resolved_rule programs raw };
 
     #[tactic(auto, unfolding(crate::specs::ThirdPass::resolved_rule))]
-    fn resolve(&self, alloc: Global, items: &Items) -> Result<Result<Rule, u8>, NoMemory> {
+    fn resolve(&self, alloc: Global, items: &Items) -> Result<Judged<Rule>, NoMemory> {
         match program_if_named(items, &self.program) {
             Ok(program) => Ok(Ok(rule_for(alloc, program, self)?)),
             Err(kind) => Ok(Err(kind)),
@@ -75,7 +75,7 @@ impl Resolve for RawManager {
     ghost resolved = { λ programs sets raw. spec.resolved_manager programs raw };
 
     #[tactic(auto, unfolding(crate::specs::ThirdPass::resolved_manager))]
-    fn resolve(&self, alloc: Global, items: &Items) -> Result<Result<Manager, u8>, NoMemory> {
+    fn resolve(&self, alloc: Global, items: &Items) -> Result<Judged<Manager>, NoMemory> {
         let include = resolve_good(alloc, items, self.include.as_slice())?;
         let exclude = resolve_good(alloc, items, self.exclude.as_slice())?;
         match both(include, exclude) {

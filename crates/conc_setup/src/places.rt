@@ -5,7 +5,7 @@ ghost use Rattle.conc_setup_fields.specs.Arrays.{goods};
 ghost use Rattle.conc_setup.specs.Places as places_spec;
 
 use conc_setup_entries::RawManager;
-use conc_setup_fields::Counted;
+use conc_setup_fields::{Counted, Judged};
 use conc_types::Shift;
 
 fn greatest_shift(shifts: &[Shift]) -> u32
@@ -28,7 +28,7 @@ fn most_places(shifts: &[Shift]) -> u32
 }
 
 #[tactic(auto, unfolding(conc_setup_fields::specs::Arrays::goods))]
-fn places_of(managers: &[Result<RawManager, u8>]) -> u64
+fn places_of(managers: &[Judged<RawManager>]) -> u64
     requires { length managers.now ≤ 64 }
     ensures value { result ≡ places_spec.places_in_all (goods managers.now) }
     ensures small { result ≤ 4294967296 * length managers.now }
@@ -43,7 +43,7 @@ fn places_of(managers: &[Result<RawManager, u8>]) -> u64
 }
 
 /// How many places the managers with which nothing is wrong have together.
-pub(crate) fn places_in_all(managers: &Counted<Result<RawManager, u8>, 0, 64>) -> u64
+pub(crate) fn places_in_all(managers: &Counted<Judged<RawManager>, 0, 64>) -> u64
     ensures { result ≡ places_spec.places_in_all (goods managers.now.list) }
 {
     places_of(managers.list.as_slice())

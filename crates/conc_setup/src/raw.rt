@@ -3,21 +3,21 @@ ghost use Rattle.conc_setup_fields.specs.Arrays.{goods};
 ghost use Rattle.conc_setup.specs.Places.{places_in_all};
 
 use conc_setup_entries::{RawEntry, RawManager, RawSet};
-use conc_setup_fields::Counted;
-use conc_types::{Name, Program, Seq};
+use conc_setup_fields::{Counted, Judged};
+use conc_types::{Name, Program, RefusalKind, Seq};
 
 /// A line of a file, where 0 is the file as a whole, and the kind of the rule that it breaks.
-pub(crate) type Fault = (u64, u8);
+pub(crate) type Fault = (u64, RefusalKind);
 
 /// A setup file whose top level is right: the entries of its arrays, each as it is read, or the least
 /// kind of what is wrong with it.
 #[derive(Drop)]
 pub(crate) struct Document {
     pub tables: Counted<Name, 0, 64>,
-    pub programs: Counted<Result<Program, u8>, 0, 1024>,
-    pub entries: Counted<Result<RawEntry, u8>, 0, 4096>,
-    pub managers: Counted<Result<RawManager, u8>, 0, 64>,
-    pub sets: Counted<Result<RawSet, u8>, 0, 256>,
+    pub programs: Counted<Judged<Program>, 0, 1024>,
+    pub entries: Counted<Judged<RawEntry>, 0, 4096>,
+    pub managers: Counted<Judged<RawManager>, 0, 64>,
+    pub sets: Counted<Judged<RawSet>, 0, 256>,
     ghost few_places: { IsTrue (nat_le (places_in_all (goods managers.list)) 64) },
 }
 

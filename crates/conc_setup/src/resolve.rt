@@ -1,14 +1,14 @@
-ghost use Rattle.std.specs.Prelude.{◌≡◌, ◌≤◌, IfOk, List, Result, length, map, ℕ};
+ghost use Rattle.std.specs.Prelude.{◌≡◌, ◌≤◌, IfOk, List, Result, length, map};
+ghost use Rattle.conc_types.specs.declared.kind.RefusalKind.{RefusalKind};
 ghost use Rattle.conc_types.specs.declared.program.Program.{Program};
 ghost use Rattle.conc_setup_fields.specs.Arrays as arrays_spec;
 ghost use Rattle.conc_setup_entries.specs.declared.raw.RawSet.{RawSet};
 ghost use Rattle.conc_setup.specs.ThirdPass as spec;
 
-use crate::kind::UNKNOWN_NAME;
 use crate::names::place_of;
 use conc_setup_entries::RawSet;
-use conc_setup_fields::all_good;
-use conc_types::{Item, Name, NoMemory, Program, Seq};
+use conc_setup_fields::{Judged, all_good};
+use conc_types::{Item, Name, NoMemory, Program, RefusalKind, Seq};
 use std::alloc::Global;
 
 /// The programs and sets, in which names are looked up.
@@ -21,25 +21,25 @@ pub(crate) struct Items<'a> {
 }
 
 /// The place of the program with this name.
-pub(crate) fn program_of(items: &Items, name: &Name) -> Result<u32, u8>
+pub(crate) fn program_of(items: &Items, name: &Name) -> Judged<u32>
     ensures { result ≡ spec.program_of items.now.programs.now name.now }
 {
     match place_of(items.programs, name) {
         Some(place) => Ok(place as u32),
-        None => Err(UNKNOWN_NAME),
+        None => Err(RefusalKind::UnknownName),
     }
 }
 
 /// The program or set with this name.
 #[tactic(auto, unfolding(crate::specs::ThirdPass::item_of))]
-pub(crate) fn item_of(items: &Items, name: &Name) -> Result<Item, u8>
+pub(crate) fn item_of(items: &Items, name: &Name) -> Judged<Item>
     ensures { result ≡ spec.item_of items.now.programs.now items.now.sets.now name.now }
 {
     match place_of(items.programs, name) {
         Some(place) => Ok(Item::Program(place as u32)),
         None => match place_of(items.sets, name) {
             Some(place) => Ok(Item::Set(place as u32)),
-            None => Err(UNKNOWN_NAME),
+            None => Err(RefusalKind::UnknownName),
         },
     }
 }
@@ -49,11 +49,11 @@ pub(crate) trait Resolve {
     /// What it is made into.
     type Out: Drop;
 
-    ghost resolved: { List Program → List RawSet → Self → Result Self.Out ℕ };
+    ghost resolved: { List Program → List RawSet → Self → Result Self.Out RefusalKind };
 
     /// The value with places, or the least kind of what is wrong with a name. Where memory lacks there
     /// is neither.
-    fn resolve(&self, alloc: Global, items: &Items) -> Result<Result<Self::Out, u8>, NoMemory>
+    fn resolve(&self, alloc: Global, items: &Items) -> Result<Judged<Self::Out>, NoMemory>
         ensures { IfOk result (λ r. r ≡ resolved items.now.programs.now items.now.sets.now
             self.now) };
 }
@@ -63,7 +63,7 @@ impl Resolve for Name {
 
     ghost resolved = { λ programs sets name. spec.program_of programs name };
 
-    fn resolve(&self, _alloc: Global, items: &Items) -> Result<Result<u32, u8>, NoMemory> {
+    fn resolve(&self, _alloc: Global, items: &Items) -> Result<Judged<u32>, NoMemory> {
         Ok(program_of(items, self))
     }
 }
@@ -73,7 +73,7 @@ pub(crate) fn resolve_all<T: Resolve>(
     alloc: Global,
     items: &Items,
     values: &[T],
-) -> Result<Seq<Result<T::Out, u8>>, NoMemory>
+) -> Result<Seq<Judged<T::Out>>, NoMemory>
     ensures { IfOk result (λ all. all ≡ map (T.resolved items.now.programs.now items.now.sets.now)
         values.now) }
 {
@@ -89,7 +89,7 @@ pub(crate) fn resolve_good<T: Resolve>(
     alloc: Global,
     items: &Items,
     values: &[T],
-) -> Result<Result<Seq<T::Out>, u8>, NoMemory>
+) -> Result<Judged<Seq<T::Out>>, NoMemory>
     ensures value { IfOk result (λ r. r
         ≡ arrays_spec.all_good (map (T.resolved items.now.programs.now items.now.sets.now)
         values.now)) }

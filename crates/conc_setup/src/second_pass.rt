@@ -2,11 +2,10 @@ ghost use Rattle.std.specs.Prelude.{◌≡◌, ◌≤◌, ◌+◌, ◌<◌, ◌-
 ghost use Rattle.conc_setup.specs.FirstPass.{IsFew};
 ghost use Rattle.conc_setup.specs.SecondPass as spec;
 
-use crate::kind::DUPLICATE;
 use crate::names::{Named, are_distinct, is_among};
 use crate::raw::{Fault, RawSetup};
 use conc_setup_entries::RawSet;
-use conc_types::{Name, Program};
+use conc_types::{Name, Program, RefusalKind};
 
 // The first of the items from a place on that has the name of one before it, where the item at this
 // place has the line given.
@@ -21,7 +20,7 @@ fn again_from<T: Named>(line: u64, items: &[T], place: usize) -> Option<Fault>
         return None;
     }
     if is_among(&items[..place], items[place].name()) {
-        Some((line, DUPLICATE))
+        Some((line, RefusalKind::Duplicate))
     } else {
         again_from(line + 1, items, place + 1)
     }
@@ -49,7 +48,7 @@ fn set_again_from(line: u64, programs: &[Program], sets: &[RawSet], place: usize
         return None;
     }
     if is_again(programs, &sets[..place], &sets[place]) {
-        Some((line, DUPLICATE))
+        Some((line, RefusalKind::Duplicate))
     } else {
         set_again_from(line + 1, programs, sets, place + 1)
     }
@@ -61,7 +60,7 @@ fn table_again(tables: &[Name]) -> Option<Fault>
     if are_distinct(tables) {
         None
     } else {
-        Some((0, DUPLICATE))
+        Some((0, RefusalKind::Duplicate))
     }
 }
 

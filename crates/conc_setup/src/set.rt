@@ -7,33 +7,32 @@ ghost use Rattle.conc_setup.specs.SecondPass.{has_distinct_stages};
 ghost use Rattle.conc_setup.specs.ThirdPass as spec;
 
 use crate::copies::copy_of_name;
-use crate::kind::{BACK_LINK, UNKNOWN_NAME};
 use crate::names::place_of;
 use crate::resolve::{Items, resolve_good};
 use conc_setup_entries::{RawSet, RawStage};
-use conc_setup_fields::{all_good, both};
-use conc_types::{Name, NoMemory, Seq, SetDef, Stage};
+use conc_setup_fields::{Judged, all_good, both};
+use conc_types::{Name, NoMemory, RefusalKind, Seq, SetDef, Stage};
 use std::alloc::Global;
 
 // The place of the stage with this name, to which the stage at the place given leads.
-fn link_of(stages: &[RawStage], at: usize, name: &Name) -> Result<u32, u8>
+fn link_of(stages: &[RawStage], at: usize, name: &Name) -> Judged<u32>
     requires { length stages.now ≤ 64 }
     ensures value { result ≡ spec.link_of stages.now at name.now }
     ensures near { IfOk result (λ place. place < 64) }
 {
     match place_of(stages, name) {
-        None => Err(UNKNOWN_NAME),
+        None => Err(RefusalKind::UnknownName),
         Some(place) => {
             if at < place {
                 Ok(place as u32)
             } else {
-                Err(BACK_LINK)
+                Err(RefusalKind::BackLink)
             }
         }
     }
 }
 
-fn link_if_named(stages: &[RawStage], at: usize, name: &Option<Name>) -> Result<Option<u32>, u8>
+fn link_if_named(stages: &[RawStage], at: usize, name: &Option<Name>) -> Judged<Option<u32>>
     requires { length stages.now ≤ 64 }
     ensures value { result ≡ spec.if_named (spec.link_of stages.now at) name.now }
     ensures near { IfOk result (λ link. IsTrue (none_or (λ place. nat_lt place 64) link)) }
@@ -74,7 +73,7 @@ fn resolve_stage(
     stages: &[RawStage],
     at: usize,
     stage: &RawStage,
-) -> Result<Result<Stage, u8>, NoMemory>
+) -> Result<Judged<Stage>, NoMemory>
     requires { length stages.now ≤ 64 }
     ensures { IfOk result (λ r. r ≡ spec.resolved_stage items.now.programs.now stages.now
         (at, stage.now)) }
@@ -96,7 +95,7 @@ fn resolve_stages(
     alloc: Global,
     items: &Items,
     stages: &[RawStage],
-) -> Result<Seq<Result<Stage, u8>>, NoMemory>
+) -> Result<Seq<Judged<Stage>>, NoMemory>
     requires { length stages.now ≤ 64 }
     ensures { IfOk result (λ all. all ≡ map (spec.resolved_stage items.now.programs.now stages.now)
         (enumerate_from 0 stages.now)) }
@@ -118,7 +117,7 @@ fn set_with(alloc: Global, name: &Name, stages: Seq<Stage>) -> Result<SetDef, No
 }
 
 #[tactic(auto, unfolding(crate::specs::ThirdPass::resolved_set))]
-fn resolve_set(alloc: Global, items: &Items, set: &RawSet) -> Result<Result<SetDef, u8>, NoMemory>
+fn resolve_set(alloc: Global, items: &Items, set: &RawSet) -> Result<Judged<SetDef>, NoMemory>
     requires { IsTrue (has_distinct_stages set.now) }
     ensures { IfOk result (λ r. r ≡ spec.resolved_set items.now.programs.now set.now) }
 {
@@ -134,7 +133,7 @@ pub(crate) fn resolve_sets(
     alloc: Global,
     items: &Items,
     sets: &[RawSet],
-) -> Result<Seq<Result<SetDef, u8>>, NoMemory>
+) -> Result<Seq<Judged<SetDef>>, NoMemory>
     requires { IsTrue (list_all has_distinct_stages sets.now) }
     ensures { IfOk result (λ all. all ≡ map (spec.resolved_set items.now.programs.now) sets.now) }
 {

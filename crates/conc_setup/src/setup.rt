@@ -59,12 +59,13 @@ fn setup_in(alloc: Global, bytes: &[u8]) -> Result<Result<Setup, Fault>, NoMemor
 /// Where the file breaks a rule it is refused for the kind of that rule, at a line. A line is the number
 /// of an entry, from 1, counted through the four arrays in this order; 0 is the file as a whole. A rule,
 /// shift, filter or stage has the number of the entry that it is part of. A file of more than 67,108,864
-/// bytes (kind 10) and one that is not TOML (1) are refused at line 0. Then come three passes, of which
-/// the first one that finds something refuses the file for the least line and on it for the least kind:
-/// one for what is wrong with an entry by itself (2, 3, 4, 7, 8 and 10), with the places of all managers
-/// that are right by themselves on line 0; one for names that stand twice (5); and one for names that
-/// are not there (6) and links to the same or an earlier stage (9). Where memory lacks there is neither
-/// a setup nor a refusal.
+/// bytes (`TooMany`) and one that is not TOML (`NotToml`) are refused at line 0. Then come three passes,
+/// of which the first one that finds something refuses the file for the least line and on it for the
+/// kind with the least number: one for what is wrong with an entry by itself (`UnknownKey`, `Missing`,
+/// `WrongKind`, `OutOfRange`, `BadShift` and `TooMany`), with the places of all managers that are right
+/// by themselves on line 0; one for names that stand twice (`Duplicate`); and one for names that are not
+/// there (`UnknownName`) and links to the same or an earlier stage (`BackLink`). Where memory lacks
+/// there is neither a setup nor a refusal.
 pub fn read_setup(alloc: Global, bytes: &[u8]) -> Result<Setup, ReadFail>
     ensures value { IfOk result (λ setup. setups_spec.setup_in bytes.now ≡ Ok setup) }
     ensures fault { IfErr result (IsFailure kind.Setup (fault_in bytes.now)) }

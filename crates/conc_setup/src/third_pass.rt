@@ -7,16 +7,16 @@ ghost use Rattle.conc_setup.specs.ThirdPass as spec;
 use crate::raw::{Fault, RawSetup};
 use crate::resolve::{Items, resolve_all};
 use crate::set::resolve_sets;
-use conc_setup_fields::{Counted, first_wrong, goods};
+use conc_setup_fields::{Counted, Judged, first_wrong, goods};
 use conc_types::{Entry, Manager, Name, NoMemory, Program, Seq, SetDef, Setup};
 use std::alloc::Global;
 
 /// The entries of a setup with what they refer to, each with the least kind of what is wrong with it.
 #[derive(Drop)]
 struct Resolved {
-    entries: Seq<Result<Entry, u8>>,
-    managers: Seq<Result<Manager, u8>>,
-    sets: Seq<Result<SetDef, u8>>,
+    entries: Seq<Judged<Entry>>,
+    managers: Seq<Judged<Manager>>,
+    sets: Seq<Judged<SetDef>>,
 }
 
 fn resolve_each(alloc: Global, raw: &RawSetup) -> Result<Resolved, NoMemory>

@@ -4,6 +4,8 @@ use Rattle.std.specs.Str.{chars, is_utf8}
 use Rattle.toml.specs.Data.{Data, item, Members, get_member, array}
 use Rattle.toml.specs.Parse.{parse_document}
 use Rattle.toml.proofs.OnLiterals.{toml_on_literals}
+use Rattle.conc_types.specs.declared.kind.RefusalKind.{RefusalKind}
+use Rattle.conc_types.specs.declared.kind.RefusalKind.TheVariants as refused
 use Rattle.conc_types.specs.declared.item.Reach.{Reach}
 use Rattle.conc_types.specs.declared.item.Reach.TheVariants as reach
 use Rattle.conc_types.specs.declared.item.Scope.{Scope}
@@ -34,13 +36,13 @@ unfoldable forms : Unit {0}
 unfolding manager_in manager_of rule_in rule_of shift_in shift_of days_in program_in program_of job_of filter_in filter_of entry_in entry_of set_in set_of stage_in stage_of list_in array_in read_all only worst goods toml_on_literals chars is_utf8 lib.Utf8.encode civil_of civil_text days_before is_civil is_spelling moment_at moment_of month_lengths seconds_of is_leap
 forms = tt
 
--- the first item of an array of a document, read in a form; where there is none, 0
-abbrev read_first : {A : Type 0} → (Data → Result A ℕ) → Option Data → Result A ℕ
+-- the first item of an array of a document, read in a form; where there is none, `NotToml`
+abbrev read_first : {A : Type 0} → (Data → Result A RefusalKind) → Option Data → Result A RefusalKind
 read_first form (Some (array (item value rest))) = form value
-read_first form _ = Err 0
+read_first form _ = Err refused.NotToml
 
-abbrev first_in : {A : Type 0} → List ℕ → (Data → Result A ℕ) → Option Members → Result A ℕ
-first_in key form None = Err 0
+abbrev first_in : {A : Type 0} → List ℕ → (Data → Result A RefusalKind) → Option Members → Result A RefusalKind
+first_in key form None = Err refused.NotToml
 first_in key form (Some document) = read_first form (get_member key document)
 
 abbrev shift_parts : Shift → Option ℕ × (ℕ × (Option (ℕ × ℕ) × ℕ))
@@ -99,76 +101,76 @@ the_stage = refl
 -- ---- what is refused
 
 -- an unknown key where another one is missing
-unknown_key : first_in (codes "program") program_in (parse_document (codes "[[program]]\nname = \"P\"\nowner = \"x\"\n")) ≡ Err 2
+unknown_key : first_in (codes "program") program_in (parse_document (codes "[[program]]\nname = \"P\"\nowner = \"x\"\n")) ≡ Err refused.UnknownKey
 unfolding forms
 unknown_key = refl
 
 -- a missing key where another one has the wrong type
-missing_key : first_in (codes "program") program_in (parse_document (codes "[[program]]\ntable = 3\n")) ≡ Err 3
+missing_key : first_in (codes "program") program_in (parse_document (codes "[[program]]\ntable = 3\n")) ≡ Err refused.Missing
 unfolding forms
 missing_key = refl
 
 -- a rule that names nothing
-nothing_named : first_in (codes "manager") manager_in (parse_document (codes "[[manager]]\nname = \"M\"\ninclude = [{}]\n")) ≡ Err 3
+nothing_named : first_in (codes "manager") manager_in (parse_document (codes "[[manager]]\nname = \"M\"\ninclude = [{}]\n")) ≡ Err refused.Missing
 unfolding forms
 nothing_named = refl
 
 -- a date without quotes where a name stands, and a number below 0
-wrong_kind : first_in (codes "program") program_in (parse_document (codes "[[program]]\nname = 2025-03-03\ntable = \"t.csv\"\nwarn_over = -1\n")) ≡ Err 4
+wrong_kind : first_in (codes "program") program_in (parse_document (codes "[[program]]\nname = 2025-03-03\ntable = \"t.csv\"\nwarn_over = -1\n")) ≡ Err refused.WrongKind
 unfolding forms
 wrong_kind = refl
 
 -- an empty name
-empty_name : first_in (codes "program") program_in (parse_document (codes "[[program]]\nname = \"\"\ntable = \"t.csv\"\n")) ≡ Err 7
+empty_name : first_in (codes "program") program_in (parse_document (codes "[[program]]\nname = \"\"\ntable = \"t.csv\"\n")) ≡ Err refused.OutOfRange
 unfolding forms
 empty_name = refl
 
 -- a word outside what is listed
-unknown_word : first_in (codes "incompatible") entry_in (parse_document (codes "[[incompatible]]\nprogram = \"P\"\nwith = \"P\"\ntype = \"all\"\n")) ≡ Err 7
+unknown_word : first_in (codes "incompatible") entry_in (parse_document (codes "[[incompatible]]\nprogram = \"P\"\nwith = \"P\"\ntype = \"all\"\n")) ≡ Err refused.OutOfRange
 unfolding forms
 unknown_word = refl
 
 -- 65 places
-many_places : first_in (codes "shift") shift_in (parse_document (codes "shift = [{ places = 65 }]\n")) ≡ Err 7
+many_places : first_in (codes "shift") shift_in (parse_document (codes "shift = [{ places = 65 }]\n")) ≡ Err refused.OutOfRange
 unfolding forms
 many_places = refl
 
 -- a set without a stage
-no_stage : first_in (codes "set") set_in (parse_document (codes "[[set]]\nname = \"S\"\nstage = []\n")) ≡ Err 7
+no_stage : first_in (codes "set") set_in (parse_document (codes "[[set]]\nname = \"S\"\nstage = []\n")) ≡ Err refused.OutOfRange
 unfolding forms
 no_stage = refl
 
 -- a date beside days
-date_and_days : first_in (codes "shift") shift_in (parse_document (codes "shift = [{ date = \"0001-03-01\", days = [\"Mon\"], places = 1 }]\n")) ≡ Err 8
+date_and_days : first_in (codes "shift") shift_in (parse_document (codes "shift = [{ date = \"0001-03-01\", days = [\"Mon\"], places = 1 }]\n")) ≡ Err refused.BadShift
 unfolding forms
 date_and_days = refl
 
 -- a date that the calendar has not
-no_date : first_in (codes "shift") shift_in (parse_document (codes "shift = [{ date = \"0001-02-29\", places = 1 }]\n")) ≡ Err 8
+no_date : first_in (codes "shift") shift_in (parse_document (codes "shift = [{ date = \"0001-02-29\", places = 1 }]\n")) ≡ Err refused.BadShift
 unfolding forms
 no_date = refl
 
 -- no day
-no_days : first_in (codes "shift") shift_in (parse_document (codes "shift = [{ days = [], places = 1 }]\n")) ≡ Err 8
+no_days : first_in (codes "shift") shift_in (parse_document (codes "shift = [{ days = [], places = 1 }]\n")) ≡ Err refused.BadShift
 unfolding forms
 no_days = refl
 
 -- a day twice
-day_twice : first_in (codes "shift") shift_in (parse_document (codes "shift = [{ days = [\"Mon\", \"Tue\", \"Mon\"], places = 1 }]\n")) ≡ Err 8
+day_twice : first_in (codes "shift") shift_in (parse_document (codes "shift = [{ days = [\"Mon\", \"Tue\", \"Mon\"], places = 1 }]\n")) ≡ Err refused.BadShift
 unfolding forms
 day_twice = refl
 
 -- a first time without a last one
-one_time : first_in (codes "shift") shift_in (parse_document (codes "shift = [{ from = \"08:00\", places = 1 }]\n")) ≡ Err 8
+one_time : first_in (codes "shift") shift_in (parse_document (codes "shift = [{ from = \"08:00\", places = 1 }]\n")) ≡ Err refused.BadShift
 unfolding forms
 one_time = refl
 
 -- a first time that is not before the last one
-same_times : first_in (codes "shift") shift_in (parse_document (codes "shift = [{ from = \"08:00\", to = \"08:00\", places = 1 }]\n")) ≡ Err 8
+same_times : first_in (codes "shift") shift_in (parse_document (codes "shift = [{ from = \"08:00\", to = \"08:00\", places = 1 }]\n")) ≡ Err refused.BadShift
 unfolding forms
 same_times = refl
 
 -- 65 members
-many_members : first_in (codes "stage") stage_in (parse_document (codes "stage = [{ name = \"A\", members = [\"P\", \"P\", \"P\", \"P\", \"P\", \"P\", \"P\", \"P\", \"P\", \"P\", \"P\", \"P\", \"P\", \"P\", \"P\", \"P\", \"P\", \"P\", \"P\", \"P\", \"P\", \"P\", \"P\", \"P\", \"P\", \"P\", \"P\", \"P\", \"P\", \"P\", \"P\", \"P\", \"P\", \"P\", \"P\", \"P\", \"P\", \"P\", \"P\", \"P\", \"P\", \"P\", \"P\", \"P\", \"P\", \"P\", \"P\", \"P\", \"P\", \"P\", \"P\", \"P\", \"P\", \"P\", \"P\", \"P\", \"P\", \"P\", \"P\", \"P\", \"P\", \"P\", \"P\", \"P\", \"P\"] }]\n")) ≡ Err 10
+many_members : first_in (codes "stage") stage_in (parse_document (codes "stage = [{ name = \"A\", members = [\"P\", \"P\", \"P\", \"P\", \"P\", \"P\", \"P\", \"P\", \"P\", \"P\", \"P\", \"P\", \"P\", \"P\", \"P\", \"P\", \"P\", \"P\", \"P\", \"P\", \"P\", \"P\", \"P\", \"P\", \"P\", \"P\", \"P\", \"P\", \"P\", \"P\", \"P\", \"P\", \"P\", \"P\", \"P\", \"P\", \"P\", \"P\", \"P\", \"P\", \"P\", \"P\", \"P\", \"P\", \"P\", \"P\", \"P\", \"P\", \"P\", \"P\", \"P\", \"P\", \"P\", \"P\", \"P\", \"P\", \"P\", \"P\", \"P\", \"P\", \"P\", \"P\", \"P\", \"P\", \"P\"] }]\n")) ≡ Err refused.TooMany
 unfolding forms
 many_members = refl

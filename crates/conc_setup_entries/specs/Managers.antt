@@ -2,6 +2,8 @@
 use Rattle.std.specs.Prelude.{ℕ, codes, ◌+◌, nat_le, List, [], ◌∷◌, length, Result}
 use Rattle.toml.specs.Data.{Data, Members, get_member, as_table}
 use Rattle.std.proofs.lemmas.Bool.{leb-true}
+use Rattle.conc_types.specs.declared.kind.RefusalKind.{RefusalKind}
+use Rattle.conc_types.specs.declared.kind.RefusalKind.TheVariants as refused
 use Rattle.conc_types.specs.declared.manager.Shift.{Shift}
 use Rattle.conc_setup_fields.specs.Arrays.{array_in, list_in, no_values}
 use Rattle.conc_setup_fields.specs.Fields.{default, keys_kind, required}
@@ -16,18 +18,18 @@ use Rattle.conc_setup_entries.specs.declared.raw.RawRule.{RawRule}
 abbrev pub manager_keys : List (List ℕ)
 manager_keys = codes "name" ∷ codes "include" ∷ codes "exclude" ∷ codes "shift" ∷ []
 
--- more than 64 rules in all are kind 10
-abbrev pub to_manager : List ℕ × (List RawRule × (List RawRule × Counted Shift 0 64)) → Result RawManager ℕ
+-- more than 64 rules in all are `TooMany`
+abbrev pub to_manager : List ℕ × (List RawRule × (List RawRule × Counted Shift 0 64)) → Result RawManager RefusalKind
 to_manager parts =
     proven (nat_le (length parts.1.0 + length parts.1.1.0) 64)
-    (λ few. record { name = parts.0; include = parts.1.0; exclude = parts.1.1.0; shifts = parts.1.1.1; few_rules = leb-true _ _ few }) 10
+    (λ few. record { name = parts.0; include = parts.1.0; exclude = parts.1.1.0; shifts = parts.1.1.1; few_rules = leb-true _ _ few }) refused.TooMany
 
-unfoldable pub manager_of : Members → Result RawManager ℕ
+unfoldable pub manager_of : Members → Result RawManager RefusalKind
 manager_of table = beside (keys_kind manager_keys table) (judged to_manager (
     both (required name_in (get_member (codes "name") table)) (
     both (default [] (list_in rule_in) (get_member (codes "include") table)) (
     both (default [] (list_in rule_in) (get_member (codes "exclude") table))
     (default (no_values 64) (array_in 0 64 shift_in) (get_member (codes "shift") table))))))
 
-unfoldable pub manager_in : Data → Result RawManager ℕ
-manager_in value = or_kind 4 manager_of (as_table value)
+unfoldable pub manager_in : Data → Result RawManager RefusalKind
+manager_in value = or_kind refused.WrongKind manager_of (as_table value)

@@ -2,6 +2,8 @@
 use Rattle.std.specs.Prelude.{ℕ, codes, if◌then◌else◌, Bool, true, false, List, [], ◌∷◌, Option, Result, Ok, Err}
 use Rattle.std.specs.Str.{bytes_eq}
 use Rattle.toml.specs.Data.{Data, Members, get_member, as_str, as_table}
+use Rattle.conc_types.specs.declared.kind.RefusalKind.{RefusalKind}
+use Rattle.conc_types.specs.declared.kind.RefusalKind.TheVariants as refused
 use Rattle.conc_types.specs.declared.program.Filter.{Filter}
 use Rattle.conc_types.specs.declared.program.Job.{Job}
 use Rattle.conc_types.specs.declared.program.Program.{Program}
@@ -16,17 +18,17 @@ use Rattle.conc_setup_fields.specs.declared.values.ShortText.{ShortText}
 
 -- ---- filters
 
-abbrev pub test_of : List ℕ → Result Test ℕ
+abbrev pub test_of : List ℕ → Result Test RefusalKind
 test_of word =
     if bytes_eq word (codes "is") then Ok test.Is
     else if bytes_eq word (codes "is_not") then Ok test.IsNot
     else if bytes_eq word (codes "starts_with") then Ok test.StartsWith
     else if bytes_eq word (codes "above") then Ok test.Above
     else if bytes_eq word (codes "below") then Ok test.Below
-    else Err 7
+    else Err refused.OutOfRange
 
-abbrev pub test_in : Data → Result Test ℕ
-test_in value = or_kind 4 test_of (as_str value)
+abbrev pub test_in : Data → Result Test RefusalKind
+test_in value = or_kind refused.WrongKind test_of (as_str value)
 
 abbrev pub filter_keys : List (List ℕ)
 filter_keys = codes "column" ∷ codes "test" ∷ codes "value" ∷ []
@@ -37,14 +39,14 @@ FilterParts = List ℕ × (Test × ShortText 200)
 abbrev pub to_filter : FilterParts → Filter
 to_filter parts = record { column = parts.0; test = parts.1.0; value = parts.1.1.text; short = parts.1.1.short }
 
-unfoldable pub filter_of : Members → Result Filter ℕ
+unfoldable pub filter_of : Members → Result Filter RefusalKind
 filter_of table = beside (keys_kind filter_keys table) (good to_filter (
     both (required name_in (get_member (codes "column") table)) (
     both (required test_in (get_member (codes "test") table))
     (required (text_in 200) (get_member (codes "value") table)))))
 
-unfoldable pub filter_in : Data → Result Filter ℕ
-filter_in value = or_kind 4 filter_of (as_table value)
+unfoldable pub filter_in : Data → Result Filter RefusalKind
+filter_in value = or_kind refused.WrongKind filter_of (as_table value)
 
 -- ---- programs
 
@@ -63,7 +65,7 @@ to_job parts = record {
 }
 
 -- what the keys of a program say of its report
-unfoldable pub job_of : Members → Result Job ℕ
+unfoldable pub job_of : Members → Result Job RefusalKind
 job_of table = good to_job (
     both (required name_in (get_member (codes "table") table)) (
     both (default (no_values 16) (array_in 0 16 filter_in) (get_member (codes "filter") table)) (
@@ -91,7 +93,7 @@ to_program parts = record {
   short = parts.1.0.short;
 }
 
-unfoldable pub program_of : Members → Result Program ℕ
+unfoldable pub program_of : Members → Result Program RefusalKind
 program_of table = beside (keys_kind program_keys table) (good to_program (
     both (required name_in (get_member (codes "name") table)) (
     both (default (no_text 80) (text_in 80) (get_member (codes "type") table)) (
@@ -100,5 +102,5 @@ program_of table = beside (keys_kind program_keys table) (good to_program (
     both (default false truth_in (get_member (codes "restart") table))
     (job_of table)))))))
 
-unfoldable pub program_in : Data → Result Program ℕ
-program_in value = or_kind 4 program_of (as_table value)
+unfoldable pub program_in : Data → Result Program RefusalKind
+program_in value = or_kind refused.WrongKind program_of (as_table value)

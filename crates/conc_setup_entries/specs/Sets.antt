@@ -1,6 +1,8 @@
 -- Request sets and their stages, as the tables of a setup file give them.
 use Rattle.std.specs.Prelude.{ℕ, codes, Bool, false, List, [], ◌∷◌, Option, Result}
 use Rattle.toml.specs.Data.{Data, Members, get_member, as_table}
+use Rattle.conc_types.specs.declared.kind.RefusalKind.{RefusalKind}
+use Rattle.conc_types.specs.declared.kind.RefusalKind.TheVariants as refused
 use Rattle.conc_setup_fields.specs.Arrays.{array_in}
 use Rattle.conc_setup_fields.specs.Fields.{default, keys_kind, optional, required}
 use Rattle.conc_setup_fields.specs.Forms.{name_in, truth_in}
@@ -26,7 +28,7 @@ to_stage parts = record {
   members = parts.1.1.1.1.1;
 }
 
-unfoldable pub stage_of : Members → Result RawStage ℕ
+unfoldable pub stage_of : Members → Result RawStage RefusalKind
 stage_of table = beside (keys_kind stage_keys table) (good to_stage (
     both (required name_in (get_member (codes "name") table)) (
     both (default false truth_in (get_member (codes "critical") table)) (
@@ -35,8 +37,8 @@ stage_of table = beside (keys_kind stage_keys table) (good to_stage (
     both (optional name_in (get_member (codes "on_error") table))
     (required (array_in 1 64 name_in) (get_member (codes "members") table))))))))
 
-unfoldable pub stage_in : Data → Result RawStage ℕ
-stage_in value = or_kind 4 stage_of (as_table value)
+unfoldable pub stage_in : Data → Result RawStage RefusalKind
+stage_in value = or_kind refused.WrongKind stage_of (as_table value)
 
 abbrev pub set_keys : List (List ℕ)
 set_keys = codes "name" ∷ codes "stage" ∷ []
@@ -44,10 +46,10 @@ set_keys = codes "name" ∷ codes "stage" ∷ []
 abbrev pub to_set : List ℕ × Counted RawStage 1 64 → RawSet
 to_set parts = record { name = parts.0; stages = parts.1 }
 
-unfoldable pub set_of : Members → Result RawSet ℕ
+unfoldable pub set_of : Members → Result RawSet RefusalKind
 set_of table = beside (keys_kind set_keys table) (good to_set (
     both (required name_in (get_member (codes "name") table))
     (required (array_in 1 64 stage_in) (get_member (codes "stage") table))))
 
-unfoldable pub set_in : Data → Result RawSet ℕ
-set_in value = or_kind 4 set_of (as_table value)
+unfoldable pub set_in : Data → Result RawSet RefusalKind
+set_in value = or_kind refused.WrongKind set_of (as_table value)

@@ -5,12 +5,12 @@ ghost use Rattle.conc_setup_entries.specs.Entries as spec;
 ghost use Rattle.toml.specs.View.{table_view, view};
 
 use crate::RawEntry;
-use conc_setup_fields::{Form, NameForm, beside, both, default, keys_kind, kind, required};
-use conc_types::{Name, NoMemory, Reach, Scope};
+use conc_setup_fields::{Form, Judged, NameForm, beside, both, default, keys_kind, required};
+use conc_types::{Name, NoMemory, Reach, RefusalKind, Scope};
 use std::alloc::Global;
 use toml::{Table, Value};
 
-fn scope_of(word: &str) -> Result<Scope, u8>
+fn scope_of(word: &str) -> Judged<Scope>
     ensures { result ≡ spec.scope_of word.now }
 {
     if word == "program" {
@@ -18,7 +18,7 @@ fn scope_of(word: &str) -> Result<Scope, u8>
     } else if word == "set" {
         Ok(Scope::Set)
     } else {
-        Err(kind::OUT_OF_RANGE)
+        Err(RefusalKind::OutOfRange)
     }
 }
 
@@ -30,15 +30,15 @@ impl Form for ScopeForm {
 
     ghost form = { spec.scope_in };
 
-    fn read(_alloc: Global, value: &Value) -> Result<Result<Scope, u8>, NoMemory> {
+    fn read(_alloc: Global, value: &Value) -> Result<Judged<Scope>, NoMemory> {
         match value.as_str() {
-            None => Ok(Err(kind::WRONG_KIND)),
+            None => Ok(Err(RefusalKind::WrongKind)),
             Some(word) => Ok(scope_of(word)),
         }
     }
 }
 
-fn reach_of(word: &str) -> Result<Reach, u8>
+fn reach_of(word: &str) -> Judged<Reach>
     ensures { result ≡ spec.reach_of word.now }
 {
     if word == "domain" {
@@ -46,7 +46,7 @@ fn reach_of(word: &str) -> Result<Reach, u8>
     } else if word == "global" {
         Ok(Reach::Global)
     } else {
-        Err(kind::OUT_OF_RANGE)
+        Err(RefusalKind::OutOfRange)
     }
 }
 
@@ -58,21 +58,21 @@ impl Form for ReachForm {
 
     ghost form = { spec.reach_in };
 
-    fn read(_alloc: Global, value: &Value) -> Result<Result<Reach, u8>, NoMemory> {
+    fn read(_alloc: Global, value: &Value) -> Result<Judged<Reach>, NoMemory> {
         match value.as_str() {
-            None => Ok(Err(kind::WRONG_KIND)),
+            None => Ok(Err(RefusalKind::WrongKind)),
             Some(word) => Ok(reach_of(word)),
         }
     }
 }
 
-fn entry_keys(table: &Table) -> Option<u8>
+fn entry_keys(table: &Table) -> Option<RefusalKind>
     ensures { result ≡ fields_spec.keys_kind spec.entry_keys (table_view table.now) }
 {
     keys_kind(&["program", "with", "scope", "type"], table)
 }
 
-fn to_entry(parts: Result<(Name, (Name, (Scope, Reach))), u8>) -> Result<RawEntry, u8>
+fn to_entry(parts: Judged<(Name, (Name, (Scope, Reach)))>) -> Judged<RawEntry>
     ensures { result ≡ good spec.to_entry parts }
 {
     match parts {
@@ -87,7 +87,7 @@ fn to_entry(parts: Result<(Name, (Name, (Scope, Reach))), u8>) -> Result<RawEntr
 }
 
 #[tactic(auto, unfolding(crate::specs::Entries::entry_of))]
-fn entry_of(alloc: Global, table: &Table) -> Result<Result<RawEntry, u8>, NoMemory>
+fn entry_of(alloc: Global, table: &Table) -> Result<Judged<RawEntry>, NoMemory>
     ensures { IfOk result (λ r. r ≡ spec.entry_of (table_view table.now)) }
 {
     let owner = required::<NameForm>(alloc, table, "program")?;
@@ -109,9 +109,9 @@ impl Form for EntryForm {
     ghost form = { spec.entry_in };
 
     #[tactic(auto, unfolding(crate::specs::Entries::entry_in))]
-    fn read(alloc: Global, value: &Value) -> Result<Result<RawEntry, u8>, NoMemory> {
+    fn read(alloc: Global, value: &Value) -> Result<Judged<RawEntry>, NoMemory> {
         match value.as_table() {
-            None => Ok(Err(kind::WRONG_KIND)),
+            None => Ok(Err(RefusalKind::WrongKind)),
             Some(table) => entry_of(alloc, table),
         }
     }

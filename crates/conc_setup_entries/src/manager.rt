@@ -8,14 +8,14 @@ use crate::rule::RuleForm;
 use crate::shift::ShiftForm;
 use crate::{RawManager, RawRule};
 use conc_setup_fields::{
-    ArrayForm, Counted, Form, ListForm, NameForm, beside, both, default, keys_kind, kind,
+    ArrayForm, Counted, Form, Judged, ListForm, NameForm, beside, both, default, keys_kind,
     no_values, required,
 };
-use conc_types::{Name, NoMemory, Seq, Shift};
+use conc_types::{Name, NoMemory, RefusalKind, Seq, Shift};
 use std::alloc::Global;
 use toml::{Table, Value};
 
-fn manager_keys(table: &Table) -> Option<u8>
+fn manager_keys(table: &Table) -> Option<RefusalKind>
     ensures { result ≡ fields_spec.keys_kind spec.manager_keys (table_view table.now) }
 {
     keys_kind(&["name", "include", "exclude", "shift"], table)
@@ -26,7 +26,7 @@ fn manager_of_few(
     include: Seq<RawRule>,
     exclude: Seq<RawRule>,
     shifts: Counted<Shift, 0, 64>,
-) -> Result<RawManager, u8>
+) -> Judged<RawManager>
     ensures { result ≡ spec.to_manager (name, (include, (exclude, shifts))) }
 {
     if include.len() + exclude.len() <= 64 {
@@ -37,13 +37,13 @@ fn manager_of_few(
             shifts,
         })
     } else {
-        Err(kind::TOO_MANY)
+        Err(RefusalKind::TooMany)
     }
 }
 
 type ManagerParts = (Name, (Seq<RawRule>, (Seq<RawRule>, Counted<Shift, 0, 64>)));
 
-fn to_manager(parts: Result<ManagerParts, u8>) -> Result<RawManager, u8>
+fn to_manager(parts: Judged<ManagerParts>) -> Judged<RawManager>
     ensures { result ≡ judged spec.to_manager parts }
 {
     match parts {
@@ -53,7 +53,7 @@ fn to_manager(parts: Result<ManagerParts, u8>) -> Result<RawManager, u8>
 }
 
 #[tactic(auto, unfolding(crate::specs::Managers::manager_of))]
-fn manager_of(alloc: Global, table: &Table) -> Result<Result<RawManager, u8>, NoMemory>
+fn manager_of(alloc: Global, table: &Table) -> Result<Judged<RawManager>, NoMemory>
     ensures { IfOk result (λ r. r ≡ spec.manager_of (table_view table.now)) }
 {
     let name = required::<NameForm>(alloc, table, "name")?;
@@ -75,7 +75,7 @@ fn manager_of(alloc: Global, table: &Table) -> Result<Result<RawManager, u8>, No
 }
 
 /// A manager: a table of the array `manager`. More than 64 rules, those that include and those that
-/// exclude together, are `TOO_MANY`, as are more than 64 shifts.
+/// exclude together, are `TooMany`, as are more than 64 shifts.
 pub struct ManagerForm;
 
 impl Form for ManagerForm {
@@ -84,9 +84,9 @@ impl Form for ManagerForm {
     ghost form = { spec.manager_in };
 
     #[tactic(auto, unfolding(crate::specs::Managers::manager_in))]
-    fn read(alloc: Global, value: &Value) -> Result<Result<RawManager, u8>, NoMemory> {
+    fn read(alloc: Global, value: &Value) -> Result<Judged<RawManager>, NoMemory> {
         match value.as_table() {
-            None => Ok(Err(kind::WRONG_KIND)),
+            None => Ok(Err(RefusalKind::WrongKind)),
             Some(table) => manager_of(alloc, table),
         }
     }

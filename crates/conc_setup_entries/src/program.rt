@@ -5,14 +5,14 @@ ghost use Rattle.conc_setup_entries.specs.Programs as spec;
 ghost use Rattle.toml.specs.View.{table_view, view};
 
 use conc_setup_fields::{
-    ArrayForm, Counted, Form, NameForm, ShortText, TextForm, TruthForm, WholeForm, beside, both,
-    default, keys_kind, kind, no_text, no_values, optional, required,
+    ArrayForm, Counted, Form, Judged, NameForm, ShortText, TextForm, TruthForm, WholeForm, beside,
+    both, default, keys_kind, no_text, no_values, optional, required,
 };
-use conc_types::{Filter, Job, Name, NoMemory, Program, Test};
+use conc_types::{Filter, Job, Name, NoMemory, Program, RefusalKind, Test};
 use std::alloc::Global;
 use toml::{Table, Value};
 
-fn test_of(word: &str) -> Result<Test, u8>
+fn test_of(word: &str) -> Judged<Test>
     ensures { result ≡ spec.test_of word.now }
 {
     if word == "is" {
@@ -26,7 +26,7 @@ fn test_of(word: &str) -> Result<Test, u8>
     } else if word == "below" {
         Ok(Test::Below)
     } else {
-        Err(kind::OUT_OF_RANGE)
+        Err(RefusalKind::OutOfRange)
     }
 }
 
@@ -38,15 +38,15 @@ impl Form for TestForm {
 
     ghost form = { spec.test_in };
 
-    fn read(_alloc: Global, value: &Value) -> Result<Result<Test, u8>, NoMemory> {
+    fn read(_alloc: Global, value: &Value) -> Result<Judged<Test>, NoMemory> {
         match value.as_str() {
-            None => Ok(Err(kind::WRONG_KIND)),
+            None => Ok(Err(RefusalKind::WrongKind)),
             Some(word) => Ok(test_of(word)),
         }
     }
 }
 
-fn filter_keys(table: &Table) -> Option<u8>
+fn filter_keys(table: &Table) -> Option<RefusalKind>
     ensures { result ≡ fields_spec.keys_kind spec.filter_keys (table_view table.now) }
 {
     keys_kind(&["column", "test", "value"], table)
@@ -62,7 +62,7 @@ fn filter_with(column: Name, test: Test, value: ShortText<200>) -> Filter
     }
 }
 
-fn to_filter(parts: Result<(Name, (Test, ShortText<200>)), u8>) -> Result<Filter, u8>
+fn to_filter(parts: Judged<(Name, (Test, ShortText<200>))>) -> Judged<Filter>
     ensures { result ≡ good spec.to_filter parts }
 {
     match parts {
@@ -72,7 +72,7 @@ fn to_filter(parts: Result<(Name, (Test, ShortText<200>)), u8>) -> Result<Filter
 }
 
 #[tactic(auto, unfolding(crate::specs::Programs::filter_of))]
-fn filter_of(alloc: Global, table: &Table) -> Result<Result<Filter, u8>, NoMemory>
+fn filter_of(alloc: Global, table: &Table) -> Result<Judged<Filter>, NoMemory>
     ensures { IfOk result (λ r. r ≡ spec.filter_of (table_view table.now)) }
 {
     let column = required::<NameForm>(alloc, table, "column")?;
@@ -91,9 +91,9 @@ impl Form for FilterForm {
     ghost form = { spec.filter_in };
 
     #[tactic(auto, unfolding(crate::specs::Programs::filter_in))]
-    fn read(alloc: Global, value: &Value) -> Result<Result<Filter, u8>, NoMemory> {
+    fn read(alloc: Global, value: &Value) -> Result<Judged<Filter>, NoMemory> {
         match value.as_table() {
-            None => Ok(Err(kind::WRONG_KIND)),
+            None => Ok(Err(RefusalKind::WrongKind)),
             Some(table) => filter_of(alloc, table),
         }
     }
@@ -127,7 +127,7 @@ type JobParts = (
     ),
 );
 
-fn to_job(parts: Result<JobParts, u8>) -> Result<Job, u8>
+fn to_job(parts: Judged<JobParts>) -> Judged<Job>
     ensures { result ≡ good spec.to_job parts }
 {
     match parts {
@@ -139,7 +139,7 @@ fn to_job(parts: Result<JobParts, u8>) -> Result<Job, u8>
 }
 
 #[tactic(auto, unfolding(crate::specs::Programs::job_of))]
-fn job_of(alloc: Global, table: &Table) -> Result<Result<Job, u8>, NoMemory>
+fn job_of(alloc: Global, table: &Table) -> Result<Judged<Job>, NoMemory>
     ensures { IfOk result (λ r. r ≡ spec.job_of (table_view table.now)) }
 {
     let name = required::<NameForm>(alloc, table, "table")?;
@@ -160,7 +160,7 @@ fn job_of(alloc: Global, table: &Table) -> Result<Result<Job, u8>, NoMemory>
     Ok(to_job(parts))
 }
 
-fn program_keys(table: &Table) -> Option<u8>
+fn program_keys(table: &Table) -> Option<RefusalKind>
     ensures { result ≡ fields_spec.keys_kind spec.program_keys (table_view table.now) }
 {
     keys_kind(
@@ -204,7 +204,7 @@ fn program_with(
 
 type ProgramParts = (Name, (ShortText<80>, (bool, (bool, (bool, Job)))));
 
-fn to_program(parts: Result<ProgramParts, u8>) -> Result<Program, u8>
+fn to_program(parts: Judged<ProgramParts>) -> Judged<Program>
     ensures { result ≡ good spec.to_program parts }
 {
     match parts {
@@ -216,7 +216,7 @@ fn to_program(parts: Result<ProgramParts, u8>) -> Result<Program, u8>
 }
 
 #[tactic(auto, unfolding(crate::specs::Programs::program_of))]
-fn program_of(alloc: Global, table: &Table) -> Result<Result<Program, u8>, NoMemory>
+fn program_of(alloc: Global, table: &Table) -> Result<Judged<Program>, NoMemory>
     ensures { IfOk result (λ r. r ≡ spec.program_of (table_view table.now)) }
 {
     let name = required::<NameForm>(alloc, table, "name")?;
@@ -246,9 +246,9 @@ impl Form for ProgramForm {
     ghost form = { spec.program_in };
 
     #[tactic(auto, unfolding(crate::specs::Programs::program_in))]
-    fn read(alloc: Global, value: &Value) -> Result<Result<Program, u8>, NoMemory> {
+    fn read(alloc: Global, value: &Value) -> Result<Judged<Program>, NoMemory> {
         match value.as_table() {
-            None => Ok(Err(kind::WRONG_KIND)),
+            None => Ok(Err(RefusalKind::WrongKind)),
             Some(table) => program_of(alloc, table),
         }
     }

@@ -6,13 +6,13 @@ ghost use Rattle.toml.specs.View.{table_view, view};
 
 use crate::RawRule;
 use conc_setup_fields::{
-    Form, NameForm, ShortText, TextForm, beside, both, keys_kind, kind, optional,
+    Form, Judged, NameForm, ShortText, TextForm, beside, both, keys_kind, optional,
 };
-use conc_types::{Name, NoMemory};
+use conc_types::{Name, NoMemory, RefusalKind};
 use std::alloc::Global;
 use toml::{Table, Value};
 
-fn rule_keys(table: &Table) -> Option<u8>
+fn rule_keys(table: &Table) -> Option<RefusalKind>
     ensures { result ≡ fields_spec.keys_kind spec.rule_keys (table_view table.now) }
 {
     keys_kind(&["program", "type", "user"], table)
@@ -22,7 +22,7 @@ fn rule_that_names(
     program: Option<Name>,
     request_type: Option<ShortText<80>>,
     user: Option<Name>,
-) -> Result<RawRule, u8>
+) -> Judged<RawRule>
     ensures { result ≡ spec.to_rule (program, (request_type, user)) }
 {
     if program.is_some() || (request_type.is_some() || user.is_some()) {
@@ -32,13 +32,13 @@ fn rule_that_names(
             user,
         })
     } else {
-        Err(kind::MISSING)
+        Err(RefusalKind::Missing)
     }
 }
 
 type RuleParts = (Option<Name>, (Option<ShortText<80>>, Option<Name>));
 
-fn to_rule(parts: Result<RuleParts, u8>) -> Result<RawRule, u8>
+fn to_rule(parts: Judged<RuleParts>) -> Judged<RawRule>
     ensures { result ≡ judged spec.to_rule parts }
 {
     match parts {
@@ -48,7 +48,7 @@ fn to_rule(parts: Result<RuleParts, u8>) -> Result<RawRule, u8>
 }
 
 #[tactic(auto, unfolding(crate::specs::Rules::rule_of))]
-fn rule_of(alloc: Global, table: &Table) -> Result<Result<RawRule, u8>, NoMemory>
+fn rule_of(alloc: Global, table: &Table) -> Result<Judged<RawRule>, NoMemory>
     ensures { IfOk result (λ r. r ≡ spec.rule_of (table_view table.now)) }
 {
     let program = optional::<NameForm>(alloc, table, "program")?;
@@ -58,7 +58,7 @@ fn rule_of(alloc: Global, table: &Table) -> Result<Result<RawRule, u8>, NoMemory
     Ok(beside(rule_keys(table), rule))
 }
 
-/// A specialization rule of a manager. One that names nothing is `MISSING`.
+/// A specialization rule of a manager. One that names nothing is `Missing`.
 pub(crate) struct RuleForm;
 
 impl Form for RuleForm {
@@ -67,9 +67,9 @@ impl Form for RuleForm {
     ghost form = { spec.rule_in };
 
     #[tactic(auto, unfolding(crate::specs::Rules::rule_in))]
-    fn read(alloc: Global, value: &Value) -> Result<Result<RawRule, u8>, NoMemory> {
+    fn read(alloc: Global, value: &Value) -> Result<Judged<RawRule>, NoMemory> {
         match value.as_table() {
-            None => Ok(Err(kind::WRONG_KIND)),
+            None => Ok(Err(RefusalKind::WrongKind)),
             Some(table) => rule_of(alloc, table),
         }
     }

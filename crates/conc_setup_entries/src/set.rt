@@ -6,14 +6,14 @@ ghost use Rattle.toml.specs.View.{table_view, view};
 
 use crate::{RawSet, RawStage};
 use conc_setup_fields::{
-    ArrayForm, Counted, Form, NameForm, TruthForm, beside, both, default, keys_kind, kind,
+    ArrayForm, Counted, Form, Judged, NameForm, TruthForm, beside, both, default, keys_kind,
     optional, required,
 };
-use conc_types::{Name, NoMemory};
+use conc_types::{Name, NoMemory, RefusalKind};
 use std::alloc::Global;
 use toml::{Table, Value};
 
-fn stage_keys(table: &Table) -> Option<u8>
+fn stage_keys(table: &Table) -> Option<RefusalKind>
     ensures { result ≡ fields_spec.keys_kind spec.stage_keys (table_view table.now) }
 {
     keys_kind(
@@ -40,7 +40,7 @@ type StageParts = (
     ),
 );
 
-fn to_stage(parts: Result<StageParts, u8>) -> Result<RawStage, u8>
+fn to_stage(parts: Judged<StageParts>) -> Judged<RawStage>
     ensures { result ≡ good spec.to_stage parts }
 {
     match parts {
@@ -57,7 +57,7 @@ fn to_stage(parts: Result<StageParts, u8>) -> Result<RawStage, u8>
 }
 
 #[tactic(auto, unfolding(crate::specs::Sets::stage_of))]
-fn stage_of(alloc: Global, table: &Table) -> Result<Result<RawStage, u8>, NoMemory>
+fn stage_of(alloc: Global, table: &Table) -> Result<Judged<RawStage>, NoMemory>
     ensures { IfOk result (λ r. r ≡ spec.stage_of (table_view table.now)) }
 {
     let name = required::<NameForm>(alloc, table, "name")?;
@@ -82,21 +82,21 @@ impl Form for StageForm {
     ghost form = { spec.stage_in };
 
     #[tactic(auto, unfolding(crate::specs::Sets::stage_in))]
-    fn read(alloc: Global, value: &Value) -> Result<Result<RawStage, u8>, NoMemory> {
+    fn read(alloc: Global, value: &Value) -> Result<Judged<RawStage>, NoMemory> {
         match value.as_table() {
-            None => Ok(Err(kind::WRONG_KIND)),
+            None => Ok(Err(RefusalKind::WrongKind)),
             Some(table) => stage_of(alloc, table),
         }
     }
 }
 
-fn set_keys(table: &Table) -> Option<u8>
+fn set_keys(table: &Table) -> Option<RefusalKind>
     ensures { result ≡ fields_spec.keys_kind spec.set_keys (table_view table.now) }
 {
     keys_kind(&["name", "stage"], table)
 }
 
-fn to_set(parts: Result<(Name, Counted<RawStage, 1, 64>), u8>) -> Result<RawSet, u8>
+fn to_set(parts: Judged<(Name, Counted<RawStage, 1, 64>)>) -> Judged<RawSet>
     ensures { result ≡ good spec.to_set parts }
 {
     match parts {
@@ -106,7 +106,7 @@ fn to_set(parts: Result<(Name, Counted<RawStage, 1, 64>), u8>) -> Result<RawSet,
 }
 
 #[tactic(auto, unfolding(crate::specs::Sets::set_of))]
-fn set_of(alloc: Global, table: &Table) -> Result<Result<RawSet, u8>, NoMemory>
+fn set_of(alloc: Global, table: &Table) -> Result<Judged<RawSet>, NoMemory>
     ensures { IfOk result (λ r. r ≡ spec.set_of (table_view table.now)) }
 {
     let name = required::<NameForm>(alloc, table, "name")?;
@@ -114,8 +114,8 @@ fn set_of(alloc: Global, table: &Table) -> Result<Result<RawSet, u8>, NoMemory>
     Ok(beside(set_keys(table), to_set(both(name, stages))))
 }
 
-/// A request set: a table of the array `set`. No stage is `OUT_OF_RANGE`, as is a stage without a
-/// member, and more than 64 are `TOO_MANY`, as are more than 64 members of a stage.
+/// A request set: a table of the array `set`. No stage is `OutOfRange`, as is a stage without a
+/// member, and more than 64 are `TooMany`, as are more than 64 members of a stage.
 pub struct SetForm;
 
 impl Form for SetForm {
@@ -124,9 +124,9 @@ impl Form for SetForm {
     ghost form = { spec.set_in };
 
     #[tactic(auto, unfolding(crate::specs::Sets::set_in))]
-    fn read(alloc: Global, value: &Value) -> Result<Result<RawSet, u8>, NoMemory> {
+    fn read(alloc: Global, value: &Value) -> Result<Judged<RawSet>, NoMemory> {
         match value.as_table() {
-            None => Ok(Err(kind::WRONG_KIND)),
+            None => Ok(Err(RefusalKind::WrongKind)),
             Some(table) => set_of(alloc, table),
         }
     }

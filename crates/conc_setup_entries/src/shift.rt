@@ -7,27 +7,27 @@ ghost use Rattle.conc_types.specs.Words.{none_or};
 ghost use Rattle.toml.specs.View.{table_view, view};
 
 use crate::shift_values::{DateForm, DaysForm, PlacesForm, TimeForm};
-use conc_setup_fields::{Form, beside, both, default, keys_kind, kind, optional, required};
-use conc_types::{NoMemory, Shift};
+use conc_setup_fields::{Form, Judged, beside, both, default, keys_kind, optional, required};
+use conc_types::{NoMemory, RefusalKind, Shift};
 use std::alloc::Global;
 use toml::{Table, Value};
 
 // One past the last day of the year 9999.
 const DAYS: u32 = 3652059;
 
-fn shift_keys(table: &Table) -> Option<u8>
+fn shift_keys(table: &Table) -> Option<RefusalKind>
     ensures { result ≡ fields_spec.keys_kind spec.shift_keys (table_view table.now) }
 {
     keys_kind(&["date", "days", "from", "to", "places"], table)
 }
 
-fn times_of(from: Option<u32>, to: Option<u32>) -> Result<Option<(u32, u32)>, u8>
+fn times_of(from: Option<u32>, to: Option<u32>) -> Judged<Option<(u32, u32)>>
     ensures { result ≡ spec.times_of from to }
 {
     match (from, to) {
         (None, None) => Ok(None),
         (Some(from), Some(to)) => Ok(Some((from, to))),
-        (None, Some(_)) | (Some(_), None) => Err(kind::BAD_SHIFT),
+        (None, Some(_)) | (Some(_), None) => Err(RefusalKind::BadShift),
     }
 }
 
@@ -51,7 +51,7 @@ fn shift_of_parts(
     days: u8,
     places: u32,
     times: Option<(u32, u32)>,
-) -> Result<Shift, u8>
+) -> Judged<Shift>
     ensures { result ≡ spec.shift_of_parts date days places times }
 {
     if is_shift(date, days, times, places) {
@@ -62,13 +62,13 @@ fn shift_of_parts(
             places,
         })
     } else {
-        Err(kind::BAD_SHIFT)
+        Err(RefusalKind::BadShift)
     }
 }
 
 type ShiftParts = (Option<u32>, (u8, (Option<u32>, (Option<u32>, u32))));
 
-fn to_shift(parts: Result<ShiftParts, u8>) -> Result<Shift, u8>
+fn to_shift(parts: Judged<ShiftParts>) -> Judged<Shift>
     ensures { result ≡ judged spec.to_shift parts }
 {
     let (date, (days, (from, (to, places)))) = parts?;
@@ -77,7 +77,7 @@ fn to_shift(parts: Result<ShiftParts, u8>) -> Result<Shift, u8>
 }
 
 #[tactic(auto, unfolding(crate::specs::Shifts::shift_of))]
-fn shift_of(alloc: Global, table: &Table) -> Result<Result<Shift, u8>, NoMemory>
+fn shift_of(alloc: Global, table: &Table) -> Result<Judged<Shift>, NoMemory>
     ensures { IfOk result (λ r. r ≡ spec.shift_of (table_view table.now)) }
 {
     let date = optional::<DateForm>(alloc, table, "date")?;
@@ -89,7 +89,7 @@ fn shift_of(alloc: Global, table: &Table) -> Result<Result<Shift, u8>, NoMemory>
     Ok(beside(shift_keys(table), shift))
 }
 
-/// A work shift of a manager. A date beside days is `BAD_SHIFT`, as is a first time without a last
+/// A work shift of a manager. A date beside days is `BadShift`, as is a first time without a last
 /// one or not before it.
 pub(crate) struct ShiftForm;
 
@@ -99,9 +99,9 @@ impl Form for ShiftForm {
     ghost form = { spec.shift_in };
 
     #[tactic(auto, unfolding(crate::specs::Shifts::shift_in))]
-    fn read(alloc: Global, value: &Value) -> Result<Result<Shift, u8>, NoMemory> {
+    fn read(alloc: Global, value: &Value) -> Result<Judged<Shift>, NoMemory> {
         match value.as_table() {
-            None => Ok(Err(kind::WRONG_KIND)),
+            None => Ok(Err(RefusalKind::WrongKind)),
             Some(table) => shift_of(alloc, table),
         }
     }

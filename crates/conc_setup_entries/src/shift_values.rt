@@ -4,9 +4,9 @@ ghost use Rattle.conc_setup_entries.specs.Shifts as spec;
 ghost use Rattle.conc_types.specs.Words as words_spec;
 ghost use Rattle.toml.specs.View.{view};
 
-use conc_setup_fields::{Form, ListForm, WholeForm, kind};
+use conc_setup_fields::{Form, Judged, ListForm, WholeForm};
 use conc_time::read_moment;
-use conc_types::{NoMemory, Seq};
+use conc_types::{NoMemory, RefusalKind, Seq};
 use std::alloc::Global;
 use toml::Value;
 
@@ -24,11 +24,11 @@ fn read_day(alloc: Global, bytes: &[u8]) -> Result<Option<u32>, NoMemory>
     }
 }
 
-fn date_of(alloc: Global, bytes: &[u8]) -> Result<Result<u32, u8>, NoMemory>
+fn date_of(alloc: Global, bytes: &[u8]) -> Result<Judged<u32>, NoMemory>
     ensures { IfOk result (λ r. r ≡ spec.date_of bytes.now) }
 {
     match read_day(alloc, bytes)? {
-        None => Ok(Err(kind::BAD_SHIFT)),
+        None => Ok(Err(RefusalKind::BadShift)),
         Some(day) => Ok(Ok(day)),
     }
 }
@@ -41,9 +41,9 @@ impl Form for DateForm {
 
     ghost form = { spec.date_in };
 
-    fn read(alloc: Global, value: &Value) -> Result<Result<u32, u8>, NoMemory> {
+    fn read(alloc: Global, value: &Value) -> Result<Judged<u32>, NoMemory> {
         match value.as_str() {
-            None => Ok(Err(kind::WRONG_KIND)),
+            None => Ok(Err(RefusalKind::WrongKind)),
             Some(text) => date_of(alloc, text.as_bytes()),
         }
     }
@@ -55,7 +55,7 @@ fn is_digit(byte: u8) -> bool
     b'0' <= byte && byte <= b'9'
 }
 
-fn clock_of(a: u8, b: u8, colon: u8, c: u8, d: u8) -> Result<u32, u8>
+fn clock_of(a: u8, b: u8, colon: u8, c: u8, d: u8) -> Judged<u32>
     ensures { result ≡ spec.clock_of a b colon c d }
 {
     if (is_digit(a) && (is_digit(b) && (is_digit(c) && is_digit(d))))
@@ -66,20 +66,20 @@ fn clock_of(a: u8, b: u8, colon: u8, c: u8, d: u8) -> Result<u32, u8>
         if minutes <= 1440 {
             Ok(60 * minutes)
         } else {
-            Err(kind::BAD_SHIFT)
+            Err(RefusalKind::BadShift)
         }
     } else {
-        Err(kind::BAD_SHIFT)
+        Err(RefusalKind::BadShift)
     }
 }
 
-fn time_of(bytes: &[u8]) -> Result<u32, u8>
+fn time_of(bytes: &[u8]) -> Judged<u32>
     ensures { result ≡ spec.time_of bytes.now }
 {
     if bytes.len() == 5 {
         clock_of(bytes[0], bytes[1], bytes[2], bytes[3], bytes[4])
     } else {
-        Err(kind::BAD_SHIFT)
+        Err(RefusalKind::BadShift)
     }
 }
 
@@ -91,15 +91,15 @@ impl Form for TimeForm {
 
     ghost form = { spec.time_in };
 
-    fn read(_alloc: Global, value: &Value) -> Result<Result<u32, u8>, NoMemory> {
+    fn read(_alloc: Global, value: &Value) -> Result<Judged<u32>, NoMemory> {
         match value.as_str() {
-            None => Ok(Err(kind::WRONG_KIND)),
+            None => Ok(Err(RefusalKind::WrongKind)),
             Some(text) => Ok(time_of(text.as_bytes())),
         }
     }
 }
 
-fn day_of(word: &str) -> Result<u8, u8>
+fn day_of(word: &str) -> Judged<u8>
     ensures { result ≡ spec.day_of word.now }
 {
     if word == "Mon" {
@@ -117,7 +117,7 @@ fn day_of(word: &str) -> Result<u8, u8>
     } else if word == "Sun" {
         Ok(6)
     } else {
-        Err(kind::BAD_SHIFT)
+        Err(RefusalKind::BadShift)
     }
 }
 
@@ -129,9 +129,9 @@ impl Form for DayForm {
 
     ghost form = { spec.day_in };
 
-    fn read(_alloc: Global, value: &Value) -> Result<Result<u8, u8>, NoMemory> {
+    fn read(_alloc: Global, value: &Value) -> Result<Judged<u8>, NoMemory> {
         match value.as_str() {
-            None => Ok(Err(kind::WRONG_KIND)),
+            None => Ok(Err(RefusalKind::WrongKind)),
             Some(word) => Ok(day_of(word)),
         }
     }
@@ -169,17 +169,17 @@ fn day_bits(days: &[u8]) -> u8
                     + (day_bit(16, 4, days) + (day_bit(32, 5, days) + day_bit(64, 6, days))))))
 }
 
-fn days_of(days: &[u8]) -> Result<u8, u8>
+fn days_of(days: &[u8]) -> Judged<u8>
     ensures { result ≡ spec.days_of days.now }
 {
     if !days.is_empty() && are_distinct(days) {
         Ok(day_bits(days))
     } else {
-        Err(kind::BAD_SHIFT)
+        Err(RefusalKind::BadShift)
     }
 }
 
-fn to_days(days: Result<Seq<u8>, u8>) -> Result<u8, u8>
+fn to_days(days: Judged<Seq<u8>>) -> Judged<u8>
     ensures { result ≡ judged spec.days_of days }
 {
     match days {
@@ -189,7 +189,7 @@ fn to_days(days: Result<Seq<u8>, u8>) -> Result<u8, u8>
 }
 
 /// Days of the week, of which none stands twice, as one bit for each, the lowest for Monday. No day
-/// is `BAD_SHIFT`, as is a day twice.
+/// is `BadShift`, as is a day twice.
 pub(crate) struct DaysForm;
 
 impl Form for DaysForm {
@@ -198,12 +198,12 @@ impl Form for DaysForm {
     ghost form = { spec.days_in };
 
     #[tactic(auto, unfolding(crate::specs::Shifts::days_in))]
-    fn read(alloc: Global, value: &Value) -> Result<Result<u8, u8>, NoMemory> {
+    fn read(alloc: Global, value: &Value) -> Result<Judged<u8>, NoMemory> {
         Ok(to_days(ListForm::<DayForm>::read(alloc, value)?))
     }
 }
 
-fn places_of(count: Result<u64, u8>) -> Result<u32, u8>
+fn places_of(count: Judged<u64>) -> Judged<u32>
     ensures { result ≡ judged spec.places_of count }
 {
     match count {
@@ -211,7 +211,7 @@ fn places_of(count: Result<u64, u8>) -> Result<u32, u8>
             if count <= 64 {
                 Ok(count as u32)
             } else {
-                Err(kind::OUT_OF_RANGE)
+                Err(RefusalKind::OutOfRange)
             }
         }
         Err(kind) => Err(kind),
@@ -226,7 +226,7 @@ impl Form for PlacesForm {
 
     ghost form = { spec.places_in };
 
-    fn read(alloc: Global, value: &Value) -> Result<Result<u32, u8>, NoMemory> {
+    fn read(alloc: Global, value: &Value) -> Result<Judged<u32>, NoMemory> {
         Ok(places_of(WholeForm::read(alloc, value)?))
     }
 }

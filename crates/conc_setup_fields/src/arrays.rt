@@ -4,17 +4,14 @@ ghost use Rattle.conc_setup_fields.specs.Arrays.{array_in, list_in};
 ghost use Rattle.toml.specs.View.{array_view, view};
 
 use crate::lines::{goods, worst};
-use crate::{Counted, Form, kind};
-use conc_types::{NoMemory, Seq};
+use crate::{Counted, Form, Judged};
+use conc_types::{NoMemory, RefusalKind, Seq};
 use std::alloc::Global;
 use std::marker::PhantomData;
 use toml::Value;
 
 /// What each item of an array is read as, in order.
-pub fn read_all<F: Form>(
-    alloc: Global,
-    items: &Vec<Value>,
-) -> Result<Seq<Result<F::Out, u8>>, NoMemory>
+pub fn read_all<F: Form>(alloc: Global, items: &Vec<Value>) -> Result<Seq<Judged<F::Out>>, NoMemory>
     ensures { IfOk result (λ all. all ≡ spec.read_all F.form (array_view items.now)) }
 {
     let mut all = Vec::new(alloc);
@@ -25,10 +22,7 @@ pub fn read_all<F: Form>(
 }
 
 /// All the values, or the least kind of what is wrong with one of them.
-pub fn all_good<T: Drop>(
-    alloc: Global,
-    all: Seq<Result<T, u8>>,
-) -> Result<Result<Seq<T>, u8>, NoMemory>
+pub fn all_good<T: Drop>(alloc: Global, all: Seq<Judged<T>>) -> Result<Judged<Seq<T>>, NoMemory>
     ensures { IfOk result (λ r. r ≡ spec.all_good all) }
 {
     match worst(all.as_slice()) {
@@ -46,24 +40,24 @@ pub fn no_values<T: Drop, const MOST: usize>(alloc: Global) -> Counted<T, 0, MOS
     }
 }
 
-/// A list of `FEW` to `MOST` values: `OUT_OF_RANGE` for a shorter list, and else `TOO_MANY` for a longer
+/// A list of `FEW` to `MOST` values: `OutOfRange` for a shorter list, and else `TooMany` for a longer
 /// one. It takes no memory.
 pub fn counted<T: Drop, const FEW: usize, const MOST: usize>(
     list: Seq<T>,
-) -> Result<Counted<T, FEW, MOST>, u8>
+) -> Judged<Counted<T, FEW, MOST>>
     ensures { result ≡ spec.counted FEW MOST list }
 {
     let count = list.len();
     if FEW <= count && count <= MOST {
         Ok(Counted { list })
     } else if count < FEW {
-        Err(kind::OUT_OF_RANGE)
+        Err(RefusalKind::OutOfRange)
     } else {
-        Err(kind::TOO_MANY)
+        Err(RefusalKind::TooMany)
     }
 }
 
-fn list_of<F: Form>(alloc: Global, items: &Vec<Value>) -> Result<Result<Seq<F::Out>, u8>, NoMemory>
+fn list_of<F: Form>(alloc: Global, items: &Vec<Value>) -> Result<Judged<Seq<F::Out>>, NoMemory>
     ensures { IfOk result (λ r. r ≡ spec.list_of F.form (array_view items.now)) }
 {
     let all = read_all::<F>(alloc, items)?;
@@ -82,17 +76,17 @@ impl<F: Form> Form for ListForm<F> {
     ghost form = { list_in F.form };
 
     #[tactic(auto, unfolding(crate::specs::Arrays::list_in))]
-    fn read(alloc: Global, value: &Value) -> Result<Result<Seq<F::Out>, u8>, NoMemory> {
+    fn read(alloc: Global, value: &Value) -> Result<Judged<Seq<F::Out>>, NoMemory> {
         match value.as_array() {
-            None => Ok(Err(kind::WRONG_KIND)),
+            None => Ok(Err(RefusalKind::WrongKind)),
             Some(items) => list_of::<F>(alloc, items),
         }
     }
 }
 
 /// An array of `FEW` to `MOST` items of a form, where `FEW` is 0 or 1. What is wrong with it is the
-/// least kind of what is wrong with an item, and only where nothing is, `OUT_OF_RANGE` for too few
-/// items and `TOO_MANY` for too many.
+/// least kind of what is wrong with an item, and only where nothing is, `OutOfRange` for too few
+/// items and `TooMany` for too many.
 pub struct ArrayForm<F, const FEW: usize, const MOST: usize> {
     item: PhantomData<F>,
 }
@@ -103,10 +97,7 @@ impl<F: Form, const FEW: usize, const MOST: usize> Form for ArrayForm<F, FEW, MO
     ghost form = { array_in FEW MOST F.form };
 
     #[tactic(auto, unfolding(crate::specs::Arrays::array_in))]
-    fn read(
-        alloc: Global,
-        value: &Value,
-    ) -> Result<Result<Counted<F::Out, FEW, MOST>, u8>, NoMemory> {
+    fn read(alloc: Global, value: &Value) -> Result<Judged<Counted<F::Out, FEW, MOST>>, NoMemory> {
         match ListForm::<F>::read(alloc, value)? {
             Ok(list) => Ok(counted(list)),
             Err(kind) => Ok(Err(kind)),

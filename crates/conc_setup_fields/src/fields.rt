@@ -3,8 +3,8 @@ ghost use Rattle.conc_setup_fields.specs.Fields as spec;
 ghost use Rattle.toml.specs.Data.{get_member};
 ghost use Rattle.toml.specs.View.{table_view, view};
 
-use crate::{Form, kind};
-use conc_types::NoMemory;
+use crate::{Form, Judged};
+use conc_types::{NoMemory, RefusalKind};
 use std::alloc::Global;
 use toml::{Table, Value};
 
@@ -16,18 +16,18 @@ pub fn field<'a>(table: &'a Table, key: &str) -> Option<&'a Value>
     table.get(key)
 }
 
-/// The value of a key that has to be there: `MISSING` where it is not, and else what the form makes
+/// The value of a key that has to be there: `Missing` where it is not, and else what the form makes
 /// of it.
 pub fn required<F: Form>(
     alloc: Global,
     table: &Table,
     key: &str,
-) -> Result<Result<F::Out, u8>, NoMemory>
+) -> Result<Judged<F::Out>, NoMemory>
     ensures { IfOk result (λ r. r ≡ spec.required F.form
         (get_member key.now (table_view table.now))) }
 {
     match field(table, key) {
-        None => Ok(Err(kind::MISSING)),
+        None => Ok(Err(RefusalKind::Missing)),
         Some(value) => F::read(alloc, value),
     }
 }
@@ -37,7 +37,7 @@ pub fn optional<F: Form>(
     alloc: Global,
     table: &Table,
     key: &str,
-) -> Result<Result<Option<F::Out>, u8>, NoMemory>
+) -> Result<Judged<Option<F::Out>>, NoMemory>
     ensures { IfOk result (λ r. r ≡ spec.optional F.form
         (get_member key.now (table_view table.now))) }
 {
@@ -56,7 +56,7 @@ pub fn default<F: Form>(
     otherwise: F::Out,
     table: &Table,
     key: &str,
-) -> Result<Result<F::Out, u8>, NoMemory>
+) -> Result<Judged<F::Out>, NoMemory>
     ensures { IfOk result (λ r. r ≡ spec.default otherwise F.form
         (get_member key.now (table_view table.now))) }
 {

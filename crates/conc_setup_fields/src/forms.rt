@@ -1,39 +1,40 @@
-ghost use Rattle.std.specs.Prelude.{◌≡◌, IfOk, List, Option, Result, ℕ};
+ghost use Rattle.std.specs.Prelude.{◌≡◌, IfOk, List, Option, Result};
+ghost use Rattle.conc_types.specs.declared.kind.RefusalKind.{RefusalKind};
 ghost use Rattle.conc_setup_fields.specs.Forms as spec;
 ghost use Rattle.conc_setup_fields.specs.Forms.{name_in, text_in, truth_in, whole_in};
 ghost use Rattle.toml.specs.Data.{Data};
 ghost use Rattle.toml.specs.View.{view};
 
-use crate::{ShortText, kind};
-use conc_types::{Name, NoMemory, Seq, is_name, is_text};
+use crate::{Judged, ShortText};
+use conc_types::{Name, NoMemory, RefusalKind, Seq, is_name, is_text};
 use std::alloc::Global;
 use toml::Value;
 
 /// A form that a document's grammar gives for a value: what a value of this form is read as. A value
-/// of another TOML type than the form's is `WRONG_KIND`.
+/// of another TOML type than the form's is `WrongKind`.
 pub trait Form {
     /// What is read.
     type Out: Drop;
 
-    ghost form: { Data → Result Self.Out ℕ };
+    ghost form: { Data → Result Self.Out RefusalKind };
 
     /// What the value is read as, or the least kind of the rules that it breaks. Where memory lacks
     /// there is neither.
-    fn read(alloc: Global, value: &Value) -> Result<Result<Self::Out, u8>, NoMemory>
+    fn read(alloc: Global, value: &Value) -> Result<Judged<Self::Out>, NoMemory>
         ensures { IfOk result (λ r. r ≡ form (view value.now)) };
 }
 
 /// A name: a string of 1 to 80 bytes without control bytes, which are those below 32 and 127. Another
-/// string is `OUT_OF_RANGE`.
+/// string is `OutOfRange`.
 pub struct NameForm;
 
-fn name_of(alloc: Global, bytes: &[u8]) -> Result<Result<Name, u8>, NoMemory>
+fn name_of(alloc: Global, bytes: &[u8]) -> Result<Judged<Name>, NoMemory>
     ensures { IfOk result (λ r. r ≡ spec.name_of bytes.now) }
 {
     if is_name(bytes) {
         Ok(Ok(Name::from_vec(bytes.to_vec(alloc)?)))
     } else {
-        Ok(Err(kind::OUT_OF_RANGE))
+        Ok(Err(RefusalKind::OutOfRange))
     }
 }
 
@@ -42,15 +43,15 @@ impl Form for NameForm {
 
     ghost form = { name_in };
 
-    fn read(alloc: Global, value: &Value) -> Result<Result<Name, u8>, NoMemory> {
+    fn read(alloc: Global, value: &Value) -> Result<Judged<Name>, NoMemory> {
         match value.as_str() {
-            None => Ok(Err(kind::WRONG_KIND)),
+            None => Ok(Err(RefusalKind::WrongKind)),
             Some(text) => name_of(alloc, text.as_bytes()),
         }
     }
 }
 
-/// A string of at most so many bytes without control bytes. Another string is `OUT_OF_RANGE`.
+/// A string of at most so many bytes without control bytes. Another string is `OutOfRange`.
 pub struct TextForm<const MOST: usize>;
 
 /// The text of no bytes. It takes no memory.
@@ -65,14 +66,14 @@ pub fn no_text<const MOST: usize>(alloc: Global) -> ShortText<MOST>
 fn text_of<const MOST: usize>(
     alloc: Global,
     bytes: &[u8],
-) -> Result<Result<ShortText<MOST>, u8>, NoMemory>
+) -> Result<Judged<ShortText<MOST>>, NoMemory>
     ensures { IfOk result (λ r. r ≡ spec.text_of MOST bytes.now) }
 {
     if is_text(MOST, bytes) {
         let text = Seq::from_vec(bytes.to_vec(alloc)?);
         Ok(Ok(ShortText { text }))
     } else {
-        Ok(Err(kind::OUT_OF_RANGE))
+        Ok(Err(RefusalKind::OutOfRange))
     }
 }
 
@@ -81,9 +82,9 @@ impl<const MOST: usize> Form for TextForm<MOST> {
 
     ghost form = { text_in MOST };
 
-    fn read(alloc: Global, value: &Value) -> Result<Result<ShortText<MOST>, u8>, NoMemory> {
+    fn read(alloc: Global, value: &Value) -> Result<Judged<ShortText<MOST>>, NoMemory> {
         match value.as_str() {
-            None => Ok(Err(kind::WRONG_KIND)),
+            None => Ok(Err(RefusalKind::WrongKind)),
             Some(text) => text_of(alloc, text.as_bytes()),
         }
     }
@@ -92,11 +93,11 @@ impl<const MOST: usize> Form for TextForm<MOST> {
 /// A truth value.
 pub struct TruthForm;
 
-fn read_truth(value: &Value) -> Result<bool, u8>
+fn read_truth(value: &Value) -> Judged<bool>
     ensures { result ≡ truth_in (view value.now) }
 {
     match value.as_bool() {
-        None => Err(kind::WRONG_KIND),
+        None => Err(RefusalKind::WrongKind),
         Some(truth) => Ok(truth),
     }
 }
@@ -106,29 +107,29 @@ impl Form for TruthForm {
 
     ghost form = { truth_in };
 
-    fn read(_alloc: Global, value: &Value) -> Result<Result<bool, u8>, NoMemory> {
+    fn read(_alloc: Global, value: &Value) -> Result<Judged<bool>, NoMemory> {
         Ok(read_truth(value))
     }
 }
 
-/// A whole number from 0. A negative one is `OUT_OF_RANGE`.
+/// A whole number from 0. A negative one is `OutOfRange`.
 pub struct WholeForm;
 
-fn whole_of(number: i64) -> Result<u64, u8>
+fn whole_of(number: i64) -> Judged<u64>
     ensures { result ≡ spec.whole_of number }
 {
     if number < 0 {
-        Err(kind::OUT_OF_RANGE)
+        Err(RefusalKind::OutOfRange)
     } else {
         Ok(number as u64)
     }
 }
 
-fn read_whole(value: &Value) -> Result<u64, u8>
+fn read_whole(value: &Value) -> Judged<u64>
     ensures { result ≡ whole_in (view value.now) }
 {
     match value.as_integer() {
-        None => Err(kind::WRONG_KIND),
+        None => Err(RefusalKind::WrongKind),
         Some(number) => whole_of(number),
     }
 }
@@ -138,7 +139,7 @@ impl Form for WholeForm {
 
     ghost form = { whole_in };
 
-    fn read(_alloc: Global, value: &Value) -> Result<Result<u64, u8>, NoMemory> {
+    fn read(_alloc: Global, value: &Value) -> Result<Judged<u64>, NoMemory> {
         Ok(read_whole(value))
     }
 }

@@ -5,7 +5,7 @@ ghost use Rattle.conc_setup_fields.specs.Fields as spec;
 ghost use Rattle.conc_setup_fields.specs.Fields.{only};
 ghost use Rattle.toml.specs.View.{table_view};
 
-use crate::kind;
+use conc_types::RefusalKind;
 use toml::Table;
 
 fn is_same(a: &str, b: &str) -> bool
@@ -39,13 +39,13 @@ fn has_only(keys: &[&str], table: &Table) -> bool
     true
 }
 
-/// What is wrong with the keys of a table: `UNKNOWN_KEY` where it has one that is not among these.
-pub fn keys_kind(keys: &[&str], table: &Table) -> Option<u8>
+/// What is wrong with the keys of a table: `UnknownKey` where it has one that is not among these.
+pub fn keys_kind(keys: &[&str], table: &Table) -> Option<RefusalKind>
     ensures { result ≡ spec.keys_kind (map (λ k. k.now) keys.now) (table_view table.now) }
 {
     if has_only(keys, table) {
         None
     } else {
-        Some(kind::UNKNOWN_KEY)
+        Some(RefusalKind::UnknownKey)
     }
 }

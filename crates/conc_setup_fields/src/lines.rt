@@ -2,21 +2,22 @@ ghost use Rattle.std.specs.Prelude.{◌≡◌, ◌≤◌, ◌+◌, ◌-◌, ◌^
 ghost use Rattle.conc_setup_fields.specs.Faults.{IsFirstWrong};
 ghost use Rattle.conc_setup_fields.specs.Arrays as spec;
 
-use conc_types::{NoMemory, Seq};
+use crate::Judged;
+use conc_types::{NoMemory, RefusalKind, Seq};
 use std::alloc::Global;
 
-fn lesser<T: Drop>(read: &Result<T, u8>, kind: Option<u8>) -> Option<u8>
+fn lesser<T: Drop>(read: &Judged<T>, kind: Option<RefusalKind>) -> Option<RefusalKind>
     ensures { result ≡ spec.lesser read.now kind }
 {
     match (read, kind) {
         (Ok(_), kind) => kind,
         (Err(j), None) => Some(*j),
-        (Err(j), Some(k)) => Some(k.min(*j)),
+        (Err(j), Some(k)) => Some(k.lesser(*j)),
     }
 }
 
 /// The least kind of what is wrong, if anything is.
-pub(crate) fn worst<T: Drop>(all: &[Result<T, u8>]) -> Option<u8>
+pub(crate) fn worst<T: Drop>(all: &[Judged<T>]) -> Option<RefusalKind>
     ensures { result ≡ spec.worst all.now }
 {
     let mut least = None;
@@ -30,7 +31,7 @@ pub(crate) fn worst<T: Drop>(all: &[Result<T, u8>]) -> Option<u8>
 
 /// The values of those with which nothing is wrong, in their order.
 #[tactic(auto, unfolding(crate::specs::Arrays::goods))]
-pub fn goods<T: Drop>(alloc: Global, all: Seq<Result<T, u8>>) -> Result<Seq<T>, NoMemory>
+pub fn goods<T: Drop>(alloc: Global, all: Seq<Judged<T>>) -> Result<Seq<T>, NoMemory>
     ensures { IfOk result (λ values. values ≡ spec.goods all) }
 {
     let mut values = Vec::new(alloc);
@@ -43,7 +44,7 @@ pub fn goods<T: Drop>(alloc: Global, all: Seq<Result<T, u8>>) -> Result<Seq<T>, 
 }
 
 #[tactic(auto, unfolding(crate::specs::Arrays::first_wrong))]
-fn wrong_from<T: Drop>(line: u64, all: &[Result<T, u8>]) -> Option<(u64, u8)>
+fn wrong_from<T: Drop>(line: u64, all: &[Judged<T>]) -> Option<(u64, RefusalKind)>
     requires { line + length all.now ≤ 2 ^ 64 - 1 }
     ensures { result ≡ spec.first_wrong line all.now }
 {
@@ -56,7 +57,7 @@ fn wrong_from<T: Drop>(line: u64, all: &[Result<T, u8>]) -> Option<(u64, u8)>
 
 /// The first with which something is wrong: its line, where the first of all has the line given,
 /// and its kind. None where nothing is wrong with any. It takes no memory.
-pub fn first_wrong<T: Drop>(line: u64, all: &[Result<T, u8>]) -> Option<(u64, u8)>
+pub fn first_wrong<T: Drop>(line: u64, all: &[Judged<T>]) -> Option<(u64, RefusalKind)>
     requires { line + length all.now ≤ 2 ^ 64 - 1 }
     ensures value { result ≡ spec.first_wrong line all.now }
     ensures first { IfSome result (IsFirstWrong line all.now) }

@@ -5,6 +5,8 @@ use Rattle.std.specs.List.{list_all}
 use Rattle.std.specs.Str.{bytes_eq}
 use Rattle.std.proofs.lemmas.Bool.Decides.{nat_tests}
 use Rattle.conc_types.proofs.Pieces.{length-concat}
+use Rattle.conc_types.specs.declared.kind.RefusalKind.{RefusalKind}
+use Rattle.conc_types.specs.declared.kind.RefusalKind.TheVariants as refused
 use Rattle.conc_types.specs.Faults.{Fault, fault_or, first_broken, first_fault}
 use Rattle.conc_types.specs.Pieces.{concat}
 use Rattle.conc_types.specs.Words.{are_distinct, has_length}
@@ -31,12 +33,12 @@ faults-behind width before (row ∷ rows) =
 line-fault : (width line fields : ℕ) → row_fault width line fields ≡ None → (line ≤ 1048577) × ((fields == width) ≡ true)
 line-fault width line fields e = by (nat_lt 1048577 line) (fields == width) refl refl e
   where
-    by : (late even : Bool) → nat_lt 1048577 line ≡ late → (fields == width) ≡ even → first_broken ((late, 33) ∷ (not even, 31) ∷ []) ≡ None → (line ≤ 1048577) × (even ≡ true)
+    by : (late even : Bool) → nat_lt 1048577 line ≡ late → (fields == width) ≡ even → first_broken ((late, refused.TooLarge) ∷ (not even, refused.RaggedRow) ∷ []) ≡ None → (line ≤ 1048577) × (even ≡ true)
     by true even l f q = cc q
     by false true l f q = (grind (arith, nat_tests), refl)
     by false false l f q = cc q
 
-or-none : (line : ℕ) (kind : Option ℕ) (later : Option Fault) → fault_or line kind later ≡ None → (kind ≡ None) × (later ≡ None)
+or-none : (line : ℕ) (kind : Option RefusalKind) (later : Option Fault) → fault_or line kind later ≡ None → (kind ≡ None) × (later ≡ None)
 or-none line None later e = (refl, e)
 or-none line (Some kind) later e = cc e
 
@@ -57,7 +59,7 @@ rows-few width line (row ∷ rows) l e =
     omega arith
 
 -- a file that is too long
-pub fault-long : (bytes : List ℕ) → 67108864 < length bytes → table_fault bytes ≡ Some (0, 33)
+pub fault-long : (bytes : List ℕ) → 67108864 < length bytes → table_fault bytes ≡ Some (0, refused.TooLarge)
 unfolding table_fault
 fault-long bytes long = let e : nat_lt 67108864 (length bytes) ≡ true = grind (arith, nat_tests) in rw e refl
 
@@ -67,12 +69,12 @@ unfolding table_fault
 fault-short bytes short = let e : nat_lt 67108864 (length bytes) ≡ false = grind (arith, nat_tests) in rw e refl
 
 -- one without a record
-pub fault-none : (bytes : List ℕ) → length bytes ≤ 67108864 → records_of bytes ≡ [] → table_fault bytes ≡ Some (1, 30)
+pub fault-none : (bytes : List ℕ) → length bytes ≤ 67108864 → records_of bytes ≡ [] → table_fault bytes ≡ Some (1, refused.NoHeader)
 fault-none bytes short e = fault-short bytes short ∙ rw e refl
 
 -- one in which two columns have one name
 pub fault-doubled : (bytes : List ℕ) (head : Record) (rows : List Record) → length bytes ≤ 67108864 → records_of bytes ≡ head ∷ rows
-    → are_distinct bytes_eq head ≡ false → table_fault bytes ≡ Some (1, 32)
+    → are_distinct bytes_eq head ≡ false → table_fault bytes ≡ Some (1, refused.DuplicateColumn)
 fault-doubled bytes head rows short e d = fault-short bytes short ∙ rw (e, d) refl
 
 -- one with columns

@@ -4,4 +4,4 @@
 mod columns;
 mod reading;
 
-pub use reading::read_table;
+pub use reading::{MOST_ROWS, read_table};

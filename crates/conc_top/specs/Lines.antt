@@ -2,6 +2,7 @@
 use Rattle.std.specs.Prelude.{ℕ, List, [], ◌++◌, codes}
 use Rattle.std.specs.Fmt.{decimal}
 use Rattle.hex.specs.Hex.{encode_lower}
+use Rattle.conc_types.specs.RefusalKinds.{number_of as kind_number}
 use Rattle.conc_run_state.specs.declared.error.DiskName.TheVariants as which
 use Rattle.conc_top.specs.declared.exit.Exit.{Exit}
 use Rattle.conc_top.specs.declared.exit.Exit.TheVariants as exit
@@ -28,7 +29,7 @@ abbrev pub line_of : Exit → List ℕ
 line_of exit.Done = []
 line_of exit.Usage = codes "usage: conc run|plan|check|status|output|make\n"
 line_of (exit.Refused refusal name) =
-    codes "refused: " ++ name ++ codes ": " ++ decimal refusal.line ++ codes ": " ++ decimal refusal.kind ++ codes "\n"
+    codes "refused: " ++ name ++ codes ": " ++ decimal refusal.line ++ codes ": " ++ decimal (kind_number refusal.kind) ++ codes "\n"
 line_of (exit.Absent name) = codes "absent: " ++ name ++ codes "\n"
 line_of (exit.ReadFault name) = codes "read fault: " ++ name ++ codes "\n"
 line_of exit.WriteFault = codes "write fault\n"

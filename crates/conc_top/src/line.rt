@@ -1,6 +1,7 @@
 ghost use Rattle.std.specs.Prelude.{◌≡◌, ◌++◌, IfOk, OnOk, codes};
 ghost use Rattle.std.specs.Fmt.{decimal};
 ghost use Rattle.hex.specs.Hex.{encode_lower};
+ghost use Rattle.conc_types.specs.RefusalKinds.{number_of};
 ghost use Rattle.conc_top.specs.Lines.{line_of};
 
 use crate::Exit;
@@ -25,14 +26,16 @@ fn put_name(out: &mut Vec<u8>, word: &[u8], name: &Name) -> Result<(), NoMemory>
 }
 
 fn put_refusal(out: &mut Vec<u8>, refusal: Refusal, name: &Name) -> Result<(), NoMemory>
-    ensures { OnOk result (out.new.items ≡ out.old.items ++ (codes "refused: " ++ name.now ++ codes ": " ++ decimal refusal.line ++ codes ": " ++ decimal refusal.kind ++ codes "\n")) }
+    ensures { OnOk result (out.new.items ≡ out.old.items ++ (codes "refused: " ++ name.now
+        ++ codes ": " ++ decimal refusal.line ++ codes ": " ++ decimal (number_of refusal.kind)
+        ++ codes "\n")) }
 {
     put(out, b"refused: ")?;
     put(out, name.as_bytes())?;
     put(out, b": ")?;
     put_decimal(out, refusal.line)?;
     put(out, b": ")?;
-    put_decimal(out, u64::from(refusal.kind))?;
+    put_decimal(out, u64::from(refusal.kind.number()))?;
     put(out, b"\n")
 }
 

@@ -1,6 +1,7 @@
 -- Why the bytes that were read are refused: the first rule that is broken.
 use Rattle.std.specs.Prelude.{◌≡◌, ◌⊎◌, ℕ, ◌+◌, nat_lt, if◌then◌else◌, List, length, Option, Some}
 use Rattle.std.specs.List.{sum_by}
+use Rattle.conc_types.specs.declared.kind.RefusalKind.TheVariants as refused
 use Rattle.conc_types.specs.declared.refusal.FileKind.{FileKind}
 use Rattle.conc_types.specs.declared.refusal.FileKind.TheVariants as kind
 use Rattle.conc_types.specs.declared.refusal.Refusal.{Refusal}
@@ -16,7 +17,7 @@ use Rattle.conc_top_inputs.specs.Given.{HasAll, IsNext, Names, Told}
 
 -- the first fault of a table's file, where the tables before it have so many bytes: all together have at most 134,217,728
 abbrev pub fault_of_table : ℕ → List ℕ → Option Fault
-fault_of_table before bytes = if nat_lt 134217728 (before + length bytes) then Some (0, 33) else table_fault bytes
+fault_of_table before bytes = if nat_lt 134217728 (before + length bytes) then Some (0, refused.TooLarge) else table_fault bytes
 
 -- this is the first fault of the bytes of the file that was next
 abbrev pub HasFault : (told : Told) (names : Names) (file : FileKind) (name : List ℕ) → IsNext told names file name → List ℕ → Fault → Type 0

@@ -15,7 +15,7 @@ use conc_outside::{Shelf, ShelfFail};
 use conc_script::{read_clock, read_script};
 use conc_setup::read_setup;
 use conc_tables::read_table;
-use conc_types::{FileKind, Name, ReadFail, Readings, Refusal, Script, Setup, Table};
+use conc_types::{FileKind, Name, ReadFail, Readings, Refusal, RefusalKind, Script, Setup, Table};
 use std::alloc::Global;
 
 // The most bytes that all tables together may have.
@@ -126,7 +126,7 @@ pub(crate) fn judge_table<F: Shelf>(
         return Err(FileFail::Refused(Refusal {
             file: FileKind::Table(number),
             line: 0,
-            kind: 33,
+            kind: RefusalKind::TooLarge,
         }));
     }
     match read_table(alloc, &bytes, number) {

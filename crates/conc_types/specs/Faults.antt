@@ -1,25 +1,26 @@
 -- The first fault of a file.
 use Rattle.std.specs.Prelude.{◌≡◌, ℕ, zero, suc, ◌+◌, Bool, if◌then◌else◌, List, [], ◌∷◌, Option, None, Some}
+use Rattle.conc_types.specs.declared.kind.RefusalKind.{RefusalKind}
 use Rattle.conc_types.specs.declared.refusal.FileKind.{FileKind}
 use Rattle.conc_types.specs.declared.refusal.ReadFail.{ReadFail}
 use Rattle.conc_types.specs.declared.refusal.ReadFail.TheVariants as fail
 
 -- a line, where 0 is the file as a whole, and the kind of the rule that it breaks
 abbrev pub Fault : Type 0
-Fault = ℕ × ℕ
+Fault = ℕ × RefusalKind
 
 -- the kind of the first rule that is broken, of rules that are given with whether they are
-abbrev pub first_broken : List (Bool × ℕ) → Option ℕ
+abbrev pub first_broken : List (Bool × RefusalKind) → Option RefusalKind
 first_broken [] = None
 first_broken (rule ∷ rules) = if rule.0 then Some rule.1 else first_broken rules
 
 -- a line with its kind, if it has one, else what comes later
-abbrev pub fault_or : ℕ → Option ℕ → Option Fault → Option Fault
+abbrev pub fault_or : ℕ → Option RefusalKind → Option Fault → Option Fault
 fault_or line None later = later
 fault_or line (Some kind) later = Some (line, kind)
 
 -- the first of so many lines, from one on, that breaks a rule
-unfoldable pub first_fault : (ℕ → Option ℕ) → ℕ → ℕ → Option Fault
+unfoldable pub first_fault : (ℕ → Option RefusalKind) → ℕ → ℕ → Option Fault
 first_fault kind_at line zero = None
 first_fault kind_at line (suc count) = fault_or line (kind_at line) (first_fault kind_at (line + 1) count)
 

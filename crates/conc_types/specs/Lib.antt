@@ -12,4 +12,5 @@ pub mod Pieces
 pub mod Tables
 pub mod Expansion
 pub mod Plans
+pub mod RefusalKinds
 pub mod Faults

@@ -1,7 +1,7 @@
 ghost use Rattle.std.specs.Prelude.{◌≡◌};
 ghost use Rattle.conc_types.specs.declared.refusal.ReadFail.TheVariants.{NoMemory as out_of_memory, Refused as refused};
 
-use crate::NoMemory;
+use crate::{NoMemory, RefusalKind};
 use std::alloc::{AllocError, AllocFailed};
 use thiserror::Error;
 
@@ -14,13 +14,13 @@ pub enum FileKind {
     Table(u32),
 }
 
-/// Why a file is refused: the number of the rule that it breaks, and the line that breaks it.
+/// Why a file is refused: the kind of the rule that it breaks, and the line that breaks it.
 /// What a line is depends on the file; 0 is the file as a whole.
 #[derive(Clone, Copy, Debug, PartialEq, Eq)]
 pub struct Refusal {
     pub file: FileKind,
     pub line: u64,
-    pub kind: u8,
+    pub kind: RefusalKind,
 }
 
 /// Why a file gives no value.
@@ -33,8 +33,8 @@ pub enum ReadFail {
 }
 
 impl ReadFail {
-    /// The refusal of a file at a line that breaks the rule with this number.
-    pub fn refused(file: FileKind, line: u64, kind: u8) -> Self
+    /// The refusal of a file at a line that breaks a rule of this kind.
+    pub fn refused(file: FileKind, line: u64, kind: RefusalKind) -> Self
         ensures { result ≡ refused (record { file = file; line = line; kind = kind }) }
     {
         ReadFail::Refused(Refusal { file, line, kind })

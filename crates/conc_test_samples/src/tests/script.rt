@@ -2,8 +2,8 @@ use super::expect::{same, same_at};
 use conc_script::{read_clock, read_script};
 use conc_setup::read_setup;
 use conc_types::{
-    Act, FileKind, Item, Moment, NoMemory, Order, ReadFail, Reading, Refusal, RequestId, Script,
-    Setup,
+    Act, FileKind, Item, Moment, NoMemory, Order, ReadFail, Reading, Refusal, RefusalKind,
+    RequestId, Script, Setup,
 };
 use std::alloc::Global;
 use std::process::Abort;
@@ -43,18 +43,26 @@ fn with_header(alloc: Global, records: &[u8]) -> Result<Vec<u8>, NoMemory> {
 }
 
 // Clocks, and the line and the rule for which they are refused.
-static CLOCKS: [(&str, u64, u8); 7] = [
-    ("", 1, 22),
-    ("2025-03-03T09:00:00  !\n", 1, 22),
-    ("2025-03-03T09:00:00!\n", 1, 22),
-    ("2025-03-03T09:00:00\nx\n", 2, 22),
-    ("2025-03-03T09:00:00\n\n2025-03-03T09:00:01\n", 2, 22),
+static CLOCKS: [(&str, u64, RefusalKind); 7] = [
+    ("", 1, RefusalKind::BadField),
+    ("2025-03-03T09:00:00  !\n", 1, RefusalKind::BadField),
+    ("2025-03-03T09:00:00!\n", 1, RefusalKind::BadField),
+    ("2025-03-03T09:00:00\nx\n", 2, RefusalKind::BadField),
+    (
+        "2025-03-03T09:00:00\n\n2025-03-03T09:00:01\n",
+        2,
+        RefusalKind::BadField,
+    ),
     (
         "2025-03-03T09:00:00\n2025-03-03T09:00:01\n2025-03-03T09:00:00\n",
         3,
-        27,
+        RefusalKind::ClockBack,
     ),
-    ("2025-03-03T09:00:01\n2025-03-03T09:00:00 x\n", 2, 22),
+    (
+        "2025-03-03T09:00:01\n2025-03-03T09:00:00 x\n",
+        2,
+        RefusalKind::BadField,
+    ),
 ];
 
 #[test]
@@ -105,63 +113,95 @@ fn reads_clocks(rt: HostRuntime) -> Result<(), Fail> {
 }
 
 // Records behind the header, and the record and the rule for which they are refused.
-static REFUSED: [(&str, u64, u8); 17] = [
-    ("2025-03-03T09:00:00,submit,daily,ann,,,\n", 2, 20),
-    ("2025-03-03,submit,daily,ann,,,,\n", 2, 22),
+static REFUSED: [(&str, u64, RefusalKind); 17] = [
+    (
+        "2025-03-03T09:00:00,submit,daily,ann,,,\n",
+        2,
+        RefusalKind::NotCsv,
+    ),
+    (
+        "2025-03-03,submit,daily,ann,,,,\n",
+        2,
+        RefusalKind::BadField,
+    ),
     (
         "2025-03-03T09:00:01,submit,daily,ann,,,,\n2025-03-03T09:00:00,submit,daily,ann,,,,\n",
         3,
-        25,
+        RefusalKind::MomentBack,
     ),
     (
         "2025-03-03T09:00:01,submit,daily,ann,,,,\n2025-03-03T09:00:00,start,daily,ann,,,,\n",
         3,
-        25,
+        RefusalKind::MomentBack,
     ),
     (
         "2025-03-03T09:00:01,submit,daily,ann,,,,\n2025-03-03,submit,daily,ann,,,,\n",
         3,
-        22,
+        RefusalKind::BadField,
     ),
-    ("2025-03-03T09:00:00,start,daily,ann,,,,\n", 2, 21),
-    ("2025-03-03T09:00:00,submit,weekly,ann,,,,\n", 2, 23),
+    (
+        "2025-03-03T09:00:00,start,daily,ann,,,,\n",
+        2,
+        RefusalKind::UnknownWord,
+    ),
+    (
+        "2025-03-03T09:00:00,submit,weekly,ann,,,,\n",
+        2,
+        RefusalKind::UnknownItem,
+    ),
     (
         "2025-03-03T09:00:00,submit,daily,ann,,,,\n2025-03-03T09:00:00,hold,x,,,,,\n",
         3,
-        22,
+        RefusalKind::BadField,
     ),
     (
         "2025-03-03T09:00:00,submit,daily,ann,,,,\n2025-03-03T09:00:00,hold,0,,,,,\n",
         3,
-        24,
+        RefusalKind::UnknownRequest,
     ),
     (
         "2025-03-03T09:00:00,hold,1,,,,,\n2025-03-03T09:00:00,submit,daily,ann,,,,\n",
         2,
-        24,
+        RefusalKind::UnknownRequest,
     ),
     (
         "2025-03-03T09:00:00,submit,close,ann,,,,\n2025-03-03T09:00:00,hold,4,,,,,\n",
         3,
-        24,
+        RefusalKind::UnknownRequest,
     ),
-    ("2025-03-03T09:00:00,submit,daily,ann,0,,,\n", 2, 22),
-    ("2025-03-03T09:00:00,submit,daily,ann,100,,,\n", 2, 22),
-    ("2025-03-03T09:00:00,submit,daily,ann,,9:00,,\n", 2, 22),
-    ("2025-03-03T09:00:00,submit,daily,,,,,\n", 2, 22),
+    (
+        "2025-03-03T09:00:00,submit,daily,ann,0,,,\n",
+        2,
+        RefusalKind::BadField,
+    ),
+    (
+        "2025-03-03T09:00:00,submit,daily,ann,100,,,\n",
+        2,
+        RefusalKind::BadField,
+    ),
+    (
+        "2025-03-03T09:00:00,submit,daily,ann,,9:00,,\n",
+        2,
+        RefusalKind::BadField,
+    ),
+    (
+        "2025-03-03T09:00:00,submit,daily,,,,,\n",
+        2,
+        RefusalKind::BadField,
+    ),
     (
         "2025-03-03T09:00:00,submit,daily,ann,,,,\n2025-03-03T09:00:00,hold,1,,50,,,\n",
         3,
-        22,
+        RefusalKind::BadField,
     ),
     (
         "2025-03-03T09:00:00,submit,daily,ann,,,,\n2025-03-03T09:00:00,hold,1,,,,,x\n",
         3,
-        22,
+        RefusalKind::BadField,
     ),
 ];
 
-fn refused(line: u64, kind: u8) -> Option<Refusal> {
+fn refused(line: u64, kind: RefusalKind) -> Option<Refusal> {
     let file = FileKind::Script;
     Some(Refusal { file, line, kind })
 }
@@ -175,7 +215,7 @@ fn refusal_of(alloc: Global, records: &[u8], setup: &Setup) -> Result<Option<Ref
 fn refuses<Rt: Abort>(rt: &Rt, alloc: Global, setup: &Setup) -> Result<(), Fail> {
     for text in ["", "At,do,what,user,priority,start,domain,argument\n"] {
         let read = read_script(alloc, text.as_bytes(), setup);
-        same_at(rt, refusal(read), refused(1, 20), text);
+        same_at(rt, refusal(read), refused(1, RefusalKind::NotCsv), text);
     }
     for (records, line, kind) in REFUSED {
         let found = refusal_of(alloc, records.as_bytes(), setup)?;
@@ -186,7 +226,7 @@ fn refuses<Rt: Abort>(rt: &Rt, alloc: Global, setup: &Setup) -> Result<(), Fail>
         b"2025-03-03T09:00:00,submit,daily,ann,,,,\xff\n",
         setup,
     )?;
-    same(rt, found, refused(2, 20));
+    same(rt, found, refused(2, RefusalKind::NotCsv));
     Ok(())
 }
 
@@ -208,7 +248,7 @@ fn with_argument(alloc: Global, length: usize) -> Result<Vec<u8>, Fail> {
 fn bounds_arguments(rt: HostRuntime) -> Result<(), Fail> {
     let alloc = rt.alloc();
     let setup = read_setup(alloc, SETUP.as_bytes())?;
-    for (length, want) in [(200, None), (201, refused(2, 22))] {
+    for (length, want) in [(200, None), (201, refused(2, RefusalKind::BadField))] {
         let records = with_argument(alloc, length)?;
         same_at(&rt, refusal_of(alloc, &records, &setup)?, want, length);
     }

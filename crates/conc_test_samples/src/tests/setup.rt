@@ -1,6 +1,8 @@
 use super::expect::{same, same_at};
 use conc_setup::read_setup;
-use conc_types::{Entry, FileKind, Item, Manager, Reach, ReadFail, Refusal, Scope, SetDef, Setup};
+use conc_types::{
+    Entry, FileKind, Item, Manager, Reach, ReadFail, Refusal, RefusalKind, Scope, SetDef, Setup,
+};
 use std::process::Abort;
 use std::test::Fail;
 
@@ -12,154 +14,170 @@ fn refusal(read: Result<Setup, ReadFail>) -> Option<Refusal> {
 }
 
 // Setup files, each with the line and the kind for which it is refused.
-static REFUSED: [(&str, u64, u8); 30] = [
+static REFUSED: [(&str, u64, RefusalKind); 30] = [
     // A key twice.
-    ("tables = []\ntables = []\n", 0, 1),
+    ("tables = []\ntables = []\n", 0, RefusalKind::NotToml),
     // A key that the top level does not list.
-    ("programs = []\n", 0, 2),
+    ("programs = []\n", 0, RefusalKind::UnknownKey),
     // A program without a table.
-    ("[[program]]\nname = \"P\"\n", 1, 3),
+    ("[[program]]\nname = \"P\"\n", 1, RefusalKind::Missing),
     // A rule that names nothing.
-    ("[[manager]]\nname = \"M\"\ninclude = [{}]\n", 1, 3),
+    (
+        "[[manager]]\nname = \"M\"\ninclude = [{}]\n",
+        1,
+        RefusalKind::Missing,
+    ),
     // A table in the place of an array of tables.
-    ("[program]\nname = \"P\"\n", 0, 4),
+    ("[program]\nname = \"P\"\n", 0, RefusalKind::WrongKind),
     // A number in the place of a table.
-    ("manager = [3]\n", 1, 4),
+    ("manager = [3]\n", 1, RefusalKind::WrongKind),
     // A float in the place of a whole number.
     (
         "[[manager]]\nname = \"M\"\nshift = [{ places = 1.5 }]\n",
         1,
-        4,
+        RefusalKind::WrongKind,
     ),
     // A table twice.
-    ("tables = [\"t.csv\", \"u.csv\", \"t.csv\"]\n", 0, 5),
+    (
+        "tables = [\"t.csv\", \"u.csv\", \"t.csv\"]\n",
+        0,
+        RefusalKind::Duplicate,
+    ),
     // A set with the name of a program.
     (
         "[[program]]\nname = \"P\"\ntable = \"t.csv\"\n\n[[set]]\nname = \"P\"\nstage = [{ name = \"A\", members = [\"P\"] }]\n",
         2,
-        5,
+        RefusalKind::Duplicate,
     ),
     // A manager's name twice.
     (
         "[[manager]]\nname = \"M\"\n\n[[manager]]\nname = \"M\"\n",
         2,
-        5,
+        RefusalKind::Duplicate,
     ),
     // A stage's name twice.
     (
         "[[program]]\nname = \"P\"\ntable = \"t.csv\"\n\n[[set]]\nname = \"S\"\nstage = [{ name = \"A\", members = [\"P\"] }, { name = \"A\", members = [\"P\"] }]\n",
         2,
-        5,
+        RefusalKind::Duplicate,
     ),
     // An incompatibility with what is not there.
     (
         "[[program]]\nname = \"P\"\ntable = \"t.csv\"\n\n[[incompatible]]\nprogram = \"P\"\nwith = \"Q\"\n",
         2,
-        6,
+        RefusalKind::UnknownName,
     ),
     // A rule for a set.
     (
         "[[program]]\nname = \"P\"\ntable = \"t.csv\"\n\n[[manager]]\nname = \"M\"\ninclude = [{ program = \"S\" }]\n\n[[set]]\nname = \"S\"\nstage = [{ name = \"A\", members = [\"P\"] }]\n",
         2,
-        6,
+        RefusalKind::UnknownName,
     ),
     // A member that is a set.
     (
         "[[program]]\nname = \"P\"\ntable = \"t.csv\"\n\n[[set]]\nname = \"S\"\nstage = [{ name = \"A\", members = [\"P\", \"S\"] }]\n",
         2,
-        6,
+        RefusalKind::UnknownName,
     ),
     // A link to a stage that is not there.
     (
         "[[program]]\nname = \"P\"\ntable = \"t.csv\"\n\n[[set]]\nname = \"S\"\nstage = [{ name = \"A\", members = [\"P\"], on_success = \"B\" }]\n",
         2,
-        6,
+        RefusalKind::UnknownName,
     ),
     // 65 places of a shift.
     (
         "[[manager]]\nname = \"M\"\nshift = [{ places = 65 }]\n",
         1,
-        7,
+        RefusalKind::OutOfRange,
     ),
     // A stage without a member.
     (
         "[[set]]\nname = \"S\"\nstage = [{ name = \"A\", members = [] }]\n",
         1,
-        7,
+        RefusalKind::OutOfRange,
     ),
     // A set without a stage.
-    ("[[set]]\nname = \"S\"\nstage = []\n", 1, 7),
+    (
+        "[[set]]\nname = \"S\"\nstage = []\n",
+        1,
+        RefusalKind::OutOfRange,
+    ),
     // A time without the other.
     (
         "[[manager]]\nname = \"M\"\nshift = [{ from = \"08:00\", places = 1 }]\n",
         1,
-        8,
+        RefusalKind::BadShift,
     ),
     // A link to the same stage.
     (
         "[[program]]\nname = \"P\"\ntable = \"t.csv\"\n\n[[set]]\nname = \"S\"\nstage = [{ name = \"A\", members = [\"P\"], on_error = \"A\" }]\n",
         2,
-        9,
+        RefusalKind::BackLink,
     ),
     // A link to an earlier stage.
     (
         "[[program]]\nname = \"P\"\ntable = \"t.csv\"\n\n[[set]]\nname = \"S\"\nstage = [{ name = \"A\", members = [\"P\"] }, { name = \"B\", members = [\"P\"], on_warning = \"A\" }]\n",
         2,
-        9,
+        RefusalKind::BackLink,
     ),
     // 65 places in all, before a fault of a later line.
     (
         "[[manager]]\nname = \"M\"\nshift = [{ places = 64 }]\n\n[[manager]]\nname = \"N\"\n\n[[manager]]\nplace = 1\n",
         0,
-        10,
+        RefusalKind::TooMany,
     ),
     // 17 filters of a program.
     (
         "[[program]]\nname = \"P\"\ntable = \"t.csv\"\n\n[[program]]\nname = \"Q\"\ntable = \"t.csv\"\nfilter = [{ column = \"k\", test = \"is\", value = \"$\" }, { column = \"k\", test = \"is\", value = \"$\" }, { column = \"k\", test = \"is\", value = \"$\" }, { column = \"k\", test = \"is\", value = \"$\" }, { column = \"k\", test = \"is\", value = \"$\" }, { column = \"k\", test = \"is\", value = \"$\" }, { column = \"k\", test = \"is\", value = \"$\" }, { column = \"k\", test = \"is\", value = \"$\" }, { column = \"k\", test = \"is\", value = \"$\" }, { column = \"k\", test = \"is\", value = \"$\" }, { column = \"k\", test = \"is\", value = \"$\" }, { column = \"k\", test = \"is\", value = \"$\" }, { column = \"k\", test = \"is\", value = \"$\" }, { column = \"k\", test = \"is\", value = \"$\" }, { column = \"k\", test = \"is\", value = \"$\" }, { column = \"k\", test = \"is\", value = \"$\" }, { column = \"k\", test = \"is\", value = \"$\" }]\n",
         2,
-        10,
+        RefusalKind::TooMany,
     ),
     // The places of a manager that is refused do not count.
     (
         "[[manager]]\nname = \"M\"\nshift = [{ places = 64 }]\n\n[[manager]]\nname = \"N\"\nplace = 1\n",
         2,
-        2,
+        RefusalKind::UnknownKey,
     ),
     // Two faults on one line: an unknown key where another one is missing.
-    ("[[program]]\nname = \"P\"\ntype = 3\nowner = \"x\"\n", 1, 2),
+    (
+        "[[program]]\nname = \"P\"\ntype = 3\nowner = \"x\"\n",
+        1,
+        RefusalKind::UnknownKey,
+    ),
     // Two faults on one line: a link to the same stage, and a member that is not there.
     (
         "[[set]]\nname = \"S\"\nstage = [{ name = \"A\", members = [\"P\"], on_success = \"A\" }]\n",
         1,
-        6,
+        RefusalKind::UnknownName,
     ),
     // Faults on two lines of one array.
     (
         "[[program]]\nname = \"\"\ntable = \"t.csv\"\n\n[[program]]\nname = \"P\"\n",
         1,
-        7,
+        RefusalKind::OutOfRange,
     ),
     // Faults on the lines of two arrays, the later one of a lesser kind.
     (
         "[[program]]\nname = \"P\"\ntable = \"t.csv\"\n\n[[set]]\nname = \"S\"\nstage = [{ name = \"A\", members = [\"Q\"] }]\n\n[[set]]\nname = \"T\"\nstage = [{ name = \"A\", members = [\"P\"], on_success = \"A\" }]\n",
         2,
-        6,
+        RefusalKind::UnknownName,
     ),
     // A name twice on a later line than a name that is not there.
     (
         "[[program]]\nname = \"P\"\ntable = \"t.csv\"\n\n[[incompatible]]\nprogram = \"P\"\nwith = \"Q\"\n\n[[manager]]\nname = \"M\"\n\n[[manager]]\nname = \"M\"\n",
         4,
-        5,
+        RefusalKind::Duplicate,
     ),
     // An unknown key on a later line than a name twice.
     (
         "[[program]]\nname = \"P\"\ntable = \"t.csv\"\n\n[[program]]\nname = \"P\"\ntable = \"t.csv\"\n\n[[program]]\nname = \"Q\"\ntable = \"t.csv\"\nowner = \"x\"\n",
         3,
-        2,
+        RefusalKind::UnknownKey,
     ),
 ];
 
-fn refused(line: u64, kind: u8) -> Option<Refusal> {
+fn refused(line: u64, kind: RefusalKind) -> Option<Refusal> {
     let file = FileKind::Setup;
     Some(Refusal { file, line, kind })
 }
@@ -171,7 +189,7 @@ fn refuses_setups(rt: HostRuntime) {
         same_at(&rt, refusal(read), refused(line, kind), text);
     }
     let read = read_setup(rt.alloc(), b"tables = [\"\xff\"]\n");
-    same(&rt, refusal(read), refused(0, 1));
+    same(&rt, refusal(read), refused(0, RefusalKind::NotToml));
 }
 
 // A setup of two programs, an incompatibility, a manager and a set.

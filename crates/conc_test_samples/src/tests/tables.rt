@@ -1,6 +1,6 @@
 use super::expect::{same, same_at};
 use conc_tables::read_table;
-use conc_types::{FileKind, ReadFail, Refusal};
+use conc_types::{FileKind, ReadFail, Refusal, RefusalKind};
 use std::alloc::Global;
 use std::test::Fail;
 
@@ -35,17 +35,17 @@ static READ: [(&str, &str); 8] = [
 ];
 
 // Texts, and the record and the rule for which they are refused.
-static REFUSED: [(&str, u64, u8); 7] = [
-    ("", 1, 30),
-    ("\r\n\n", 1, 30),
-    ("k,k\n", 1, 32),
-    ("k,v,k\na\n", 1, 32),
-    ("k,v\na,1\nb\n", 3, 31),
-    ("k,v\na,1,2\nb\n", 2, 31),
-    ("k,v\n\n\"a\nb\",1\n\nb\n", 3, 31),
+static REFUSED: [(&str, u64, RefusalKind); 7] = [
+    ("", 1, RefusalKind::NoHeader),
+    ("\r\n\n", 1, RefusalKind::NoHeader),
+    ("k,k\n", 1, RefusalKind::DuplicateColumn),
+    ("k,v,k\na\n", 1, RefusalKind::DuplicateColumn),
+    ("k,v\na,1\nb\n", 3, RefusalKind::RaggedRow),
+    ("k,v\na,1,2\nb\n", 2, RefusalKind::RaggedRow),
+    ("k,v\n\n\"a\nb\",1\n\nb\n", 3, RefusalKind::RaggedRow),
 ];
 
-fn refused(line: u64, kind: u8) -> Option<ReadFail> {
+fn refused(line: u64, kind: RefusalKind) -> Option<ReadFail> {
     let file = FileKind::Table(7);
     Some(ReadFail::Refused(Refusal { file, line, kind }))
 }
@@ -67,6 +67,6 @@ fn reads_tables(rt: HostRuntime) -> Result<(), Fail> {
 fn refuses_a_file_that_is_too_long(rt: HostRuntime) -> Result<(), Fail> {
     let text = vec![in rt.alloc(); b'k'; 67_108_865]?;
     let read = shown(rt.alloc(), text.as_slice());
-    same(&rt, read.err(), refused(0, 33));
+    same(&rt, read.err(), refused(0, RefusalKind::TooLarge));
     Ok(())
 }

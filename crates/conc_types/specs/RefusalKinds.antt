@@ -1,0 +1,35 @@
+-- The numbers of the kinds of refusals.
+use Rattle.std.specs.Prelude.{ℕ, nat_le, if◌then◌else◌}
+use Rattle.conc_types.specs.declared.kind.RefusalKind.{RefusalKind}
+use Rattle.conc_types.specs.declared.kind.RefusalKind.TheVariants as refused
+
+abbrev pub number_of : RefusalKind → ℕ
+number_of refused.NotToml = 1
+number_of refused.UnknownKey = 2
+number_of refused.Missing = 3
+number_of refused.WrongKind = 4
+number_of refused.Duplicate = 5
+number_of refused.UnknownName = 6
+number_of refused.OutOfRange = 7
+number_of refused.BadShift = 8
+number_of refused.BackLink = 9
+number_of refused.TooMany = 10
+number_of refused.NotCsv = 20
+number_of refused.UnknownWord = 21
+number_of refused.BadField = 22
+number_of refused.UnknownItem = 23
+number_of refused.UnknownRequest = 24
+number_of refused.MomentBack = 25
+number_of refused.TooManyLines = 26
+number_of refused.ClockBack = 27
+number_of refused.NoHeader = 30
+number_of refused.RaggedRow = 31
+number_of refused.DuplicateColumn = 32
+number_of refused.TooLarge = 33
+number_of refused.UnknownTable = 40
+number_of refused.UnknownColumn = 41
+number_of refused.TooManyRequests = 42
+
+-- the one of two kinds that has the lesser number
+abbrev pub lesser_of : RefusalKind → RefusalKind → RefusalKind
+lesser_of kind other = if nat_le (number_of kind) (number_of other) then kind else other
