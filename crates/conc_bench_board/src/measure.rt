@@ -196,10 +196,12 @@ fn run_all<R: Threads + Clock + Sync>(
     let (led, worked) = join(
         rt,
         move || -> Option<Times>
-            requires { IsSync R.row × (plan.now ≡ plan_of board.now) × IsBench (plan_of board.now) × IsFresh board.now 0 lead × CrewFits board.now first }
+            requires { IsSync R.row × (plan.now ≡ plan_of board.now) × IsBench (plan_of board.now)
+                × IsFresh board.now 0 lead × CrewFits board.now first }
         { lead_and_work(rt, board, plan, meeting, &mut lead, first.as_mut_slice()) },
         move || -> Result<Vec<Option<Times>>, AllocError>
-            requires { IsSync R.row × (plan.now ≡ plan_of board.now) × All (CrewFits board.now) others.items }
+            requires { IsSync R.row × (plan.now ≡ plan_of board.now)
+                × All (CrewFits board.now) others.items }
         { work_all(rt, board, plan, meeting, others) },
     );
     Ok(together(led, worked?.as_slice()))

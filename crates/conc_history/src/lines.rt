@@ -8,7 +8,8 @@ use conc_time::put_moment;
 use conc_types::{Event, Extent, Moment, NoMemory, Outcome, PlaceId, Plan, RequestId, put_decimal};
 
 fn put_tick(out: &mut Vec<u8>, moment: Moment) -> Result<(), NoMemory>
-    ensures { OnOk result (out.new.items ≡ out.old.items ++ line_of (codes "tick" ∷ moment_text moment ∷ [])) }
+    ensures { OnOk result (out.new.items ≡ out.old.items
+        ++ line_of (codes "tick" ∷ moment_text moment ∷ [])) }
 {
     put_bytes(out, b"tick ")?;
     put_moment(out, moment)?;
@@ -26,7 +27,8 @@ fn put_numbered(out: &mut Vec<u8>, word: &[u8], n: u32) -> Result<(), NoMemory>
 }
 
 fn put_stage(out: &mut Vec<u8>, set: RequestId, stage: u32) -> Result<(), NoMemory>
-    ensures { OnOk result (out.new.items ≡ out.old.items ++ line_of (codes "stage" ∷ id_word set ∷ decimal stage ∷ [])) }
+    ensures { OnOk result (out.new.items ≡ out.old.items
+        ++ line_of (codes "stage" ∷ id_word set ∷ decimal stage ∷ [])) }
 {
     put_bytes(out, b"stage ")?;
     put_decimal(out, u64::from(set.number))?;
@@ -36,7 +38,8 @@ fn put_stage(out: &mut Vec<u8>, set: RequestId, stage: u32) -> Result<(), NoMemo
 }
 
 fn put_close(out: &mut Vec<u8>, set: RequestId, outcome: Outcome) -> Result<(), NoMemory>
-    ensures { OnOk result (out.new.items ≡ out.old.items ++ line_of (codes "close" ∷ id_word set ∷ outcome_word outcome ∷ [])) }
+    ensures { OnOk result (out.new.items ≡ out.old.items
+        ++ line_of (codes "close" ∷ id_word set ∷ outcome_word outcome ∷ [])) }
 {
     put_bytes(out, b"close ")?;
     put_decimal(out, u64::from(set.number))?;
@@ -51,7 +54,8 @@ fn put_start(
     request: RequestId,
     place: PlaceId,
 ) -> Result<(), NoMemory>
-    ensures { OnOk result (out.new.items ≡ out.old.items ++ line_of (codes "start" ∷ id_word request ∷ place_word plan.now place ∷ [])) }
+    ensures { OnOk result (out.new.items ≡ out.old.items
+        ++ line_of (codes "start" ∷ id_word request ∷ place_word plan.now place ∷ [])) }
 {
     put_bytes(out, b"start ")?;
     put_decimal(out, u64::from(request.number))?;
@@ -62,7 +66,8 @@ fn put_start(
 
 // The line of an end as far as the outcome.
 fn put_outcome(out: &mut Vec<u8>, request: RequestId, outcome: Outcome) -> Result<(), NoMemory>
-    ensures { OnOk result (out.new.items ≡ out.old.items ++ spaced (codes "end" ∷ id_word request ∷ outcome_word outcome ∷ [])) }
+    ensures { OnOk result (out.new.items ≡ out.old.items
+        ++ spaced (codes "end" ∷ id_word request ∷ outcome_word outcome ∷ [])) }
 {
     put_bytes(out, b"end ")?;
     put_decimal(out, u64::from(request.number))?;
@@ -88,7 +93,8 @@ fn put_end(
     outcome: Outcome,
     extent: Option<Extent>,
 ) -> Result<(), NoMemory>
-    ensures { OnOk result (out.new.items ≡ out.old.items ++ line_of (codes "end" ∷ id_word request ∷ outcome_word outcome ∷ extent_words extent)) }
+    ensures { OnOk result (out.new.items ≡ out.old.items
+        ++ line_of (codes "end" ∷ id_word request ∷ outcome_word outcome ∷ extent_words extent)) }
 {
     put_outcome(out, request, outcome)?;
     match extent {

@@ -45,7 +45,8 @@ fn put_sum(out: &mut Vec<u8>, sum: i128) -> Result<(), NoMemory>
 
 // Appends a sum, where the job asks for one.
 fn put_sum_of(out: &mut Vec<u8>, job: &Job, sum: i128) -> Result<(), NoMemory>
-    ensures { OnOk result (out.new.items ≡ out.old.items ++ option_map_or (λ _. codes "," ++ signed_decimal sum) job.now.sum []) }
+    ensures { OnOk result (out.new.items ≡ out.old.items
+        ++ option_map_or (λ _. codes "," ++ signed_decimal sum) job.now.sum []) }
 {
     match &job.sum {
         Some(_) => put_sum(out, sum),
@@ -159,7 +160,8 @@ fn too_long(alloc: Global) -> Result<Made, NoMemory>
 
 fn bad_row(alloc: Global, number: u64) -> Result<Made, NoMemory>
     ensures outcome { IfOk result (λ made. made.outcome ≡ Outcome.Error) }
-    ensures text { IfOk result (λ made. made.text ≡ codes "row " ++ decimal number ++ codes ": not a whole number\n") }
+    ensures text { IfOk result (λ made. made.text ≡ codes "row " ++ decimal number
+        ++ codes ": not a whole number\n") }
 {
     let mut text = b"row ".to_vec(alloc)?;
     put_decimal(&mut text, number)?;

@@ -41,7 +41,8 @@ fn put_refusal(out: &mut Vec<u8>, refusal: Refusal, name: &Name) -> Result<(), N
 
 // A line of a word and a number.
 fn put_number(out: &mut Vec<u8>, word: &[u8], number: u64) -> Result<(), NoMemory>
-    ensures { OnOk result (out.new.items ≡ out.old.items ++ (word.now ++ decimal number ++ codes "\n")) }
+    ensures { OnOk result (out.new.items ≡ out.old.items
+        ++ (word.now ++ decimal number ++ codes "\n")) }
 {
     put(out, word)?;
     put_decimal(out, number)?;
@@ -55,7 +56,9 @@ fn put_digests(
     found: &[u8; 32],
     given: &[u8; 32],
 ) -> Result<(), NoMemory>
-    ensures { OnOk result (out.new.items ≡ out.old.items ++ (codes "other input: " ++ encode_lower found.now ++ codes " " ++ encode_lower given.now ++ codes "\n")) }
+    ensures { OnOk result (out.new.items ≡ out.old.items
+        ++ (codes "other input: " ++ encode_lower found.now ++ codes " " ++ encode_lower given.now
+        ++ codes "\n")) }
 {
     put(out, b"other input: ")?;
     put(out, hex::encode(alloc, *found)?.as_bytes())?;
@@ -65,7 +68,8 @@ fn put_digests(
 }
 
 fn put_full(out: &mut Vec<u8>, len: u64, need: u64) -> Result<(), NoMemory>
-    ensures { OnOk result (out.new.items ≡ out.old.items ++ (codes "journal full: " ++ decimal len ++ codes " " ++ decimal need ++ codes "\n")) }
+    ensures { OnOk result (out.new.items ≡ out.old.items
+        ++ (codes "journal full: " ++ decimal len ++ codes " " ++ decimal need ++ codes "\n")) }
 {
     put(out, b"journal full: ")?;
     put_decimal(out, len)?;
