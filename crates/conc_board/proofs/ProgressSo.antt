@@ -11,7 +11,7 @@ use Rattle.conc_board_seats.specs.Words.{IsPlace, claimed, done, idle, place_in,
 use Rattle.conc_board.specs.declared.lead.Progress.{Progress}
 use Rattle.conc_board.specs.declared.lead.Progress.TheVariants as progress
 use Rattle.conc_board.specs.Answers.{ProgressBy}
-use Rattle.conc_board.specs.Looks.{HasProgress}
+use Rattle.conc_board.specs.Looks.{HasProgress, LooksOn}
 
 -- what was found fits the stage before the load too
 pub fits_before : (st : Stage) (n : ℕ) → LookFits (looked st n) n → WordFits st n
@@ -25,6 +25,19 @@ fits_before (Seen p) n fits = fits
 fits_before (Gone p m) n fits = fits
 fits_before (Got p m) n fits = fits
 fits_before (Done m) n fits = fits
+
+-- the stage stays, or the claim is seen
+pub looks_on : (st : Stage) (n : ℕ) → LooksOn st (looked st n)
+looks_on NotLet n = refl
+looks_on Let n = go (n / 256 == 1)
+  where
+    go : (b : Bool) → LooksOn Let (if b then Seen (place_in 256 n) else Let)
+    go true = inr (place_in 256 n, refl)
+    go false = inl refl
+looks_on (Seen p) n = refl
+looks_on (Gone p m) n = refl
+looks_on (Got p m) n = refl
+looks_on (Done m) n = refl
 
 module _ (plan : Plan) (few : count_of_places plan ≤ 64) (n : ℕ) where
   let_so : (answer : Progress) (p : PlaceId) → (n ≡ released) ⊎ (IsPlace plan p × (n ≡ claimed p)) → ProgressBy answer n → (st : Stage) → IsLet st → HasProgress answer st
@@ -59,17 +72,16 @@ module _ (plan : Plan) (few : count_of_places plan ≤ 64) (n : ℕ) where
   done_so progress.Done m e by = (m, refl)
 
   let_or_seen : (b : Bool) → HasPlace (Some plan) (if b then Seen (place_in 256 n) else Let) → LookFits (if b then Seen (place_in 256 n) else Let) n
-      → (answer : Progress) → ProgressBy answer n → HasProgress answer Let × HasProgress answer (if b then Seen (place_in 256 n) else Let)
-  let_or_seen true near fits answer by =
-      let is = inr (near, fits) in (let_so answer (place_in 256 n) is by Let tt, let_so answer (place_in 256 n) is by (Seen (place_in 256 n)) tt)
-  let_or_seen false near fits answer by = let so = let_so answer (place_in 256 n) (inl fits) by Let tt in (so, so)
+      → (answer : Progress) → ProgressBy answer n → HasProgress answer Let
+  let_or_seen true near fits answer by = let_so answer (place_in 256 n) (inr (near, fits)) by Let tt
+  let_or_seen false near fits answer by = let_so answer (place_in 256 n) (inl fits) by Let tt
 
-  -- the answer tells how far the request had come, and has come then
+  -- the answer tells how far the request had come
   pub progress_so : (answer : Progress) (st : Stage) → IsSettled st → HasPlace (Some plan) (looked st n) → LookFits (looked st n) n → ProgressBy answer n
-      → HasProgress answer st × HasProgress answer (looked st n)
-  progress_so answer NotLet calm near fits by = let so = idle_so answer fits by in (so, so)
+      → HasProgress answer st
+  progress_so answer NotLet calm near fits by = idle_so answer fits by
   progress_so answer Let calm near fits by = let_or_seen (n / 256 == 1) near fits answer by
-  progress_so answer (Seen p) calm near fits by = let so = let_so answer p (inr (near, fits)) by (Seen p) tt in (so, so)
-  progress_so answer (Gone p m) calm near fits by = let so = gone_so answer p m near fits by in (so, so)
+  progress_so answer (Seen p) calm near fits by = let_so answer p (inr (near, fits)) by (Seen p) tt
+  progress_so answer (Gone p m) calm near fits by = gone_so answer p m near fits by
   progress_so answer (Got p m) calm near fits by = absurd calm
-  progress_so answer (Done m) calm near fits by = let so = done_so answer m fits by in (so, so)
+  progress_so answer (Done m) calm near fits by = done_so answer m fits by

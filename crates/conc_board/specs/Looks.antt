@@ -1,5 +1,6 @@
 -- What a look at a request answers.
 use Rattle.std.specs.Prelude.{◌≡◌, ◌⊎◌, ℕ, Bool}
+use Rattle.conc_types.specs.declared.event.PlaceId.{PlaceId}
 use Rattle.conc_types.specs.declared.event.RequestId.{RequestId}
 use Rattle.conc_types.specs.declared.plan.Plan.{Plan}
 use Rattle.conc_board_seats.specs.declared.views.Stage.{Stage}
@@ -39,3 +40,8 @@ HasProgress progress.NotLet stage = stage ≡ NotLet
 HasProgress progress.Let stage = IsLet stage
 HasProgress progress.Gone stage = IsGone stage
 HasProgress progress.Done stage = (marked : Bool) × (stage ≡ Done marked)
+
+-- a load of the word leaves the stage, or sees the claim of a request that is let out
+abbrev pub LooksOn : Stage → Stage → Type 0
+LooksOn Let new = (new ≡ Let) ⊎ ((p : PlaceId) × (new ≡ Seen p))
+LooksOn old new = new ≡ old

@@ -56,7 +56,7 @@ impl Board {
     ghost use Rattle.conc_board_seats.specs.Words as spec;
     ghost use Rattle.conc_board_seats.specs.Words.{end_word, IsPlace, IsRequest, place_word};
     ghost use Rattle.conc_board_seats.specs.declared.views.Stage.TheVariants as stage;
-    ghost use Rattle.conc_board.specs.Looks.{HasProgress, SeesStage, Shows};
+    ghost use Rattle.conc_board.specs.Looks.{HasProgress, LooksOn, SeesStage, Shows};
     ghost use Rattle.conc_board.specs.Seats.{Changes, FindsFitting, IsApart, IsFlag, IsLeadOf, IsLeftFor, KeepsStages, LeadFinds, plan_of, stage_of};
     ghost use Rattle.conc_board.specs.Stops.{Collects, FindsRunning, Stops as StopsAs, StopsAt};
 
@@ -99,8 +99,8 @@ impl Board {
         requires lead { IsLeadOf self.now lead.old }
         requires request { IsRequest (plan_of self.now) r }
         ensures lead { Changes self.now r lead.old lead.new }
-        ensures before { HasProgress result (stage_of lead.old r) }
-        ensures after { HasProgress result (stage_of lead.new r) }
+        ensures progress { HasProgress result (stage_of lead.old r) }
+        ensures stage { LooksOn (stage_of lead.old r) (stage_of lead.new r) }
         ensures found { FindsFitting r lead.old lead.new }
     {
         let word = self

@@ -5,11 +5,11 @@ use Rattle.conc_board_seats.specs.declared.views.View.{View}
 use Rattle.conc_board_seats.specs.Stages.{WordFits, looked}
 use Rattle.conc_board_seats.specs.Steps.{HasPlace, LookFits, with_stage}
 use Rattle.conc_board_seats.proofs.LeadSteps.{looks}
-use Rattle.conc_board.specs.Looks.{HasProgress}
+use Rattle.conc_board.specs.Looks.{LooksOn}
 use Rattle.conc_board.specs.Seats.{plan_of, stage_of}
 use Rattle.conc_board.proofs.Leads.{adds_one, changes, new_stage, stage_there}
 use Rattle.conc_board.proofs.LookedSo.{looked_goes_on, looked_settled}
-use Rattle.conc_board.proofs.ProgressSo.{fits_before, progress_so}
+use Rattle.conc_board.proofs.ProgressSo.{fits_before, looks_on, progress_so}
 use Rattle.conc_board.proofs.board.Board.progress.Goals as goal
 
 pub load-word-requires : goal.load-word-requires
@@ -30,28 +30,24 @@ fits c =
     let there = stage_there c.args.lead.now.seat.me.0.stages c.args.r c.request_word.result c.request_word.ensures c.requires.request.from_one in
     subst (λ (z : Stage). LookFits (looked z c.load-word.result) c.load-word.result) there c.load-word.ensures.2.3
 
-so : (c : goal.After-progress_by) → HasProgress c.progress_by.result (stage_of c.args.lead.now c.args.r)
-    × HasProgress c.progress_by.result (looked (stage_of c.args.lead.now c.args.r) c.load-word.result)
-so c =
-    let there = stage_there c.args.lead.now.seat.me.0.stages c.args.r c.request_word.result c.request_word.ensures c.requires.request.from_one in
-    let b = c.args.self.now in let n = c.load-word.result in
-    progress_so (plan_of b) (omega (arith, b.few_places, b.place_count)) n c.progress_by.result (stage_of c.args.lead.now c.args.r) (c.requires.lead.settled c.args.r)
-    (subst (λ (z : Option Plan × Stage). HasPlace z.0 (looked z.1 n)) (λ i. (c.requires.lead.plan i, there i)) c.load-word.ensures.2.2) (fits c) c.progress_by.ensures
-
 pub returns-clause-lead : goal.returns-clause-lead
 returns-clause-lead c =
     let n = c.load-word.result in let st = stage_of c.args.lead.now c.args.r in
     changes _ _ _ _ c.request_word.result (looked st n) n c.requires.lead c.requires.request c.request_word.ensures c.load-word.ensures.0 (loaded c)
     (looked_goes_on st n) (looked_settled st n (c.requires.lead.settled c.args.r))
 
-pub returns-clause-before : goal.returns-clause-before
-returns-clause-before c = (so c).0
+pub returns-clause-progress : goal.returns-clause-progress
+returns-clause-progress c =
+    let there = stage_there c.args.lead.now.seat.me.0.stages c.args.r c.request_word.result c.request_word.ensures c.requires.request.from_one in
+    let b = c.args.self.now in let n = c.load-word.result in
+    progress_so (plan_of b) (omega (arith, b.few_places, b.place_count)) n c.progress_by.result (stage_of c.args.lead.now c.args.r) (c.requires.lead.settled c.args.r)
+    (subst (λ (z : Option Plan × Stage). HasPlace z.0 (looked z.1 n)) (λ i. (c.requires.lead.plan i, there i)) c.load-word.ensures.2.2) (fits c) c.progress_by.ensures
 
-pub returns-clause-after : goal.returns-clause-after
-returns-clause-after c =
+pub returns-clause-stage : goal.returns-clause-stage
+returns-clause-stage c =
     let n = c.load-word.result in
     let now = new_stage (plan_of c.args.self.now) c.args.r _ _ c.request_word.result (looked (stage_of c.args.lead.now c.args.r) n) n c.requires.lead.stages c.requires.request c.request_word.ensures (loaded c) in
-    subst (HasProgress c.progress_by.result) (sym now) (so c).1
+    subst (LooksOn (stage_of c.args.lead.now c.args.r)) (sym now) (looks_on (stage_of c.args.lead.now c.args.r) n)
 
 pub returns-clause-found : goal.returns-clause-found
 returns-clause-found c =
