@@ -2,6 +2,7 @@
 use Rattle.std.specs.Prelude.{◌≡◌, ℕ, zero, suc, ◌+◌, ◌*◌, Bool, ◌&&◌, ◌||◌, not, ◌==◌, nat_le, if◌then◌else◌, List, [], ◌∷◌, ◌++◌, codes, length, take, drop, slice_index, Option, None, Some, IsTrue}
 use Rattle.std.specs.Str.{bytes_eq}
 use Rattle.conc_types.specs.declared.event.Event.{Event}
+use Rattle.conc_journal_image.specs.declared.found.TheConstants.{MOST_RECORDS}
 use Rattle.conc_journal_image.specs.Fields.{are_zero, event_in}
 
 -- ---- the header
@@ -55,13 +56,9 @@ found_from (suc more) number bytes =
     if is_closed bytes then ends_here
     else found_with number (whole_record bytes) (found_from more (number + 1) (drop 32 bytes))
 
--- a journal has at most so many records
-abbrev pub most_records : ℕ
-most_records = 1048576
-
--- what is found behind the header
+-- what is found behind the header, where a journal has at most so many records
 unfoldable pub found_in : List ℕ → Found
-found_in image = found_from most_records 1 (drop 64 image)
+found_in image = found_from MOST_RECORDS 1 (drop 64 image)
 
 -- ---- journals
 

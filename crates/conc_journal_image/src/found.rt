@@ -46,7 +46,7 @@ fn next_record(bytes: &[u8]) -> Option<(Event, &[u8])>
 pub fn read_records(alloc: Global, image: &[u8]) -> Result<Found, NoMemory>
     ensures events { IfOk result (λ found. found.events.items ≡ (found_in image.now).events) }
     ensures broken { IfOk result (λ found. found.broken ≡ (found_in image.now).broken) }
-    ensures few { IfOk result (λ found. length found.events.items ≤ 1048576) }
+    ensures few { IfOk result (λ found. length found.events.items ≤ MOST_RECORDS) }
 {
     let mut rest = records(image);
     let most = MOST_RECORDS.min((rest.len() / 32) as u64);

@@ -5,7 +5,7 @@ ghost use Rattle.conc_journal_image.specs.Fields.{event_in, has_record};
 ghost use Rattle.conc_journal_image.specs.Headers.{BeginsJournal};
 ghost use Rattle.conc_journal_image.specs.Image.{digest_in, found_in, has_header, HasNext, IsJournal, is_not_begun};
 
-use crate::found::MOST_BYTES;
+use crate::found::{MOST_BYTES, MOST_RECORDS};
 
 // ---- records
 
@@ -40,7 +40,7 @@ pub fn journal_is_long_enough()
     ensures bytes { (digest image : List ℕ) (events : List Event) → IsJournal digest events image →
         64 + 32 * length events + 1 ≤ length image }
     ensures events { (digest image : List ℕ) (events : List Event) → IsJournal digest events image
-        → length events ≤ 1048576 }
+        → length events ≤ MOST_RECORDS }
 {}
 
 // ---- stops
@@ -69,13 +69,13 @@ pub fn journal_stays()
 /// gate is. With the gate open it has the next one.
 pub fn gate_adds()
     ensures either { (digest old new : List ℕ) (events : List Event) (e : Event) →
-        IsJournal digest events old → length events < 1048576 → HasNext events e old →
+        IsJournal digest events old → length events < MOST_RECORDS → HasNext events e old →
         take (64 + 32 * length events) new ≡ take (64 + 32 * length events) old →
         drop (64 + 32 * length events + 1) new ≡ drop (64 + 32 * length events + 1) old
         → length old ≤ length new →
         IsJournal digest events new ⊎ IsJournal digest (events ++ e ∷ []) new }
     ensures opened { (digest old new : List ℕ) (events : List Event) (e : Event) →
-        IsJournal digest events old → length events < 1048576 → HasNext events e old →
+        IsJournal digest events old → length events < MOST_RECORDS → HasNext events e old →
         take (64 + 32 * length events) new ≡ take (64 + 32 * length events) old →
         drop (64 + 32 * length events + 1) new ≡ drop (64 + 32 * length events + 1) old →
         slice_index new (64 + 32 * length events) ≢ 0 → IsJournal digest (events ++ e ∷ []) new }

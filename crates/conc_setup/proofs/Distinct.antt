@@ -41,7 +41,7 @@ pub again-distinct : (line : ℕ) (before names : List (List ℕ)) → first_aga
 unfolding first_again
 again-distinct line before [] e h = simp append-nil h
 again-distinct line before (name ∷ names) e h =
-    let p = unless_again (is_among before name) (line, 5) (first_again (line + 1) (before ++ name ∷ []) names) e in
+    let p = unless_again (is_among before name) _ (first_again (line + 1) (before ++ name ∷ []) names) e in
     let later : are_distinct bytes_eq ((before ++ name ∷ []) ++ names) ≡ true = again-distinct (line + 1) (before ++ name ∷ []) names p.1 (distinct_push before name h p.0) in
     rw append_assoc at later
 
@@ -50,7 +50,7 @@ unless_twice true fault e = refl
 unless_twice false fault e = absurd (cc)
 
 pub tables-distinct : (tables : List (List ℕ)) → table_again tables ≡ None → are_distinct bytes_eq tables ≡ true
-tables-distinct tables e = unless_twice (are_distinct bytes_eq tables) (0, 5) e
+tables-distinct tables e = unless_twice (are_distinct bytes_eq tables) _ e
 
 not_again : (a b c : Bool) → (a || (b || not c)) ≡ false → ((a || b) ≡ false) × (c ≡ true)
 not_again false false true e = (refl, refl)
@@ -67,7 +67,7 @@ pub sets-distinct : (line : ℕ) (programs before : List (List ℕ)) (sets : Lis
 unfolding first_set_again
 sets-distinct line programs before [] e h = (simp append-nil h, refl)
 sets-distinct line programs before (set ∷ sets) e h =
-    let p = unless_again (is_again programs before set) (line, 5) (first_set_again (line + 1) programs (before ++ set.name ∷ []) sets) e in
+    let p = unless_again (is_again programs before set) _ (first_set_again (line + 1) programs (before ++ set.name ∷ []) sets) e in
     let q = not_again (is_among programs set.name) (is_among before set.name) (has_distinct_stages set) p.0 in
     let more : are_distinct bytes_eq (programs ++ (before ++ set.name ∷ [])) ≡ true =
     rw append_assoc at (distinct_push (programs ++ before) set.name h (among-append programs before set.name ∙ q.0)) in

@@ -1,5 +1,5 @@
 -- The limits of what is read hold of what is right among it.
-use Rattle.std.proofs.Common.{◌≤◌, ℕ, List, [], ◌∷◌, length, Result, Ok, Err, arith}
+use Rattle.std.proofs.Common.{◌≤◌, List, [], ◌∷◌, length, Result, Ok, Err, arith}
 use Rattle.conc_types.specs.declared.kind.RefusalKind.{RefusalKind}
 use Rattle.conc_setup_fields.specs.Arrays.{goods}
 use Rattle.conc_setup.specs.FirstPass.{IsFew, accepted}

@@ -154,6 +154,13 @@ pub manager-resolved : (programs : List Program) (raw : RawManager) (include exc
 unfolding resolved_manager
 manager-resolved programs raw include exclude rules manager i e both_ok made = rw (← i, ← e, both_ok) (sym made)
 
+-- the least kind of what is wrong with its rules is that of the manager
+pub manager-refused : (programs : List Program) (raw : RawManager) (include exclude : Result (List Rule) RefusalKind) (kind : RefusalKind)
+    → include ≡ all_good (map (resolved_rule programs) raw.include) → exclude ≡ all_good (map (resolved_rule programs) raw.exclude)
+    → both include exclude ≡ Err kind → Err kind ≡ resolved_manager programs raw
+unfolding resolved_manager
+manager-refused programs raw include exclude kind i e wrong = rw (← i, ← e, wrong) refl
+
 -- ---- stages
 
 later-if : (test : Bool) (place : ℕ) (kind : RefusalKind) (found : ℕ) → (if test then Ok place else Err kind) ≡ Ok found → (test ≡ true) × (place ≡ found)
@@ -161,7 +168,7 @@ later-if true place kind found e = (refl, cc)
 later-if false place kind found e = absurd (cc)
 
 later-ok : (at place found : ℕ) → later at place ≡ Ok found → (IsTrue (nat_lt at place)) × (place ≡ found)
-later-ok at place found e = later-if (nat_lt at place) place 9 found e
+later-ok at place found e = later-if (nat_lt at place) place _ found e
 
 link-kept : (stages : List RawStage) (at : ℕ) (name : List ℕ) (place : ℕ) → link_of stages at name ≡ Ok place → IsTrue (nat_lt at place && nat_lt place (length stages))
 link-kept stages at name place e =
@@ -191,6 +198,14 @@ pub stage-resolved : (programs : List Program) (stages : List RawStage) (at : �
     → both success (both warning (both error members)) ≡ Ok parts → to_stage raw parts ≡ Ok stage → Ok stage ≡ resolved_stage programs stages (at, raw)
 unfolding resolved_stage
 stage-resolved programs stages at raw success warning error members parts stage s w e m both_ok made = rw (← s, ← w, ← e, ← m, both_ok) (sym made)
+
+-- the least kind of what is wrong with its names is that of the stage
+pub stage-refused : (programs : List Program) (stages : List RawStage) (at : ℕ) (raw : RawStage) (success warning error : Result (Option ℕ) RefusalKind) (members : Result (List ℕ) RefusalKind) (kind : RefusalKind)
+    → success ≡ if_named (link_of stages at) raw.on_success → warning ≡ if_named (link_of stages at) raw.on_warning → error ≡ if_named (link_of stages at) raw.on_error
+    → members ≡ all_good (map (program_of programs) raw.members.list)
+    → both success (both warning (both error members)) ≡ Err kind → Err kind ≡ resolved_stage programs stages (at, raw)
+unfolding resolved_stage
+stage-refused programs stages at raw success warning error members kind s w e m wrong = rw (← s, ← w, ← e, ← m, wrong) refl
 
 module _ (programs : List Program) (stages : List RawStage) (at : ℕ) (raw : RawStage) (stage : Stage) (e : resolved_stage programs stages (at, raw) ≡ Ok stage) where
   abbrev look : Option (List ℕ) → Result (Option ℕ) RefusalKind

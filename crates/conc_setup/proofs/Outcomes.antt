@@ -1,5 +1,5 @@
 -- What stands where nothing is wrong.
-use Rattle.std.proofs.Common.{◌≡◌, ◌∙◌, sym, refl, ap, ℕ, Bool, true, false, List, [], ◌∷◌, length, map, Option, None, Some, Result, Ok, Err}
+use Rattle.std.proofs.Common.{◌≡◌, ◌∙◌, sym, refl, ap, Bool, true, false, List, [], ◌∷◌, length, map, Option, None, Some, Result, Ok, Err}
 use Rattle.std.specs.Prelude.{IfOk, IsTrue}
 use Rattle.conc_types.specs.declared.kind.RefusalKind.{RefusalKind}
 use Rattle.conc_setup_fields.specs.Arrays.{all_good, goods, lesser, unless, worst}

@@ -1,4 +1,4 @@
-use Rattle.std.proofs.Common.{◌∙◌, ap, List, Result, ℕ}
+use Rattle.std.proofs.Common.{◌∙◌, ap, List, Result}
 use Rattle.std.proofs.lemmas.Result.{IfOk-weaker}
 use Rattle.conc_types.specs.declared.kind.RefusalKind.{RefusalKind}
 use Rattle.conc_setup_fields.specs.Arrays.{all_good}
