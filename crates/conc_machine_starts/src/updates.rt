@@ -94,15 +94,14 @@ fn is_usable_now(plan: &Plan, state: &State, place: PlaceId) -> bool
 
 /// Marks each place as usable at the last tick or not.
 pub(crate) fn renew(usable: &mut Seq<bool>, plan: &Plan, state: &State)
-    ensures { length usable.old ≡ count_of_places plan.now
-        → usable.new ≡ map (starts_spec.is_usable_now plan.now state.now) (all_places plan.now) }
+    requires { length usable.old ≡ count_of_places plan.now }
+    ensures { usable.new ≡ map (starts_spec.is_usable_now plan.now state.now)
+        (all_places plan.now) }
 {
     for index in 0..place_count(plan) {
-        if (index as usize) < usable.len() {
-            usable.set(
-                index as usize,
-                is_usable_now(plan, state, PlaceId { index }),
-            );
-        }
+        usable.set(
+            index as usize,
+            is_usable_now(plan, state, PlaceId { index }),
+        );
     }
 }

@@ -1,5 +1,5 @@
 -- Where the facts of one request are written, its slots are written, and in the queue of sets that of its set.
-use Rattle.std.proofs.Common.{◌≡◌, ℕ, zero, suc, [], ◌∷◌, ◌<◌, ◌+◌, true, List, length, None, Some, eqb, sym, ◌∙◌, ap, arith}
+use Rattle.std.proofs.Common.{◌≡◌, ℕ, ◌<◌, ◌+◌, true, length, None, Some, eqb, sym, ◌∙◌, ap, arith}
 use Rattle.std.specs.Prelude.{slice_get}
 use Rattle.std.proofs.lemmas.Bool.{and_parts, eqb-true}
 use Rattle.std.proofs.lemmas.Option.{slice_get_within}
@@ -102,13 +102,5 @@ steps_written_member plan before after i old written r t at member was is are du
     }
 
 -- the request that is written is there
-pub written_within : (plan : Plan) (before after : State) (i : ℕ) (old : Facts) → IsWritten plan before after i old
-    → slice_get plan.requests i ≡ None → ⊥
-written_within plan before after i old written none =
-    let within : i < length before.facts = slice_get_within before.facts i old written.was in
-    beyond plan.requests i (omega (arith, within, written.all)) none
-  where
-    beyond : (xs : List Req) (k : ℕ) → k < length xs → slice_get xs k ≡ None → ⊥
-    beyond [] k h none = absurd (omega arith)
-    beyond (x ∷ xs) zero h none = cc
-    beyond (x ∷ xs) (suc k) h none = beyond xs k (omega arith) none
+pub written_within : (plan : Plan) (before after : State) (i : ℕ) (old : Facts) → IsWritten plan before after i old → i < length plan.requests
+written_within plan before after i old written = omega (arith, slice_get_within before.facts i old written.was, written.all)
