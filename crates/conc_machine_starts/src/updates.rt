@@ -1,4 +1,4 @@
-ghost use Rattle.std.specs.Prelude.{◌≡◌, ℕ, List, Option, length, map, slice_set};
+ghost use Rattle.std.specs.Prelude.{◌≡◌, ◌<◌, ℕ, All, List, Option, length, map, slice_set};
 ghost use Rattle.conc_types.specs.declared.manager.Manager.{Manager};
 ghost use Rattle.conc_law.specs.Places.{all_places, count_of_places};
 ghost use Rattle.conc_machine_starts.specs.Starts as starts_spec;
@@ -23,15 +23,6 @@ fn key_of(facts: Facts, manager: &Manager, r: &Req) -> Option<u64>
     }
 }
 
-// Gives a slot this key, or none, where there is such a slot.
-fn put(queue: &mut Queue, slot: usize, key: Option<u64>)
-    ensures { queue.new ≡ slice_set queue.old slot key }
-{
-    if slot < queue.len() {
-        queue.put(slot, key);
-    }
-}
-
 /// Gives the slot of a request in each manager's queue its key by these facts.
 pub(crate) fn refresh(
     queues: &mut [Queue],
@@ -40,6 +31,7 @@ pub(crate) fn refresh(
     r: &Req,
     facts: Facts,
 )
+    requires { All (λ queue. slot < length queue) queues.old }
     ensures { (slots : Manager → List (Option ℕ)) → queues.old ≡ map slots managers.now
         → queues.new ≡ map (λ manager. slice_set (slots manager) slot
         (updates_spec.key_of facts manager r.now)) managers.now }
@@ -50,7 +42,7 @@ pub(crate) fn refresh(
     let Some((manager, managers)) = managers.split_first() else {
         return;
     };
-    put(queue, slot, key_of(facts, manager, r));
+    queue.put(slot, key_of(facts, manager, r));
     refresh(queues, managers, slot, r, facts);
 }
 
