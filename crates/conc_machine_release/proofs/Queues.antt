@@ -1,5 +1,5 @@
 -- The queues of the classes where some requests are renewed.
-use Rattle.std.proofs.Common.{◌≡◌, ℕ, zero, suc, ◌+◌, ◌<◌, ◌≤◌, Bool, true, ◌==◌, List, [], ◌∷◌, length, map, set, take, drop, Option, None, Some, refl, sym, ◌∙◌, ap, inl, inr, arith}
+use Rattle.std.proofs.Common.{◌≡◌, ℕ, zero, suc, ◌+◌, ◌<◌, ◌≤◌, Bool, true, ◌==◌, List, [], ◌∷◌, length, map, set, take, drop, Option, Some, refl, sym, ◌∙◌, ap, inl, inr, arith}
 use Rattle.std.specs.Prelude.{if◌then◌else◌, slice_get}
 use Rattle.std.specs.Bool.{then_some}
 use Rattle.std.specs.List.{range_with_len}
@@ -12,7 +12,7 @@ use Rattle.conc_types.specs.Plans.{request}
 use Rattle.conc_law.specs.Words.{Has}
 use Rattle.conc_law.proofs.Numbering.{numbered_plan}
 use Rattle.conc_machine_queue.specs.Turns.{turn, turns_of}
-use Rattle.conc_machine_queue.proofs.Maps.{place_of_request, request_at_place}
+use Rattle.conc_machine_queue.proofs.Maps.{request_at_place}
 use Rattle.conc_machine_classes.specs.Classes.{AreClasses, class_at, of_class, slot_at}
 use Rattle.conc_machine_classes.specs.declared.classes.Classes.{Classes}
 use Rattle.conc_law.specs.Next.{is_ready}

@@ -66,13 +66,7 @@ fn recount_by(counts: &mut Seq<u32>, rivals: &[u32], live: bool, was: bool)
 }
 
 /// Counts a request, where it became live or ceased to be so.
-pub(crate) fn recount(
-    counts: &mut Seq<u32>,
-    classes: &Classes,
-    state: &State,
-    r: &Req,
-    old: Facts,
-)
+pub(crate) fn recount(counts: &mut Seq<u32>, classes: &Classes, state: &State, r: &Req, old: Facts)
     requires { All (λ class. class < length counts.old)
         (rivals_at classes.now (class_at classes.now r.now)) }
     ensures { counts.new ≡ recounted classes.now state.now old counts.old r.now }

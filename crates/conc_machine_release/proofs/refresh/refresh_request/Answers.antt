@@ -1,4 +1,4 @@
-use Rattle.std.proofs.Common.{◌≡◌, ℕ, get_or, length, [], sym, ap, arith}
+use Rattle.std.proofs.Common.{get_or, length, [], ap, arith}
 use Rattle.conc_machine_release.proofs.Slots.{slot-there}
 use Rattle.conc_machine_release.proofs.refresh.refresh_request.Goals as goal
 

@@ -1,5 +1,4 @@
-use Rattle.std.proofs.Common.{◌≡◌, ◌<◌, get_or, length, map, Some, sym, ◌∙◌, ap, arith, refl}
-use Rattle.std.specs.Prelude.{slice_get}
+use Rattle.std.proofs.Common.{get_or, length, map, sym, ◌∙◌, ap, arith, refl}
 use Rattle.std.proofs.lemmas.Option.{slice_get_read}
 use Rattle.conc_machine_classes.specs.Classes.{class_at, slot_at}
 use Rattle.conc_machine_queue.proofs.Maps.{request_at_place}
