@@ -35,16 +35,15 @@ fn write(plan: &Plan, indexes: &mut Indexes, i: usize, own: Facts)
 // Writes the facts of the request at an index as they are after an event.
 fn write_next(plan: &Plan, indexes: &mut Indexes, named: Facts, e: Event, i: usize)
     requires parts { AreParts plan.now indexes.old }
+    requires index { i < length plan.now.requests }
     ensures parts { AreParts plan.now indexes.new }
     ensures facts { AreFacts indexes.old indexes.new
         (one_by plan.now named e indexes.old.state.facts i (slice_get plan.now.requests i)
         (slice_get indexes.old.state.facts i)) }
 {
-    if let Some(r) = plan.requests.as_slice().get(i) {
-        if let Some(own) = indexes.state.facts.as_slice().get(i).copied() {
-            write(plan, indexes, i, facts_after(plan, named, e, r, own));
-        }
-    }
+    let r = &plan.requests.as_slice()[i];
+    let own = indexes.state.facts.as_slice()[i];
+    write(plan, indexes, i, facts_after(plan, named, e, r, own));
 }
 
 // Writes the facts of the requests within a span as they are after an event. `named` are those of the

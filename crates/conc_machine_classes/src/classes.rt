@@ -1,4 +1,4 @@
-ghost use Rattle.std.specs.Prelude.{◌≡◌, IfOk, length, slice_get};
+ghost use Rattle.std.specs.Prelude.{◌≡◌, ◌<◌, IfOk, length, slice_index};
 ghost use Rattle.std.specs.Option.{option_copied};
 ghost use Rattle.conc_machine_classes.specs.Classes.{AreClasses, class_at, rivals_at, slot_at, excludes_kin_at};
 
@@ -54,10 +54,11 @@ impl Classes {
     }
 
     /// How many requests a class has.
-    pub fn size(&self, class: u32) -> Option<u32>
-        ensures { result ≡ slice_get self.now.sizes class }
+    pub fn size(&self, class: u32) -> u32
+        requires { class < length self.now.sizes }
+        ensures { result ≡ slice_index self.now.sizes class }
     {
-        self.sizes.as_slice().get(class as usize).copied()
+        self.sizes.as_slice()[class as usize]
     }
 
     /// The class of a request, from 0.

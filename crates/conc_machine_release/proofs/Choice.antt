@@ -1,6 +1,5 @@
 -- The least turn of those that may be let, class by class.
 use Rattle.std.proofs.Common.{◌≡◌, ℕ, ◌+◌, ◌%◌, ◌<◌, ◌≤◌, Bool, true, false, ◌&&◌, ◌||◌, ◌==◌, nat_lt, List, get_or, length, Option, None, Some, refl, sym, ◌∙◌, ap, arith}
-use Rattle.std.specs.Prelude.{slice_get, unwrap_or}
 use Rattle.std.proofs.lemmas.Bool.{and_left, and_parts, both_ways, lt-ltb}
 use Rattle.std.proofs.lemmas.Bool.Decides.{nat_tests}
 use Rattle.std.proofs.lemmas.List.FromFn.{get_or-map-range_with_len, length-map-range_with_len}
@@ -23,7 +22,6 @@ use Rattle.conc_machine_release.specs.Forced.{has_only_kin_rivals, turn_in_class
 use Rattle.conc_machine_release.specs.Lets.{AreLets, live_rivals}
 use Rattle.conc_machine_release.specs.declared.lets.Lets.{Lets}
 use Rattle.conc_machine_release.proofs.Free.{free-may_let, may_let-parts, rival-may_let, kin_marked-may_let}
-use Rattle.conc_machine_release.proofs.Lists.{map_range-get}
 use Rattle.conc_machine_release.proofs.Queues.{of_class-has, turns-same}
 use Rattle.conc_machine_queue.proofs.LeastTurns.{least-filter, least-or, least_of-none}
 
@@ -40,10 +38,10 @@ ready-count plan classes s lets are =
     ap length are.ready ∙ length-map-range_with_len (λ e. turns_of (is_ready plan s) (of_class plan classes e)) 0 (length classes.sizes)
 
 pub rivals-kept : (plan : Plan) (classes : Classes) (s : State) (lets : Lets) → AreLets plan classes s lets → (c : ℕ) → c < length classes.sizes
-    → unwrap_or (slice_get lets.rivals c) 0 ≡ live_rivals plan classes s c
+    → get_or lets.rivals c 0 ≡ live_rivals plan classes s c
 rivals-kept plan classes s lets are c within =
-    ap (λ l. unwrap_or (slice_get l c) 0) are.rivals
-    ∙ ap (λ o. unwrap_or o 0) (map_range-get (live_rivals plan classes s) 0 (length classes.sizes) c c (omega arith) within)
+    ap (λ l. get_or l c 0) are.rivals
+    ∙ get_or-map-range_with_len (live_rivals plan classes s) 0 (length classes.sizes) c c 0 within (omega arith)
 
 -- ---- the least turn of a class
 

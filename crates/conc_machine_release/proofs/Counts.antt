@@ -1,10 +1,10 @@
 -- The counts of live rivals after a write.
-use Rattle.std.proofs.Common.{◌≡◌, ℕ, ◌+◌, ◌<◌, ◌≤◌, Bool, true, false, not, ◌&&◌, ◌||◌, ◌==◌, cond, nat_lt, List, [], ◌∷◌, length, map, Option, None, Some, refl, sym, ◌∙◌, ap, inl, inr, arith}
+use Rattle.std.proofs.Common.{◌≡◌, ℕ, zero, suc, ◌+◌, ◌<◌, ◌≤◌, Bool, true, false, not, ◌&&◌, ◌||◌, ◌==◌, cond, nat_lt, List, [], ◌∷◌, length, get_or, map, set, Option, None, Some, refl, sym, ◌∙◌, ap, inl, inr, arith}
 use Rattle.std.specs.Prelude.{slice_get}
 use Rattle.std.specs.List.{list_all, list_any}
 use Rattle.std.specs.Option.{option_map}
 use Rattle.std.proofs.lemmas.Bool.{and_parts, cases_eq, eq-eqb, ltb-true, ne_eqb, or_from, or_left}
-use Rattle.std.proofs.lemmas.Option.{slice_get-map, slice_get_within}
+use Rattle.std.proofs.lemmas.Option.{slice_get-map}
 use Rattle.conc_types.specs.declared.facts.Facts.{Facts}
 use Rattle.conc_types.specs.declared.facts.State.{State}
 use Rattle.conc_types.specs.declared.plan.Plan.{Plan}
@@ -12,13 +12,13 @@ use Rattle.conc_types.specs.declared.plan.Req.{Req}
 use Rattle.conc_law.specs.State.{facts_at, is_live}
 use Rattle.conc_law.specs.Words.{Has}
 use Rattle.conc_machine_queue.specs.Written.{IsWritten}
-use Rattle.conc_machine_queue.proofs.Maps.{facts_at-before, facts_at-written, request_at_place, slice_get-set_other, slice_get-set_same}
+use Rattle.conc_machine_queue.proofs.Maps.{facts_at-before, facts_at-written, request_at_place, slice_get-set_other}
 use Rattle.conc_machine_classes.specs.Classes.{are_rising, are_rivals, AreClasses, class_at, rivals_at}
 use Rattle.conc_machine_classes.specs.declared.classes.Classes.{Classes}
 use Rattle.conc_machine_release.specs.Lets.{all_classes, is_live_rival, live_rivals}
 use Rattle.conc_machine_release.specs.Renewal.{recounted, recounted_by}
 use Rattle.conc_machine_release.specs.Rivals.{counted, counted_all, counted_at}
-use Rattle.conc_machine_release.proofs.Lists.{length-filter_change, length-filter_most, map_range-same, place-some, range-get, same_list}
+use Rattle.conc_machine_release.proofs.Lists.{length-filter_change, length-filter_most, map_range-same, range-get, same_list}
 
 -- ---- one more, or one less, for some classes
 
@@ -26,17 +26,16 @@ option-same : {T : Type 0} (f : T → T) (o : Option T) → ((x : T) → f x ≡
 option-same f None h = refl
 option-same f (Some x) h = ap (λ y. Some y) (h x)
 
-counted_at-own : (more : Bool) (counts : List ℕ) (x : ℕ) → slice_get (counted_at more counts x (slice_get counts x)) x ≡ option_map (counted more) (slice_get counts x)
-counted_at-own more counts x = by (slice_get counts x) refl where
-  by : (o : Option ℕ) → slice_get counts x ≡ o → slice_get (counted_at more counts x o) x ≡ option_map (counted more) o
-  by None e = e
-  by (Some n) e = slice_get-set_same counts x n (counted more n) e
+set-own : (f : ℕ → ℕ) (xs : List ℕ) (k : ℕ) → slice_get (set xs k (f (get_or xs k 0))) k ≡ option_map f (slice_get xs k)
+set-own f [] k = refl
+set-own f (x ∷ xs) zero = refl
+set-own f (x ∷ xs) (suc k) = set-own f xs k
 
-counted_at-other : (more : Bool) (counts : List ℕ) (x d : ℕ) → (d ≡ x → ⊥) → slice_get (counted_at more counts x (slice_get counts x)) d ≡ slice_get counts d
-counted_at-other more counts x d ne = by (slice_get counts x) where
-  by : (o : Option ℕ) → slice_get (counted_at more counts x o) d ≡ slice_get counts d
-  by None = refl
-  by (Some n) = slice_get-set_other counts x d (counted more n) ne
+counted_at-own : (more : Bool) (counts : List ℕ) (x : ℕ) → slice_get (counted_at more counts x) x ≡ option_map (counted more) (slice_get counts x)
+counted_at-own more counts x = set-own (counted more) counts x
+
+counted_at-other : (more : Bool) (counts : List ℕ) (x d : ℕ) → (d ≡ x → ⊥) → slice_get (counted_at more counts x) d ≡ slice_get counts d
+counted_at-other more counts x d ne = slice_get-set_other counts x d (counted more (get_or counts x 0)) ne
 
 -- a number is none of those that are all greater
 none-later : (x : ℕ) (xs : List ℕ) → list_all (nat_lt x) xs ≡ true → list_any (λ y. y == x) xs ≡ false
@@ -53,17 +52,17 @@ counted_all-get more most [] counts d ok = sym (option-same (λ n. n) (slice_get
 counted_all-get more most (x ∷ xs) counts d ok =
     let p : (nat_lt x most ≡ true) × ((list_all (nat_lt x) xs && are_rising most xs) ≡ true) = and_parts _ _ ok in
     let q : (list_all (nat_lt x) xs ≡ true) × (are_rising most xs ≡ true) = and_parts _ _ p.1 in
-    counted_all-get more most xs (counted_at more counts x (slice_get counts x)) d q.1
+    counted_all-get more most xs (counted_at more counts x) d q.1
     ∙ elim (cases_eq d x) [
       | inr ne ↦
           ap (option_map (λ n. cond (list_any (λ y. y == d) xs) (counted more n) n)) (counted_at-other more counts x d ne)
           ∙ ap (λ b. option_map (λ n. cond (b || list_any (λ y. y == d) xs) (counted more n) n) (slice_get counts d)) (sym (ne_eqb x d (λ (e : x ≡ d). ne (sym e))))
       | inl e ↦
           let later : list_any (λ y. y == d) xs ≡ false = ap (λ m. list_any (λ y. y == m) xs) e ∙ none-later x xs q.0 in
-          let own : slice_get (counted_at more counts x (slice_get counts x)) d ≡ option_map (counted more) (slice_get counts d) =
-          ap (slice_get (counted_at more counts x (slice_get counts x))) e ∙ counted_at-own more counts x ∙ ap (λ m. option_map (counted more) (slice_get counts m)) (sym e) in
-          ap (λ b. option_map (λ n. cond b (counted more n) n) (slice_get (counted_at more counts x (slice_get counts x)) d)) later
-          ∙ option-same (λ n. n) (slice_get (counted_at more counts x (slice_get counts x)) d) (λ n. refl)
+          let own : slice_get (counted_at more counts x) d ≡ option_map (counted more) (slice_get counts d) =
+          ap (slice_get (counted_at more counts x)) e ∙ counted_at-own more counts x ∙ ap (λ m. option_map (counted more) (slice_get counts m)) (sym e) in
+          ap (λ b. option_map (λ n. cond b (counted more n) n) (slice_get (counted_at more counts x) d)) later
+          ∙ option-same (λ n. n) (slice_get (counted_at more counts x) d) (λ n. refl)
           ∙ own
           ∙ ap (λ b. option_map (λ n. cond b (counted more n) n) (slice_get counts d)) (sym (or_left (x == d) (list_any (λ y. y == d) xs) (eq-eqb x d (sym e))))
     ]
@@ -138,21 +137,13 @@ counts-same plan classes before s i old w r at same counts is =
       sums a b n e = omega arith
 
 -- the counts after a write are those of the state
-pub recounted-is : (plan : Plan) (classes : Classes) → AreClasses plan classes → (before s : State) (i : ℕ) (old : Facts) → IsWritten plan before s i old
-    → (counts : List ℕ) → counts ≡ map (live_rivals plan classes before) (all_classes classes)
-    → recounted classes s old counts (slice_get plan.requests i) ≡ map (live_rivals plan classes s) (all_classes classes)
-recounted-is plan classes are before s i old w counts is = by (slice_get plan.requests i) refl where
-  lives : (r : Req) → slice_get plan.requests i ≡ Some r → (live was : Bool) → is_live (facts_at s r) ≡ live → is_live old ≡ was
+pub recounted-is : (plan : Plan) (classes : Classes) → AreClasses plan classes → (before s : State) (i : ℕ) (old : Facts) → IsWritten plan before s i old → (r : Req)
+    → slice_get plan.requests i ≡ Some r → (counts : List ℕ) → counts ≡ map (live_rivals plan classes before) (all_classes classes)
+    → recounted classes s old counts r ≡ map (live_rivals plan classes s) (all_classes classes)
+recounted-is plan classes are before s i old w r at counts is = by (is_live (facts_at s r)) (is_live old) refl refl where
+  by : (live was : Bool) → is_live (facts_at s r) ≡ live → is_live old ≡ was
       → recounted_by live was (rivals_at classes (class_at classes r)) counts ≡ map (live_rivals plan classes s) (all_classes classes)
-  lives r at true false now then = counts-changed plan classes are before s i old w r at true false now then refl counts is
-  lives r at false true now then = counts-changed plan classes are before s i old w r at false true now then refl counts is
-  lives r at true true now then = counts-same plan classes before s i old w r at (now ∙ sym then) counts is
-  lives r at false false now then = counts-same plan classes before s i old w r at (now ∙ sym then) counts is
-
-  by : (o : Option Req) → slice_get plan.requests i ≡ o → recounted classes s old counts o ≡ map (live_rivals plan classes s) (all_classes classes)
-  by (Some r) at = lives r at (is_live (facts_at s r)) (is_live old) refl refl
-  by None at =
-      let inside : i < length plan.requests = omega (arith, slice_get_within before.facts i old w.was, w.all) in
-      let some : (x : Req) × (slice_get plan.requests i ≡ Some x) = place-some plan.requests i inside in
-      let two : ◌≡◌ {A = Option Req} (Some some.0) None = sym some.1 ∙ at in
-      cc
+  by true false now then = counts-changed plan classes are before s i old w r at true false now then refl counts is
+  by false true now then = counts-changed plan classes are before s i old w r at false true now then refl counts is
+  by true true now then = counts-same plan classes before s i old w r at (now ∙ sym then) counts is
+  by false false now then = counts-same plan classes before s i old w r at (now ∙ sym then) counts is

@@ -1,5 +1,6 @@
 pub mod Lists
 pub mod Queues
+pub mod Slots
 pub mod Loops
 pub mod Free
 pub mod Written

@@ -1,5 +1,5 @@
 -- Lists, element by element.
-use Rattle.std.proofs.Common.{◌≡◌, ℕ, zero, suc, ◌+◌, ◌<◌, ◌≤◌, Bool, true, false, not, ◌&&◌, ◌||◌, ◌==◌, cond, List, [], ◌∷◌, length, get_or, map, set, take, Option, None, Some, refl, sym, ◌∙◌, ap, inl, inr, arith}
+use Rattle.std.proofs.Common.{◌≡◌, ℕ, zero, suc, ◌+◌, ◌<◌, ◌≤◌, Bool, true, false, not, ◌&&◌, ◌||◌, ◌==◌, cond, List, [], ◌∷◌, length, get_or, map, set, take, drop, add-one, Option, None, Some, refl, sym, ◌∙◌, ap, inl, inr, arith}
 use Rattle.std.specs.Prelude.{slice_get}
 use Rattle.std.specs.List.{filter, list_any, range_with_len}
 use Rattle.std.proofs.lemmas.Bool.{ne_eqb}
@@ -39,6 +39,19 @@ pub place-some : {T : Type 0} (xs : List T) (k : ℕ) → k < length xs → (x :
 place-some [] k h = absurd (omega arith)
 place-some (x ∷ xs) zero h = (x, refl)
 place-some (x ∷ xs) (suc k) h = place-some xs k (omega arith)
+
+-- what stands from a place on
+drop-step : {T : Type 0} (xs : List T) (k : ℕ) (x : T) → slice_get xs k ≡ Some x → drop k xs ≡ x ∷ drop (suc k) xs
+drop-step [] k x h = cc
+drop-step (y ∷ ys) zero x h = let e : y ≡ x = cc in ap (λ z. z ∷ ys) e
+drop-step (y ∷ ys) (suc k) x h = drop-step ys k x h
+
+pub drop-next : {T : Type 0} (xs : List T) (k : ℕ) (x : T) → slice_get xs k ≡ Some x → drop k xs ≡ x ∷ drop (k + 1) xs
+drop-next xs k x h = rw (add-one k) (drop-step xs k x h)
+
+pub take-none : {T : Type 0} (xs : List T) → take 0 xs ≡ []
+take-none [] = refl
+take-none (x ∷ xs) = refl
 
 -- ---- numbers
 

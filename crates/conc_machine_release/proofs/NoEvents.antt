@@ -1,9 +1,10 @@
 -- What is kept before the first event.
 use Rattle.std.proofs.Common.{◌≡◌, ℕ, Bool, false, List, [], ◌∷◌, length, map, None, Some, refl, sym, ◌∙◌, ap, inl, inr, arith}
-use Rattle.std.specs.Prelude.{slice_get, unwrap_or}
+use Rattle.std.specs.Prelude.{slice_get, slice_index}
 use Rattle.std.specs.Bool.{then_some}
 use Rattle.std.specs.List.{range_with_len}
 use Rattle.std.proofs.lemmas.Bool.{and_left}
+use Rattle.std.proofs.lemmas.Option.{get_or_from_slice_get}
 use Rattle.conc_types.specs.declared.plan.Plan.{Plan}
 use Rattle.conc_types.specs.declared.plan.Req.{Req}
 use Rattle.conc_law.specs.State.{is_live, state}
@@ -36,14 +37,14 @@ vacant-turns test (x ∷ xs) h = ap (λ l. None ∷ l) (vacant-turns test xs (λ
 
 -- vacant queues are those of no events
 pub queues-none : (plan : Plan) (classes : Classes) → AreClasses plan classes → (n : ℕ) → n ≡ length classes.sizes
-    → map (λ c. vacant (unwrap_or (slice_get classes.sizes c) 0)) (range_with_len 0 n)
+    → map (λ c. vacant (slice_index classes.sizes c)) (range_with_len 0 n)
     ≡ map (λ c. turns_of (is_ready plan (state plan [])) (of_class plan classes c)) (all_classes classes)
 queues-none plan classes are n e =
-    ap (λ m. map (λ c. vacant (unwrap_or (slice_get classes.sizes c) 0)) (range_with_len 0 m)) e
-    ∙ map_range-within (λ c. vacant (unwrap_or (slice_get classes.sizes c) 0)) (λ c. turns_of (is_ready plan (state plan [])) (of_class plan classes c)) 0 (length classes.sizes)
+    ap (λ m. map (λ c. vacant (slice_index classes.sizes c)) (range_with_len 0 m)) e
+    ∙ map_range-within (λ c. vacant (slice_index classes.sizes c)) (λ c. turns_of (is_ready plan (state plan [])) (of_class plan classes c)) 0 (length classes.sizes)
     (λ c le within.
     let size : (m : ℕ) × (slice_get classes.sizes c ≡ Some m) = place-some classes.sizes c (omega (arith, within)) in
-    ap (λ o. vacant (unwrap_or o 0)) size.1
+    ap vacant (get_or_from_slice_get classes.sizes c size.0 0 size.1)
     ∙ ap vacant (sym (are.sized c size.0 size.1))
     ∙ vacant-turns (is_ready plan (state plan [])) (of_class plan classes c) (λ y has. ready-none plan y (of_class-has plan classes c y has).0))
 

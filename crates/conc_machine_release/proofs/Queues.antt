@@ -1,9 +1,10 @@
 -- The queues of the classes where some requests are renewed.
-use Rattle.std.proofs.Common.{◌≡◌, ℕ, zero, suc, ◌+◌, ◌<◌, ◌≤◌, Bool, true, ◌==◌, List, [], ◌∷◌, length, map, set, Option, None, Some, refl, sym, ◌∙◌, ap, inl, inr, arith}
-use Rattle.std.specs.Prelude.{if◌then◌else◌, slice_get, unwrap_or}
+use Rattle.std.proofs.Common.{◌≡◌, ℕ, zero, suc, ◌+◌, ◌<◌, ◌≤◌, Bool, true, ◌==◌, List, [], ◌∷◌, length, map, set, take, drop, Option, Some, refl, sym, ◌∙◌, ap, inl, inr, arith}
+use Rattle.std.specs.Prelude.{if◌then◌else◌, slice_get}
 use Rattle.std.specs.Bool.{then_some}
 use Rattle.std.specs.List.{range_with_len}
 use Rattle.std.proofs.lemmas.Bool.{cases_eq, eq-eqb, eqb-true, ne_eqb}
+use Rattle.std.proofs.lemmas.Option.{get_or_from_slice_get}
 use Rattle.conc_types.specs.declared.facts.State.{State}
 use Rattle.conc_types.specs.declared.plan.Plan.{Plan}
 use Rattle.conc_types.specs.declared.plan.Req.{Req}
@@ -11,12 +12,12 @@ use Rattle.conc_types.specs.Plans.{request}
 use Rattle.conc_law.specs.Words.{Has}
 use Rattle.conc_law.proofs.Numbering.{numbered_plan}
 use Rattle.conc_machine_queue.specs.Turns.{turn, turns_of}
-use Rattle.conc_machine_queue.proofs.Maps.{place_of_request, request_at_place}
+use Rattle.conc_machine_queue.proofs.Maps.{request_at_place}
 use Rattle.conc_machine_classes.specs.Classes.{AreClasses, class_at, of_class, slot_at}
 use Rattle.conc_machine_classes.specs.declared.classes.Classes.{Classes}
 use Rattle.conc_law.specs.Next.{is_ready}
-use Rattle.conc_machine_release.specs.Refresh.{put_in, queues_of, refreshed, refreshed_all, refreshed_by}
-use Rattle.conc_machine_release.proofs.Lists.{filter-distinct, filter-has, has-place, IsDistinct, map_range-get, map_range-same, map_range-set, place-has}
+use Rattle.conc_machine_release.specs.Refresh.{put_in, queues_of, refreshed_all, refreshed_at}
+use Rattle.conc_machine_release.proofs.Lists.{drop-next, filter-distinct, filter-has, has-place, IsDistinct, map_range-get, map_range-same, map_range-set, place-has, place-some, take-none}
 
 -- ---- requests of a plan
 
@@ -81,7 +82,7 @@ queue-renewed : (plan : Plan) (classes : Classes) → AreClasses plan classes �
     → put_in (queues_of plan classes f) (class_at classes r) (slot_at classes r) (then_some (g r) (turn r)) ≡ queues_of plan classes g
 unfolding queues_of of_class
 queue-renewed plan classes are f g r has other =
-    ap (λ o. set (queues_of plan classes f) (class_at classes r) (set (unwrap_or o []) (slot_at classes r) (then_some (g r) (turn r)))) here
+    ap (λ q. set (queues_of plan classes f) (class_at classes r) (set q (slot_at classes r) (then_some (g r) (turn r)))) (get_or_from_slice_get (map of_f (range_with_len 0 (length classes.sizes))) (class_at classes r) (of_f (class_at classes r)) [] here)
     ∙ map_range-set of_f of_g (length classes.sizes) (class_at classes r) _ (sym own) others where
       of_f : ℕ → List (Option ℕ)
       of_f c = turns_of f (of_class plan classes c)
@@ -118,38 +119,34 @@ at_number-own n g f q e = rw (eq-eqb q.number.number n e)
 pub at_number-other : (n : ℕ) (g f : Req → Bool) (q : Req) → (q.number.number ≡ n → ⊥) → at_number n g f q ≡ f q
 at_number-other n g f q e = rw (ne_eqb q.number.number n e)
 
--- the request at an index is renewed
-pub refreshed-is : (plan : Plan) (classes : Classes) (s : State) → AreClasses plan classes → (i : ℕ) (f : Req → Bool)
-    → refreshed plan classes s (queues_of plan classes f) i ≡ queues_of plan classes (at_number (i + 1) (is_ready plan s) f)
-refreshed-is plan classes s are i f = by (slice_get plan.requests i) refl where
-  by : (o : Option Req) → slice_get plan.requests i ≡ o
-      → refreshed_by plan classes s (queues_of plan classes f) o ≡ queues_of plan classes (at_number (i + 1) (is_ready plan s) f)
-  by None none = queues-same plan classes f (at_number (i + 1) (is_ready plan s) f) (λ q has.
-      let p : (k : ℕ) × (slice_get plan.requests k ≡ Some q) × (q.number.number ≡ k + 1) = place_of_request plan q has in
-      sym (at_number-other (i + 1) (is_ready plan s) f q (λ (n : q.number.number ≡ i + 1).
-      let same : i ≡ p.0 = omega (arith, p.2) in
-      let at : slice_get plan.requests i ≡ Some q = ap (slice_get plan.requests) same ∙ p.1 in
-      cc)))
-  by (Some r) some =
-      let p : (r.number.number ≡ i + 1) × Has plan.requests r = request_at_place plan i r some in
-      ap (λ b. put_in (queues_of plan classes f) (class_at classes r) (slot_at classes r) (then_some b (turn r))) (sym (at_number-own (i + 1) (is_ready plan s) f r p.0))
-      ∙ queue-renewed plan classes are f (at_number (i + 1) (is_ready plan s) f) r p.1
-      (λ q has ne. at_number-other (i + 1) (is_ready plan s) f q (λ (n : q.number.number ≡ i + 1). ne (omega (arith, p.0))))
+-- a request is renewed
+pub refreshed_at-is : (plan : Plan) (classes : Classes) (s : State) → AreClasses plan classes → (r : Req) → Has plan.requests r → (f : Req → Bool)
+    → refreshed_at plan classes s (queues_of plan classes f) r ≡ queues_of plan classes (at_number r.number.number (is_ready plan s) f)
+refreshed_at-is plan classes s are r has f =
+    ap (λ b. put_in (queues_of plan classes f) (class_at classes r) (slot_at classes r) (then_some b (turn r))) (sym (at_number-own r.number.number (is_ready plan s) f r refl))
+    ∙ queue-renewed plan classes are f (at_number r.number.number (is_ready plan s) f) r has (λ q inside ne. at_number-other r.number.number (is_ready plan s) f q ne)
 
--- the requests within so many from an index on are renewed: one test is theirs, and another one that of the others
-pub refreshed_all-is : (plan : Plan) (classes : Classes) (s : State) → AreClasses plan classes → (n i : ℕ) (f h : Req → Bool)
+-- so many requests from an index on are renewed: one test is theirs, and another one that of the others
+pub refreshed_all-is : (plan : Plan) (classes : Classes) (s : State) → AreClasses plan classes → (n i : ℕ) (f h : Req → Bool) → ((k : ℕ) → k < n → i + k < length plan.requests)
     → ((q : Req) → Has plan.requests q → i < q.number.number → q.number.number ≤ i + n → h q ≡ is_ready plan s q)
     → ((q : Req) → Has plan.requests q → ((i < q.number.number) × (q.number.number ≤ i + n) → ⊥) → h q ≡ f q)
-    → refreshed_all plan classes s n i (queues_of plan classes f) ≡ queues_of plan classes h
+    → refreshed_all plan classes s (take n (drop i plan.requests)) (queues_of plan classes f) ≡ queues_of plan classes h
 unfolding refreshed_all
-refreshed_all-is plan classes s are zero i f h inner outer =
-    queues-same plan classes f h (λ q has. sym (outer q has (λ (p : (i < q.number.number) × (q.number.number ≤ i + 0)). omega (arith, p.0, p.1))))
-refreshed_all-is plan classes s are (suc n) i f h inner outer =
-    ap (refreshed_all plan classes s n (i + 1)) (refreshed-is plan classes s are i f)
-    ∙ refreshed_all-is plan classes s are n (i + 1) (at_number (i + 1) (is_ready plan s) f) h
+refreshed_all-is plan classes s are zero i f h there inner outer =
+    ap (λ rs. refreshed_all plan classes s rs (queues_of plan classes f)) (take-none (drop i plan.requests))
+    ∙ queues-same plan classes f h (λ q has. sym (outer q has (λ (p : (i < q.number.number) × (q.number.number ≤ i + 0)). omega (arith, p.0, p.1))))
+refreshed_all-is plan classes s are (suc n) i f h there inner outer =
+    let r : (r : Req) × (slice_get plan.requests i ≡ Some r) = place-some plan.requests i (omega (arith, there 0 (omega arith))) in
+    let p : (r.0.number.number ≡ i + 1) × Has plan.requests r.0 = request_at_place plan i r.0 r.1 in
+    ap (λ rs. refreshed_all plan classes s (take (suc n) rs) (queues_of plan classes f)) (drop-next plan.requests i r.0 r.1)
+    ∙ ap (refreshed_all plan classes s (take n (drop (i + 1) plan.requests))) (refreshed_at-is plan classes s are r.0 p.1 f)
+    ∙ refreshed_all-is plan classes s are n (i + 1) (at_number r.0.number.number (is_ready plan s) f) h
+    (λ k (less : k < n). omega (arith, there (suc k) (omega arith)))
     (λ q has (more : i + 1 < q.number.number) (most : q.number.number ≤ i + 1 + n). inner q has (omega arith) (omega arith))
-    (λ q has out. elim (cases_eq q.number.number (i + 1)) [
-      | inl e ↦ inner q has (omega arith) (omega arith) ∙ sym (at_number-own (i + 1) (is_ready plan s) f q e)
-      | inr ne ↦ outer q has (λ (p : (i < q.number.number) × (q.number.number ≤ i + suc n)). out (omega (arith, p.0, p.1), omega (arith, p.0, p.1)))
-          ∙ sym (at_number-other (i + 1) (is_ready plan s) f q ne)
+    (λ q has out. elim (cases_eq q.number.number r.0.number.number) [
+      | inl e ↦ inner q has (omega (arith, p.0)) (omega (arith, p.0)) ∙ sym (at_number-own r.0.number.number (is_ready plan s) f q e)
+      | inr ne ↦ outer q has (λ (between : (i < q.number.number) × (q.number.number ≤ i + suc n)).
+          let other : q.number.number ≡ i + 1 → ⊥ = λ e. ne (e ∙ sym p.0) in
+          out (omega (arith, between.0, other), omega (arith, between.1)))
+          ∙ sym (at_number-other r.0.number.number (is_ready plan s) f q ne)
     ])

@@ -1,6 +1,6 @@
 -- The keys after a write, and after another moment.
-use Rattle.std.proofs.Common.{◌≡◌, ℕ, ◌+◌, ◌-◌, ◌<◌, ◌≤◌, Bool, true, false, not, ◌&&◌, ◌==◌, List, length, Option, None, Some, refl, sym, ◌∙◌, ap, inl, inr, arith}
-use Rattle.std.specs.Prelude.{slice_get, unwrap_or}
+use Rattle.std.proofs.Common.{◌≡◌, ℕ, ◌+◌, ◌-◌, ◌<◌, ◌≤◌, Bool, true, false, not, ◌&&◌, ◌==◌, List, length, take, drop, Option, None, Some, refl, sym, ◌∙◌, ap, inl, inr, arith}
+use Rattle.std.specs.Prelude.{slice_get, slice_range, unwrap_or}
 use Rattle.std.proofs.lemmas.Bool.{and_parts, cases_eq, eqb-true, leb-true, ltb-true}
 use Rattle.std.proofs.lemmas.Option.{slice_get_within}
 use Rattle.conc_types.specs.declared.event.RequestId.{RequestId}
@@ -22,11 +22,11 @@ use Rattle.conc_machine_queue.proofs.Maps.{facts_at-before, facts_at-written, pl
 use Rattle.conc_machine_classes.specs.Classes.{AreClasses}
 use Rattle.conc_machine_classes.specs.declared.classes.Classes.{Classes}
 use Rattle.conc_machine_reach.specs.Spans.{AreSpans, span_of_members}
+use Rattle.conc_machine_reach.specs.declared.span.Span.{Span}
 use Rattle.conc_machine_reach.specs.declared.spans.Spans.{Spans}
-use Rattle.conc_machine_release.specs.Refresh.{queues_of, refreshed_all, refreshed_at, refreshed_by}
+use Rattle.conc_machine_release.specs.Refresh.{queues_of, refreshed_all, refreshed_at}
 use Rattle.conc_machine_release.specs.Renewal.{renewed, renewed_within}
-use Rattle.conc_machine_release.proofs.Lists.{place-some}
-use Rattle.conc_machine_release.proofs.Queues.{at_number, at_number-other, at_number-own, queues-same, refreshed-is, refreshed_all-is}
+use Rattle.conc_machine_release.proofs.Queues.{at_number, at_number-other, at_number-own, queues-same, refreshed_all-is, refreshed_at-is}
 
 -- ---- readiness
 
@@ -68,6 +68,10 @@ parent-named plan q set h =
 
 -- ---- a write
 
+-- the request that is written is there
+pub written-within : (plan : Plan) (before s : State) (i : ℕ) (old : Facts) → IsWritten plan before s i old → i < length plan.requests
+written-within plan before s i old w = omega (arith, slice_get_within before.facts i old w.was, w.all)
+
 -- where the begun stages of the request that is written are the same, all begun stages are
 begun-same : (plan : Plan) (before s : State) (i : ℕ) (old : Facts) → IsWritten plan before s i old → (r : Req) → slice_get plan.requests i ≡ Some r
     → (facts_at s r).begun.bits ≡ old.begun.bits → (set : Req) → (facts_at s set).begun.bits ≡ (facts_at before set).begun.bits
@@ -95,56 +99,55 @@ parent-outside plan spans are r q set has h out e =
 
 -- the keys after the write are those of the state
 pub renewed-is : (plan : Plan) (classes : Classes) (spans : Spans) → AreClasses plan classes → AreSpans plan spans
-    → (before s : State) (i : ℕ) (old : Facts) → IsWritten plan before s i old → (queues : List (List (Option ℕ))) → queues ≡ queues_of plan classes (is_ready plan before)
-    → renewed plan classes spans s old queues (slice_get plan.requests i) ≡ queues_of plan classes (is_ready plan s)
-renewed-is plan classes spans are stand before s i old w queues is = by (slice_get plan.requests i) refl where
+    → (before s : State) (i : ℕ) (old : Facts) → IsWritten plan before s i old → (r : Req) → slice_get plan.requests i ≡ Some r
+    → (queues : List (List (Option ℕ))) → queues ≡ queues_of plan classes (is_ready plan before)
+    → renewed plan classes spans s old queues r ≡ queues_of plan classes (is_ready plan s)
+renewed-is plan classes spans are stand before s i old w r at queues is = within ((facts_at s r).begun.bits == old.begun.bits) refl where
+  place : (r.number.number ≡ i + 1) × Has plan.requests r
+  place = request_at_place plan i r at
+
+  span : Span
+  span = span_of_members spans r.number
+
   mixed : Req → Bool
-  mixed = at_number (i + 1) (is_ready plan s) (is_ready plan before)
+  mixed = at_number r.number.number (is_ready plan s) (is_ready plan before)
 
-  first : (r : Req) → slice_get plan.requests i ≡ Some r → refreshed_at plan classes s queues r ≡ queues_of plan classes mixed
-  first r at =
-      ap (λ q. refreshed_at plan classes s q r) is
-      ∙ ap (refreshed_by plan classes s (queues_of plan classes (is_ready plan before))) (sym at)
-      ∙ refreshed-is plan classes s are i (is_ready plan before)
+  first : refreshed_at plan classes s queues r ≡ queues_of plan classes mixed
+  first = ap (λ q. refreshed_at plan classes s q r) is ∙ refreshed_at-is plan classes s are r place.1 (is_ready plan before)
 
-  others : (r : Req) → slice_get plan.requests i ≡ Some r → (q : Req) → is_waiting plan s q ≡ is_waiting plan before q → is_ready plan s q ≡ mixed q
-  others r at q waits = elim (cases_eq q.number.number (i + 1)) [
-    | inl n ↦ sym (at_number-own (i + 1) (is_ready plan s) (is_ready plan before) q n)
-    | inr ne ↦ ready-same plan before s q (facts_at-written plan before s i old w q ne) (ap (λ t. has_come t q.start) w.time) waits
-        ∙ sym (at_number-other (i + 1) (is_ready plan s) (is_ready plan before) q ne)
+  others : (q : Req) → is_waiting plan s q ≡ is_waiting plan before q → is_ready plan s q ≡ mixed q
+  others q waits = elim (cases_eq q.number.number r.number.number) [
+    | inl n ↦ sym (at_number-own r.number.number (is_ready plan s) (is_ready plan before) q n)
+    | inr ne ↦ ready-same plan before s q (facts_at-written plan before s i old w q (λ (n : q.number.number ≡ i + 1). ne (n ∙ sym place.0))) (ap (λ t. has_come t q.start) w.time) waits
+        ∙ sym (at_number-other r.number.number (is_ready plan s) (is_ready plan before) q ne)
   ]
 
-  within : (r : Req) → slice_get plan.requests i ≡ Some r → (same : Bool) → ((facts_at s r).begun.bits == old.begun.bits) ≡ same
-      → renewed_within plan classes s (span_of_members spans r.number) same (refreshed_at plan classes s queues r) ≡ queues_of plan classes (is_ready plan s)
-  within r at true t =
-      first r at
+  within : (same : Bool) → ((facts_at s r).begun.bits == old.begun.bits) ≡ same
+      → renewed_within plan classes s span same (refreshed_at plan classes s queues r) ≡ queues_of plan classes (is_ready plan s)
+  within true t =
+      first
       ∙ queues-same plan classes mixed (is_ready plan s)
-      (λ q has. sym (others r at q (waiting-same plan before s q (λ set p. begun-same plan before s i old w r at (eqb-true _ _ t) set))))
-  within r at false f =
-      ap (refreshed_all plan classes s ((span_of_members spans r.number).to - (span_of_members spans r.number).from) (span_of_members spans r.number).from) (first r at)
-      ∙ refreshed_all-is plan classes s are ((span_of_members spans r.number).to - (span_of_members spans r.number).from) (span_of_members spans r.number).from mixed (is_ready plan s)
+      (λ q has. sym (others q (waiting-same plan before s q (λ set p. begun-same plan before s i old w r at (eqb-true _ _ t) set))))
+  within false f =
+      ap (refreshed_all plan classes s (slice_range plan.requests span.from span.to)) first
+      ∙ refreshed_all-is plan classes s are (span.to - span.from) span.from mixed (is_ready plan s)
+      (λ k (less : k < span.to - span.from). omega (arith, stand.members_inside r.number))
       (λ q has more most. refl)
-      (λ q has out. others r at q (waiting-same plan before s q (λ set p. ap (λ f. f.begun.bits)
-      (facts_at-written plan before s i old w set (λ (n : set.number.number ≡ i + 1).
-      let m : (r.number.number ≡ i + 1) × Has plan.requests r = request_at_place plan i r at in
-      parent-outside plan spans stand r q set has p out (omega (arith, n, m.0)))))))
-
-  by : (o : Option Req) → slice_get plan.requests i ≡ o → renewed plan classes spans s old queues o ≡ queues_of plan classes (is_ready plan s)
-  by (Some r) at = within r at ((facts_at s r).begun.bits == old.begun.bits) refl
-  by None at =
-      let inside : i < length plan.requests = omega (arith, slice_get_within before.facts i old w.was, w.all) in
-      let some : (x : Req) × (slice_get plan.requests i ≡ Some x) = place-some plan.requests i inside in
-      let two : ◌≡◌ {A = Option Req} (Some some.0) None = sym some.1 ∙ at in
-      cc
+      (λ q has out. others q (waiting-same plan before s q (λ set p. ap (λ f. f.begun.bits)
+      (facts_at-written plan before s i old w set (λ (n : set.number.number ≡ i + 1). parent-outside plan spans stand r q set has p out (omega (arith, n, place.0)))))))
 
 -- ---- all of them
 
 -- once all keys are renewed, they are those of the state
 pub all-renewed : (plan : Plan) (classes : Classes) → AreClasses plan classes → (s : State) (f : Req → Bool) (n : ℕ) → n ≡ length plan.requests
-    → (queues : List (List (Option ℕ))) → queues ≡ queues_of plan classes f → refreshed_all plan classes s n 0 queues ≡ queues_of plan classes (is_ready plan s)
+    → (queues : List (List (Option ℕ))) → queues ≡ queues_of plan classes f → refreshed_all plan classes s (slice_range plan.requests 0 n) queues ≡ queues_of plan classes (is_ready plan s)
 all-renewed plan classes are s f n all queues is =
-    ap (refreshed_all plan classes s n 0) is
-    ∙ refreshed_all-is plan classes s are n 0 f (is_ready plan s) (λ q has more most. refl) (λ q has out.
+    ap (refreshed_all plan classes s (slice_range plan.requests 0 n)) is
+    ∙ ap (λ m. refreshed_all plan classes s (take m (drop 0 plan.requests)) (queues_of plan classes f)) whole
+    ∙ refreshed_all-is plan classes s are n 0 f (is_ready plan s) (λ k (less : k < n). omega (arith, all)) (λ q has more most. refl) (λ q has out.
     let k : (k : ℕ) × (slice_get plan.requests k ≡ Some q) × (q.number.number ≡ k + 1) = place_of_request plan q has in
     let inside : k.0 < length plan.requests = slice_get_within plan.requests k.0 q k.1 in
     absurd (out (omega (arith, k.2), omega (arith, k.2, inside, all))))
+  where
+    whole : n - 0 ≡ n
+    whole = omega arith

@@ -1,10 +1,9 @@
 -- The keys of requests in the queues of their classes, and their renewal.
-use Rattle.std.specs.Prelude.{ℕ, zero, suc, ◌+◌, Bool, if◌then◌else◌, List, [], map, Option, None, Some, slice_get, slice_set, unwrap_or}
+use Rattle.std.specs.Prelude.{◌≡◌, ℕ, Bool, List, [], ◌∷◌, length, map, Option, slice_index_or, slice_set}
 use Rattle.std.specs.Bool.{then_some}
 use Rattle.conc_types.specs.declared.facts.State.{State}
 use Rattle.conc_types.specs.declared.plan.Plan.{Plan}
 use Rattle.conc_types.specs.declared.plan.Req.{Req}
-use Rattle.conc_types.specs.Words.{is_between}
 use Rattle.conc_machine_queue.specs.Turns.{turn, turns_of}
 use Rattle.conc_machine_classes.specs.Classes.{class_at, of_class, slot_at}
 use Rattle.conc_machine_classes.specs.declared.classes.Classes.{Classes}
@@ -19,27 +18,19 @@ key plan s r = then_some (is_ready plan s r) (turn r)
 unfoldable pub queues_of : Plan → Classes → (Req → Bool) → List (List (Option ℕ))
 queues_of plan classes test = map (λ c. turns_of test (of_class plan classes c)) (all_classes classes)
 
+-- each class has a queue, with a slot for each of its requests
+abbrev pub HaveSlots : Classes → List (List (Option ℕ)) → Type 0
+HaveSlots classes queues = map length queues ≡ classes.sizes
+
 -- a slot in the queue of a class has this key
 abbrev pub put_in : List (List (Option ℕ)) → ℕ → ℕ → Option ℕ → List (List (Option ℕ))
-put_in queues c slot key = slice_set queues c (slice_set (unwrap_or (slice_get queues c) []) slot key)
+put_in queues c slot key = slice_set queues c (slice_set (slice_index_or queues c []) slot key)
 
 -- the key of a request is what the state says
 abbrev pub refreshed_at : Plan → Classes → State → List (List (Option ℕ)) → Req → List (List (Option ℕ))
 refreshed_at plan classes s queues r = put_in queues (class_at classes r) (slot_at classes r) (key plan s r)
 
-abbrev pub refreshed_by : Plan → Classes → State → List (List (Option ℕ)) → Option Req → List (List (Option ℕ))
-refreshed_by plan classes s queues None = queues
-refreshed_by plan classes s queues (Some r) = refreshed_at plan classes s queues r
-
--- that of the request at an index
-abbrev pub refreshed : Plan → Classes → State → List (List (Option ℕ)) → ℕ → List (List (Option ℕ))
-refreshed plan classes s queues i = refreshed_by plan classes s queues (slice_get plan.requests i)
-
--- those of so many requests, from an index on
-unfoldable pub refreshed_all : Plan → Classes → State → ℕ → ℕ → List (List (Option ℕ)) → List (List (Option ℕ))
-refreshed_all plan classes s zero i queues = queues
-refreshed_all plan classes s (suc n) i queues = refreshed_all plan classes s n (i + 1) (refreshed plan classes s queues i)
-
--- one test of the requests within so many from an index on, and another of the others
-abbrev pub within_else : ℕ → ℕ → (Req → Bool) → (Req → Bool) → Req → Bool
-within_else i n inner outer r = if is_between (i + 1) (i + n) r.number.number then inner r else outer r
+-- those of these requests
+unfoldable pub refreshed_all : Plan → Classes → State → List Req → List (List (Option ℕ)) → List (List (Option ℕ))
+refreshed_all plan classes s [] queues = queues
+refreshed_all plan classes s (r ∷ rs) queues = refreshed_all plan classes s rs (refreshed_at plan classes s queues r)

@@ -1,4 +1,4 @@
-ghost use Rattle.std.specs.Prelude.{◌≡◌, IfOk, map, slice_get, unwrap_or};
+ghost use Rattle.std.specs.Prelude.{◌≡◌, ◌≤◌, IfOk, length, map, slice_index};
 ghost use Rattle.std.specs.List.{range_with_len};
 ghost use Rattle.conc_machine_queue.specs.Least.{vacant};
 
@@ -7,19 +7,19 @@ use conc_machine_queue::Queue;
 use conc_types::{NoMemory, Seq};
 use std::alloc::Global;
 
-/// For each of so many classes a queue in which no request has a key.
+/// For each of the first classes, so many, a queue in which no request has a key.
 pub(crate) fn vacant_queues(
     alloc: Global,
     classes: &Classes,
     count: u32,
 ) -> Result<Vec<Queue>, NoMemory>
+    requires { count ≤ length classes.now.sizes }
     ensures { IfOk result (λ queues. queues.items
-        ≡ map (λ c. vacant (unwrap_or (slice_get classes.now.sizes c) 0))
-        (range_with_len 0 count)) }
+        ≡ map (λ c. vacant (slice_index classes.now.sizes c)) (range_with_len 0 count)) }
 {
     let mut queues = Vec::with_capacity(alloc, count as usize)?;
     for class in 0..count {
-        let size = classes.size(class).unwrap_or(0);
+        let size = classes.size(class);
         queues.push(Queue::new(alloc, size as usize)?)?;
     }
     Ok(queues)

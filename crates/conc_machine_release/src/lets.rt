@@ -1,4 +1,4 @@
-ghost use Rattle.std.specs.Prelude.{◌≡◌, ◌<◌, [], IfOk, Some, length, slice_get, unwrap_or};
+ghost use Rattle.std.specs.Prelude.{◌≡◌, ◌<◌, [], IfOk, Some, length, slice_index};
 ghost use Rattle.conc_types.specs.declared.facts.State.{State};
 ghost use Rattle.conc_law.specs.Next as next_spec;
 ghost use Rattle.conc_law.specs.Next.{is_ready, may_let};
@@ -62,18 +62,23 @@ impl Lets {
     )
         requires classes { AreClasses plan.now classes.now }
         requires spans { AreSpans plan.now spans.now }
+        requires stands { (before : State) × IsWritten plan.now before after.now i old
+            × AreLets plan.now classes.now before self.old }
         ensures { (before : State) → IsWritten plan.now before after.now i old
             → AreLets plan.now classes.now before self.old
             → AreLets plan.now classes.now after.now self.new }
     {
-        renew(&mut self.ready, plan, classes, spans, after, i, old);
-        recount(&mut self.rivals, plan, classes, after, i, old);
+        let r = &plan.requests.as_slice()[i];
+        renew(&mut self.ready, plan, classes, spans, after, r, old);
+        recount(&mut self.rivals, classes, after, r, old);
     }
 
     /// Takes in another moment of the last tick. It looks through the requests only where a start
     /// comes.
     pub fn tick(&mut self, plan: &Plan, classes: &Classes, after: &State)
-        requires { AreClasses plan.now classes.now }
+        requires classes { AreClasses plan.now classes.now }
+        requires stands { (before : State) × (after.now.facts ≡ before.facts)
+            × AreLets plan.now classes.now before self.old }
         ensures { (before : State) → after.now.facts ≡ before.facts
             → AreLets plan.now classes.now before self.old
             → AreLets plan.now classes.now after.now self.new }
@@ -91,9 +96,10 @@ impl Lets {
 
     // How many live requests are of a class that excludes this one.
     fn rival_count(&self, class: usize) -> u32
-        ensures { result ≡ unwrap_or (slice_get self.now.rivals class) 0 }
+        requires { class < length self.now.rivals }
+        ensures { result ≡ slice_index self.now.rivals class }
     {
-        self.rivals.as_slice().get(class).copied().unwrap_or(0)
+        self.rivals.as_slice()[class]
     }
 
     // The least turn of those of a class that may be let, where the first that is ready has this turn.

@@ -1,6 +1,8 @@
-ghost use Rattle.std.specs.Prelude.{◌≡◌, ◌-◌, ◌≤◌, length, slice_get};
+ghost use Rattle.std.specs.Prelude.{◌≡◌, ◌<◌, ◌≤◌, [], length, slice_index_or, slice_range};
+ghost use Rattle.conc_law.specs.Words.{Has};
+ghost use Rattle.conc_machine_classes.specs.Classes.{AreClasses};
 ghost use Rattle.conc_machine_release.specs.Refresh as spec;
-ghost use Rattle.conc_machine_release.specs.Refresh.{refreshed, refreshed_all, refreshed_at};
+ghost use Rattle.conc_machine_release.specs.Refresh.{HaveSlots, refreshed_all, refreshed_at};
 
 use conc_law_decisions::is_ready;
 use conc_machine_classes::Classes;
@@ -10,13 +12,11 @@ use conc_types::{Plan, Req, State};
 
 // Gives a slot in the queue of a class this key, or none.
 fn put_in(queues: &mut Vec<Queue>, class: usize, slot: usize, key: Option<u64>)
+    requires queue { class < length queues.old.items }
+    requires slot { slot < length (slice_index_or queues.old.items class []) }
     ensures { queues.new.items ≡ spec.put_in queues.old.items class slot key }
 {
-    if class < queues.len() {
-        if slot < queues[class].len() {
-            queues[class].put(slot, key);
-        }
-    }
+    queues[class].put(slot, key);
 }
 
 // The key of a request: its turn, where it is ready.
@@ -26,6 +26,7 @@ fn key(plan: &Plan, state: &State, r: &Req) -> Option<u64>
     is_ready(plan, state, r).then_some(turn(r))
 }
 
+/// Makes the key of a request what the state says.
 pub(crate) fn refresh_request(
     queues: &mut Vec<Queue>,
     plan: &Plan,
@@ -33,6 +34,9 @@ pub(crate) fn refresh_request(
     state: &State,
     r: &Req,
 )
+    requires classes { AreClasses plan.now classes.now }
+    requires slots { HaveSlots classes.now queues.old.items }
+    requires known { Has plan.now.requests r.now }
     ensures { queues.new.items ≡ refreshed_at plan.now classes.now state.now queues.old.items
         r.now }
 {
@@ -45,21 +49,6 @@ pub(crate) fn refresh_request(
     );
 }
 
-/// Makes the key of the request at an index what the state says.
-pub(crate) fn refresh(
-    queues: &mut Vec<Queue>,
-    plan: &Plan,
-    classes: &Classes,
-    state: &State,
-    i: usize,
-)
-    ensures { queues.new.items ≡ refreshed plan.now classes.now state.now queues.old.items i }
-{
-    if let Some(r) = plan.requests.as_slice().get(i) {
-        refresh_request(queues, plan, classes, state, r);
-    }
-}
-
 /// Makes the keys of the requests within a span what the state says.
 pub(crate) fn refresh_span(
     queues: &mut Vec<Queue>,
@@ -68,10 +57,14 @@ pub(crate) fn refresh_span(
     state: &State,
     span: Span,
 )
-    ensures { queues.new.items ≡ refreshed_all plan.now classes.now state.now (span.to - span.from)
-        span.from queues.old.items }
+    requires classes { AreClasses plan.now classes.now }
+    requires slots { HaveSlots classes.now queues.old.items }
+    requires inside { span.to ≤ length plan.now.requests }
+    ensures { queues.new.items ≡ refreshed_all plan.now classes.now state.now
+        (slice_range plan.now.requests span.from span.to) queues.old.items }
 {
+    let requests = plan.requests.as_slice();
     for i in span.from..span.to {
-        refresh(queues, plan, classes, state, i);
+        refresh_request(queues, plan, classes, state, &requests[i]);
     }
 }

@@ -1,5 +1,8 @@
-ghost use Rattle.std.specs.Prelude.{◌≡◌, slice_get};
-ghost use Rattle.conc_machine_classes.specs.Classes.{class_at, rivals_at};
+ghost use Rattle.std.specs.Prelude.{◌≡◌, ◌<◌, ◌≤◌, All, length};
+ghost use Rattle.conc_law.specs.Words.{Has};
+ghost use Rattle.conc_machine_classes.specs.Classes.{AreClasses, class_at, rivals_at};
+ghost use Rattle.conc_machine_reach.specs.Spans.{AreSpans};
+ghost use Rattle.conc_machine_release.specs.Refresh.{HaveSlots};
 ghost use Rattle.conc_machine_release.specs.Renewal.{recounted, recounted_by, renewed, renewed_within};
 
 use crate::refresh::{refresh_request, refresh_span};
@@ -8,7 +11,7 @@ use conc_law_decisions::{facts_at, is_live};
 use conc_machine_classes::Classes;
 use conc_machine_queue::Queue;
 use conc_machine_reach::{Span, Spans};
-use conc_types::{Facts, Plan, Seq, State};
+use conc_types::{Facts, Plan, Req, Seq, State};
 
 fn renew_within(
     queues: &mut Vec<Queue>,
@@ -18,6 +21,9 @@ fn renew_within(
     span: Span,
     same: bool,
 )
+    requires classes { AreClasses plan.now classes.now }
+    requires slots { HaveSlots classes.now queues.old.items }
+    requires inside { span.to ≤ length plan.now.requests }
     ensures { queues.new.items ≡ renewed_within plan.now classes.now state.now span same
         queues.old.items }
 {
@@ -26,29 +32,32 @@ fn renew_within(
     }
 }
 
-/// Makes the key of the request at an index what the state says, and those of its members where its stages
-/// are others than before.
+/// Makes the key of a request what the state says, and those of its members where its stages are others
+/// than before.
 pub(crate) fn renew(
     queues: &mut Vec<Queue>,
     plan: &Plan,
     classes: &Classes,
     spans: &Spans,
     state: &State,
-    i: usize,
+    r: &Req,
     old: Facts,
 )
+    requires classes { AreClasses plan.now classes.now }
+    requires spans { AreSpans plan.now spans.now }
+    requires slots { HaveSlots classes.now queues.old.items }
+    requires known { Has plan.now.requests r.now }
     ensures { queues.new.items ≡ renewed plan.now classes.now spans.now state.now old
-        queues.old.items (slice_get plan.now.requests i) }
+        queues.old.items r.now }
 {
-    if let Some(r) = plan.requests.as_slice().get(i) {
-        refresh_request(queues, plan, classes, state, r);
-        let span = spans.span_of_members(r.number);
-        let same = facts_at(state, r).begun.bits == old.begun.bits;
-        renew_within(queues, plan, classes, state, span, same);
-    }
+    refresh_request(queues, plan, classes, state, r);
+    let span = spans.span_of_members(r.number);
+    let same = facts_at(state, r).begun.bits == old.begun.bits;
+    renew_within(queues, plan, classes, state, span, same);
 }
 
 fn recount_by(counts: &mut Seq<u32>, rivals: &[u32], live: bool, was: bool)
+    requires { All (λ class. class < length counts.old) rivals.now }
     ensures { counts.new ≡ recounted_by live was rivals.now counts.old }
 {
     if live != was {
@@ -56,20 +65,12 @@ fn recount_by(counts: &mut Seq<u32>, rivals: &[u32], live: bool, was: bool)
     }
 }
 
-/// Counts the request at an index, where it became live or ceased to be so.
-pub(crate) fn recount(
-    counts: &mut Seq<u32>,
-    plan: &Plan,
-    classes: &Classes,
-    state: &State,
-    i: usize,
-    old: Facts,
-)
-    ensures { counts.new ≡ recounted classes.now state.now old counts.old
-        (slice_get plan.now.requests i) }
+/// Counts a request, where it became live or ceased to be so.
+pub(crate) fn recount(counts: &mut Seq<u32>, classes: &Classes, state: &State, r: &Req, old: Facts)
+    requires { All (λ class. class < length counts.old)
+        (rivals_at classes.now (class_at classes.now r.now)) }
+    ensures { counts.new ≡ recounted classes.now state.now old counts.old r.now }
 {
-    if let Some(r) = plan.requests.as_slice().get(i) {
-        let rivals = classes.rivals(classes.class(r));
-        recount_by(counts, rivals, is_live(facts_at(state, r)), is_live(old));
-    }
+    let rivals = classes.rivals(classes.class(r));
+    recount_by(counts, rivals, is_live(facts_at(state, r)), is_live(old));
 }

@@ -1,4 +1,4 @@
-ghost use Rattle.std.specs.Prelude.{◌≡◌, slice_get};
+ghost use Rattle.std.specs.Prelude.{◌≡◌, ◌<◌, All, length};
 ghost use Rattle.conc_machine_release.specs.Rivals as spec;
 ghost use Rattle.conc_machine_release.specs.Rivals.{counted_all, counted_at};
 
@@ -16,15 +16,16 @@ fn counted(count: u32, more: bool) -> u32
 }
 
 fn count_at(counts: &mut Seq<u32>, class: usize, more: bool)
-    ensures { counts.new ≡ counted_at more counts.old class (slice_get counts.old class) }
+    requires { class < length counts.old }
+    ensures { counts.new ≡ counted_at more counts.old class }
 {
-    if let Some(count) = counts.as_slice().get(class).copied() {
-        counts.set(class, counted(count, more));
-    }
+    let count = counts.as_slice()[class];
+    counts.set(class, counted(count, more));
 }
 
 /// Counts one more, or one less, for each of these classes.
 pub(crate) fn count_all(counts: &mut Seq<u32>, classes: &[u32], more: bool)
+    requires { All (λ class. class < length counts.old) classes.now }
     ensures { counts.new ≡ counted_all more classes.now counts.old }
 {
     for class in classes {

@@ -1,19 +1,13 @@
 -- What is kept before the first event.
-use Rattle.std.proofs.Common.{◌≡◌, Bool, false, List, [], ◌∷◌, None, Some, length, map, refl, sym, ◌∙◌, ap}
-use Rattle.std.specs.Prelude.{unwrap_or}
-use Rattle.std.specs.Option.{option_map}
+use Rattle.std.proofs.Common.{◌≡◌, Bool, false, List, [], ◌∷◌, None, length, map, refl, sym, ◌∙◌, ap}
 use Rattle.conc_types.specs.declared.event.PlaceId.{PlaceId}
 use Rattle.conc_types.specs.declared.manager.Manager.{Manager}
 use Rattle.conc_types.specs.declared.plan.Plan.{Plan}
 use Rattle.conc_types.specs.declared.plan.Req.{Req}
-use Rattle.conc_types.specs.declared.script.Order.{Order}
-use Rattle.conc_types.specs.Words.{numbered}
 use Rattle.conc_law.specs.Next.{runs_at}
 use Rattle.conc_law.specs.Places.{all_places}
-use Rattle.conc_law.specs.State.{facts_at, no_facts, now, state}
-use Rattle.conc_law.proofs.FactsAt.{numbered-map}
+use Rattle.conc_law.specs.State.{now, state}
 use Rattle.conc_law.proofs.FirstEvent.{facts_at-none}
-use Rattle.conc_law_effects.proofs.NoEvents.{state-none}
 use Rattle.conc_machine_queue.specs.Least.{vacant}
 use Rattle.conc_machine_queue.specs.Turns.{turns_of}
 use Rattle.conc_machine_starts.specs.declared.starts.Starts.{Starts}

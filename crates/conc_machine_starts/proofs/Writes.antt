@@ -1,5 +1,5 @@
 -- What one write to the state changes of what is kept.
-use Rattle.std.proofs.Common.{◌≡◌, ℕ, ◌+◌, ◌-◌, ◌≤◌, ◌==◌, min, Bool, false, List, Option, None, Some, Vec, length, map, set, refl, sym, ◌∙◌, ap, arith}
+use Rattle.std.proofs.Common.{◌≡◌, ℕ, zero, suc, ◌+◌, ◌-◌, ◌<◌, ◌≤◌, ◌==◌, min, All, Bool, false, List, [], ◌∷◌, Option, None, Some, Vec, length, map, set, refl, sym, ◌∙◌, ap, subst, arith}
 use Rattle.std.specs.Prelude.{slice_get}
 use Rattle.std.specs.Bool.{then_some}
 use Rattle.std.specs.Option.{option_map}
@@ -38,6 +38,21 @@ unfolding turns_of may_start_under key_of
 turns-written plan before after i old r manager w at =
     map-written plan (λ q. then_some (may_start_under before manager q) (turn q)) (λ q. then_some (may_start_under after manager q) (turn q)) i r at
     (λ q has ne. rw (facts_at-written plan before after i old w q ne) refl)
+
+-- each of the queues has a slot for a request
+pub slots-there : (slots : Manager → List (Option ℕ)) (managers : List Manager) (i : ℕ) → ((manager : Manager) → i < length (slots manager))
+    → All (λ queue. i < length queue) (map slots managers)
+slots-there slots [] i each k d within = absurd (omega (arith, within))
+slots-there slots (manager ∷ managers) i each zero d within = each manager
+slots-there slots (manager ∷ managers) i each (suc k) d within = slots-there slots managers i each k d (omega (arith, within))
+
+-- so have those that are kept
+pub slots-kept : (plan : Plan) (s : State) (starts : Starts) (i : ℕ) → AreStarts plan s starts → i < length plan.requests → All (λ queue. i < length queue) starts.queues.items
+unfolding turns_of
+slots-kept plan s starts i are within =
+    subst (All (λ queue. i < length queue)) (sym are.queues)
+    (slots-there (λ manager. turns_of (may_start_under s manager) plan.requests) plan.setup.managers i
+    (λ manager. omega (arith, within, length-map plan.requests (λ r. then_some (may_start_under s manager r) (turn r)))))
 
 -- ---- counts
 

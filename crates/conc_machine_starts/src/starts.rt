@@ -80,12 +80,12 @@ impl Starts {
 
     /// Takes in that the facts of the request at an index were written, which were these before.
     pub fn write(&mut self, plan: &Plan, after: &State, i: usize, old: Facts)
+        requires { (before : State) × IsWritten plan.now before after.now i old
+            × AreStarts plan.now before self.old }
         ensures { (before : State) → IsWritten plan.now before after.now i old
             → AreStarts plan.now before self.old → AreStarts plan.now after.now self.new }
     {
-        let Some(r) = plan.requests.as_slice().get(i) else {
-            return;
-        };
+        let r = &plan.requests.as_slice()[i];
         let facts = facts_at(after, r);
         refresh(
             self.queues.as_mut_slice(),
@@ -100,6 +100,8 @@ impl Starts {
 
     /// Takes in another moment of the last tick.
     pub fn tick(&mut self, plan: &Plan, after: &State)
+        requires { (before : State) × (after.now.facts ≡ before.facts)
+            × AreStarts plan.now before self.old }
         ensures { (before : State) → after.now.facts ≡ before.facts
             → AreStarts plan.now before self.old → AreStarts plan.now after.now self.new }
     {

@@ -1,4 +1,4 @@
-ghost use Rattle.std.specs.Prelude.{◌≡◌, ℕ, List, Option, length, map, slice_set};
+ghost use Rattle.std.specs.Prelude.{◌≡◌, ◌<◌, ℕ, All, List, Option, length, map, slice_set};
 ghost use Rattle.conc_types.specs.declared.manager.Manager.{Manager};
 ghost use Rattle.conc_law.specs.Places.{all_places, count_of_places};
 ghost use Rattle.conc_machine_starts.specs.Starts as starts_spec;
@@ -23,15 +23,6 @@ fn key_of(facts: Facts, manager: &Manager, r: &Req) -> Option<u64>
     }
 }
 
-// Gives a slot this key, or none, where there is such a slot.
-fn put(queue: &mut Queue, slot: usize, key: Option<u64>)
-    ensures { queue.new ≡ slice_set queue.old slot key }
-{
-    if slot < queue.len() {
-        queue.put(slot, key);
-    }
-}
-
 /// Gives the slot of a request in each manager's queue its key by these facts.
 pub(crate) fn refresh(
     queues: &mut [Queue],
@@ -40,6 +31,7 @@ pub(crate) fn refresh(
     r: &Req,
     facts: Facts,
 )
+    requires { All (λ queue. slot < length queue) queues.old }
     ensures { (slots : Manager → List (Option ℕ)) → queues.old ≡ map slots managers.now
         → queues.new ≡ map (λ manager. slice_set (slots manager) slot
         (updates_spec.key_of facts manager r.now)) managers.now }
@@ -50,7 +42,7 @@ pub(crate) fn refresh(
     let Some((manager, managers)) = managers.split_first() else {
         return;
     };
-    put(queue, slot, key_of(facts, manager, r));
+    queue.put(slot, key_of(facts, manager, r));
     refresh(queues, managers, slot, r, facts);
 }
 
@@ -94,15 +86,14 @@ fn is_usable_now(plan: &Plan, state: &State, place: PlaceId) -> bool
 
 /// Marks each place as usable at the last tick or not.
 pub(crate) fn renew(usable: &mut Seq<bool>, plan: &Plan, state: &State)
-    ensures { length usable.old ≡ count_of_places plan.now
-        → usable.new ≡ map (starts_spec.is_usable_now plan.now state.now) (all_places plan.now) }
+    requires { length usable.old ≡ count_of_places plan.now }
+    ensures { usable.new ≡ map (starts_spec.is_usable_now plan.now state.now)
+        (all_places plan.now) }
 {
     for index in 0..place_count(plan) {
-        if (index as usize) < usable.len() {
-            usable.set(
-                index as usize,
-                is_usable_now(plan, state, PlaceId { index }),
-            );
-        }
+        usable.set(
+            index as usize,
+            is_usable_now(plan, state, PlaceId { index }),
+        );
     }
 }

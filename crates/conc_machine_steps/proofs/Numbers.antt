@@ -1,15 +1,17 @@
 -- Slots of requests: where the tests of one or two requests change, one or two slots are written.
-use Rattle.std.proofs.Common.{◌≡◌, ℕ, ◌+◌, ◌-◌, ◌==◌, Bool, true, false, if◌then◌else◌, List, length, Some, eqb, refl, sym, ◌∙◌, ap, arith}
+use Rattle.std.proofs.Common.{◌≡◌, ℕ, ◌+◌, ◌-◌, ◌<◌, ◌==◌, Bool, true, false, if◌then◌else◌, List, length, Option, Some, eqb, refl, sym, ◌∙◌, ap, arith}
 use Rattle.std.specs.Prelude.{slice_get}
 use Rattle.std.specs.Bool.{then_some}
 use Rattle.std.proofs.lemmas.Bool.{eq-eqb, ne_eqb}
+use Rattle.std.proofs.lemmas.List.{length-map, length-set}
+use Rattle.std.proofs.lemmas.Option.{slice_get_within}
 use Rattle.conc_types.specs.declared.plan.Plan.{Plan}
 use Rattle.conc_types.specs.declared.plan.Req.{Req}
 use Rattle.conc_law.specs.Words.{Has}
 use Rattle.conc_machine_queue.specs.Least.{vacant}
 use Rattle.conc_machine_queue.specs.Turns.{numbers_of}
 use Rattle.conc_machine_queue.proofs.Maps.{map-vacant, numbers_of-written, place_of_request}
-use Rattle.conc_machine_steps.specs.Slots.{refreshed}
+use Rattle.conc_machine_steps.specs.Slots.{HasSlot, refreshed}
 
 -- where no request passes, all slots are vacant
 pub numbers_of-none : (test : Req → Bool) (rs : List Req) → ((r : Req) → Has rs r → test r ≡ false)
@@ -26,8 +28,22 @@ unfolding refreshed
 numbers_of-one plan f g r has same =
     let p : (k : ℕ) × (slice_get plan.requests k ≡ Some r) × (r.number.number ≡ k + 1) = place_of_request plan r has in
     let at : r.number.number - 1 ≡ p.0 = omega (arith, p.2) in
-    rw (ne_eqb r.number.number 0 (omega (arith, p.2)), at)
+    rw at
     (numbers_of-written plan f g p.0 r p.1 (λ q h ne. same q h (λ (e : q.number.number ≡ r.number.number). ne (e ∙ p.2))))
+
+-- each request of the plan has a slot
+pub HasSlot-numbers_of : (plan : Plan) (test : Req → Bool) (slots : List (Option ℕ)) → slots ≡ numbers_of test plan.requests → (r : Req) → Has plan.requests r → HasSlot slots r
+unfolding numbers_of
+HasSlot-numbers_of plan test slots are r has =
+    let p : (k : ℕ) × (slice_get plan.requests k ≡ Some r) × (r.number.number ≡ k + 1) = place_of_request plan r has in
+    let within : p.0 < length plan.requests = slice_get_within plan.requests p.0 r p.1 in
+    let all : length slots ≡ length plan.requests = ap length are ∙ length-map plan.requests (λ q. then_some (test q) q.number.number) in
+    (omega (arith, p.2), omega (arith, p.2, within, all))
+
+-- also after one is written
+pub HasSlot-refreshed : (slots : List (Option ℕ)) (q : Req) (passes : Bool) (r : Req) → HasSlot slots r → HasSlot (refreshed slots q passes) r
+unfolding refreshed
+HasSlot-refreshed slots q passes r has = (has.0, omega (arith, has.1, length-set slots (q.number.number - 1) (then_some passes q.number.number)))
 
 -- the test of one request is the later one
 abbrev between : (Req → Bool) → (Req → Bool) → Req → Req → Bool

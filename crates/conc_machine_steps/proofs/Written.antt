@@ -1,8 +1,8 @@
 -- Where the facts of one request are written, its slots are written, and in the queue of sets that of its set.
-use Rattle.std.proofs.Common.{◌≡◌, ℕ, zero, suc, [], ◌∷◌, ◌<◌, ◌+◌, true, List, length, None, Some, eqb, sym, ◌∙◌, ap, arith}
+use Rattle.std.proofs.Common.{◌≡◌, ℕ, ◌<◌, ◌+◌, true, List, get_or, length, None, Some, eqb, refl, sym, ◌∙◌, ap, arith}
 use Rattle.std.specs.Prelude.{slice_get}
 use Rattle.std.proofs.lemmas.Bool.{and_parts, eqb-true}
-use Rattle.std.proofs.lemmas.Option.{slice_get_within}
+use Rattle.std.proofs.lemmas.Option.{slice_get_read, slice_get_within}
 use Rattle.conc_types.specs.declared.event.RequestId.{RequestId}
 use Rattle.conc_types.specs.declared.facts.Facts.{Facts}
 use Rattle.conc_types.specs.declared.facts.State.{State}
@@ -75,6 +75,13 @@ others_due plan before after i old written r at q has ne no_parent =
     let same : x ≡ r = one_number plan x r has_x (request_at_place plan i r at).1 e in
     no_parent (parent_of_member plan q r stage has (ap (is_member q.number stage) (sym same) ∙ member))))
 
+-- the set of a member is a request of the plan
+pub parent_there : (plan : Plan) (r set : Req) → parent plan r ≡ Some set → Has plan.requests set
+unfolding parent
+parent_there plan r set member =
+    let p : (id : RequestId) × (r.parent ≡ Some id) × (request plan id ≡ Some set) = and_then-some (request plan) r.parent set member in
+    (found plan p.0 set p.2).1
+
 -- what is kept of the open sets, where a request of no set is written
 pub steps_written : (plan : Plan) (before after : State) (i : ℕ) (old : Facts) → IsWritten plan before after i old
     → (r : Req) → slice_get plan.requests i ≡ Some r → parent plan r ≡ None → (was is : Steps) → AreSteps plan before was
@@ -91,24 +98,19 @@ pub steps_written_member : (plan : Plan) (before after : State) (i : ℕ) (old :
     → (r t : Req) → slice_get plan.requests i ≡ Some r → parent plan r ≡ Some t → (was is : Steps) → AreSteps plan before was
     → is.due ≡ refreshed (refreshed was.due r (has_step plan after r)) t (has_step plan after t)
     → AreSteps plan after is
-unfolding parent
-steps_written_member plan before after i old written r t at member was is are due =
-    let p : (id : RequestId) × (r.parent ≡ Some id) × (request plan id ≡ Some t) = and_then-some (request plan) r.parent t member in
-    record {
-      due = due ∙ ap (λ l. refreshed (refreshed l r (has_step plan after r)) t (has_step plan after t)) are.due
-          ∙ sym (numbers_of-two plan (has_step plan before) (has_step plan after) r t (request_at_place plan i r at).1 (found plan p.0 t p.2).1
-          (λ q h ne not_set. others_due plan before after i old written r at q h ne
-          (λ (e : parent plan r ≡ Some q). not_set (let same : t ≡ q = cc in ap (λ x. x.number.number) (sym same)))));
-    }
+steps_written_member plan before after i old written r t at member was is are due = record {
+  due = due ∙ ap (λ l. refreshed (refreshed l r (has_step plan after r)) t (has_step plan after t)) are.due
+      ∙ sym (numbers_of-two plan (has_step plan before) (has_step plan after) r t (request_at_place plan i r at).1 (parent_there plan r t member)
+      (λ q h ne not_set. others_due plan before after i old written r at q h ne
+      (λ (e : parent plan r ≡ Some q). not_set (let same : t ≡ q = cc in ap (λ x. x.number.number) (sym same)))));
+}
 
 -- the request that is written is there
-pub written_within : (plan : Plan) (before after : State) (i : ℕ) (old : Facts) → IsWritten plan before after i old
-    → slice_get plan.requests i ≡ None → ⊥
-written_within plan before after i old written none =
-    let within : i < length before.facts = slice_get_within before.facts i old written.was in
-    beyond plan.requests i (omega (arith, within, written.all)) none
-  where
-    beyond : (xs : List Req) (k : ℕ) → k < length xs → slice_get xs k ≡ None → ⊥
-    beyond [] k h none = absurd (omega arith)
-    beyond (x ∷ xs) zero h none = cc
-    beyond (x ∷ xs) (suc k) h none = beyond xs k (omega arith) none
+pub written_within : (plan : Plan) (before after : State) (i : ℕ) (old : Facts) → IsWritten plan before after i old → i < length plan.requests
+written_within plan before after i old written = omega (arith, slice_get_within before.facts i old written.was, written.all)
+
+-- it is the one that is read at the index
+pub written_read : (plan : Plan) (before after : State) (i : ℕ) (old : Facts) → IsWritten plan before after i old
+    → (items : List Req) → items ≡ plan.requests → (r : Req) → r ≡ get_or items i r → slice_get plan.requests i ≡ Some r
+written_read plan before after i old written items same r is =
+    slice_get_read plan.requests (length plan.requests) i r refl (written_within plan before after i old written) (is ∙ ap (λ l. get_or l i r) same)

@@ -7,7 +7,7 @@ ghost use Rattle.conc_law.specs.State.{state};
 ghost use Rattle.conc_machine_queue.specs.Written.{IsWritten};
 ghost use Rattle.conc_machine_steps.specs.Steps.{AreRunning};
 
-use crate::slots::{least_request, refresh, request_at};
+use crate::slots::{least_request, refresh};
 use conc_law_decisions::{is_left_running, runs_somewhere};
 use conc_machine_queue::Queue;
 use conc_types::{Event, Facts, NoMemory, Plan, Req, State};
@@ -35,13 +35,14 @@ impl Running {
 
     /// Takes in that the facts of the request at an index were written, which were these before.
     pub fn write(&mut self, plan: &Plan, after: &State, i: usize, _old: Facts)
+        requires { (before : State) × IsWritten plan.now before after.now i _old
+            × AreRunning plan.now before self.old }
         ensures { (before : State) → IsWritten plan.now before after.now i _old
             → AreRunning plan.now before self.old → AreRunning plan.now after.now self.new }
     {
-        if let Some(r) = request_at(plan, i) {
-            refresh(&mut self.all, r, runs_somewhere(after, r));
-            refresh(&mut self.left, r, is_left_running(after, r));
-        }
+        let r = &plan.requests.as_slice()[i];
+        refresh(&mut self.all, r, runs_somewhere(after, r));
+        refresh(&mut self.left, r, is_left_running(after, r));
     }
 
     /// The request with the least number of those that run.

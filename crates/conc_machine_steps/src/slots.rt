@@ -1,32 +1,21 @@
-ghost use Rattle.std.specs.Prelude.{◌≡◌, slice_get};
+ghost use Rattle.std.specs.Prelude.{◌≡◌};
 ghost use Rattle.std.specs.Option.{option_and_then, option_copied};
 ghost use Rattle.conc_machine_queue.specs.Least.{least};
 ghost use Rattle.conc_machine_queue.specs.Turns.{request_numbered};
-ghost use Rattle.conc_machine_steps.specs.Slots.{refreshed};
+ghost use Rattle.conc_machine_steps.specs.Slots.{HasSlot, refreshed};
 
 use conc_machine_queue::Queue;
 use conc_types::{Plan, Req};
 
-/// The request of the plan at an index.
-pub(crate) fn request_at(plan: &Plan, i: usize) -> Option<&Req>
-    ensures { option_copied result ≡ slice_get plan.now.requests i }
-{
-    plan.requests.as_slice().get(i)
-}
-
 /// Writes the slot of a request: its number where it passes, or none.
-#[tactic(auto, using(std::proofs::lemmas::List::set_past), unfolding(crate::specs::Slots::refreshed))]
+#[tactic(auto, unfolding(crate::specs::Slots::refreshed))]
 pub(crate) fn refresh(slots: &mut Queue, r: &Req, passes: bool)
+    requires { HasSlot slots.old r.now }
     ensures { slots.new ≡ refreshed slots.old r.now passes }
 {
     let number = r.number.number;
-    if number == 0 {
-        return;
-    }
-    let slot = number as usize - 1;
-    if slot < slots.len() {
-        slots.put(slot, if passes { Some(number as u64) } else { None });
-    }
+    let key = if passes { Some(number as u64) } else { None };
+    slots.put(number as usize - 1, key);
 }
 
 /// The request of the plan that has the least of the numbers.

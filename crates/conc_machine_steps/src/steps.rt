@@ -6,10 +6,10 @@ ghost use Rattle.conc_law.specs.Next as spec;
 ghost use Rattle.conc_law.specs.State.{state};
 ghost use Rattle.conc_machine_queue.specs.Written.{IsWritten};
 ghost use Rattle.conc_machine_reach.specs.Spans.{AreSpans};
-ghost use Rattle.conc_machine_steps.specs.Slots.{refreshed};
+ghost use Rattle.conc_machine_steps.specs.Slots.{HasSlot, refreshed};
 ghost use Rattle.conc_machine_steps.specs.Steps.{AreSteps};
 
-use crate::slots::{least_request, refresh, request_at};
+use crate::slots::{least_request, refresh};
 use conc_law_decisions::{has_step, set_step};
 use conc_machine_queue::Queue;
 use conc_machine_reach::Spans;
@@ -36,7 +36,8 @@ impl Steps {
 
     // Decides anew whether a request is an open set that has something to do.
     fn refresh(&mut self, plan: &Plan, spans: &Spans, state: &State, r: &Req)
-        requires { AreSpans plan.now spans.now }
+        requires spans { AreSpans plan.now spans.now }
+        requires slot { HasSlot self.old.due r.now }
         ensures { self.new.due ≡ refreshed self.old.due r.now
             (spec.has_step plan.now state.now r.now) }
     {
@@ -46,15 +47,16 @@ impl Steps {
 
     /// Takes in that the facts of the request at an index were written, which were these before.
     pub fn write(&mut self, plan: &Plan, spans: &Spans, after: &State, i: usize, _old: Facts)
-        requires { AreSpans plan.now spans.now }
+        requires spans { AreSpans plan.now spans.now }
+        requires stands { (before : State) × IsWritten plan.now before after.now i _old
+            × AreSteps plan.now before self.old }
         ensures { (before : State) → IsWritten plan.now before after.now i _old
             → AreSteps plan.now before self.old → AreSteps plan.now after.now self.new }
     {
-        if let Some(r) = request_at(plan, i) {
-            self.refresh(plan, spans, after, r);
-            if let Some(set) = parent(plan, r) {
-                self.refresh(plan, spans, after, set);
-            }
+        let r = &plan.requests.as_slice()[i];
+        self.refresh(plan, spans, after, r);
+        if let Some(set) = parent(plan, r) {
+            self.refresh(plan, spans, after, set);
         }
     }
 

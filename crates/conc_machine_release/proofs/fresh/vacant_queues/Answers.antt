@@ -1,5 +1,5 @@
 use Rattle.std.proofs.Common.{ap, sym, ◌∙◌, ◌++◌, [], ◌∷◌, arith}
-use Rattle.std.specs.Prelude.{slice_get, unwrap_or}
+use Rattle.std.specs.Prelude.{slice_index}
 use Rattle.std.proofs.lemmas.List.FromFn.{map-range_with_len_more}
 use Rattle.conc_machine_queue.specs.Least.{vacant}
 use Rattle.conc_machine_release.proofs.fresh.vacant_queues.Goals as goal
@@ -7,6 +7,6 @@ use Rattle.conc_machine_release.proofs.fresh.vacant_queues.Goals as goal
 pub loop-class-preserved : goal.loop-class-preserved
 loop-class-preserved c =
     c.in_ok-push.ensures.items
-    ∙ ap (λ q. c.loop-class.queues.items ++ q ∷ []) (c.in_ok-new.ensures ∙ ap vacant (c.unwrap_or-size.ensures ∙ ap (λ o. unwrap_or o 0) c.size.ensures))
-    ∙ ap (λ l. l ++ vacant (unwrap_or (slice_get c.args.classes.now.sizes c.loop-class.class) 0) ∷ []) c.loop-class.invariant
-    ∙ sym (map-range_with_len_more (λ n. vacant (unwrap_or (slice_get c.args.classes.now.sizes n) 0)) 0 c.loop-class.class c.loop-class.class (omega arith))
+    ∙ ap (λ q. c.loop-class.queues.items ++ q ∷ []) (c.in_ok-new.ensures ∙ ap vacant c.size-size.ensures)
+    ∙ ap (λ l. l ++ vacant (slice_index c.args.classes.now.sizes c.loop-class.class) ∷ []) c.loop-class.invariant
+    ∙ sym (map-range_with_len_more (λ n. vacant (slice_index c.args.classes.now.sizes n)) 0 c.loop-class.class c.loop-class.class (omega arith))

@@ -5,6 +5,6 @@ use Rattle.conc_machine_starts.proofs.updates.renew.Given as goal
 
 abbrev pub invariant-loop-index : goal.invariant-loop-index
 invariant-loop-index l = record {
-  same_length : length l.usable ≡ length l.fn.usable;
-  renewed : length l.fn.usable ≡ count_of_places l.plan → (k : ℕ) → k < l.index → get_or l.usable k false ≡ is_usable_now l.plan l.state (record { index = k });
+  same_length : length l.usable ≡ count_of_places l.plan;
+  renewed : (k : ℕ) → k < l.index → get_or l.usable k false ≡ is_usable_now l.plan l.state (record { index = k });
 }

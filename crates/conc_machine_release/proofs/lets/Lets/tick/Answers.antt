@@ -1,4 +1,4 @@
-use Rattle.std.proofs.Common.{◌-◌, length, sym, ◌∙◌, ap, arith}
+use Rattle.std.proofs.Common.{length, sym, ◌∙◌, ap, arith}
 use Rattle.std.specs.Prelude.{unwrap_or}
 use Rattle.conc_types.specs.Words.{numbered}
 use Rattle.conc_law.specs.State.{facts_at, no_facts}
@@ -8,8 +8,14 @@ use Rattle.conc_machine_release.specs.Refresh.{queues_of}
 use Rattle.conc_machine_release.specs.declared.starts.StartWindow.{StartWindow}
 use Rattle.conc_machine_release.proofs.Alike.{kept-in_window, window-begun, rivals-alike}
 use Rattle.conc_machine_release.proofs.Lists.{map_range-same}
+use Rattle.conc_machine_release.proofs.Slots.{HaveSlots-kept}
 use Rattle.conc_machine_release.proofs.Written.{all-renewed}
 use Rattle.conc_machine_release.proofs.lets.Lets.tick.Goals as goal
+
+pub refresh_span-requires-clause-slots : goal.refresh_span-requires-clause-slots
+refresh_span-requires-clause-slots c =
+    let stands = c.requires.stands in
+    HaveSlots-kept c.args.plan.now c.args.classes.now stands.0 c.args.self.now c.requires.classes stands.2
 
 pub returns-then-contains : goal.returns-then-contains
 returns-then-contains c before same are =
@@ -19,7 +25,7 @@ pub returns : goal.returns
 unfolding queues_of facts_at
 returns c before same are = record {
   ready = c.refresh_span.ensures
-      ∙ all-renewed c.args.plan.now c.args.classes.now c.requires c.args.after.now (is_ready c.args.plan.now before) (c.len.result - 0) (omega (arith, c.len.ensures))
+      ∙ all-renewed c.args.plan.now c.args.classes.now c.requires.classes c.args.after.now (is_ready c.args.plan.now before) c.len.result c.len.ensures
       c.args.self.now.ready.items are.ready;
   rivals = are.rivals ∙ map_range-same (live_rivals c.args.plan.now c.args.classes.now before) (live_rivals c.args.plan.now c.args.classes.now c.args.after.now) 0 (length c.args.classes.now.sizes)
       (λ n le. rivals-alike c.args.plan.now c.args.classes.now before c.args.after.now (λ q. ap (λ l. unwrap_or (numbered l q.number.number) no_facts) same) n);

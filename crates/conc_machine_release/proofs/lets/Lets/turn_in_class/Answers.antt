@@ -1,6 +1,11 @@
-use Rattle.std.proofs.Common.{sym, ◌∙◌}
+use Rattle.std.proofs.Common.{sym, ◌∙◌, arith}
 use Rattle.conc_machine_release.proofs.Choice.{class-blocked, class-first_with_only_kin_rivals, class-free, class-kin_marked, rivals-kept}
+use Rattle.conc_machine_release.proofs.Slots.{length-kept}
 use Rattle.conc_machine_release.proofs.lets.Lets.turn_in_class.Goals as goal
+
+pub rival_count-rivals-requires : goal.rival_count-rivals-requires
+rival_count-rivals-requires c =
+    omega (arith, c.requires.within, length-kept c.args.plan.now c.args.classes.now c.args.state.now c.args.self.now c.requires.stands)
 
 pub returns-then-rivals-eq0 : goal.returns-then-rivals-eq0
 returns-then-rivals-eq0 c =

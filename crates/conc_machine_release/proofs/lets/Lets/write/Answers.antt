@@ -1,17 +1,42 @@
-use Rattle.std.proofs.Common.{◌∙◌, ap}
+use Rattle.std.proofs.Common.{◌≡◌, get_or, length, Some, refl, ◌∙◌, ap}
+use Rattle.std.specs.Prelude.{slice_get}
+use Rattle.std.proofs.lemmas.Option.{slice_get_read}
 use Rattle.conc_law.specs.State.{has_come}
+use Rattle.conc_machine_queue.proofs.Maps.{request_at_place}
+use Rattle.conc_machine_classes.specs.Classes.{class_at}
 use Rattle.conc_machine_release.specs.Refresh.{queues_of}
 use Rattle.conc_machine_release.proofs.Counts.{recounted-is}
-use Rattle.conc_machine_release.proofs.Written.{renewed-is}
+use Rattle.conc_machine_release.proofs.Slots.{HaveSlots-kept, rivals-counted}
+use Rattle.conc_machine_release.proofs.Written.{renewed-is, written-within}
 use Rattle.conc_machine_release.proofs.lets.Lets.write.Goals as goal
+
+pub renew-requires-clause-slots : goal.renew-requires-clause-slots
+renew-requires-clause-slots c =
+    let stands = c.requires.stands in
+    HaveSlots-kept c.args.plan.now c.args.classes.now stands.0 c.args.self.now c.requires.classes stands.2
+
+pub renew-requires-clause-known : goal.renew-requires-clause-known
+renew-requires-clause-known c =
+    let within = written-within c.args.plan.now c.requires.stands.0 c.args.after.now c.args.i c.args.old c.requires.stands.1 in
+    let at : slice_get c.args.plan.now.requests c.args.i ≡ Some c.index-as_slice-i.result = slice_get_read c.args.plan.now.requests (length c.args.plan.now.requests) c.args.i c.index-as_slice-i.result refl within (c.index-as_slice-i.is ∙ ap (λ l. get_or l c.args.i c.index-as_slice-i.result) c.as_slice.ensures) in
+    (request_at_place c.args.plan.now c.args.i c.index-as_slice-i.result at).1
+
+pub recount-requires : goal.recount-requires
+recount-requires c =
+    let stands = c.requires.stands in
+    rivals-counted c.args.plan.now c.args.classes.now stands.0 c.args.self.now c.requires.classes stands.2 (class_at c.args.classes.now c.index-as_slice-i.result)
 
 pub returns : goal.returns
 unfolding queues_of
-returns c before w are = record {
-  ready = c.renew.ensures
-      ∙ renewed-is c.args.plan.now c.args.classes.now c.args.spans.now c.requires.classes c.requires.spans before c.args.after.now c.args.i c.args.old w c.args.self.now.ready.items are.ready;
-  rivals = c.recount.ensures
-      ∙ recounted-is c.args.plan.now c.args.classes.now c.requires.classes before c.args.after.now c.args.i c.args.old w c.args.self.now.rivals are.rivals;
-  window = λ t since next r has. ap (λ time. has_come time r.start) w.time ∙ are.window t since next r has;
-  few = are.few;
-}
+returns c before w are =
+    let at = slice_get_read c.args.plan.now.requests (length c.args.plan.now.requests) c.args.i c.index-as_slice-i.result refl
+    (written-within c.args.plan.now before c.args.after.now c.args.i c.args.old w) (c.index-as_slice-i.is ∙ ap (λ l. get_or l c.args.i c.index-as_slice-i.result) c.as_slice.ensures) in
+    record {
+      ready = c.renew.ensures
+          ∙ renewed-is c.args.plan.now c.args.classes.now c.args.spans.now c.requires.classes c.requires.spans before c.args.after.now c.args.i c.args.old w c.index-as_slice-i.result at
+          c.args.self.now.ready.items are.ready;
+      rivals = c.recount.ensures
+          ∙ recounted-is c.args.plan.now c.args.classes.now c.requires.classes before c.args.after.now c.args.i c.args.old w c.index-as_slice-i.result at c.args.self.now.rivals are.rivals;
+      window = λ t since next r has. ap (λ time. has_come time r.start) w.time ∙ are.window t since next r has;
+      few = are.few;
+    }

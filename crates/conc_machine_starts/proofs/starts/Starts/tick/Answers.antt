@@ -4,7 +4,12 @@ use Rattle.conc_machine_starts.proofs.Alike.{starts-tick}
 use Rattle.conc_machine_starts.proofs.Ranges.{length-places}
 use Rattle.conc_machine_starts.proofs.starts.Starts.tick.Goals as goal
 
+pub renew-requires : goal.renew-requires
+renew-requires c =
+    let stands = c.requires in
+    ap length stands.2.usable ∙ length-places c.args.plan.now (is_usable_now c.args.plan.now stands.0)
+
 pub returns : goal.returns
 returns c = λ before e are.
     starts-tick c.args.plan.now before c.args.after.now c.args.self.now _ e refl refl refl
-    (c.renew.ensures (ap length are.usable ∙ length-places c.args.plan.now (is_usable_now c.args.plan.now before))) are
+    c.renew.ensures are

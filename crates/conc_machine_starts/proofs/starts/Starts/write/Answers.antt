@@ -1,24 +1,32 @@
-use Rattle.std.proofs.Common.{◌∙◌, ap, length, map, refl, set, sym}
-use Rattle.std.specs.Prelude.{slice_get}
-use Rattle.std.proofs.lemmas.Option.{slice_get_read}
+use Rattle.std.proofs.Common.{◌∙◌, ◌<◌, All, ap, arith, get_or, length, map, refl, set, subst, sym}
+use Rattle.std.proofs.lemmas.Option.{slice_get_read, slice_get_within}
 use Rattle.conc_types.specs.declared.manager.Manager.{Manager}
 use Rattle.conc_law.specs.State.{facts_at}
 use Rattle.conc_machine_starts.specs.Updates.{key_of, with_one, without_one}
-use Rattle.conc_machine_starts.proofs.Writes.{all-written, starts-written}
+use Rattle.conc_machine_starts.proofs.Writes.{all-written, slots-kept, starts-written}
 use Rattle.conc_machine_starts.proofs.starts.Starts.write.Goals as goal
+
+pub refresh-requires : goal.refresh-requires
+refresh-requires c =
+    let stands = c.requires in
+    let within = slice_get_within stands.0.facts c.args.i c.args.old stands.1.was in
+    subst (All (λ queue. c.args.i < length queue)) (sym c.as_mut_slice.ensures.value)
+    (slots-kept c.args.plan.now stands.0 c.args.self.now c.args.i stands.2 (omega (arith, within, stands.1.all)))
 
 pub returns : goal.returns
 returns c = λ before w are.
-    starts-written c.args.plan.now before c.args.after.now c.args.i c.args.old c.in-Some.r.now c.args.self.now _
-    (ap (λ l. slice_get l c.args.i) (sym c.as_slice.ensures)
-    ∙ slice_get_read c.as_slice.result.now (length c.as_slice.result.now) c.args.i c.in-Some.r.now refl c.in-Some.ensures.lookup.3.0 c.in-Some.ensures.lookup.1)
+    let r = c.index-as_slice-i.result in
+    let within = slice_get_within before.facts c.args.i c.args.old w.was in
+    starts-written c.args.plan.now before c.args.after.now c.args.i c.args.old r c.args.self.now _
+    (slice_get_read c.args.plan.now.requests (length c.args.plan.now.requests) c.args.i r refl (omega (arith, within, w.all))
+    (c.index-as_slice-i.is ∙ ap (λ l. get_or l c.args.i r) c.as_slice.ensures))
     (record {
       queues = λ slots e.
           all-written c.args.self.now.queues c.refresh.new.queues slots
-          (λ manager. set (slots manager) c.args.i (key_of (facts_at c.args.after.now c.in-Some.r.now) manager c.in-Some.r.now)) c.args.plan.now.setup.managers e
+          (λ manager. set (slots manager) c.args.i (key_of (facts_at c.args.after.now r) manager r)) c.args.plan.now.setup.managers e
           (c.refresh.ensures slots (c.as_mut_slice.ensures.value ∙ e ∙ ap (map slots) (sym c.as_slice-2.ensures))
-          ∙ ap (map (λ (manager : Manager). set (slots manager) c.args.i (key_of c.facts_at-facts.result manager c.in-Some.r.now))) c.as_slice-2.ensures
-          ∙ ap (λ facts. map (λ (manager : Manager). set (slots manager) c.args.i (key_of facts manager c.in-Some.r.now)) c.args.plan.now.setup.managers) c.facts_at-facts.ensures);
+          ∙ ap (map (λ (manager : Manager). set (slots manager) c.args.i (key_of c.facts_at-facts.result manager r))) c.as_slice-2.ensures
+          ∙ ap (λ facts. map (λ (manager : Manager). set (slots manager) c.args.i (key_of facts manager r)) c.args.plan.now.setup.managers) c.facts_at-facts.ensures);
       owners = refl;
       running =
           c.enter.ensures
