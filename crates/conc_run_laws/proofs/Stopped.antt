@@ -1,0 +1,143 @@
+-- What a stop of a run leaves, and the next run over it.
+use Rattle.std.proofs.Common.{◌≡◌, ◌⊎◌, inl, inr, ℕ, ◌≤◌, true, List, length, reverse, Option, Some, IfSome, IsFalse, IsTrue, sym, ◌∙◌, ap, subst, le_refl, arith}
+use Rattle.std.specs.Prelude.{slice_get}
+use Rattle.std.proofs.lemmas.List.{length-append}
+use Rattle.std.proofs.lemmas.Option.{slice_get_within}
+use Rattle.conc_types.specs.declared.event.Event.{Event}
+use Rattle.conc_types.specs.declared.event.Event.TheVariants as event
+use Rattle.conc_types.specs.declared.plan.Plan.{Plan}
+use Rattle.conc_types.specs.declared.plan.Req.{Req}
+use Rattle.conc_types.specs.Scripts.{are_in_order}
+use Rattle.conc_disk.specs.Disk.{DiskState}
+use Rattle.conc_disk.specs.Left.{LeavesOnly}
+use Rattle.conc_journal.specs.Opens.{broken_of, events_of, may_open}
+use Rattle.conc_law.specs.Alone.{Alone, opening}
+use Rattle.conc_law.specs.Facts.{runs}
+use Rattle.conc_law.specs.Law.{LawfulSoFar}
+use Rattle.conc_law.specs.Words.{Has}
+use Rattle.conc_law.proofs.Prefixes.{is_lawful_so_far-prefix}
+use Rattle.conc_run.specs.Whole.{HasBetween, HasLeft, IsFinished}
+use Rattle.conc_run.proofs.Next.{left-good, not-bad, not-closed, not-other}
+use Rattle.conc_run_state.specs.Causes.{HasCause, IsOther}
+use Rattle.conc_run_state.specs.Handed.{Handed, IsOwnJournal}
+use Rattle.conc_run_state.specs.Judging.{EndWithin, IsBadRecord}
+use Rattle.conc_run_state.specs.Lists.{IsPrefix}
+use Rattle.conc_run_state.specs.declared.error.HistoryFail.{HistoryFail}
+use Rattle.conc_run_state.specs.declared.error.HistoryFail.TheVariants as history_fail
+use Rattle.conc_run_state.proofs.Prefixes.{prefix-opening, prefix-self}
+use Rattle.conc_run_laws.specs.Lives.{IsInterrupted, IsRightLife}
+use Rattle.conc_run_laws.specs.Next.{BeganWell, IsFit, IsNextOver, IsNextRun, RefusesForRoom}
+use Rattle.conc_run_laws.proofs.RightLives.{finished-interrupts, right-life}
+
+-- what holds of what is there
+pub at-some : {X : Type 0} (P : X → Type 0) (o : Option X) (x : X) → o ≡ Some x → IfSome o P → P x
+at-some {X = X} P o x is holds = subst (λ (s : Option X). IfSome s P) is holds
+
+-- ---- what a stop leaves
+
+-- since now only what is left now
+abbrev pub OnlyNow : DiskState → Type 0
+OnlyNow disk = (image : List ℕ) → disk.left_since disk.moment image → disk.may_leave image
+
+module _ (h : Handed) (found kept last : List Event) (began : BeganWell h) (only_now : OnlyNow h.journal_before) (left : HasLeft h found kept last) where
+  found-is : found ≡ events_of began.image
+  found-is = at-some (λ (i : List ℕ). found ≡ events_of i) h.journal_before.seen began.image began.journal.seen left.events
+
+  -- the image found stands
+  same-fit : (image texts : List ℕ) → EndWithin (length texts) (events_of image) → image ≡ began.image → IsFit h.plan h.digest image texts × IsPrefix found (events_of image)
+  same-fit image texts within same = (
+    record {
+      own = subst (λ (i : List ℕ). IsOwnJournal h.digest i) (sym same) began.fit.own;
+      good = record {
+        whole = ap broken_of same ∙ began.fit.good.whole;
+        so_far = subst (λ (i : List ℕ). LawfulSoFar h.plan (events_of i)) (sym same) began.fit.good.so_far;
+        within = within;
+      };
+    },
+    subst (λ (l : List Event). IsPrefix found l) (found-is ∙ ap events_of (sym same)) (prefix-self found),
+  )
+
+  -- what was left before is the image found
+  earlier-same : (image : List ℕ) → h.journal_before.left_since h.journal_before.moment image → image ≡ began.image
+  earlier-same image since = began.journal.settled image (only_now image since)
+
+  since-left : (kind : List ℕ → Type 0) (image : List ℕ) → LeavesOnly kind h.journal_before h.journal_after → h.journal_after.left_since h.journal_before.moment image
+      → h.journal_before.left_since h.journal_before.moment image ⊎ kind image
+  since-left kind image leaves since =
+      at-some
+      (λ (bytes : List ℕ). (t : ℕ) (c : List ℕ) → t ≤ h.journal_before.moment → h.journal_after.left_since t c → h.journal_before.left_since t c ⊎ kind c)
+      h.journal_before.seen began.image began.journal.seen leaves.nothing_else h.journal_before.moment image (le_refl h.journal_before.moment) since
+
+  pub left-fit : (image texts : List ℕ) → h.journal_after.left_since h.journal_before.moment image → EndWithin (length texts) (events_of image)
+      → IsFit h.plan h.digest image texts × IsPrefix found (events_of image)
+  left-fit image texts since within = elim left.now [
+    | inl untouched ↦ elim (since-left h.journal_before.may_leave image untouched.journal_survives since) [
+      | inl before ↦ same-fit image texts within (earlier-same image before)
+      | inr may ↦ same-fit image texts within (began.journal.settled image may)
+    ]
+    | inr now ↦ elim (since-left (HasBetween h found last) image left.journal since) [
+      | inl before ↦ same-fit image texts within (earlier-same image before)
+      | inr (inl may) ↦ same-fit image texts within (began.journal.settled image may)
+      | inr (inr survives) ↦
+          let both = left-good h.plan h.digest found last image (length texts) (is_lawful_so_far-prefix h.plan) now.so_far survives within in
+          (record { own = both.0; good = both.1 }, survives.begins)
+    ]
+  ]
+
+-- ---- the next run
+
+-- behind the events found there is none
+past-end : (found last : List Event) → last ≡ found → (i : ℕ) (e : Event) → length found ≤ i → slice_get last i ≡ Some e → ⊥
+past-end found last same i e from there = let within = slice_get_within last i e there in absurd (omega (arith, from, within, ap length same))
+
+-- the opening is no shorter than the events found
+opening-long : (found : List Event) → length found ≤ length (opening found)
+opening-long found = let behind = prefix-opening found in omega (arith, ap length behind.1, length-append found behind.0)
+
+module _ (h : Handed) (image texts : List ℕ) (fit : IsFit h.plan h.digest image texts) (journal : h.journal_before.seen ≡ Some image) (spool : h.spool_before.seen ≡ Some texts) where
+  pub refuses-for_room : (e : HistoryFail) → HasCause h e → RefusesForRoom h image e
+  refuses-for_room history_fail.NotJournal cause = not-closed h.digest image fit.own (at-some (λ (i : List ℕ). IsFalse (may_open i)) h.journal_before.seen image journal cause)
+  refuses-for_room (history_fail.OtherInput found) cause = not-other h.digest found image fit.own.own (at-some (λ (i : List ℕ). IsOther h.digest found i) h.journal_before.seen image journal cause)
+  refuses-for_room (history_fail.Unlawful number) cause =
+      not-bad h.plan (length texts) (events_of image) (broken_of image) number fit.good
+      (at-some (λ (t : List ℕ). IsBadRecord h.plan (length t) (events_of image) (broken_of image) number) h.spool_before.seen texts spool
+      (at-some (λ (i : List ℕ). IfSome h.spool_before.seen (λ (t : List ℕ). IsBadRecord h.plan (length t) (events_of i) (broken_of i) number)) h.journal_before.seen image journal cause.bad))
+  refuses-for_room (history_fail.JournalFull len needed) cause =
+      let found = at-some (λ (i : List ℕ). cause.found ≡ events_of i) h.journal_before.seen image journal cause.is_found.events in
+      (cause.len_is ∙ ap length found, cause.needed_is, cause.full)
+  refuses-for_room (history_fail.DiskFault which) cause = tt
+  refuses-for_room history_fail.NoMemory cause = tt
+
+  pub finds-events : (found kept last : List Event) → HasLeft h found kept last → found ≡ events_of image
+  finds-events found kept last left = at-some (λ (i : List ℕ). found ≡ events_of i) h.journal_before.seen image journal left.events
+
+  still-right : (found last : List Event) → last ≡ found → IsRightLife h.plan found last
+  still-right found last same = record {
+    begins = subst (λ (l : List Event). IsPrefix found l) (sym same) (prefix-self found);
+    completed = λ r has done i place from there. past-end found last same i (event.Started r.number place) from there;
+    running = λ r has is. inr (λ i e from below there. absurd (past-end found last same i e (omega (arith, from, opening-long found)) there));
+  }
+
+  pub goes-right : are_in_order h.readings ≡ true → (found kept last : List Event) → HasLeft h found kept last → IsRightLife h.plan found last
+  goes-right order found kept last left = elim left.goes_on [
+    | inl same ↦ still-right found last same
+    | inr going ↦ right-life h.plan h.readings found last (subst (λ (l : List Event). LawfulSoFar h.plan l) (sym (finds-events found kept last left)) fit.good.so_far) going order
+  ]
+
+  pub finishes-interrupts : (list : List Event) → IsFinished h list → (r : Req) → Has h.plan.requests r → IsTrue (runs (reverse (events_of image)) r.number) → IsInterrupted (events_of image) list r.number
+  finishes-interrupts list finished r has is =
+      let same = finds-events finished.found list list finished.left in
+      finished-interrupts h.plan h.readings (events_of image) list r has (subst (λ (l : List Event). Alone h.plan h.readings l list) same finished.alone) is
+
+pub next-run : (h next : Handed) (found kept last : List Event) (image texts : List ℕ) → next.plan ≡ h.plan → next.digest ≡ h.digest → are_in_order next.readings ≡ true → OnlyNow h.journal_before
+    → BeganWell h → HasLeft h found kept last → IsNextOver h.journal_before h.journal_after next image texts → IsNextRun next found image
+next-run h next found kept last image texts same_plan same_digest order only_now began left over =
+    let both = left-fit h found kept last began only_now left image texts over.left over.within in
+    let fit = subst (λ (p : Plan). IsFit p next.digest image texts) (sym same_plan) (subst (λ (d : List ℕ). IsFit h.plan d image texts) (sym same_digest) both.0) in
+    record {
+      refuses = refuses-for_room next image texts fit over.journal over.spool;
+      begins = both.1;
+      finds = finds-events next image texts fit over.journal over.spool;
+      goes_on = goes-right next image texts fit over.journal over.spool order;
+      finishes = finishes-interrupts next image texts fit over.journal over.spool;
+    }

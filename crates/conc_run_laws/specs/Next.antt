@@ -1,0 +1,83 @@
+-- A run that is stopped, and the next one of the same files.
+use Rattle.std.specs.Prelude.{◌≡◌, ◌⊎◌, ⊤, ℕ, ◌+◌, ◌<◌, List, length, reverse, Some, is_some, IfSome, IsTrue}
+use Rattle.conc_types.specs.declared.event.Event.{Event}
+use Rattle.conc_types.specs.declared.plan.Plan.{Plan}
+use Rattle.conc_types.specs.declared.plan.Req.{Req}
+use Rattle.conc_disk.specs.Disk.{DiskState}
+use Rattle.conc_journal.specs.Opens.{broken_of, events_of}
+use Rattle.conc_law.specs.Facts.{runs}
+use Rattle.conc_law.specs.Words.{Has}
+use Rattle.conc_restart.specs.Need.{need}
+use Rattle.conc_run.specs.Whole.{HasLeft, IsFinished}
+use Rattle.conc_run_state.specs.Causes.{HasCause}
+use Rattle.conc_run_state.specs.Handed.{Handed, IsOwnJournal, IsUntouched}
+use Rattle.conc_run_state.specs.Judging.{AreGood, EndWithin}
+use Rattle.conc_run_state.specs.Lists.{IsPrefix}
+use Rattle.conc_run_state.specs.Stored.{AreStored}
+use Rattle.conc_run_state.specs.declared.error.HistoryFail.{HistoryFail}
+use Rattle.conc_run_state.specs.declared.error.HistoryFail.TheVariants as history_fail
+use Rattle.conc_run_laws.specs.Lives.{IsInterrupted, IsRightLife}
+
+-- ---- what a run may begin with
+
+-- The image is a journal of these files or not begun, no record of it is broken, its events are lawful, every life judged as
+-- an earlier one, and the spool with these texts has the extent of each.
+pub record IsFit (plan : Plan) (digest image texts : List ℕ) : Type 0 where
+  pub own : IsOwnJournal digest image
+  pub good : AreGood plan (length texts) (events_of image) (broken_of image)
+
+-- a read gives these bytes, and nothing is pending: a stop leaves them too
+pub record Holds (disk : DiskState) (bytes : List ℕ) : Type 0 where
+  pub seen : disk.seen ≡ Some bytes
+  pub settled : (image : List ℕ) → disk.may_leave image → image ≡ bytes
+
+-- the disks that a run was handed held a journal and a spool that fit its files, and nothing was pending on the journal's
+pub record BeganWell (h : Handed) : Type 0 where
+  pub image : List ℕ
+  pub texts : List ℕ
+  pub journal : Holds h.journal_before image
+  pub spool : h.spool_before.seen ≡ Some texts
+  pub fit : IsFit h.plan h.digest image texts
+
+-- ---- the next run
+
+-- A stop at some moment of the first run, which had this disk for its journal, left this image of it. The next run was handed the
+-- image, and a spool with these texts, which has the extent of each event of the image.
+pub record IsNextOver (before after : DiskState) (next : Handed) (image texts : List ℕ) : Type 0 where
+  pub left : after.left_since before.moment image
+  pub journal : next.journal_before.seen ≡ Some image
+  pub spool : next.spool_before.seen ≡ Some texts
+  pub within : EndWithin (length texts) (events_of image)
+
+-- of all refusals only that for want of room may come: the journal has these events, and a life needs more than there is left
+abbrev pub RefusesForRoom : Handed → List ℕ → HistoryFail → Type 0
+RefusesForRoom h image (history_fail.JournalFull len needed) =
+    (len ≡ length (events_of image)) × (needed ≡ need h.plan h.readings) × (1048576 < len + needed)
+RefusesForRoom h image (history_fail.DiskFault which) = ⊤
+RefusesForRoom h image history_fail.NoMemory = ⊤
+RefusesForRoom h image _ = ⊥
+
+-- The next run refuses nothing but for want of room. The list in the image begins with the events that the first run had found; it is
+-- what the next run finds, and however that ends, its list is a right life behind it. Once it is finished, it has interrupted each
+-- request that ran in what it found.
+pub record IsNextRun (next : Handed) (found : List Event) (image : List ℕ) : Type 0 where
+  pub refuses : (e : HistoryFail) → HasCause next e → RefusesForRoom next image e
+  pub begins : IsPrefix found (events_of image)
+  pub finds : (again kept last : List Event) → HasLeft next again kept last → again ≡ events_of image
+  pub goes_on : (again kept last : List Event) → HasLeft next again kept last → IsRightLife next.plan again last
+  pub finishes : (list : List Event) → IsFinished next list → (r : Req) → Has next.plan.requests r
+      → IsTrue (runs (reverse (events_of image)) r.number) → IsInterrupted (events_of image) list r.number
+
+-- ---- the end of a run
+
+-- a stop at its end leaves these images of its disks, which tell; and the spool held the texts of the events found
+pub record StopsAtEnd (h : Handed) (found : List Event) (image texts : List ℕ) : Type 0 where
+  pub journal_tells : IsTrue (is_some h.journal_after.seen)
+  pub journal : h.journal_after.may_leave image
+  pub spool_tells : IsTrue (is_some h.spool_after.seen)
+  pub spool : h.spool_after.may_leave texts
+  pub stored : IfSome h.spool_before.seen (AreStored h.plan 0 found)
+
+-- nothing was written; or the images fit together, and the list in the journal begins with the one that was acknowledged
+abbrev pub IsFitEnd : Handed → List Event → List ℕ → List ℕ → Type 0
+IsFitEnd h kept image texts = IsUntouched h ⊎ (IsFit h.plan h.digest image texts × IsPrefix kept (events_of image))

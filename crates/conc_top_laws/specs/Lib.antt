@@ -1,0 +1,4 @@
+pub mod Quiet
+pub mod Accepted
+pub mod Fitting
+pub mod Completes
