@@ -1,5 +1,5 @@
-//! Laws on a run that is stopped and on the next run of the same files. Each function here has an empty body;
-//! its contract is the law.
+//! Laws on a run that is stopped and on the next run of the same files. Each function here has an
+//! empty body; its contract is the law.
 #![tactic(auto)]
 
 mod lives;

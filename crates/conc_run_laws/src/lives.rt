@@ -12,11 +12,13 @@ ghost use Rattle.conc_law.specs.Words.{Has};
 ghost use Rattle.conc_run_state.specs.Lists.{GoesOn};
 ghost use Rattle.conc_run_laws.specs.Lives.{IsInterrupted, IsRightLife};
 
-/// A life that goes on from lawful events begins with them, starts no request that was completed in them,
-/// and interrupts by its number each request that ran then, before it does anything else.
+/// A life that goes on from lawful events begins with them, starts no request that was completed
+/// in them, and interrupts by its number each request that ran then, before it does anything
+/// else.
 pub fn a_life_goes_on_rightly()
-    ensures { (plan : Plan) (readings : Readings) (found list : List Event) → LawfulSoFar plan found →
-        GoesOn plan readings.list (opening found) list → IsRightLife plan found list }
+    ensures { (plan : Plan) (readings : Readings) (found list : List Event) →
+        LawfulSoFar plan found → GoesOn plan readings.list (opening found) list
+        → IsRightLife plan found list }
 {}
 
 /// Once the life is finished, each of these requests was interrupted.

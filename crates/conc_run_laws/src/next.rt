@@ -9,11 +9,12 @@ ghost use Rattle.conc_run_laws.specs.Next.{BeganWell, IsFitEnd, IsNextOver, IsNe
 
 use conc_disk::Disk;
 
-/// Let a run begin on a journal and a spool that fit its files, with nothing pending, and let a stop at any
-/// moment leave an image of its journal. A run of the same files over this image, and over a spool that has
-/// each extent of its events, refuses nothing but for want of room. Its list begins with the events that the
-/// first run found. Behind what it finds it starts no request that was completed, and interrupts by its number
-/// each one that ran, before it does anything else; once it is finished, each of these was interrupted.
+/// Let a run begin on a journal and a spool that fit its files, with nothing pending, and let a
+/// stop at any moment leave an image of its journal. A run of the same files over this image, and
+/// over a spool that has each extent of its events, refuses nothing but for want of room. Its
+/// list begins with the events that the first run found. Behind what it finds it starts no
+/// request that was completed, and interrupts by its number each one that ran, before it does
+/// anything else; once it is finished, each of these was interrupted.
 pub fn the_next_run<D: Disk, E: Disk>()
     ensures { (plan : Plan) (readings again : Readings) (digest : List ℕ)
         (journal stopped shown after : D) (spool spool_stopped spool_shown spool_after : E)
@@ -28,8 +29,9 @@ pub fn the_next_run<D: Disk, E: Disk>()
         (E.state spool_shown) (E.state spool_after)) found image }
 {}
 
-/// What a run leaves at its end, if it wrote anything, fits the next run of the same files, where the spool
-/// held the texts of the events found; and the list in it begins with all that was acknowledged.
+/// What a run leaves at its end, if it wrote anything, fits the next run of the same files, where
+/// the spool held the texts of the events found; and the list in it begins with all that was
+/// acknowledged.
 pub fn the_end_is_fit<D: Disk, E: Disk>()
     ensures { (plan : Plan) (readings : Readings) (digest : List ℕ) (journal journal_after : D)
         (spool spool_after : E) (found kept last : List Event) (image texts : List ℕ) →

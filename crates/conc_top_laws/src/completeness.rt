@@ -10,15 +10,17 @@ use conc_disk::Disk;
 use conc_outside::{Shelf, Sink};
 use conc_outside_clock::Clock;
 
-/// `run` finishes the history and prints it, where the journal is that of its files or not begun, none of its
-/// records is bad, and it has room for one more life.
+/// `run` finishes the history and prints it, where the journal is that of its files or not begun,
+/// none of its records is bad, and it has room for one more life.
 pub fn run_completes<F: Shelf, O: Sink, D: Disk, E: Disk, C: Clock>()
     ensures { (shelf shelf_after : F) (out out_after : O) (journal journal_after : D)
-        (spool spool_after : E) (clock clock_after : C) (setup script file : List ℕ) (end : Exit) →
+        (spool spool_after : E) (clock clock_after : C) (setup script file : List ℕ)
+        (end : Exit) →
         RunCompletes setup script file
         (around (F.state shelf) (F.state shelf_after) (C.state clock) (C.state clock_after)
         (sunk (O.state out) (O.state out_after)))
-        (disks (D.state journal) (D.state journal_after) (E.state spool) (E.state spool_after)) end }
+        (disks (D.state journal) (D.state journal_after) (E.state spool) (E.state spool_after))
+        end }
 {}
 
 /// `plan` prints the listing.
@@ -28,7 +30,8 @@ pub fn plan_completes<F: Shelf, O: Sink, D: Disk, E: Disk, C: Clock>()
         PlanCompletes setup script
         (around (F.state shelf) (F.state shelf_after) (C.state clock) (C.state clock_after)
         (sunk (O.state out) (O.state out_after)))
-        (disks (D.state journal) (D.state journal_after) (E.state spool) (E.state spool_after)) end }
+        (disks (D.state journal) (D.state journal_after) (E.state spool) (E.state spool_after))
+        end }
 {}
 
 /// `check` prints its verdict, where the history is there and lawful, and its table is right.
@@ -39,21 +42,24 @@ pub fn check_completes<F: Shelf, O: Sink, D: Disk, E: Disk, C: Clock>()
         CheckCompletes setup script file history
         (around (F.state shelf) (F.state shelf_after) (C.state clock) (C.state clock_after)
         (sunk (O.state out) (O.state out_after)))
-        (disks (D.state journal) (D.state journal_after) (E.state spool) (E.state spool_after)) end }
+        (disks (D.state journal) (D.state journal_after) (E.state spool) (E.state spool_after))
+        end }
 {}
 
-/// `status` prints the table, where the journal is that of its files or not begun, no record of it is broken,
-/// and its list is lawful.
+/// `status` prints the table, where the journal is that of its files or not begun, no record of
+/// it is broken, and its list is lawful.
 pub fn status_completes<F: Shelf, O: Sink, D: Disk, E: Disk, C: Clock>()
     ensures { (shelf shelf_after : F) (out out_after : O) (journal journal_after : D)
         (spool spool_after : E) (clock clock_after : C) (setup script : List ℕ) (end : Exit) →
         StatusCompletes setup script
         (around (F.state shelf) (F.state shelf_after) (C.state clock) (C.state clock_after)
         (sunk (O.state out) (O.state out_after)))
-        (disks (D.state journal) (D.state journal_after) (E.state spool) (E.state spool_after)) end }
+        (disks (D.state journal) (D.state journal_after) (E.state spool) (E.state spool_after))
+        end }
 {}
 
-/// `output` prints the report, where the journal fits, and has an end of the request with a report.
+/// `output` prints the report, where the journal fits, and has an end of the request with a
+/// report.
 pub fn output_completes<F: Shelf, O: Sink, D: Disk, E: Disk, C: Clock>()
     ensures { (shelf shelf_after : F) (out out_after : O) (journal journal_after : D)
         (spool spool_after : E) (clock clock_after : C) (setup script : List ℕ) (id : RequestId)
@@ -61,7 +67,8 @@ pub fn output_completes<F: Shelf, O: Sink, D: Disk, E: Disk, C: Clock>()
         OutputCompletes setup script id
         (around (F.state shelf) (F.state shelf_after) (C.state clock) (C.state clock_after)
         (sunk (O.state out) (O.state out_after)))
-        (disks (D.state journal) (D.state journal_after) (E.state spool) (E.state spool_after)) end }
+        (disks (D.state journal) (D.state journal_after) (E.state spool) (E.state spool_after))
+        end }
 {}
 
 /// `make` prints the summary.
@@ -71,5 +78,6 @@ pub fn make_completes<F: Shelf, O: Sink, D: Disk, E: Disk, C: Clock>()
         MakeCompletes seed size
         (around (F.state shelf) (F.state shelf_after) (C.state clock) (C.state clock_after)
         (sunk (O.state out) (O.state out_after)))
-        (disks (D.state journal) (D.state journal_after) (E.state spool) (E.state spool_after)) end }
+        (disks (D.state journal) (D.state journal_after) (E.state spool) (E.state spool_after))
+        end }
 {}
