@@ -1,5 +1,5 @@
 -- A journal and a spool fit together while one of them is written.
-use Rattle.std.proofs.Common.{◌≡◌, ◌⊎◌, inl, inr, ℕ, zero, suc, ◌≤◌, List, [], ◌∷◌, ◌++◌, length, reverse, Option, None, Some, refl, sym, ◌∙◌, ap, subst, arith}
+use Rattle.std.proofs.Common.{◌≡◌, ℕ, zero, suc, ◌≤◌, List, [], ◌∷◌, ◌++◌, length, reverse, Option, None, Some, refl, ◌∙◌, ap, subst, arith}
 use Rattle.std.specs.Prelude.{IfSome, slice_get}
 use Rattle.std.proofs.lemmas.Option.{IfSome_then}
 use Rattle.conc_types.specs.declared.event.Event.{Event}
@@ -11,8 +11,8 @@ use Rattle.conc_law.specs.State.{used}
 use Rattle.conc_law.proofs.Prefixes.{is_lawful_so_far-prefix}
 use Rattle.conc_disk.specs.Disk.{DiskState}
 use Rattle.conc_disk.specs.Left.{EachImage, LeavesOnly}
-use Rattle.conc_disk.proofs.Leaving.{if_some-any, if_some-both, left-is-kind}
-use Rattle.conc_journal.specs.Journals.{FitsState, list_of, state_of}
+use Rattle.conc_disk.proofs.Leaving.{if_some-both, left-is-kind}
+use Rattle.conc_journal.specs.Journals.{FitsState, state_of}
 use Rattle.conc_journal.specs.Opens.{events_of}
 use Rattle.conc_journal.specs.declared.journal.JournalState.{JournalState}
 use Rattle.conc_journal.specs.declared.journal.JournalState.TheVariants.{Begun}
@@ -69,6 +69,7 @@ bytes-left n old new on now run =
         → IfSome seen (λ bytes. (image : List ℕ) → old.may_leave image → IfSome seen (λ b. Agrees n b image))
     each None on = tt
     each (Some bytes) on = on
+
     within : (seen : Option (List ℕ)) → IfSome seen (λ bytes. (c : List ℕ) → new.left_since old.moment c → IfSome seen (λ b. Agrees n b c))
         → IfSome seen (λ bytes. (c : List ℕ) → new.left_since old.moment c → Agrees n bytes c)
     within None left = tt

@@ -4,7 +4,6 @@ use Rattle.std.specs.Prelude.{slice_get}
 use Rattle.std.proofs.lemmas.Option.{IfSome_then}
 use Rattle.conc_types.specs.declared.event.Event.{Event}
 use Rattle.conc_types.specs.declared.event.Event.TheVariants as event
-use Rattle.conc_types.specs.declared.event.Extent.{Extent}
 use Rattle.conc_types.specs.declared.plan.Plan.{Plan}
 use Rattle.conc_law.specs.Law.{LawfulSoFar}
 use Rattle.conc_disk.specs.Disk.{DiskState}

@@ -19,7 +19,6 @@ use Rattle.conc_machine.specs.StandsFor.{plan_of, readings_of}
 use Rattle.conc_machine.specs.declared.machine.Machine.{Machine}
 use Rattle.conc_spool.specs.Spools.{used_of}
 use Rattle.conc_spool.specs.Spools.{IsOn as SpoolIsOn}
-use Rattle.conc_spool.specs.declared.spool.Spool.{Spool}
 use Rattle.conc_run_state.specs.Lists.{failed_in}
 use Rattle.conc_run_state.specs.Works.{AreTied, HasKeptText, HasRoom, list_in, longest_in}
 use Rattle.conc_run_state.specs.declared.work.Work.{Work}

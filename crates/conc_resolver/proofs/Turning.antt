@@ -1,5 +1,5 @@
 -- The journal and the spool fit throughout a step, of which each part writes one of them.
-use Rattle.std.proofs.Common.{◌≡◌, ℕ, List, [], ◌∷◌, ◌++◌, Option, None, Some, sym, ◌∙◌, ap, subst}
+use Rattle.std.proofs.Common.{◌≡◌, ℕ, List, [], ◌∷◌, ◌++◌, None, Some, sym, ◌∙◌, ap, subst}
 use Rattle.std.specs.Prelude.{IfSome, unwrap_or}
 use Rattle.std.proofs.lemmas.Option.{IfSome_then}
 use Rattle.conc_types.specs.declared.event.Event.{Event}
@@ -50,8 +50,7 @@ module _ (old mid : Work) (digest : List ℕ) (from : ℕ) (journal spool spool'
   pub turn-kept : IsTied None mid any_disk spool' → StoresOn (plan_in old) (used_of old.spool) (list_in old) (list_in old) spool spool' → FitInTurn (plan_in old) digest from (disks journal journal spool spool')
   turn-kept tied stores =
       let mid-tied = tied-by (plan_in old) (readings_in old) None mid any_disk journal spool' spool' same-plan same-readings on tied.spool_on tt tied in
-      let mid-stored = subst (λ (j : Journal). EachImage (AreStored (plan_in old) from (list_of j)) spool') (sym same) (stores.stored from stored) in
-      (
+      let mid-stored = subst (λ (j : Journal). EachImage (AreStored (plan_in old) from (list_of j)) spool') (sym same) (stores.stored from stored) in (
         written stores.left,
         fit-text (plan_in old) (readings_in old) digest from mid still-begun journal spool' spool' mid-tied mid-stored journal-now spool-now' seen' (leaves-none (KeepsBelow (used_of mid.spool) spool') spool'),
       )
@@ -69,8 +68,7 @@ module _ (old mid : Work) (digest : List ℕ) (from : ℕ) (journal spool spool'
 
     pub turn-logged : FitInTurn (plan_in old) digest from (disks journal journal' spool spool')
     turn-logged =
-        let mid-tied = tied-by (plan_in old) (readings_in old) (Some e) mid any_disk journal spool' spool' same-plan same-readings on tied.spool_on tied.kept_text tied in
-        (
+        let mid-tied = tied-by (plan_in old) (readings_in old) (Some e) mid any_disk journal spool' spool' same-plan same-readings on tied.spool_on tied.kept_text tied in (
           written stores.left,
           fit-event (plan_in old) (readings_in old) digest from mid still-begun e journal journal' spool' mid-tied lawful mid-stored journal-now spool-now' (survives digest still-begun),
         )

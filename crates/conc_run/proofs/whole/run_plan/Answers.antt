@@ -47,5 +47,5 @@ returns-clause-cut_short g c =
     absurd (cc)))
     (c.lawful_is_lawful_so_far.ensures c.args.plan.now c.args.readings.now) c.open.ensures.spool c.open.ensures.spool_survives
     (λ lacks.
-    let fail = stop-memory c.in-Err.fail c.history_fail_of.result made.journal made.spool lacks in
+    let fail : c.in-Err.fail ≡ run_fail.NoMemory = stop-memory c.in-Err.fail c.history_fail_of.result made.journal made.spool lacks in
     c.in-Err.ensures.memory (cc) c.args.readings.now.list begun.ready.tied.readings_are)
