@@ -1,18 +1,16 @@
 -- What a stop leaves of a journal to which an event is added, and at which state it is then.
-use Rattle.std.proofs.Common.{◌≡◌, inr, ⊎_elim, ℕ, Bool, true, false, ◌||◌, List, [], ◌∷◌, ◌++◌, None, Some, if◌then◌else◌, refl, sym, ◌∙◌, ap, subst, append_assoc, append-nil}
+use Rattle.std.proofs.Common.{◌≡◌, ⊎_elim, ℕ, true, false, List, [], ◌∷◌, ◌++◌, refl, subst}
 use Rattle.conc_types.specs.declared.event.Event.{Event}
 use Rattle.conc_disk.specs.Disk.{DiskState}
 use Rattle.conc_disk.specs.Left.{LeavesOnly}
 use Rattle.conc_disk.proofs.Leaving.{if_some-any, leaves-wider}
-use Rattle.conc_journal_image.specs.Image.{digest_in, Found, found_in, has_header, IsJournal}
-use Rattle.conc_journal_image.proofs.Beginning.{header-begun}
+use Rattle.conc_journal_image.specs.Image.{IsJournal}
 use Rattle.conc_journal.specs.Journals.{FitsState, list_of, state_of}
-use Rattle.conc_journal.specs.Opens.{events_of}
 use Rattle.conc_journal.specs.JournalStates.{after_fault, has_faulted, state_digest, takes_events}
 use Rattle.conc_journal.specs.declared.journal.Journal.{Journal}
 use Rattle.conc_journal.specs.declared.journal.JournalState.{JournalState}
 use Rattle.conc_journal.specs.declared.journal.JournalState.TheVariants.{Begun, AppendFailed}
-use Rattle.conc_run_state.specs.Lists.{failed_in, IsPrefix}
+use Rattle.conc_run_state.specs.Lists.{failed_in}
 use Rattle.conc_run_state.specs.Survival.{Survives}
 use Rattle.conc_run_state.proofs.Prefixes.{prefix-self}
 use Rattle.conc_run_state.proofs.Surviving.{journal-survives}

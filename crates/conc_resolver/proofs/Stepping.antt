@@ -19,9 +19,8 @@ use Rattle.conc_machine.specs.StandsFor.{plan_of, readings_of}
 use Rattle.conc_machine.specs.declared.machine.Machine.{Machine}
 use Rattle.conc_spool.specs.Spools.{used_of}
 use Rattle.conc_spool.specs.Spools.{IsOn as SpoolIsOn}
-use Rattle.conc_spool.specs.declared.spool.Spool.{Spool}
 use Rattle.conc_run_state.specs.Lists.{failed_in}
-use Rattle.conc_run_state.specs.Works.{AreTied, HasRoom, list_in, longest_in}
+use Rattle.conc_run_state.specs.Works.{AreTied, HasKeptText, HasRoom, list_in, longest_in}
 use Rattle.conc_run_state.specs.declared.work.Work.{Work}
 use Rattle.conc_run_state.specs.Disks.{disks}
 use Rattle.conc_resolver.specs.Runs.{WentOn}
@@ -31,9 +30,9 @@ use Rattle.conc_resolver.proofs.Going.{sound-longest, went-none, went-one}
 use Rattle.conc_resolver.proofs.Logs.{faulted-digest, faulted-longest}
 
 -- what is tied by its own plan and readings is tied by those that are the same
-tied-by : (plan : Plan) (readings : List Reading) (kept : Option Event) (work : Work) (journal journal' spool spool' : DiskState) → plan_in work ≡ plan → readings_in work ≡ readings
-    → JournalIsOn work.journal journal' → SpoolIsOn work.spool spool' → IsTied kept work journal spool → AreTied plan readings kept work journal' spool'
-tied-by plan readings kept work journal journal' spool spool' same known journal_on spool_on tied = record {
+pub tied-by : (plan : Plan) (readings : List Reading) (kept : Option Event) (work : Work) (journal journal' spool spool' : DiskState) → plan_in work ≡ plan → readings_in work ≡ readings
+    → JournalIsOn work.journal journal' → SpoolIsOn work.spool spool' → HasKeptText (plan_in work) (list_in work) spool' kept → IsTied kept work journal spool → AreTied plan readings kept work journal' spool'
+tied-by plan readings kept work journal journal' spool spool' same known journal_on spool_on text tied = record {
   plan_is = same;
   readings_are = tied.readings_are ∙ ap (λ (l : List Reading). Some l) known;
   stands = tied.stands;
@@ -42,6 +41,7 @@ tied-by plan readings kept work journal journal' spool spool' same known journal
       (subst (λ (l : List Reading). Lawful (plan_in work) l (list_in work)) known tied.lawful);
   takes = tied.takes;
   used_is = tied.used_is;
+  kept_text = subst (λ (p : Plan). HasKeptText p (list_in work) spool' kept) same text;
   journal_on = journal_on;
   spool_on = spool_on;
 }
@@ -61,15 +61,12 @@ module _ (old mid : Work) (journal spool spool' : DiskState) (ready : IsReady ol
       → WentOn (plan_in old) (readings_in old) (disks journal journal spool spool') old mid
   went-unkept tied stores =
       went-none (plan_in old) (readings_in old) old mid journal spool spool' ready.tied.lawful ready.sound same
-      (tied-by (plan_in old) (readings_in old) None mid any_disk journal spool' spool' mid-plan mid-readings mid-on tied.spool_on tied) stores
+      (tied-by (plan_in old) (readings_in old) None mid any_disk journal spool' spool' mid-plan mid-readings mid-on tied.spool_on tt tied) stores
 
   module _ (new : Work) (e : Event) (journal' : DiskState) (next : next_in old ≡ Some e) (may : MayLog mid e) (keeps : IsTied (Some e) mid any_disk spool')
       (stores : StoresOn (plan_in old) (used_of old.spool) (list_in old) (list_in old ++ e ∷ []) spool spool')
       (survives : SurvivesFor mid.journal (list_in mid) (list_in mid ++ e ∷ []) journal journal')
-      (plan : plan_in new ≡ plan_in mid) (readings : readings_in new ≡ readings_in mid) (text : new.spool ≡ mid.spool) where
-    new-on : SpoolIsOn new.spool spool'
-    new-on = subst (λ (s : Spool). SpoolIsOn s spool') (sym text) keeps.spool_on
-
+      (plan : plan_in new ≡ plan_in mid) (readings : readings_in new ≡ readings_in mid) where
     new-plan : plan_in new ≡ plan_in old
     new-plan = plan ∙ mid-plan
 
@@ -85,19 +82,19 @@ module _ (old mid : Work) (journal spool spool' : DiskState) (ready : IsReady ol
         (subst (λ (m : Machine). Lawful (plan_of m) (unwrap_or (readings_of m) []) (list_in mid ++ e ∷ [])) machine may.lawful)
 
     -- the journal met a fault
-    pub went-unlogged : IsTied (Some e) new journal' any_disk → list_in new ≡ list_in mid → state_of new.journal ≡ after_fault e (state_of mid.journal)
+    pub went-unlogged : IsTied (Some e) new journal' spool' → list_in new ≡ list_in mid → state_of new.journal ≡ after_fault e (state_of mid.journal)
         → WentOn (plan_in old) (readings_in old) (disks journal journal' spool spool') old new
     went-unlogged tied stays failed =
         let behind : failed_in (state_of new.journal) ≡ e ∷ [] = ap failed_in failed ∙ faulted-longest e (state_of mid.journal) keeps.takes may.sound in
         let longest : longest_in new ≡ list_in new ++ e ∷ [] = ap (λ l. list_in new ++ l) behind in
         went-one (plan_in old) (readings_in old) old new e (Some e) journal journal' spool spool' next
         (longest ∙ ap (λ l. l ++ e ∷ []) (stays ∙ ap (λ j. list_of j) same))
-        (tied-by (plan_in old) (readings_in old) (Some e) new journal' journal' any_disk spool' new-plan new-readings tied.journal_on new-on tied)
+        (tied-by (plan_in old) (readings_in old) (Some e) new journal' journal' spool' spool' new-plan new-readings tied.journal_on tied.spool_on tied.kept_text tied)
         lawful (inr (e, longest)) stores
         (ap state_digest failed ∙ faulted-digest e (state_of mid.journal) ∙ ap (λ j. state_digest (state_of j)) same)
         old-survives
 
-    module _ (tied : IsTied None new journal' any_disk) (added : list_in new ≡ list_in mid ++ e ∷ []) (state : state_of new.journal ≡ state_of mid.journal) where
+    module _ (tied : IsTied None new journal' spool') (added : list_in new ≡ list_in mid ++ e ∷ []) (state : state_of new.journal ≡ state_of mid.journal) where
       added-to : list_in new ≡ list_in old ++ e ∷ []
       added-to = added ∙ ap (λ j. list_of j ++ e ∷ []) same
 
@@ -108,7 +105,7 @@ module _ (old mid : Work) (journal spool spool' : DiskState) (ready : IsReady ol
       went-logged =
           went-one (plan_in old) (readings_in old) old new e None journal journal' spool spool' next
           (sound-longest new new-sound ∙ added-to)
-          (tied-by (plan_in old) (readings_in old) None new journal' journal' any_disk spool' new-plan new-readings tied.journal_on new-on tied)
+          (tied-by (plan_in old) (readings_in old) None new journal' journal' spool' spool' new-plan new-readings tied.journal_on tied.spool_on tt tied)
           lawful (inl (sound-longest new new-sound)) stores
           (ap state_digest state ∙ ap (λ j. state_digest (state_of j)) same)
           old-survives
@@ -118,7 +115,7 @@ module _ (old mid : Work) (journal spool spool' : DiskState) (ready : IsReady ol
 
       pub ready-logged : room_of new.journal + 1 ≡ room_of mid.journal → IsReady new journal' spool'
       ready-logged room = record {
-        tied = tied-by (plan_in new) (readings_in new) None new journal' journal' any_disk spool' refl refl tied.journal_on new-on tied;
+        tied = tied-by (plan_in new) (readings_in new) None new journal' journal' spool' spool' refl refl tied.journal_on tied.spool_on tt tied;
         room =
             subst (λ (p : Plan). HasRoom p (readings_in new) new) (sym new-plan)
             (subst (λ (l : List Reading). HasRoom (plan_in old) l new) (sym new-readings)

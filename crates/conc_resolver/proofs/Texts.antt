@@ -14,6 +14,7 @@ use Rattle.conc_journal_image.proofs.Fronts.{part-front}
 use Rattle.conc_spool.specs.Spools.{Agrees, KeepsBelow}
 use Rattle.conc_resolver_choice.specs.Choices.{HasItsText}
 use Rattle.conc_run_state.specs.Stored.{AreStored, IsStored}
+use Rattle.conc_run_state.specs.Works.{HasKeptText}
 use Rattle.conc_resolver.specs.Steps.{StoresOn}
 use Rattle.conc_resolver.proofs.Extents.{last-at, within-used}
 
@@ -41,18 +42,18 @@ same-part n at len bytes image within agrees =
 
 module _ (plan : Plan) where
   -- ends within the bytes that agree are held alike
-  stored-alike : (n from : ℕ) (list : List Event) (bytes image : List ℕ) → LawfulSoFar plan list → used (reverse list) ≤ n → Agrees n bytes image → AreStored plan from list bytes → AreStored plan from list image
+  pub stored-alike : (n from : ℕ) (list : List Event) (bytes image : List ℕ) → LawfulSoFar plan list → used (reverse list) ≤ n → Agrees n bytes image → AreStored plan from list bytes → AreStored plan from list image
   stored-alike n from list bytes image past le agrees stored = λ i id o x at here.
       let was = stored i id o x at here in
       let within = within-used plan list i id o x past here in
       record { report = was.report; text = was.text ∙ same-part n x.offset x.length bytes image (omega (arith, within, le)) agrees }
 
   -- the event's text is held, if it is an end with an extent
-  EventStored : List ℕ → Event → Type 0
+  pub EventStored : List ℕ → Event → Type 0
   EventStored bytes (event.Ended id o (Some x)) = IsStored plan bytes id o x
   EventStored bytes e = ⊤
 
-  stored-more : (from : ℕ) (list : List Event) (e : Event) (bytes : List ℕ) → AreStored plan from list bytes → EventStored bytes e → AreStored plan from (list ++ e ∷ []) bytes
+  pub stored-more : (from : ℕ) (list : List Event) (e : Event) (bytes : List ℕ) → AreStored plan from list bytes → EventStored bytes e → AreStored plan from (list ++ e ∷ []) bytes
   unfolding EventStored
   stored-more from list e bytes stored last = λ i id o x at here. elim (place list e i (event.Ended id o (Some x)) here) [
     | inl before ↦ stored i id o x at before
@@ -64,6 +65,12 @@ module _ (plan : Plan) where
       place [] e (suc i) found here = cc
       place (first ∷ list) e zero found here = inl here
       place (first ∷ list) e (suc i) found here = place list e i found here
+
+  -- so is that of the event that is kept
+  pub kept-stored : (list : List Event) (e : Event) (spool : DiskState) → HasKeptText plan list spool (Some e) → IfSome spool.seen (λ bytes. (image : List ℕ) → spool.may_leave image → EventStored image e)
+  unfolding EventStored
+  kept-stored list (event.Ended id o (Some x)) spool kept = kept.stored
+  kept-stored list e spool kept = if_some-any spool.seen (λ bytes image left. tt)
 
   without-stored : (e : Event) (bytes : List ℕ) → HasItsText plan e None → EventStored bytes e
   unfolding EventStored

@@ -7,10 +7,10 @@ use Rattle.conc_disk.specs.Disk.{DiskState}
 use Rattle.conc_journal.specs.Journals.{state_of}
 use Rattle.conc_journal.specs.declared.journal.JournalState.TheVariants.{Begun}
 use Rattle.conc_machine.specs.StandsFor.{readings_of}
-use Rattle.conc_run_state.specs.Works.{AreReady}
+use Rattle.conc_run_state.specs.Works.{AreReady, list_in}
 use Rattle.conc_run_state.specs.declared.work.Work.{Work}
 use Rattle.conc_run_state.specs.Disks.{Disks, disks}
-use Rattle.conc_resolver.specs.Runs.{WentOn}
+use Rattle.conc_resolver.specs.Runs.{LacksMemory, WentOn}
 use Rattle.conc_resolver.specs.Steps.{IsReady, plan_in, readings_in}
 use Rattle.conc_resolver.proofs.Going.{went-twice}
 use Rattle.conc_resolver.proofs.Logs.{sound-begun}
@@ -63,3 +63,10 @@ module _ (plan : Plan) (first mid new : Work) (journal journal' journal'' spool 
       all-went =
           subst (λ (p : Plan). WentOn p readings (disks journal journal'' spool spool'') first new) first-plan
           (subst (λ (l : List Reading). WentOn (plan_in first) l (disks journal journal'' spool spool'') first new) first-readings further)
+
+-- what lacks memory by its own plan and readings lacks it by those that are the same
+pub lacks-by : (plan : Plan) (readings : List Reading) (work : Work) → plan_in work ≡ plan → readings_of work.machine ≡ Some readings → LacksMemory (plan_in work) (readings_in work) (list_in work)
+    → LacksMemory plan readings (list_in work)
+lacks-by plan readings work same known lacks =
+    subst (λ (p : Plan). LacksMemory p readings (list_in work)) same
+    (subst (λ (l : List Reading). LacksMemory (plan_in work) l (list_in work)) (ap (λ (o : Option (List Reading)). unwrap_or o []) known) lacks)

@@ -1,8 +1,9 @@
 -- What a run leaves, and why it ends.
-use Rattle.std.specs.Prelude.{◌≡◌, ◌⊎◌, ℕ, ◌∷◌, [], ◌++◌, List, Option}
+use Rattle.std.specs.Prelude.{◌≡◌, ◌⊎◌, ℕ, ◌∷◌, [], ◌++◌, List, Option, reverse, IsSomeAnd}
 use Rattle.conc_types.specs.declared.event.Event.{Event}
 use Rattle.conc_types.specs.declared.plan.Plan.{Plan}
 use Rattle.conc_types.specs.declared.script.Reading.{Reading}
+use Rattle.conc_law.specs.Alone.{next_alone}
 use Rattle.conc_law.specs.Law.{Lawful}
 use Rattle.conc_disk.specs.Disk.{SeenFollows}
 use Rattle.conc_disk.specs.Left.{EachImage, LeavesOnly}
@@ -10,6 +11,7 @@ use Rattle.conc_journal.specs.Journals.{state_of}
 use Rattle.conc_journal.specs.JournalStates.{state_digest}
 use Rattle.conc_journal.specs.declared.journal.JournalState.TheVariants.{Begun}
 use Rattle.conc_spool.specs.Spools.{Agrees, KeepsBelow, used_of}
+use Rattle.conc_resolver_choice.specs.Choices.{IsEndWithReport}
 use Rattle.conc_run_state.specs.Disks.{Disks}
 use Rattle.conc_run_state.specs.Lists.{GoesOn}
 use Rattle.conc_run_state.specs.Survival.{Survives}
@@ -32,3 +34,7 @@ pub record WentOn (plan : Plan) (readings : List Reading) (d : Disks) (old new :
   pub journal : (digest : List ℕ) → state_of old.journal ≡ Begun digest → LeavesOnly (Survives digest (list_in old) (longest_in new)) d.journal_before d.journal_after
   pub spool : LeavesOnly (KeepsBelow (used_of old.spool) d.spool_before) d.spool_before d.spool_after
   pub spool_now : SeenFollows (Agrees (used_of old.spool)) d.spool_before d.spool_after
+
+-- Where a run without workers and without watchers may find no memory: at the report of the end that comes next.
+abbrev pub LacksMemory : Plan → List Reading → List Event → Type 0
+LacksMemory plan readings list = IsSomeAnd (next_alone plan readings (reverse list)) IsEndWithReport

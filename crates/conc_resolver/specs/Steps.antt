@@ -15,6 +15,8 @@ use Rattle.conc_journal.specs.declared.journal.Journal.{Journal}
 use Rattle.conc_journal.specs.declared.journal.JournalState.TheVariants.{Begun}
 use Rattle.conc_machine.specs.StandsFor.{plan_of, readings_of}
 use Rattle.conc_spool.specs.Spools.{Agrees, KeepsBelow}
+use Rattle.conc_run_state.specs.Disks.{Disks, disks}
+use Rattle.conc_run_state.specs.Fits.{FitThroughout}
 use Rattle.conc_run_state.specs.Survival.{Survives}
 use Rattle.conc_run_state.specs.Stored.{AreStored}
 use Rattle.conc_run_state.specs.Works.{AreReady, AreTied, list_in}
@@ -70,3 +72,9 @@ pub record StoresOn (plan : Plan) (used : ℕ) (first second : List Event) (befo
 abbrev pub SurvivesFor : Journal → List Event → List Event → DiskState → DiskState → Type 0
 SurvivesFor journal first last before after =
     (digest : List ℕ) → state_of journal ≡ Begun digest → LeavesOnly (Survives digest first last) before after
+
+-- first the spool's disk alone is written, and then the journal's, and throughout each the two fit
+abbrev pub FitInTurn : Plan → List ℕ → ℕ → Disks → Type 0
+FitInTurn plan digest from d =
+    FitThroughout plan digest from (disks d.journal_before d.journal_before d.spool_before d.spool_after)
+    × FitThroughout plan digest from (disks d.journal_before d.journal_after d.spool_after d.spool_after)

@@ -3,7 +3,9 @@
 #![tactic(auto)]
 
 mod keeping;
+mod laws;
 mod logging;
 mod running;
 
+pub use laws::journal_and_spool_fit;
 pub use running::run_alone;

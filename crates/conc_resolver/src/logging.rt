@@ -3,7 +3,7 @@ ghost use Rattle.conc_journal.specs.Journals.{room_of, state_of};
 ghost use Rattle.conc_journal.specs.Receipts.{IsNextOf};
 ghost use Rattle.conc_journal.specs.JournalStates.{after_fault};
 ghost use Rattle.conc_outside.specs.Counts.{Rose};
-ghost use Rattle.conc_resolver.specs.Steps.{any_disk, IsTied, MayLog, plan_in, readings_in, SurvivesFor};
+ghost use Rattle.conc_resolver.specs.Steps.{IsTied, MayLog, plan_in, readings_in, SurvivesFor};
 ghost use Rattle.conc_run_state.specs.Works.{list_in};
 ghost use Rattle.conc_run_state.specs.declared.error.RunFail.TheVariants as RunFail;
 
@@ -12,17 +12,20 @@ use conc_journal::Receipt;
 use conc_run_state::{RunFail, Work};
 use conc_types::Event;
 
-/// Adds an event to the journal, and then takes it into the machine. After a fault the machine has not
-/// taken it, and the journal's disk has it or not.
-pub(crate) fn log_event<D: Disk>(
+/// Adds an event to the journal, and then takes it into the machine. The spool's disk, which is only
+/// lent, has the event's text, if it is an end with one. After a fault the machine has not taken the
+/// event, and the journal's disk has it or not.
+pub(crate) fn log_event<D: Disk, E: Disk>(
     work: &mut Work<'_>,
     journal: &mut D,
+    spool: &E,
     event: Event,
 ) -> Result<Receipt, RunFail>
-    requires tied { IsTied (Some event) work.old (D.state journal.old) any_disk }
+    requires tied { IsTied (Some event) work.old (D.state journal.old) (E.state spool.now) }
     requires may { MayLog work.old event }
 
-    ensures logged { OnOk result (IsTied None work.new (D.state journal.new) any_disk) }
+    ensures logged { OnOk result (IsTied None work.new (D.state journal.new)
+        (E.state spool.now)) }
     ensures added { OnOk result (list_in work.new ≡ list_in work.old ++ event ∷ []) }
     ensures receipt { IfOk result (IsNextOf (Some (list_in work.old))
         (λ list. list ≡ list_in work.new)) }
@@ -31,7 +34,7 @@ pub(crate) fn log_event<D: Disk>(
 
     // A fault.
     ensures not_logged { OnErr result (IsTied (Some event) work.new (D.state journal.new)
-        any_disk) }
+        (E.state spool.now)) }
     ensures as_before { OnErr result (list_in work.new ≡ list_in work.old) }
     ensures failed { OnErr result (state_of work.new.journal
         ≡ after_fault event (state_of work.old.journal)) }

@@ -1,15 +1,18 @@
-ghost use Rattle.std.specs.Prelude.{◌≡◌, ◌<◌, IfErr, IfOk, IfSome, IsErrOf, IsNone, IsSome, List, None, OnOk, Some};
+ghost use Rattle.std.specs.Prelude.{◌≡◌, ℕ, ◌<◌, IfErr, IfOk, IfSome, IsErrOf, IsNone, IsSome, List, None, OnErr, OnOk, Some};
 ghost use Rattle.std.specs.Option.{ForSome, option_map};
 ghost use Rattle.conc_types.specs.declared.script.Reading.{Reading};
 ghost use Rattle.conc_law.specs.Law.{Finished};
 ghost use Rattle.conc_resolver_choice.specs.Choices.{event_of, HasItsText};
 ghost use Rattle.conc_outside.specs.Counts.{Rose};
+ghost use Rattle.conc_disk.specs.Left.{EachImage};
 ghost use Rattle.conc_journal.specs.Journals.{state_of};
+ghost use Rattle.conc_journal.specs.declared.journal.JournalState.TheVariants.{Begun};
 ghost use Rattle.conc_journal.specs.Receipts.{IsNextOf};
 ghost use Rattle.conc_machine.specs.StandsFor.{readings_of};
 ghost use Rattle.conc_run_state.specs.Disks.{disks};
-ghost use Rattle.conc_resolver.specs.Runs.{WentOn};
-ghost use Rattle.conc_resolver.specs.Steps.{any_disk, IsFinished, IsReady, IsTied, left_in, next_in, plan_in, readings_in};
+ghost use Rattle.conc_resolver.specs.Runs.{LacksMemory, WentOn};
+ghost use Rattle.conc_resolver.specs.Steps.{any_disk, FitInTurn, IsFinished, IsReady, IsTied, left_in, next_in, plan_in, readings_in};
+ghost use Rattle.conc_run_state.specs.Stored.{AreStored};
 ghost use Rattle.conc_run_state.specs.Works.{AreReady, list_in};
 ghost use Rattle.conc_run_state.specs.declared.error.RunFail.TheVariants as RunFail;
 
@@ -30,6 +33,8 @@ fn next(alloc: Global, plan: &Plan, work: &Work<'_>) -> Result<Option<Next>, Run
     ensures text { IfOk result (λ next. ForSome next
         (λ n. HasItsText (plan_in work.now) n.event n.text)) }
     ensures cause { IfErr result (λ e. e ≡ RunFail.NoMemory) }
+    ensures memory { OnErr result (LacksMemory (plan_in work.now) (readings_in work.now)
+        (list_in work.now)) }
 {
     match next_event(alloc, plan, &work.machine) {
         Ok(next) => Ok(next),
@@ -55,6 +60,10 @@ fn step<D: Disk, E: Disk>(
     ensures ready { OnOk result (IsReady work.new (D.state journal.new) (E.state spool.new)) }
     ensures receipt { IfOk result (λ logged. IfSome logged
         (IsNextOf (Some (list_in work.old)) (λ list. list ≡ list_in work.new))) }
+    ensures fits { (digest : List ℕ) (from : ℕ) → state_of work.old.journal ≡ Begun digest
+        → EachImage (AreStored (plan_in work.old) from (list_in work.old)) (E.state spool.old)
+        → FitInTurn (plan_in work.old) digest from (disks (D.state journal.old)
+        (D.state journal.new) (E.state spool.old) (E.state spool.new)) }
     ensures less { IfOk result (λ logged. IsSome logged → left_in work.new < left_in work.old) }
     ensures finished { IfOk result (λ logged. IsNone logged → IsFinished work.new) }
 
@@ -63,6 +72,8 @@ fn step<D: Disk, E: Disk>(
         → Rose (D.state journal.old).faults (D.state journal.new).faults }
     ensures spool_fault { IsErrOf result RunFail.SpoolFault
         → Rose (E.state spool.old).faults (E.state spool.new).faults }
+    ensures memory { IsErrOf result RunFail.NoMemory → LacksMemory (plan_in work.new)
+        (readings_in work.new) (list_in work.new) }
     ensures sound { (IsErrOf result RunFail.JournalFault → ⊥)
         → state_of work.new.journal ≡ state_of work.old.journal }
 {
@@ -70,7 +81,7 @@ fn step<D: Disk, E: Disk>(
         None => Ok(None),
         Some(next) => {
             keep(work, spool, &next)?;
-            Ok(Some(log_event(work, journal, next.event)?))
+            Ok(Some(log_event(work, journal, spool, next.event)?))
         }
     }
 }
@@ -79,7 +90,8 @@ fn step<D: Disk, E: Disk>(
 /// forced; else the end of the request that runs, with its report; else the start of the first let
 /// request in precedence at its first place; else the next reading. The text of a report is on the
 /// spool's disk before the end is journaled, and an event is journaled before the machine takes it in. It
-/// takes memory for reports alone; a report that finds none leaves its request without an end.
+/// takes memory for reports alone. A report that finds none leaves its request without an end, and is
+/// the one that comes next.
 pub fn run_alone<D: Disk, E: Disk>(
     alloc: Global,
     plan: &Plan,
@@ -103,6 +115,9 @@ pub fn run_alone<D: Disk, E: Disk>(
         → Rose (D.state journal.old).faults (D.state journal.new).faults }
     ensures spool_fault { IsErrOf result RunFail.SpoolFault
         → Rose (E.state spool.old).faults (E.state spool.new).faults }
+    ensures memory { IsErrOf result RunFail.NoMemory → (readings : List Reading)
+        → readings_of work.old.machine ≡ Some readings
+        → LacksMemory plan.now readings (list_in work.new) }
     ensures sound { (IsErrOf result RunFail.JournalFault → ⊥)
         → state_of work.new.journal ≡ state_of work.old.journal }
 {

@@ -1,6 +1,6 @@
 -- The parts of the choice.
 use Rattle.std.proofs.Common.{◌≡◌, ℕ, Bool, true, List, Option, None, Some, Result, Ok, Err, if◌then◌else◌, refl, sym, ◌∙◌, ap, subst}
-use Rattle.std.specs.Prelude.{IfOk}
+use Rattle.std.specs.Prelude.{IfOk, OnErr}
 use Rattle.std.specs.Bool.{then_some}
 use Rattle.std.specs.List.{find}
 use Rattle.std.specs.Option.{option_and_then, option_map}
@@ -32,6 +32,11 @@ use Rattle.conc_resolver_choice.specs.declared.choosing.Next.{Next}
 pub for_each : {T E X : Type 0} (Q : X → Type 0) (P : X → T → Type 0) (r : Result T E) → ((x : X) → Q x → IfOk r (P x)) → IfOk r (λ t. (x : X) → Q x → P x t)
 for_each Q P (Ok t) each = each
 for_each Q P (Err e) each = tt
+
+-- so it is with what lacks
+pub on_err-each : {T E X : Type 0} (Q : X → Type 0) (P : X → Type 0) (r : Result T E) → ((x : X) → Q x → OnErr r (P x)) → OnErr r ((x : X) → Q x → P x)
+on_err-each Q P (Ok t) each = tt
+on_err-each Q P (Err e) each = each
 
 -- ---- texts
 

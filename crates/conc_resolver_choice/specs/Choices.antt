@@ -1,5 +1,5 @@
 -- What comes next in a run without workers, and the text that is to be kept before it.
-use Rattle.std.specs.Prelude.{◌≡◌, ℕ, List, Option, None, Some}
+use Rattle.std.specs.Prelude.{◌≡◌, ℕ, List, Option, None, Some, ⊤}
 use Rattle.conc_types.specs.declared.event.Event.{Event}
 use Rattle.conc_types.specs.declared.event.Event.TheVariants as event
 use Rattle.conc_types.specs.declared.plan.Plan.{Plan}
@@ -13,3 +13,8 @@ HasItsText plan e text = text ≡ None
 
 abbrev pub event_of : Next → Event
 event_of next = next.event
+
+-- the event is an end with a report
+abbrev pub IsEndWithReport : Event → Type 0
+IsEndWithReport (event.Ended id o (Some x)) = ⊤
+IsEndWithReport e = ⊥

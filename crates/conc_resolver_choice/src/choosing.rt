@@ -1,4 +1,4 @@
-ghost use Rattle.std.specs.Prelude.{◌≡◌, ◌<◌, ◌≤◌, ◌^◌, IfOk, List, None, Some, if◌then◌else◌, length};
+ghost use Rattle.std.specs.Prelude.{◌≡◌, ◌<◌, ◌≤◌, ◌^◌, IfOk, IsSome, IsSomeAnd, List, None, OnErr, Some, if◌then◌else◌, length};
 ghost use Rattle.std.specs.List.{find};
 ghost use Rattle.std.specs.Option.{ForSome, option_and_then, option_copied, option_map, option_or};
 ghost use Rattle.conc_types.specs.declared.event.Event.{Event};
@@ -13,7 +13,7 @@ ghost use Rattle.conc_law.specs.Readings as readings_spec;
 ghost use Rattle.conc_law.specs.State.{state};
 ghost use Rattle.conc_machine.specs.StandsFor.{plan_of, readings_of, StandsFor};
 ghost use Rattle.conc_types.specs.Plans.{request};
-ghost use Rattle.conc_resolver_choice.specs.Choices.{event_of, HasItsText};
+ghost use Rattle.conc_resolver_choice.specs.Choices.{event_of, HasItsText, IsEndWithReport};
 ghost use Rattle.conc_reports.specs.Reports.{as_report};
 
 use conc_machine::Machine;
@@ -35,6 +35,7 @@ fn report_of(alloc: Global, plan: &Plan, r: &Req) -> Result<Option<Made>, NoMemo
     ensures made { IfOk result (λ made. option_map as_report made
         ≡ alone_spec.report_of plan.now r.now) }
     ensures short { IfOk result (λ made. ForSome made (λ m. length m.text ≤ 1048576)) }
+    ensures memory { OnErr result (IsSome (alone_spec.report_of plan.now r.now)) }
 {
     match program_of(plan, r) {
         None => Ok(None),
@@ -96,14 +97,21 @@ fn end_by(
         (alone_spec.report_of plan.now r.now))) }
     ensures text { request plan.now r.now.number ≡ Some r.now
         → IfOk result (λ next. ForSome next (λ n. HasItsText plan.now n.event n.text)) }
+    ensures memory { OnErr result (IsSomeAnd
+        (if stopping then Some (event.Ended r.now.number outcome.Terminated None) else
+        option_and_then (λ made. option_map (end_with r.now made) used)
+        (alone_spec.report_of plan.now r.now)) IsEndWithReport) }
 {
     if stopping {
         return Ok(Some(terminated(r)));
     }
-    let (Some(made), Some(offset)) = (report_of(alloc, plan, r)?, used) else {
+    let Some(offset) = used else {
         return Ok(None);
     };
-    Ok(Some(reported(r, made, offset)))
+    match report_of(alloc, plan, r)? {
+        Some(made) => Ok(Some(reported(r, made, offset))),
+        None => Ok(None),
+    }
 }
 
 // The request that runs, if one does.
@@ -125,6 +133,8 @@ fn first_end(alloc: Global, plan: &Plan, machine: &Machine) -> Result<Option<Nex
         → option_map event_of next ≡ alone_spec.first_end plan.now (state plan.now past)) }
     ensures text { IfOk result (λ next. (past : List Event) → StandsFor machine.now past
         → ForSome next (λ n. HasItsText plan.now n.event n.text)) }
+    ensures memory { OnErr result ((past : List Event) → StandsFor machine.now past
+        → IsSomeAnd (alone_spec.first_end plan.now (state plan.now past)) IsEndWithReport) }
 {
     match running(plan, machine) {
         Some(r) => {
@@ -201,7 +211,7 @@ fn without_text(event: Event) -> Next
 /// The one event that comes next in a run without workers, if one does: the forced one, else the end
 /// of the request that runs, else the first start, else the next tick. The machine is one for the plan
 /// that took readings, and the answer holds for each list that it stands for. It takes memory for a
-/// report alone.
+/// report alone, and lacks it only where an end with a report comes next.
 #[tactic(auto, unfolding(conc_law::specs::Alone::choice, conc_law::specs::Alone::next_alone))]
 pub fn next_event(alloc: Global, plan: &Plan, machine: &Machine) -> Result<Option<Next>, NoMemory>
     requires { plan_of machine.now ≡ plan.now }
@@ -210,6 +220,9 @@ pub fn next_event(alloc: Global, plan: &Plan, machine: &Machine) -> Result<Optio
         option_map event_of next ≡ next_alone plan.now readings past) }
     ensures text { IfOk result (λ next. (past : List Event) → StandsFor machine.now past
         → ForSome next (λ n. HasItsText plan.now n.event n.text)) }
+    ensures memory { OnErr result ((readings : List Reading) (past : List Event)
+        → readings_of machine.now ≡ Some readings → StandsFor machine.now past
+        → IsSomeAnd (next_alone plan.now readings past) IsEndWithReport) }
 {
     if let Some(e) = forced(plan, machine) {
         return Ok(Some(without_text(e)));

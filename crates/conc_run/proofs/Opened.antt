@@ -1,5 +1,5 @@
 -- What is left where no life was begun.
-use Rattle.std.proofs.Common.{◌≡◌, ◌⊎◌, inl, inr, ℕ, true, false, List, [], Option, None, Some, IfSome, IsFalse, IsTrue, refl, sym, ◌∙◌, append-nil, arith}
+use Rattle.std.proofs.Common.{◌≡◌, ◌⊎◌, inl, inr, ℕ, true, false, List, [], Option, None, Some, IfSome, IsFalse, IsTrue, refl, sym, ◌∙◌, ap, append-nil, arith}
 use Rattle.std.proofs.lemmas.Bool.{cases_Bool}
 use Rattle.std.proofs.lemmas.Option.{IfSome_then}
 use Rattle.conc_types.specs.declared.event.Event.{Event}
@@ -92,6 +92,7 @@ cut-untouched h e cause is =
       last = found;
       left = left-untouched h found (found-stored h.journal_before.seen) is;
       whole = λ same. refl;
+      memory = λ lacks. inl is;
     }
 
 -- the journal's disk failed while the life was begun
@@ -105,6 +106,7 @@ cut-stopped h e cause fault quiet s to_so_far survives = record {
   last = opening s.found;
   left = left-opening h s to_so_far survives;
   whole = λ none. let two : true ≡ false = sym fault ∙ none in absurd (cc);
+  memory = λ lacks. let two : true ≡ false = sym fault ∙ ap (λ (s : HistoryFail). is_journal_fault s) lacks in absurd (cc);
 }
 
 -- the beginning of a life was stopped

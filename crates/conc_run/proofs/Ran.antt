@@ -13,7 +13,7 @@ use Rattle.conc_law.specs.State.{used}
 use Rattle.conc_run_open.specs.Opening.{IsBegun}
 use Rattle.conc_run_state.specs.Causes.{HasCause, is_journal_fault, is_refusal}
 use Rattle.conc_run_state.specs.Disks.{disks}
-use Rattle.conc_resolver.specs.Runs.{WentOn}
+use Rattle.conc_resolver.specs.Runs.{LacksMemory, WentOn}
 use Rattle.conc_spool.specs.Spools.{Agrees, used_of}
 use Rattle.conc_run_state.specs.Handed.{Handed, IsTaken, IsUntouched}
 use Rattle.conc_run_state.specs.Lists.{GoesOn, IsPrefix}
@@ -21,6 +21,7 @@ use Rattle.conc_run_state.specs.Survival.{Survives}
 use Rattle.conc_run_state.specs.Stored.{AreStored}
 use Rattle.conc_run_state.specs.Works.{list_in, longest_in, with_kept}
 use Rattle.conc_run_state.specs.declared.error.HistoryFail.{HistoryFail}
+use Rattle.conc_run_state.specs.declared.error.HistoryFail.TheVariants as history_fail
 use Rattle.conc_run_state.specs.declared.work.Work.{Work}
 use Rattle.conc_run.specs.Whole.{HasLeft, HasNow, IsCutShort, IsFinished}
 use Rattle.conc_run_state.proofs.Prefixes.{prefix-twice}
@@ -109,8 +110,9 @@ module _ (h : Handed) (journal spool : DiskState) (old new : Work) (begun : IsBe
 
   -- the run ended before its history was finished
   pub cut-run : (e : HistoryFail) → HasCause h e → (IsTrue (is_refusal e) → IsUntouched h) → (IsFalse (is_journal_fault e) → state_of new.journal ≡ state_of old.journal)
-      → ((list : List Event) → Lawful h.plan h.readings list → LawfulSoFar h.plan list) → Stays h.spool_before spool → LeavesOnly h.spool_before.may_leave h.spool_before spool → IsCutShort h e
-  cut-run e cause untouched sound to_so_far stays survives = record {
+      → ((list : List Event) → Lawful h.plan h.readings list → LawfulSoFar h.plan list) → Stays h.spool_before spool → LeavesOnly h.spool_before.may_leave h.spool_before spool
+      → (e ≡ history_fail.NoMemory → LacksMemory h.plan h.readings (list_in new)) → IsCutShort h e
+  cut-run e cause untouched sound to_so_far stays survives memory = record {
     cause = cause;
     untouched = untouched;
     found = begun.found;
@@ -118,4 +120,5 @@ module _ (h : Handed) (journal spool : DiskState) (old new : Work) (begun : IsBe
     last = longest_in new;
     left = left-run to_so_far stays survives;
     whole = λ quiet. longest-kept (sound quiet);
+    memory = λ lacks. inr (memory lacks);
   }

@@ -29,3 +29,11 @@ pub stop-late : (h : Handed) (fail : RunFail) (stop : HistoryFail)
 stop-late h run_fail.JournalFault stop journal spool memory refusal = let two : false ≡ true = sym (ap (λ (s : HistoryFail). is_refusal s) (journal refl)) ∙ refusal in absurd (cc)
 stop-late h run_fail.SpoolFault stop journal spool memory refusal = let two : false ≡ true = sym (ap (λ (s : HistoryFail). is_refusal s) (spool refl)) ∙ refusal in absurd (cc)
 stop-late h run_fail.NoMemory stop journal spool memory refusal = let two : false ≡ true = sym (ap (λ (s : HistoryFail). is_refusal s) (memory refl)) ∙ refusal in absurd (cc)
+
+-- want of memory is told where a report found none
+pub stop-memory : (fail : RunFail) (stop : HistoryFail)
+    → (fail ≡ run_fail.JournalFault → stop ≡ history_fail.DiskFault which.Journal) → (fail ≡ run_fail.SpoolFault → stop ≡ history_fail.DiskFault which.Spool)
+    → stop ≡ history_fail.NoMemory → fail ≡ run_fail.NoMemory
+stop-memory run_fail.JournalFault stop journal spool is = let never : history_fail.DiskFault which.Journal ≡ history_fail.NoMemory = sym (journal refl) ∙ is in absurd (cc)
+stop-memory run_fail.SpoolFault stop journal spool is = let never : history_fail.DiskFault which.Spool ≡ history_fail.NoMemory = sym (spool refl) ∙ is in absurd (cc)
+stop-memory run_fail.NoMemory stop journal spool is = refl

@@ -8,12 +8,14 @@ use Rattle.conc_disk.specs.Left.{EachImage, LeavesOnly}
 use Rattle.conc_journal_image.specs.Image.{IsJournal}
 use Rattle.conc_journal.specs.Opens.{events_of}
 use Rattle.conc_spool.specs.Spools.{KeepsBelow}
+use Rattle.conc_resolver.specs.Runs.{LacksMemory}
 use Rattle.conc_run_state.specs.Causes.{HasCause, is_journal_fault, is_refusal}
 use Rattle.conc_run_state.specs.Handed.{Handed, IsTaken, IsUntouched}
 use Rattle.conc_run_state.specs.Lists.{GoesOn, IsPrefix}
 use Rattle.conc_run_state.specs.Survival.{Survives}
 use Rattle.conc_run_state.specs.Stored.{AreStored}
 use Rattle.conc_run_state.specs.declared.error.HistoryFail.{HistoryFail}
+use Rattle.conc_run_state.specs.declared.error.HistoryFail.TheVariants as history_fail
 
 -- ---- what is left
 
@@ -60,8 +62,9 @@ pub record IsFinished (h : Handed) (list : List Event) : Type 0 where
   pub stored : (from : ℕ) → IfSome h.spool_before.seen (AreStored h.plan from found) → EachImage (AreStored h.plan from list) h.spool_after
   pub left : HasLeft h found list list
 
--- The run did not begin, or ended before its history was finished. Where it was refused nothing was written; and but for a fault of
--- the journal's disk that disk has the list that was acknowledged.
+-- The run did not begin, or ended before its history was finished. Where it was refused nothing was written. Where it found no
+-- memory nothing was written either, or the list that it left is one after which it may find none. But for a fault of the
+-- journal's disk that disk has the list that was acknowledged.
 pub record IsCutShort (h : Handed) (s : HistoryFail) : Type 0 where
   pub cause : HasCause h s
   pub untouched : IsTrue (is_refusal s) → IsUntouched h
@@ -70,3 +73,4 @@ pub record IsCutShort (h : Handed) (s : HistoryFail) : Type 0 where
   pub last : List Event
   pub left : HasLeft h found kept last
   pub whole : IsFalse (is_journal_fault s) → last ≡ kept
+  pub memory : s ≡ history_fail.NoMemory → IsUntouched h ⊎ LacksMemory h.plan h.readings kept

@@ -33,8 +33,8 @@ fn history_fail_of(fail: RunFail) -> HistoryFail
 
 /// Runs a plan with these readings, whose input has this digest, over a journal and a spool, without
 /// workers, from what stands there to the end of the history. All refusals come before anything is
-/// written. After a fault of a disk, and where a report finds no memory, what was journaled stays, and
-/// the next run goes on from it.
+/// written, and so does want of memory, but for that of a report. After a fault of a disk, and where a
+/// report finds no memory, what was journaled stays, and the next run goes on from it.
 pub fn run_plan<'p, D: Disk, E: Disk>(
     alloc: Global,
     plan: &'p Plan,

@@ -6,3 +6,4 @@ pub mod Disks
 pub mod Handed
 pub mod Judging
 pub mod Causes
+pub mod Fits

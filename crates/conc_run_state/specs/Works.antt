@@ -1,11 +1,17 @@
 -- What ties a machine, a journal and a spool, and their disks.
-use Rattle.std.specs.Prelude.{◌≡◌, ◌+◌, ◌≤◌, List, [], ◌∷◌, ◌++◌, length, reverse, Option, None, Some, IsFalse, IsTrue}
+use Rattle.std.specs.Prelude.{◌≡◌, ◌+◌, ◌≤◌, List, [], ◌∷◌, ◌++◌, length, reverse, Option, None, Some, IsFalse, IsTrue, ⊤}
 use Rattle.conc_types.specs.declared.event.Event.{Event}
+use Rattle.conc_types.specs.declared.event.Event.TheVariants as event
+use Rattle.conc_types.specs.declared.event.Extent.{Extent}
+use Rattle.conc_types.specs.declared.event.Outcome.{Outcome}
+use Rattle.conc_types.specs.declared.event.RequestId.{RequestId}
 use Rattle.conc_types.specs.declared.plan.Plan.{Plan}
 use Rattle.conc_types.specs.declared.script.Reading.{Reading}
+use Rattle.conc_law.specs.Ends.{IsReported}
 use Rattle.conc_law.specs.Law.{Lawful}
 use Rattle.conc_law.specs.State.{used}
 use Rattle.conc_disk.specs.Disk.{DiskState}
+use Rattle.conc_disk.specs.Left.{EachImage}
 use Rattle.conc_machine.specs.StandsFor.{plan_of, readings_of, StandsFor}
 use Rattle.conc_journal.specs.Journals.{list_of, room_of, state_of}
 use Rattle.conc_journal.specs.Journals.{IsOn as JournalIsOn}
@@ -14,6 +20,7 @@ use Rattle.conc_restart.specs.Need.{IsOfOneLife, need}
 use Rattle.conc_spool.specs.Spools.{used_of}
 use Rattle.conc_spool.specs.Spools.{IsOn as SpoolIsOn}
 use Rattle.conc_run_state.specs.Lists.{longest_of}
+use Rattle.conc_run_state.specs.Stored.{IsStored}
 use Rattle.conc_run_state.specs.declared.work.Work.{Work}
 
 -- the list that they stand for
@@ -24,13 +31,25 @@ list_in work = list_of work.journal
 abbrev pub longest_in : Work → List Event
 longest_in work = longest_of work.journal
 
--- the list, with an event behind it that is not in the journal yet, if there is one; its text, if it has one, is in the spool
+-- the list, with the event behind it that is kept and not in the journal yet, if there is one
 abbrev pub with_kept : Option Event → List Event → List Event
 with_kept None list = list
 with_kept (Some e) list = list ++ e ∷ []
 
+-- An end that comes behind a list and is not in the journal yet: its outcome is that of its request's report, its extent
+-- begins where those of the list end, and each image now of the spool holds its text.
+pub record IsKept (plan : Plan) (list : List Event) (spool : DiskState) (id : RequestId) (outcome : Outcome) (extent : Extent) : Type 0 where
+  pub reported : IsReported plan id outcome extent
+  pub next : extent.offset ≡ used (reverse list)
+  pub stored : EachImage (λ image. IsStored plan image id outcome extent) spool
+
+-- such is the event that is kept, where it is an end with an extent
+abbrev pub HasKeptText : Plan → List Event → DiskState → Option Event → Type 0
+HasKeptText plan list spool (Some (event.Ended id o (Some x))) = IsKept plan list spool id o x
+HasKeptText plan list spool kept = ⊤
+
 -- The machine, the journal and the spool stand for one list, which is lawful for the readings that the machine took, and
--- both disks are on.
+-- both disks are on. The spool has the text of the end that is kept, if one is.
 pub record AreTied (plan : Plan) (readings : List Reading) (kept : Option Event) (work : Work) (journal spool : DiskState) : Type 0 where
   pub plan_is : plan_of work.machine ≡ plan
   pub readings_are : readings_of work.machine ≡ Some readings
@@ -38,6 +57,7 @@ pub record AreTied (plan : Plan) (readings : List Reading) (kept : Option Event)
   pub lawful : Lawful plan readings (list_in work)
   pub takes : IsTrue (takes_events (state_of work.journal))
   pub used_is : used_of work.spool ≡ used (reverse (with_kept kept (list_in work)))
+  pub kept_text : HasKeptText plan (list_in work) spool kept
   pub journal_on : JournalIsOn work.journal journal
   pub spool_on : SpoolIsOn work.spool spool
 

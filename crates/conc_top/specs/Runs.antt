@@ -1,5 +1,5 @@
 -- How a run ends whose files are accepted.
-use Rattle.std.specs.Prelude.{◌≡◌, List, length, IfSome}
+use Rattle.std.specs.Prelude.{◌≡◌, ◌⊎◌, List, length, IfSome}
 use Rattle.conc_types.specs.declared.event.Event.{Event}
 use Rattle.conc_law.specs.Alone.{opening}
 use Rattle.conc_law.specs.Ends.{AreReported}
@@ -27,13 +27,13 @@ pub record IsHistory (h : Handed) (history : List Event) : Type 0 where
   pub reported : AreReported h.plan (length (opening finished.found)) history
   pub read : IfSome h.journal_after.seen (IsJournal h.digest history)
 
--- what each exit says of the run and of the output
+-- what each exit says of the run and of the output. After a history that was finished its text may find no memory.
 abbrev pub RunEnds : Handed → Sunk → Exit → Type 0
 RunEnds h sink exit.Done = (history : List Event) × IsHistory h history × Took sink.before.taken sink.after.taken (text_of h.plan history)
 RunEnds h sink exit.WriteFault =
     (history : List Event) × IsHistory h history × TookPrefix sink.before.taken sink.after.taken (text_of h.plan history)
     × Rose sink.before.faults sink.after.faults
-RunEnds h sink exit.NoMemory = IsCutShort h history_fail.NoMemory × TookNothing sink
+RunEnds h sink exit.NoMemory = (IsCutShort h history_fail.NoMemory ⊎ ((history : List Event) × IsHistory h history)) × TookNothing sink
 RunEnds h sink (exit.DiskFault which) = IsCutShort h (history_fail.DiskFault which) × TookNothing sink
 RunEnds h sink exit.NotJournal = IsCutShort h history_fail.NotJournal × TookNothing sink
 RunEnds h sink (exit.OtherInput found given) = IsCutShort h (history_fail.OtherInput found) × (given ≡ h.digest) × TookNothing sink

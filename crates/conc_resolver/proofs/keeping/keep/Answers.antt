@@ -1,10 +1,11 @@
-use Rattle.std.proofs.Common.{◌≡◌, ◌∷◌, ◌++◌, [], Some, sym, subst, arith}
+use Rattle.std.proofs.Common.{◌≡◌, ◌∷◌, ◌++◌, [], None, Some, sym, subst, arith}
 use Rattle.conc_resolver_choice.specs.Choices.{HasItsText}
 use Rattle.conc_spool.specs.Spools.{used_of}
 use Rattle.conc_run_state.specs.Works.{list_in}
 use Rattle.conc_resolver.specs.Steps.{any_disk, plan_in, readings_in}
 use Rattle.conc_resolver.proofs.Coming.{lawful-past, text-fits, text-length, tied-kept, without-text}
 use Rattle.conc_resolver.proofs.Extents.{used-push}
+use Rattle.conc_resolver.proofs.Kept.{text-kept}
 use Rattle.conc_resolver.proofs.Texts.{stores-fault, stores-text, stores-without}
 use Rattle.conc_resolver.proofs.keeping.keep.Goals as goal
 
@@ -29,8 +30,13 @@ pub returns-in-None-clause-kept : goal.returns-in-None-clause-kept
 returns-in-None-clause-kept g c =
     let work = c.args.work.now in
     let e = c.args.next.now.event in
-    let stored = subst (HasItsText (plan_in work) e) c.in-None.is c.requires.text in
-    tied-kept (plan_in work) (readings_in work) e work work.spool any_disk (g.E.Disk.state c.args.spool.now) (g.E.Disk.state c.args.spool.now) c.requires.tied (omega (arith, without-text (plan_in work) e stored)) c.requires.tied.spool_on
+    let plan = plan_in work in
+    let spool = g.E.Disk.state c.args.spool.now in
+    let stored = subst (HasItsText plan e) c.in-None.is c.requires.text in
+    let later = lawful-past plan work.machine (readings_in work) (list_in work ++ e ∷ []) c.requires.tied.readings_are c.requires.may.lawful in
+    tied-kept plan (readings_in work) e work work.spool any_disk spool spool c.requires.tied (omega (arith, without-text plan e stored)) c.requires.tied.spool_on
+    (text-kept plan (used_of work.spool) (list_in work) e None spool spool stored later
+    (stores-without plan (used_of work.spool) (list_in work) spool (g.met.E.Disk.seen_is_left c.args.spool.now) c.requires.tied.spool_on e stored))
 
 pub returns-in-None-clause-stored : goal.returns-in-None-clause-stored
 returns-in-None-clause-stored g c =
@@ -44,9 +50,20 @@ returns-in-Ok-clause-kept g c =
     let work = c.args.work.now in
     let e = c.args.next.now.event in
     let is : c.args.next.now.text ≡ Some c.as_slice.result.now = cc in
-    let stored = subst (HasItsText (plan_in work) e) is c.requires.text in
-    tied-kept (plan_in work) (readings_in work) e work c.append.new.self any_disk (g.E.Disk.state c.args.spool.now) (g.E.Disk.state c.append.new.disk) c.requires.tied
-    (omega (arith, c.in-Ok.ensures.used, text-length (plan_in work) e c.as_slice.result.now stored)) c.append.ensures.on
+    let plan = plan_in work in
+    let list = list_in work in
+    let text = c.as_slice.result.now in
+    let spool = g.E.Disk.state c.args.spool.now in
+    let spool' = g.E.Disk.state c.append.new.disk in
+    let stored = subst (HasItsText plan e) is c.requires.text in
+    let past = lawful-past plan work.machine (readings_in work) list c.requires.tied.readings_are c.requires.tied.lawful in
+    let later = lawful-past plan work.machine (readings_in work) (list ++ e ∷ []) c.requires.tied.readings_are c.requires.may.lawful in
+    tied-kept plan (readings_in work) e work c.append.new.self any_disk spool spool' c.requires.tied
+    (omega (arith, c.in-Ok.ensures.used, text-length plan e text stored)) c.append.ensures.on
+    (text-kept plan (used_of work.spool) list e (Some text) spool spool' stored later
+    (stores-text plan (used_of work.spool) (used_of c.append.new.self) list spool spool' (g.met.E.Disk.seen_is_left c.args.spool.now)
+    c.append.ensures.survives c.append.ensures.before c.append.ensures.on (sym c.requires.tied.used_is) e text stored past later
+    (omega (arith, c.in-Ok.ensures.used, c.requires.tied.used_is, text-length plan e text stored, used-push list e)) c.in-Ok.ensures.text))
 
 pub returns-in-Ok-clause-stored : goal.returns-in-Ok-clause-stored
 returns-in-Ok-clause-stored g c =

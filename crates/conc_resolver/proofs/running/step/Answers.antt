@@ -6,6 +6,7 @@ use Rattle.conc_run_state.specs.Works.{list_in}
 use Rattle.conc_resolver.specs.Steps.{next_in, plan_in, readings_in}
 use Rattle.conc_resolver.proofs.Coming.{lawful-past, may-log}
 use Rattle.conc_resolver.proofs.Stepping.{less-logged, ready-logged, went-logged, went-unkept, went-unlogged}
+use Rattle.conc_resolver.proofs.Turning.{turn-kept, turn-logged, turn-still}
 use Rattle.conc_resolver.proofs.running.step.Goals as goal
 
 pub keep-requires-clause-may : goal.keep-requires-clause-may
@@ -24,7 +25,7 @@ returns-in_err-log_event-in-Some-clause-went_on g c =
     let kept = c.in_ok-keep-in-Some.ensures in
     let logged = c.log_event.ensures in
     went-unlogged c.args.work.now c.keep.new.work (g.D.Disk.state c.args.journal.now) (g.E.Disk.state c.args.spool.now) (g.E.Disk.state c.keep.new.spool) c.requires.ready c.keep.ensures.machine c.keep.ensures.journal
-    c.log_event.new.work c.in-Some.next.event (g.D.Disk.state c.log_event.new.journal) next c.keep.ensures.may kept.kept kept.stored logged.survives logged.plan logged.readings logged.spool
+    c.log_event.new.work c.in-Some.next.event (g.D.Disk.state c.log_event.new.journal) next c.keep.ensures.may kept.kept kept.stored logged.survives logged.plan logged.readings
     c.in_err-log_event-in-Some.ensures.not_logged c.in_err-log_event-in-Some.ensures.as_before c.in_err-log_event-in-Some.ensures.failed
 
 pub returns-in-None-clause-finished : goal.returns-in-None-clause-finished
@@ -40,7 +41,7 @@ returns-in_ok-log_event-in-Some-clause-went_on g c =
     let logged = c.log_event.ensures in
     let done = c.in_ok-log_event-in-Some.ensures in
     went-logged c.args.work.now c.keep.new.work (g.D.Disk.state c.args.journal.now) (g.E.Disk.state c.args.spool.now) (g.E.Disk.state c.keep.new.spool) c.requires.ready c.keep.ensures.machine c.keep.ensures.journal
-    c.log_event.new.work c.in-Some.next.event (g.D.Disk.state c.log_event.new.journal) next c.keep.ensures.may kept.kept kept.stored logged.survives logged.plan logged.readings logged.spool
+    c.log_event.new.work c.in-Some.next.event (g.D.Disk.state c.log_event.new.journal) next c.keep.ensures.may kept.kept kept.stored logged.survives logged.plan logged.readings
     done.logged done.added done.state
 
 pub returns-in_ok-log_event-in-Some-clause-ready : goal.returns-in_ok-log_event-in-Some-clause-ready
@@ -50,7 +51,7 @@ returns-in_ok-log_event-in-Some-clause-ready g c =
     let logged = c.log_event.ensures in
     let done = c.in_ok-log_event-in-Some.ensures in
     ready-logged c.args.work.now c.keep.new.work (g.D.Disk.state c.args.journal.now) (g.E.Disk.state c.args.spool.now) (g.E.Disk.state c.keep.new.spool) c.requires.ready c.keep.ensures.machine c.keep.ensures.journal
-    c.log_event.new.work c.in-Some.next.event (g.D.Disk.state c.log_event.new.journal) next c.keep.ensures.may kept.kept kept.stored logged.survives logged.plan logged.readings logged.spool
+    c.log_event.new.work c.in-Some.next.event (g.D.Disk.state c.log_event.new.journal) next c.keep.ensures.may kept.kept kept.stored logged.survives logged.plan logged.readings
     done.logged done.added done.state done.room
 
 pub returns-in_ok-log_event-in-Some-clause-less : goal.returns-in_ok-log_event-in-Some-clause-less
@@ -60,5 +61,46 @@ returns-in_ok-log_event-in-Some-clause-less g c = λ _.
     let logged = c.log_event.ensures in
     let done = c.in_ok-log_event-in-Some.ensures in
     less-logged c.args.work.now c.keep.new.work (g.D.Disk.state c.args.journal.now) (g.E.Disk.state c.args.spool.now) (g.E.Disk.state c.keep.new.spool) c.requires.ready c.keep.ensures.machine c.keep.ensures.journal
-    c.log_event.new.work c.in-Some.next.event (g.D.Disk.state c.log_event.new.journal) next c.keep.ensures.may kept.kept kept.stored logged.survives logged.plan logged.readings logged.spool
+    c.log_event.new.work c.in-Some.next.event (g.D.Disk.state c.log_event.new.journal) next c.keep.ensures.may kept.kept kept.stored logged.survives logged.plan logged.readings
     done.logged done.added done.state
+
+pub returns-in_err-next-clause-fits : goal.returns-in_err-next-clause-fits
+returns-in_err-next-clause-fits g c = λ digest from begun stored.
+    let journal = c.args.journal.now in
+    let spool = c.args.spool.now in
+    turn-still c.args.work.now digest from (g.D.Disk.state journal) (g.E.Disk.state spool) c.requires.ready begun stored (g.met.D.Disk.only_now journal) (g.met.E.Disk.only_now spool) (g.met.E.Disk.seen_is_left spool)
+
+pub returns-in-None-clause-fits : goal.returns-in-None-clause-fits
+returns-in-None-clause-fits g c = λ digest from begun stored.
+    let journal = c.args.journal.now in
+    let spool = c.args.spool.now in
+    turn-still c.args.work.now digest from (g.D.Disk.state journal) (g.E.Disk.state spool) c.requires.ready begun stored (g.met.D.Disk.only_now journal) (g.met.E.Disk.only_now spool) (g.met.E.Disk.seen_is_left spool)
+
+pub returns-in_err-keep-in-Some-clause-fits : goal.returns-in_err-keep-in-Some-clause-fits
+returns-in_err-keep-in-Some-clause-fits g c = λ digest from begun stored.
+    let journal = c.args.journal.now in
+    let spool = c.args.spool.now in
+    let spool' = c.keep.new.spool in
+    turn-kept c.args.work.now c.keep.new.work digest from (g.D.Disk.state journal) (g.E.Disk.state spool) (g.E.Disk.state spool') c.requires.ready c.keep.ensures.machine c.keep.ensures.journal begun stored
+    (g.met.D.Disk.only_now journal) (g.met.E.Disk.only_now spool) (g.met.E.Disk.seen_is_left spool) (g.met.E.Disk.only_now spool') (g.met.E.Disk.seen_is_left spool')
+    c.in_err-keep-in-Some.ensures.not_kept c.in_err-keep-in-Some.ensures.as_before
+
+pub returns-in_err-log_event-in-Some-clause-fits : goal.returns-in_err-log_event-in-Some-clause-fits
+returns-in_err-log_event-in-Some-clause-fits g c = λ digest from begun stored.
+    let journal = c.args.journal.now in
+    let spool = c.args.spool.now in
+    let spool' = c.keep.new.spool in
+    let kept = c.in_ok-keep-in-Some.ensures in
+    turn-logged c.args.work.now c.keep.new.work digest from (g.D.Disk.state journal) (g.E.Disk.state spool) (g.E.Disk.state spool') c.requires.ready c.keep.ensures.machine c.keep.ensures.journal begun stored
+    (g.met.D.Disk.only_now journal) (g.met.E.Disk.only_now spool) (g.met.E.Disk.seen_is_left spool) (g.met.E.Disk.only_now spool') (g.met.E.Disk.seen_is_left spool')
+    c.in-Some.next.event (g.D.Disk.state c.log_event.new.journal) c.keep.ensures.may kept.kept kept.stored c.log_event.ensures.survives
+
+pub returns-in_ok-log_event-in-Some-clause-fits : goal.returns-in_ok-log_event-in-Some-clause-fits
+returns-in_ok-log_event-in-Some-clause-fits g c = λ digest from begun stored.
+    let journal = c.args.journal.now in
+    let spool = c.args.spool.now in
+    let spool' = c.keep.new.spool in
+    let kept = c.in_ok-keep-in-Some.ensures in
+    turn-logged c.args.work.now c.keep.new.work digest from (g.D.Disk.state journal) (g.E.Disk.state spool) (g.E.Disk.state spool') c.requires.ready c.keep.ensures.machine c.keep.ensures.journal begun stored
+    (g.met.D.Disk.only_now journal) (g.met.E.Disk.only_now spool) (g.met.E.Disk.seen_is_left spool) (g.met.E.Disk.only_now spool') (g.met.E.Disk.seen_is_left spool')
+    c.in-Some.next.event (g.D.Disk.state c.log_event.new.journal) c.keep.ensures.may kept.kept kept.stored c.log_event.ensures.survives

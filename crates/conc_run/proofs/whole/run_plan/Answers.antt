@@ -6,7 +6,7 @@ use Rattle.conc_run_state.specs.declared.error.RunFail.TheVariants as run_fail
 use Rattle.conc_run_state.specs.declared.error.HistoryFail.{HistoryFail}
 use Rattle.conc_run.proofs.Opened.{cut-opening}
 use Rattle.conc_run.proofs.Ran.{cut-run, finished-run}
-use Rattle.conc_run.proofs.Stops.{rose-since, stop-cause, stop-late}
+use Rattle.conc_run.proofs.Stops.{rose-since, stop-cause, stop-late, stop-memory}
 use Rattle.conc_run.proofs.whole.run_plan.Goals as goal
 
 pub returns-in_err-work-clause-cut_short : goal.returns-in_err-work-clause-cut_short
@@ -46,3 +46,6 @@ returns-clause-cut_short g c =
     let two : true ≡ false = sym (ap (λ (s : HistoryFail). is_journal_fault s) (made.journal fail)) ∙ quiet in
     absurd (cc)))
     (c.lawful_is_lawful_so_far.ensures c.args.plan.now c.args.readings.now) c.open.ensures.spool c.open.ensures.spool_survives
+    (λ lacks.
+    let fail : c.in-Err.fail ≡ run_fail.NoMemory = stop-memory c.in-Err.fail c.history_fail_of.result made.journal made.spool lacks in
+    c.in-Err.ensures.memory (cc) c.args.readings.now.list begun.ready.tied.readings_are)
