@@ -38,6 +38,7 @@ use Rattle.conc_law.proofs.ForcedBy.{let_event-let}
 use Rattle.conc_law.proofs.Numbering.{found, numbered-at, numbered_plan}
 use Rattle.conc_law.proofs.Numbers.{enumerated-numbered}
 use Rattle.conc_law.proofs.Options.{and_then-some, map-some, or-some, some_and-some, then_some-some}
+use Rattle.conc_law.proofs.Outcomes.{close_outcome, stage_forced}
 use Rattle.conc_law.proofs.Remaining.{end_about, IsAboutOne}
 use Rattle.conc_law.proofs.Stops.{end_comes, interrupt_comes, LeftRunning}
 use Rattle.conc_history_lines.specs.Lines.{ends_so, has_line, is_small}
@@ -69,99 +70,6 @@ small_command plan past n u =
     let few = plan.script.few in
     let number = u.number in
     lt-ltb n 4294967296 (omega arith)
-
--- ---- steps of sets
-
-is_step : Event → Bool
-is_step (event.Stage s k) = true
-is_step (event.CloseSet s o) = true
-is_step _ = false
-
--- a forced step is one of a set of the plan
-record IsStepOf (plan : Plan) (s : State) (e : Event) : Type 0 where
-  set : Req
-  element : Has plan.requests set
-  step : set_step plan s set ≡ Some e
-
-not_step : (d e : Event) → is_step d ≡ false → d ≡ e → is_step e ≡ true → ⊥
-not_step d e h same k = both_ways (is_step d) h (ap is_step same ∙ k)
-
-forced_by_step : (plan : Plan) (s : State) (e : Event) → is_step e ≡ true → forced plan s ≡ Some e → IsStepOf plan s e
-unfolding forced forced_interrupt forced_command forced_step forced_let is_step
-forced_by_step plan s e k h =
-    elim (or-some (forced_interrupt plan s) _ e h) [
-      | inl a ↦
-          let p = map-some (λ r. event.Interrupt r.number) (find (is_left_running s) plan.requests) e a in
-          absurd (not_step (event.Interrupt p.0.number) e refl p.2 k)
-      | inr b ↦ elim (or-some (forced_command plan s) _ e b) [
-        | inl a ↦
-            let p = map-some (λ order. event.Command order.0) (find (is_due s) (enumerate_from 1 plan.script.commands)) e a in
-            absurd (not_step (event.Command p.0.0) e refl p.2 k)
-        | inr c ↦ elim (or-some (forced_step plan s) _ e c) [
-          | inl a ↦
-              let p = and_then-some (set_step plan s) (find (has_step plan s) plan.requests) e a in
-              let f : (has_step plan s p.0 ≡ true) × Has plan.requests p.0 = find-some (has_step plan s) plan.requests p.0 p.1 in
-              record { set = p.0; element = f.1; step = p.2 }
-          | inr d ↦
-              let p = map-some let_event (first_by precedes (may_let plan s) plan.requests) e d in
-              elim (let_event-let p.0 e p.2) [
-                | inl x ↦ absurd (not_step (event.OpenSet p.0.number) e refl (sym x.1) k)
-                | inr x ↦ absurd (not_step (event.LetOut p.0.number) e refl (sym x.1) k)
-              ]
-        ]
-      ]
-    ]
-
-close_forced : (plan : Plan) (past : List Event) (id : RequestId) (o : Outcome) → may_follow plan None past (event.CloseSet id o) ≡ true → IsStepOf plan (state plan past) (event.CloseSet id o)
-unfolding may_follow is_allowed is_step
-close_forced plan past id o h =
-    elim (came plan (state plan past) (option_map (λ known. next_reading known past) None) (event.CloseSet id o) refl h) [
-      | inl f ↦ forced_by_step plan (state plan past) (event.CloseSet id o) refl f
-      | inr a ↦ cc
-    ]
-
-stage_forced : (plan : Plan) (past : List Event) (id : RequestId) (k : ℕ) → may_follow plan None past (event.Stage id k) ≡ true → IsStepOf plan (state plan past) (event.Stage id k)
-unfolding may_follow is_allowed is_step
-stage_forced plan past id k h =
-    elim (came plan (state plan past) (option_map (λ known. next_reading known past) None) (event.Stage id k) refl h) [
-      | inl f ↦ forced_by_step plan (state plan past) (event.Stage id k) refl f
-      | inr a ↦ cc
-    ]
-
--- ---- the outcome of a set
-
-severity_report : (n : ℕ) → is_report_outcome (of_severity n) ≡ true
-severity_report n = by (n == 0) (n == 1) where
-  by : (a b : Bool) → is_report_outcome (if a then outcome.Normal else (if b then outcome.Warning else outcome.Error)) ≡ true
-  by true b = refl
-  by false true = refl
-  by false false = refl
-
-worst_report : (outcomes : List Outcome) → is_report_outcome (worst outcomes) ≡ true
-unfolding worst
-worst_report outcomes = severity_report (greatest (map severity outcomes))
-
-set_report : (plan : Plan) (s : State) (set : Req) (last : ℕ) → is_report_outcome (set_outcome plan s set last) ≡ true
-unfolding set_outcome stage_outcome
-set_report plan s set last = by (is_empty (critical_stages plan s set)) where
-  by : (b : Bool) → is_report_outcome (if b then stage_outcome plan s set last else worst (map (λ stage. stage_outcome plan s set stage.0) (critical_stages plan s set))) ≡ true
-  by true = worst_report (filter_map (outcome_at s) (members plan set.number last))
-  by false = worst_report (map (λ stage. stage_outcome plan s set stage.0) (critical_stages plan s set))
-
-close_after : (plan : Plan) (s : State) (set : Req) (last : ℕ) (next : Option ℕ) (id : RequestId) (o : Outcome) → after_stage plan s set last next ≡ event.CloseSet id o → is_report_outcome o ≡ true
-close_after plan s set last None id o h =
-    let same : set_outcome plan s set last ≡ o = cc in
-    ap is_report_outcome (sym same) ∙ set_report plan s set last
-close_after plan s set last (Some next) id o h = cc
-
-close_report : (plan : Plan) (s : State) (set : Req) (current : Option ℕ) (id : RequestId) (o : Outcome) → step_from plan s set current ≡ Some (event.CloseSet id o) → is_report_outcome o ≡ true
-close_report plan s set None id o h = cc
-close_report plan s set (Some stage) id o h =
-    close_after plan s set stage (next_stage plan s set stage) id o (then_some-some (has_ended plan s set stage) (after_stage plan s set stage (next_stage plan s set stage)) (event.CloseSet id o) h).1
-
-close_step : (plan : Plan) (s : State) (set : Req) (id : RequestId) (o : Outcome) → set_step plan s set ≡ Some (event.CloseSet id o) → is_report_outcome o ≡ true
-unfolding set_step
-close_step plan s set id o h = close_report plan s set (facts_at s set).stage id o h
 
 -- ---- the number of a stage
 
@@ -275,8 +183,7 @@ event_line plan past (event.Stage id k) m =
     and_from (is_small id.number) _ (small_id plan l.req id l.element l.number) (and_from (nat_le 1 k) (is_small k) (le-leb 1 k near.0) (lt-ltb k 4294967296 (omega arith)))
 event_line plan past (event.CloseSet id o) m =
     let l : Opened plan (state plan past) id = close_comes plan None past id o m in
-    let f = close_forced plan past id o m in
-    and_from (is_small id.number) (is_report_outcome o) (small_id plan l.req id l.element l.number) (close_step plan (state plan past) f.set id o f.step)
+    and_from (is_small id.number) (is_report_outcome o) (small_id plan l.req id l.element l.number) (close_outcome plan past id o m)
 event_line plan past (event.LetOut id) m = let l : Lettable plan (state plan past) id false = let_comes plan None past id m in small_id plan l.req id l.element l.number
 event_line plan past (event.Started id p) m = start_line plan past id p m
 event_line plan past (event.Ended id o x) m = end_line plan past id o x m

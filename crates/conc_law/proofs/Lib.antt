@@ -34,6 +34,7 @@ pub mod Links
 pub mod UsesUp
 pub mod SetsUseUp
 pub mod Remaining
+pub mod Outcomes
 pub mod Used
 pub mod Finishes
 pub mod rows

@@ -20,7 +20,7 @@ use Rattle.conc_types.specs.Tables.{table_named}
 use Rattle.conc_law.specs.Alone.{next_alone, report_of}
 use Rattle.conc_law.specs.Ends.{IsReported}
 use Rattle.conc_law.specs.Kinds.{extent_length, is_resume}
-use Rattle.conc_law.specs.Law.{is_lawful, Lawful, LawfulSoFar}
+use Rattle.conc_law.specs.Law.{is_lawful, is_lawful_so_far, Lawful, LawfulSoFar, may_follow}
 use Rattle.conc_law.specs.Next.{is_report_outcome, is_terminated}
 use Rattle.conc_law.specs.Plans.{program_of}
 use Rattle.conc_law.specs.Report.{Report, report}
@@ -28,10 +28,9 @@ use Rattle.conc_law.specs.State.{used}
 use Rattle.conc_law.proofs.AloneLawful.{IsGood, next_alone-follows, report-good}
 use Rattle.conc_law.proofs.LawfulSoFar.{lawful_is_lawful_so_far}
 use Rattle.conc_law.proofs.Options.{and_then-some, map-some}
+use Rattle.conc_law.proofs.Outcomes.{close_outcome, end_outcome}
 use Rattle.conc_law.proofs.Positions.{reverse-push}
 use Rattle.conc_machine_readings.specs.declared.life.LifeReadings.{LifeReadings}
-use Rattle.conc_history_lines.specs.Lines.{has_line, is_small}
-use Rattle.conc_history_lines.proofs.LawfulLines.{history_lines}
 use Rattle.conc_machine.specs.StandsFor.{readings_of}
 use Rattle.conc_machine.specs.declared.machine.Machine.{Machine}
 use Rattle.conc_resolver_choice.specs.Choices.{HasItsText}
@@ -113,19 +112,18 @@ close-record set outcome.Warning h = refl
 close-record set outcome.Error h = refl
 close-record set o h = cc
 
-line-record : (plan : Plan) (e : Event) (text : Option (List ℕ)) → has_line plan e ≡ true → HasItsText plan e text → has_record e ≡ true
-unfolding has_line
-line-record plan (event.CloseSet set o) text line stored = close-record set o (and_parts (is_small set.number) (is_report_outcome o) line).1
-line-record plan (event.Ended id o None) text line stored = terminated-record id o (and_parts (is_small id.number) (is_terminated o) line).1
-line-record plan (event.Ended id o (Some x)) text line stored =
+follows-record : (plan : Plan) (past : List Event) (e : Event) (text : Option (List ℕ)) → may_follow plan None past e ≡ true → HasItsText plan e text → has_record e ≡ true
+follows-record plan past (event.CloseSet set o) text follows stored = close-record set o (close_outcome plan past set o follows)
+follows-record plan past (event.Ended id o None) text follows stored = terminated-record id o (end_outcome plan past id o follows)
+follows-record plan past (event.Ended id o (Some x)) text follows stored =
     let good = made-good plan stored.0.ended stored.0.made stored.0.report in
     reported-record id o x (ap is_report_outcome stored.0.same_outcome ∙ good.outcome) (omega (arith, stored.0.same_length, good.some))
-line-record plan e text line stored = refl
+follows-record plan past e text follows stored = refl
 
-last-line : (plan : Plan) (list : List Event) (e : Event) → LawfulSoFar plan (list ++ e ∷ []) → has_line plan e ≡ true
-last-line plan list e past =
-    let all : (list_all (has_line plan) list && (has_line plan e && true)) ≡ true = sym (list_all-append (has_line plan) list (e ∷ [])) ∙ history_lines plan (list ++ e ∷ []) past in
-    (and_parts (has_line plan e) true (and_parts (list_all (has_line plan) list) (has_line plan e && true) all).1).0
+last-follows : (plan : Plan) (list : List Event) (e : Event) → LawfulSoFar plan (list ++ e ∷ []) → may_follow plan None (reverse list) e ≡ true
+unfolding is_lawful_so_far
+last-follows plan list e past =
+    (and_parts (is_lawful_so_far plan (reverse list)) (may_follow plan None (reverse list) e) (ap (is_lawful_so_far plan) (sym (reverse-push list e)) ∙ past)).1
 
 -- ---- the journal has room for it
 
@@ -165,7 +163,7 @@ may-log work e text journal spool ready next stored =
     let past = lawful-past plan work.machine readings (list_in work ++ e ∷ []) ready.tied.readings_are lawful in
     record {
       lawful = lawful;
-      spelled = line-record plan e text (last-line plan (list_in work) e past) stored;
+      spelled = follows-record plan (reverse (list_in work)) e text (last-follows plan (list_in work) e past) stored;
       room = takes-one plan readings work e ready.tied.readings_are (next_alone-follows plan readings (reverse (list_in work)) e next).0 ready.room lawful;
       sound = ready.sound;
     }
