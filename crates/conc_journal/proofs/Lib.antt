@@ -1,5 +1,7 @@
+mod Acknowledging
 mod Added
 mod Appended
 mod Begins
 mod Opening
 pub mod Steps
+mod Written

@@ -8,7 +8,7 @@ use Rattle.conc_journal_image.proofs.Fronts.{digest_in-front, found_in-front, ha
 use Rattle.conc_journal_image.specs.Image.{digest_in, Found, found_in, has_header, IsJournal, is_not_begun}
 use Rattle.conc_journal.specs.Journals.{FitsState, IsOn}
 use Rattle.conc_disk.specs.Left.{EachImage}
-use Rattle.conc_journal.specs.Opens.{broken_of, digest_of, events_of, IsFoundIn, may_open}
+use Rattle.conc_journal.specs.Opens.{IsFoundIn, may_open}
 use Rattle.conc_journal.specs.JournalStates.{state_with}
 use Rattle.conc_journal.specs.declared.error.JournalFail.{JournalFail}
 use Rattle.conc_journal.specs.declared.journal.JournalState.{JournalState}

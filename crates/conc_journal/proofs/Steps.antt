@@ -1,8 +1,8 @@
 -- How calls of a disk go on from one another.
-use Rattle.std.proofs.Common.{◌≡◌, ◌⊎◌, inl, inr, ⊎_elim, ℕ, ◌+◌, ◌<◌, ◌≤◌, List, [], ◌∷◌, length, Option, None, Some, length-append, length-take, is_some, IfSome, Result, Ok, Err, OnOk, refl, ◌∙◌, ap, subst, sym, arith}
-use Rattle.conc_disk.specs.Disk.{DiskState, Follows, HasLength, IsLater, LeavesWhatWasSeen, Reaches, Stays, Torn, written}
-use Rattle.conc_disk.specs.Left.{EachImage, LeavesOnly}
-use Rattle.conc_journal.specs.Left.{AddedFrom, AddsTo, LeavesAdded, LeavesWritten, TornFrom}
+use Rattle.std.proofs.Common.{◌≡◌, ◌⊎◌, inl, inr, ⊎_elim, ℕ, ◌+◌, ◌≤◌, List, length, Option, None, Some, length-append, length-take, is_some, IfSome, Result, Ok, Err, OnOk, refl, ◌∙◌, ap, subst, sym, arith}
+use Rattle.conc_disk.specs.Disk.{DiskState, Follows, HasLength, LeavesWhatWasSeen, Reaches, Stays, Torn, written}
+use Rattle.conc_disk.specs.Left.{EachImage, LeavesOnly, TornFrom}
+use Rattle.conc_journal.specs.Left.{LeavesWritten}
 
 -- ---- where it tells
 

@@ -5,10 +5,6 @@ use Rattle.conc_disk.specs.Left.{EachImage}
 
 -- ---- one write and a sync
 
--- an image before, with any bytes in this range of n
-abbrev pub TornFrom : DiskState → ℕ → ℕ → List ℕ → Type 0
-TornFrom old at n image = (before : List ℕ) × old.may_leave before × Torn at n before image
-
 -- where the disk tells, each image now is one before with these bytes from here on
 abbrev pub LeavesWritten : ℕ → List ℕ → DiskState → DiskState → Type 0
 LeavesWritten at bytes old new = EachImage (λ image. (before : List ℕ) × old.may_leave before × (at ≤ length before) × (image ≡ written at bytes before)) new

@@ -1,8 +1,8 @@
-ghost use Rattle.std.specs.Prelude.{◌≡◌, ◌+◌, ◌^◌, ◌<◌, IsTrue, OnErr, OnOk};
+ghost use Rattle.std.specs.Prelude.{◌≡◌, ◌+◌, ◌^◌, ◌<◌, [], ◌∷◌, ◌++◌, length, All, IsTrue, OnErr, OnOk};
 ghost use Rattle.conc_outside.specs.Counts.{Rose};
 ghost use Rattle.conc_disk.specs.Disk.{Reaches};
 ghost use Rattle.conc_journal_image.specs.Fields.{has_record};
-ghost use Rattle.conc_disk.specs.Left.{EachImage, LeavesOnly};
+ghost use Rattle.conc_disk.specs.Left.{EachImage, HasWritten, LeavesOnly, TornFrom};
 ghost use Rattle.conc_journal.specs.Left.{AddedFrom, LeavesAdded};
 ghost use Rattle.conc_journal.specs.Records.{IsSpelled};
 
@@ -12,14 +12,23 @@ use conc_journal_image::record_of;
 use conc_outside::Failed;
 use conc_types::Event;
 
+// The bytes of a record, and the closed gate of the next one.
+fn before_gate(spelled: &[u8]) -> [u8; 32]
+    requires { length spelled.now ≡ 31 }
+    ensures bytes { result ≡ spelled.now ++ 0 ∷ [] }
+    ensures are_bytes { All (λ byte. byte < 256) spelled.now }
+{
+    let mut bytes = [0; 32];
+    bytes[..31].copy_from_slice(spelled);
+    bytes
+}
+
 /// The event's record behind its gate, and the closed gate of the next one.
 pub(crate) fn record_before_gate(event: Event) -> [u8; 32]
     requires { IsTrue (has_record event) }
     ensures { IsSpelled event result }
 {
-    let mut bytes = [0; 32];
-    bytes[..31].copy_from_slice(&record_of(event));
-    bytes
+    before_gate(&record_of(event))
 }
 
 /// Writes the record behind its gate, which is here, and then opens the gate.
@@ -28,7 +37,11 @@ pub(crate) fn add_record<D: Disk>(disk: &mut D, at: u64, spelled: &[u8; 32]) -> 
     requires behind { Reaches (D.state disk.old) (at + 1) }
     ensures images { EachImage (AddedFrom (D.state disk.old) at spelled.now) (D.state disk.new) }
     ensures added { OnOk result (LeavesAdded at spelled.now (D.state disk.old) (D.state disk.new)) }
+    ensures written { OnOk result (HasWritten at (1 ∷ spelled.now) (D.state disk.old)
+        (D.state disk.new)) }
     ensures survives { LeavesOnly (AddedFrom (D.state disk.old) at spelled.now) (D.state disk.old)
+        (D.state disk.new) }
+    ensures writes_there { LeavesOnly (TornFrom (D.state disk.old) at 33) (D.state disk.old)
         (D.state disk.new) }
     ensures failed { OnErr result (Rose (D.state disk.old).faults (D.state disk.new).faults) }
 {

@@ -39,8 +39,11 @@ impl Journal {
     ghost use Rattle.conc_outside.specs.Counts.{Rose};
     ghost use Rattle.conc_journal_image.specs.Fields.{has_record};
     ghost use Rattle.conc_journal.specs.Journals.{FitsState, IsOn, list_of, room_of, state_of};
-    ghost use Rattle.conc_disk.specs.Left.{LeavesOnly};
+    ghost use Rattle.conc_disk.specs.Left.{LeavesOnly, TornFrom};
+    ghost use Rattle.conc_journal.specs.Acknowledged.{IsAcknowledged, Keeps, StaysIn};
     ghost use Rattle.conc_journal.specs.Receipts.{event_of, number_of};
+    ghost use Rattle.conc_journal.specs.Writes.{HasAppended, HasBegun, place_of};
+    ghost use Rattle.conc_journal.specs.declared.receipt.Receipt.{Receipt as Acknowledged};
     ghost use Rattle.conc_journal.specs.JournalStates.{after_fault, has_faulted, takes_events};
     ghost use Rattle.conc_journal.specs.declared.error.AppendFail.TheVariants as AppendFail;
     ghost use Rattle.conc_journal.specs.declared.journal.JournalState.TheVariants.{Begun, BeginFailed, NotBegun};
@@ -99,7 +102,8 @@ impl Journal {
     }
 
     /// Begins a journal for the input with this digest, where none was begun. After an `Ok` each image
-    /// that a stop may leave has its header, and no event. After a fault only `events` is of use.
+    /// that a stop may leave has its header, and no event: its 65 bytes are written, and no others. After
+    /// a fault only `events` is of use.
     pub fn begin<D: Disk>(&mut self, disk: &mut D, digest: &[u8; 32]) -> Result<(), DiskFault>
         requires state { state_of self.old ≡ NotBegun }
         requires on { IsOn self.old (D.state disk.old) }
@@ -110,7 +114,10 @@ impl Journal {
         ensures list { list_of self.new ≡ list_of self.old }
         ensures empty { list_of self.new ≡ [] }
         ensures room { room_of self.new ≡ room_of self.old }
+        ensures written { OnOk result (HasBegun digest.now (D.state disk.old) (D.state disk.new)) }
         ensures survives { LeavesOnly (FitsState (BeginFailed digest.now) []) (D.state disk.old)
+            (D.state disk.new) }
+        ensures writes_there { LeavesOnly (TornFrom (D.state disk.old) 0 65) (D.state disk.old)
             (D.state disk.new) }
     {
         match write_header(disk, digest) {
@@ -139,9 +146,10 @@ impl Journal {
         }
     }
 
-    /// Adds an event. After an `Ok` each image that a stop may leave has it. After a fault the disk has
-    /// the list with the event or without, and each later call fails and does nothing until the file is
-    /// opened again. It takes no memory.
+    /// Adds an event. After an `Ok` each image that a stop may leave has it: its record and the closed
+    /// gate behind it are written, 33 bytes, and no others. After a fault the disk has the list with the
+    /// event or without, and each later call fails and does nothing until the file is opened again. What
+    /// was acknowledged before stays throughout. It takes no memory.
     pub fn append<D: Disk>(&mut self, disk: &mut D, event: Event) -> Result<Receipt, AppendFail>
         requires takes { IsTrue (takes_events (state_of self.old)) }
         requires room { 0 < room_of self.old }
@@ -156,6 +164,11 @@ impl Journal {
         ensures event { IfOk result (λ receipt. event_of receipt ≡ event) }
         ensures state { OnOk result (state_of self.new ≡ state_of self.old) }
         ensures room { OnOk result (room_of self.new + 1 ≡ room_of self.old) }
+
+        ensures acknowledged { IfOk result (λ receipt. IsAcknowledged receipt self.new
+            (D.state disk.new)) }
+        ensures written { OnOk result (HasAppended event (length (list_of self.new))
+            (D.state disk.old) (D.state disk.new)) }
 
         // A fault.
         ensures fault { IsErrOf result AppendFail.DiskFault
@@ -174,6 +187,12 @@ impl Journal {
         // A stop at any moment leaves the list with the event or without.
         ensures survives { LeavesOnly (FitsState (after_fault event (state_of self.old))
             (list_of self.old)) (D.state disk.old) (D.state disk.new) }
+        ensures writes_there { LeavesOnly (TornFrom (D.state disk.old)
+            (place_of (length (list_of self.old) + 1)) 33) (D.state disk.old) (D.state disk.new) }
+
+        // What was acknowledged before stays.
+        ensures stays { (receipt : Acknowledged) → Keeps self.old receipt
+            → StaysIn receipt self.new (D.state disk.old) (D.state disk.new) }
     {
         let JournalState::Begun { digest } = self.state else {
             return Err(AppendFail::Failed);

@@ -5,14 +5,10 @@ use Rattle.std.proofs.lemmas.Bool.{and_parts, cases_eq}
 use Rattle.std.proofs.lemmas.Bool.Decides.{nat_tests}
 use Rattle.std.proofs.lemmas.List.{append_assoc, drop-drop, drop_at, length-append, take-append-drop, take_at}
 use Rattle.conc_journal_image.specs.Fields.{are_zero}
-use Rattle.conc_journal_image.specs.Headers.{BeginsJournal}
+use Rattle.conc_journal_image.specs.Headers.{BeginsJournal, header_behind}
 use Rattle.conc_journal_image.specs.Image.{digest_in, ends_here, found_in, has_header, is_closed, IsJournal, is_not_begun}
 use Rattle.conc_journal_image.proofs.Finding.{found_from-closed}
 use Rattle.conc_journal_image.proofs.Fronts.{is_closed-front}
-
--- the bytes of a header, behind its gate, and the closed gate of the first record
-abbrev pub header_behind : List ℕ → List ℕ
-header_behind digest = codes "conc journal 1\n" ++ (digest ++ replicate 17 0)
 
 -- these bytes, behind the title
 behind_title : List ℕ → List ℕ → List ℕ

@@ -1,7 +1,7 @@
-ghost use Rattle.std.specs.Prelude.{◌≡◌, ◌≤◌, ◌++◌, ◌&&◌, codes, drop, length, replicate, take};
+ghost use Rattle.std.specs.Prelude.{◌≡◌, ◌≤◌, ◌&&◌, codes, drop, length, take};
 ghost use Rattle.std.specs.Str.{bytes_eq};
 ghost use Rattle.conc_journal_image.specs.Fields.{are_zero};
-ghost use Rattle.conc_journal_image.specs.Headers.{BeginsJournal, IsJudged};
+ghost use Rattle.conc_journal_image.specs.Headers.{BeginsJournal, header_behind, IsJudged};
 ghost use Rattle.conc_journal_image.specs.Image.{digest_in, has_header, is_closed, is_not_begun};
 
 use crate::bytes::are_zero;
@@ -83,7 +83,7 @@ pub fn judge_header(image: &[u8]) -> Header
 
 // The title, the digest and 17 bytes that are 0.
 fn header_bytes(digest: &[u8; 32]) -> [u8; 64]
-    ensures { result ≡ codes "conc journal 1\n" ++ (digest.now ++ replicate 17 0) }
+    ensures { result ≡ header_behind digest.now }
 {
     let mut bytes = [0; 64];
     bytes[..15].copy_from_slice(TITLE);
@@ -94,6 +94,7 @@ fn header_bytes(digest: &[u8; 32]) -> [u8; 64]
 /// The bytes 1 to 64 of a journal's file: the header behind its gate, and the closed gate of the
 /// first record.
 pub fn header_of(digest: &[u8; 32]) -> [u8; 64]
+    ensures bytes { result ≡ header_behind digest.now }
     ensures begins { BeginsJournal digest.now result }
 {
     header_bytes(digest)

@@ -14,7 +14,7 @@ use Rattle.conc_restart.specs.Need.{need}
 use Rattle.conc_run.specs.Whole.{IsFinished}
 use Rattle.conc_run_state.specs.Causes.{HasCause, IsOther, is_refusal}
 use Rattle.conc_run_state.specs.Handed.{Handed, IsFound}
-use Rattle.conc_run_state.specs.Judging.{IsBadRecord}
+use Rattle.conc_run_state.specs.Judging.{IsBadFor, IsBadRecord}
 use Rattle.conc_run_state.specs.declared.error.HistoryFail.{HistoryFail}
 use Rattle.conc_run_state.specs.declared.error.HistoryFail.TheVariants as history_fail
 
@@ -71,9 +71,9 @@ not-refused h history_fail.NotJournal journal spool room cause =
 not-refused h (history_fail.OtherInput found) journal spool room cause =
     let other : IsOther h.digest found [] = at-seen (IsOther h.digest found) h.journal_before.seen [] journal cause in absurd (cc (no-digest, other.found_is))
 not-refused h (history_fail.Unlawful number) journal spool room cause =
-    let bad = λ (image texts : List ℕ). IsBadRecord h.plan (length texts) (events_of image) (broken_of image) number in
-    let there : bad [] [] = at-seen (bad []) h.spool_before.seen [] spool (at-seen (λ image. IfSome h.spool_before.seen (bad image)) h.journal_before.seen [] journal cause.bad) in
-    absurd (no-bad h.plan 0 number (events_of []) (broken_of []) no-events none-broken there)
+    let bad = λ (image : List ℕ). IsBadFor h.plan h.spool_before (events_of image) (broken_of image) number in
+    let there : bad [] = at-seen bad h.journal_before.seen [] journal cause.bad in
+    absurd (no-bad h.plan there.0 number (events_of []) (broken_of []) no-events none-broken there.2)
 not-refused h (history_fail.JournalFull len needed) journal spool room cause =
     let none = found-none h cause.found journal cause.is_found in
     absurd (omega (arith, ap length none, cause.len_is, cause.needed_is, cause.full, room))

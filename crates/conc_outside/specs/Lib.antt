@@ -1,5 +1,6 @@
 pub mod Counts
 pub mod Files
+pub mod Reads
 pub mod Taken
 pub mod Told
-pub mod Starved
+pub mod Writes

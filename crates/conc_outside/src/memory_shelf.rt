@@ -1,10 +1,12 @@
-ghost use Rattle.std.specs.Prelude.{◌≡◌, map, Some, IsTrue};
+ghost use Rattle.std.specs.Prelude.{◌≡◌, map, Some, None, IfOk, IfSome, IsErrOf, IsTrue};
 ghost use Rattle.std.specs.List.{find};
 ghost use Rattle.std.specs.Option.{option_copied};
 ghost use Rattle.std.specs.Str.{bytes_eq};
 ghost use Rattle.conc_types.specs.Words.{are_distinct};
+ghost use Rattle.conc_outside.specs.Counts.{Rose};
 ghost use Rattle.conc_outside.specs.Files as spec;
 ghost use Rattle.conc_outside.specs.Told.{told};
+ghost use Rattle.conc_outside.specs.declared.error.ShelfFail.TheVariants.{Absent, Failed};
 
 use crate::shelf::MOST_BYTES;
 use crate::{Shelf, ShelfFail};
@@ -24,13 +26,16 @@ pub struct MemShelf {
 }
 
 impl MemShelf {
+    ghost use Rattle.conc_outside.specs.Reads.{fails_of, reads_of};
+
     /// A shelf of these files, no two of one name. The reads with these numbers, counted from 0,
-    /// are to fail where the file is there; no clause says so, since any shelf may fail. It takes
-    /// no memory.
+    /// are to fail where the file is there. It takes no memory.
     pub fn new(files: Vec<(Name, Vec<u8>)>, fails: Vec<u64>) -> Self
         requires { IsTrue (are_distinct bytes_eq (map (λ f. f.0) files.items)) }
-        ensures { ⟦<MemShelf as Shelf>⟧.state result
+        ensures state { ⟦<MemShelf as Shelf>⟧.state result
             ≡ record { files = Some (told files.items); absences = 0; faults = 0 } }
+        ensures fails { fails_of result ≡ fails.items }
+        ensures reads { reads_of result ≡ 0 }
     {
         MemShelf {
             files,
@@ -62,13 +67,23 @@ fn file_named<'a>(files: &'a [(Name, Vec<u8>)], name: &Name) -> Option<&'a [u8]>
 }
 
 impl Shelf for MemShelf {
-    ghost state = { λ s. record {
-      files = Some (told s.files.items);
-      absences = s.absences;
-      faults = s.faults;
-    } };
+    ghost use Rattle.conc_outside.specs.Reads.{FailsAsListed, shelf_state};
 
-    fn read_file(&mut self, alloc: Global, name: &Name) -> Result<Vec<u8>, ShelfFail> {
+    ghost state = { λ s. shelf_state s };
+
+    fn read_file(&mut self, alloc: Global, name: &Name) -> Result<Vec<u8>, ShelfFail>
+        ensures later { spec.IsLater (shelf_state self.old) (shelf_state self.new) }
+        ensures found { IfOk result (λ bytes. spec.Gives (shelf_state self.old).files name.now
+            bytes.items) }
+        ensures absent { IsErrOf result Absent
+            → Rose (shelf_state self.old).absences (shelf_state self.new).absences
+            × spec.Lacks (shelf_state self.old).files name.now }
+        ensures lacking { IfSome (shelf_state self.old).files
+            (λ told. spec.file_named told name.now ≡ None → IsErrOf result Absent) }
+        ensures failed { IsErrOf result Failed
+            → Rose (shelf_state self.old).faults (shelf_state self.new).faults }
+        ensures exact { FailsAsListed self.old self.new name.now result }
+    {
         let number = self.reads;
         self.reads = number.saturating_add(1);
         let Some(bytes) = file_named(&self.files, name) else {

@@ -1,4 +1,6 @@
-ghost use Rattle.std.specs.Prelude.{◌≡◌, ◌≤◌, [], Some};
+ghost use Rattle.std.specs.Prelude.{◌≡◌, ◌≢◌, ◌≤◌, ◌<◌, [], Some, length, take, IfOk, OnErr};
+ghost use Rattle.conc_outside.specs.Counts.{Rose};
+ghost use Rattle.conc_outside.specs.Taken.{Took};
 
 use crate::{Failed, Sink};
 use std::alloc::Global;
@@ -17,13 +19,15 @@ pub struct MemSink {
 }
 
 impl MemSink {
-    ghost use Rattle.conc_outside.specs.Starved.{starved_of};
+    ghost use Rattle.conc_outside.specs.Writes.{fails_of, starved_of, writes_of};
 
-    /// A sink that has taken nothing. The writes with these numbers, counted from 0, are to fail;
-    /// no clause says so, since any sink may fail. It takes no memory.
+    /// A sink that has taken nothing. The writes with these numbers, counted from 0, are to fail.
+    /// It takes no memory.
     pub fn new(alloc: Global, fails: Vec<u64>) -> Self
         ensures taken { (⟦<MemSink as Sink>⟧.state result).taken ≡ Some [] }
         ensures faults { (⟦<MemSink as Sink>⟧.state result).faults ≡ 0 }
+        ensures fails { fails_of result ≡ fails.items }
+        ensures writes { writes_of result ≡ 0 }
         ensures starved { starved_of result ≡ 0 }
     {
         MemSink {
@@ -52,9 +56,22 @@ impl MemSink {
 }
 
 impl Sink for MemSink {
-    ghost state = { λ s. record { taken = Some s.bytes.items; faults = s.faults } };
+    ghost use Rattle.conc_outside.specs.Writes.{FailsAsListed, sink_state};
 
-    fn write(&mut self, piece: &[u8]) -> Result<usize, Failed> {
+    ghost state = { λ s. sink_state s };
+
+    fn write(&mut self, piece: &[u8]) -> Result<usize, Failed>
+        ensures faults { (sink_state self.old).faults ≤ (sink_state self.new).faults }
+        ensures within { IfOk result (λ n. n ≤ length piece.now) }
+        ensures some { IfOk result (λ n. piece.now ≢ [] → 0 < n) }
+        ensures taken { IfOk result (λ n. Took (sink_state self.old).taken
+            (sink_state self.new).taken (take n piece.now)) }
+        ensures kept { OnErr result ((sink_state self.new).taken ≡ (sink_state self.old).taken) }
+        ensures failed { OnErr result (Rose (sink_state self.old).faults
+            (sink_state self.new).faults) }
+        ensures exact { FailsAsListed self.old self.new result }
+        ensures whole { IfOk result (λ n. n ≡ length piece.now) }
+    {
         let number = self.writes;
         self.writes = number.saturating_add(1);
         if self.fails.contains(&number) {

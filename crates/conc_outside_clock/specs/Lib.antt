@@ -1,2 +1,3 @@
 pub mod Civil
 pub mod Clocks
+pub mod Memory

@@ -1,4 +1,4 @@
-ghost use Rattle.std.specs.Prelude.{◌≡◌, ◌≢◌, [], ◌≤◌, IfOk, IfSome, IsOk, OnErr, OnOk};
+ghost use Rattle.std.specs.Prelude.{◌≡◌, ◌≤◌, IfOk, OnErr};
 ghost use Rattle.conc_outside_clock.specs.Clocks.{ClockState, Gives};
 ghost use Rattle.conc_outside.specs.Counts.{Rose};
 
@@ -10,14 +10,11 @@ pub trait Clock {
     /// The moments that it still gives, if the clock tells them, and its count of faults.
     ghost state: { Self → ClockState };
 
-    /// The moment now: the first of those that the clock told. Where it told one, it does not fail.
-    /// The count of faults never falls.
+    /// The moment now: the first of those that the clock told. The count of faults never falls.
     fn now(&mut self) -> Result<Moment, Failed>
         ensures faults { (state self.old).faults ≤ (state self.new).faults }
         ensures given { IfOk result (λ moment. Gives (state self.old).moments moment
             (state self.new).moments) }
-        ensures quiet { OnOk result ((state self.new).faults ≡ (state self.old).faults) }
-        ensures told { IfSome (state self.old).moments (λ moments. moments ≢ [] → IsOk result) }
         ensures kept { OnErr result ((state self.new).moments ≡ (state self.old).moments) }
         ensures failed { OnErr result (Rose (state self.old).faults (state self.new).faults) };
 }

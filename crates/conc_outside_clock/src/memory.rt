@@ -1,4 +1,6 @@
-ghost use Rattle.std.specs.Prelude.{◌≡◌, Some};
+ghost use Rattle.std.specs.Prelude.{◌≡◌, ◌≤◌, Some, IfOk, OnErr};
+ghost use Rattle.conc_outside.specs.Counts.{Rose};
+ghost use Rattle.conc_outside_clock.specs.Clocks.{Gives};
 
 use crate::Clock;
 use conc_outside::Failed;
@@ -27,9 +29,20 @@ impl MemClock {
 }
 
 impl Clock for MemClock {
-    ghost state = { λ c. record { moments = Some c.left.items; faults = c.faults } };
+    ghost use Rattle.conc_outside_clock.specs.Memory.{clock_state, FailsAtTheEnd};
 
-    fn now(&mut self) -> Result<Moment, Failed> {
+    ghost state = { λ c. clock_state c };
+
+    fn now(&mut self) -> Result<Moment, Failed>
+        ensures faults { (clock_state self.old).faults ≤ (clock_state self.new).faults }
+        ensures given { IfOk result (λ moment. Gives (clock_state self.old).moments moment
+            (clock_state self.new).moments) }
+        ensures kept { OnErr result ((clock_state self.new).moments
+            ≡ (clock_state self.old).moments) }
+        ensures failed { OnErr result (Rose (clock_state self.old).faults
+            (clock_state self.new).faults) }
+        ensures exact { FailsAtTheEnd self.old self.new result }
+    {
         match self.left.pop_front() {
             Some(moment) => Ok(moment),
             None => {

@@ -14,7 +14,7 @@ use Rattle.conc_journal.specs.Opens.{broken_of, IsFoundIn}
 use Rattle.conc_journal.specs.declared.opened.Opened.{Opened}
 use Rattle.conc_run_state.specs.Disks.{Disks}
 use Rattle.conc_run_state.specs.Handed.{IsOwnJournal}
-use Rattle.conc_run_state.specs.Judging.{IsBadRecord}
+use Rattle.conc_run_state.specs.Judging.{IsBadFor}
 use Rattle.conc_run_state.specs.declared.error.HistoryFail.{HistoryFail}
 use Rattle.conc_run_state.specs.declared.error.HistoryFail.TheVariants as history_fail
 use Rattle.conc_run_state.specs.declared.error.DiskName.TheVariants as which
@@ -22,6 +22,7 @@ use Rattle.conc_run_open.specs.Extents.{counted}
 use Rattle.conc_run_open.specs.Refusals.{IsRefused, IsUnopened, IsUnreadable}
 use Rattle.conc_run_open.specs.Texts.{AreWhole, HasEnd, HasReadCause}
 use Rattle.conc_run_open.proofs.Counting.{counted-is, end-within}
+use Rattle.conc_run_open.proofs.Finding.{bad-in, long-enough}
 use Rattle.conc_run_open.proofs.Listed.{listed}
 use Rattle.conc_run_open.proofs.Surviving.{left-wider}
 
@@ -42,9 +43,8 @@ pub unreadable-read : (plan : Plan) (digest : List ℕ) (d : Disks) (opened : Op
     → IfSome d.journal_before.seen (λ image. IsFoundIn image opened) → events ≡ opened.events.items → IsUnreadable plan events opened.broken d.spool_before d.spool_after e → HasReadCause plan digest d e
 unreadable-read plan digest d opened events (history_fail.Unlawful number) own found same bad = record {
   own = own;
-  bad = IfSome_then d.journal_before.seen found (λ image is. IfSome_then d.spool_before.seen bad (λ texts here.
-      subst (λ (l : List Event). IsBadRecord plan (length texts) l (broken_of image) number) (same ∙ is.events)
-      (subst (λ (b : Option ℕ). IsBadRecord plan (length texts) events b number) is.broken here)));
+  bad = IfSome_then d.journal_before.seen found (λ image is.
+      bad-in plan d.spool_before opened image number is (subst (λ (l : List Event). IsBadFor plan d.spool_before l opened.broken number) same bad));
 }
 unreadable-read plan digest d opened events (history_fail.DiskFault which.Spool) own found same bad = (own, bad)
 unreadable-read plan digest d opened events history_fail.NoMemory own found same bad = tt
@@ -56,7 +56,7 @@ unreadable-read plan digest d opened events (history_fail.DiskFault which.Journa
 -- a record is bad, where the spool has all extents
 pub refused-unreadable : (plan : Plan) (events : List Event) (broken : Option ℕ) (old new : DiskState) (e : HistoryFail) → Reaches old (counted events) → ((len : ℕ) → counted events ≤ len → IsRefused plan len events broken e)
     → IsUnreadable plan events broken old new e
-refused-unreadable plan events broken old new (history_fail.Unlawful number) long refused = IfSome_then old.seen long (λ texts far. refused (length texts) far)
+refused-unreadable plan events broken old new (history_fail.Unlawful number) long refused = let far = long-enough old (counted events) long in (far.0, far.1, refused far.0 far.2)
 refused-unreadable plan events broken old new history_fail.NoMemory long refused = tt
 refused-unreadable plan events broken old new history_fail.NotJournal long refused = absurd (refused (counted events) (le_refl (counted events)))
 refused-unreadable plan events broken old new (history_fail.OtherInput other) long refused = absurd (refused (counted events) (le_refl (counted events)))

@@ -9,7 +9,7 @@ use Rattle.conc_law.specs.Law.{LawfulSoFar}
 use Rattle.conc_journal.specs.Opens.{may_open}
 use Rattle.conc_restart.specs.Need.{need}
 use Rattle.conc_run_state.specs.Causes.{IsOther}
-use Rattle.conc_run_state.specs.Judging.{IsBadRecord}
+use Rattle.conc_run_state.specs.Judging.{IsBadFor, IsBadRecord}
 use Rattle.conc_run_state.specs.declared.error.HistoryFail.{HistoryFail}
 use Rattle.conc_run_state.specs.declared.error.HistoryFail.TheVariants as history_fail
 use Rattle.conc_run_state.specs.declared.error.DiskName.TheVariants as which
@@ -31,7 +31,7 @@ IsRefused plan len events broken _ = ⊥
 
 -- for this spool a record is bad, or its disk failed, or there is no memory
 abbrev pub IsUnreadable : Plan → List Event → Option ℕ → DiskState → DiskState → HistoryFail → Type 0
-IsUnreadable plan events broken old new (history_fail.Unlawful number) = IfSome old.seen (λ texts. IsBadRecord plan (length texts) events broken number)
+IsUnreadable plan events broken old new (history_fail.Unlawful number) = IsBadFor plan old events broken number
 IsUnreadable plan events broken old new (history_fail.DiskFault which.Spool) = Rose old.faults new.faults
 IsUnreadable plan events broken old new history_fail.NoMemory = ⊤
 IsUnreadable plan events broken old new _ = ⊥

@@ -13,7 +13,7 @@ use Rattle.conc_journal.specs.Opens.{broken_of, events_of, may_open}
 use Rattle.conc_run_state.specs.Causes.{IsOther}
 use Rattle.conc_run_state.specs.Disks.{Disks}
 use Rattle.conc_run_state.specs.Handed.{IsOwnJournal}
-use Rattle.conc_run_state.specs.Judging.{EndWithin, IsBadRecord}
+use Rattle.conc_run_state.specs.Judging.{EndWithin, IsBadFor}
 use Rattle.conc_run_state.specs.declared.error.HistoryFail.{HistoryFail}
 use Rattle.conc_run_state.specs.declared.error.HistoryFail.TheVariants as history_fail
 use Rattle.conc_run_state.specs.declared.error.DiskName.TheVariants as which
@@ -62,10 +62,10 @@ pub record HasNotEnded (plan : Plan) (digest : List ℕ) (id : RequestId) (journ
 
 -- ---- why no text is given
 
--- the journal is this input's, and its record with this number is the first that is bad
+-- the journal is this input's, and, where it tells, its record with this number is the first that is bad
 pub record HasBadRecord (plan : Plan) (digest : List ℕ) (journal spool : DiskState) (number : ℕ) : Type 0 where
   pub own : IfSome journal.seen (IsOwnJournal digest)
-  pub bad : IfSome journal.seen (λ image. IfSome spool.seen (λ texts. IsBadRecord plan (length texts) (events_of image) (broken_of image) number))
+  pub bad : IfSome journal.seen (λ image. IsBadFor plan spool (events_of image) (broken_of image) number)
 
 -- the cause of each answer before an end is sought, and of a fault; want of memory needs none
 abbrev pub HasReadCause : Plan → List ℕ → Disks → HistoryFail → Type 0

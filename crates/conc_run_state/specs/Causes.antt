@@ -4,8 +4,8 @@ use Rattle.conc_types.specs.declared.event.Event.{Event}
 use Rattle.conc_outside.specs.Counts.{Rose}
 use Rattle.conc_journal.specs.Opens.{broken_of, digest_of, events_of, may_open}
 use Rattle.conc_restart.specs.Need.{need}
-use Rattle.conc_run_state.specs.Handed.{Finds, Handed, IsFound, IsOwnJournal}
-use Rattle.conc_run_state.specs.Judging.{IsBadRecord}
+use Rattle.conc_run_state.specs.Handed.{Handed, IsFound, IsOwnJournal}
+use Rattle.conc_run_state.specs.Judging.{IsBadFor}
 use Rattle.conc_run_state.specs.declared.error.HistoryFail.{HistoryFail}
 use Rattle.conc_run_state.specs.declared.error.HistoryFail.TheVariants as history_fail
 use Rattle.conc_run_state.specs.declared.error.DiskName.{DiskName}
@@ -25,10 +25,10 @@ pub record IsFull (h : Handed) (len needed : ℕ) : Type 0 where
   pub needed_is : needed ≡ need h.plan h.readings
   pub full : 1048576 < len + needed
 
--- the journal is this input's, and its record with this number is the first that is bad
+-- the journal is this input's, and, where it tells, its record with this number is the first that is bad
 pub record IsUnlawful (h : Handed) (number : ℕ) : Type 0 where
   pub own : IfSome h.journal_before.seen (IsOwnJournal h.digest)
-  pub bad : Finds (λ image len. IsBadRecord h.plan len (events_of image) (broken_of image) number) h
+  pub bad : IfSome h.journal_before.seen (λ image. IsBadFor h.plan h.spool_before (events_of image) (broken_of image) number)
 
 -- the count of faults of this disk rose; the spool is not opened before the journal was found to be this input's
 abbrev pub Faulted : Handed → DiskName → Type 0

@@ -42,10 +42,6 @@ pub record IsOwnJournal (digest : List ℕ) (image : List ℕ) : Type 0 where
   pub opens : IsTrue (may_open image)
   pub own : IsOwn digest image
 
--- where both disks tell, this holds of the journal's image and of the number of the spool's bytes
-abbrev pub Finds : (List ℕ → ℕ → Type 0) → Handed → Type 0
-Finds kind h = IfSome h.journal_before.seen (λ image. IfSome h.spool_before.seen (λ texts. kind image (length texts)))
-
 -- These are the events found. They are lawful, every life judged as an earlier one. Where the journal's disk tells, they are
 -- those of a journal of this input of which no record is broken; and where the spool's tells, each extent ends within it.
 pub record IsFound (h : Handed) (found : List Event) : Type 0 where

@@ -7,6 +7,7 @@ use Rattle.conc_types.specs.declared.event.Outcome.{Outcome}
 use Rattle.conc_types.specs.declared.event.RequestId.{RequestId}
 use Rattle.conc_types.specs.declared.plan.Plan.{Plan}
 use Rattle.conc_types.specs.Words.{numbered}
+use Rattle.conc_disk.specs.Disk.{DiskState, HasLength}
 use Rattle.conc_law.specs.Law.{LawfulSoFar}
 use Rattle.conc_restart.specs.FirstBad.{IsFirstUnlawful}
 
@@ -37,3 +38,8 @@ pub record IsBadRecord (plan : Plan) (len : ℕ) (events : List Event) (broken :
   pub bad : (broken ≡ Some number) ⊎ (IsFirstUnlawful plan events number ⊎ EndsBeyond len events number)
   pub so_far : LawfulSoFar plan (take (number - 1) events)
   pub within : EndWithin len (take (number - 1) events)
+
+-- the spool has a number of bytes, which is that of those that it tells where it tells them, and for a spool of so many the
+-- record with this number is bad, and none before it
+abbrev pub IsBadFor : Plan → DiskState → List Event → Option ℕ → ℕ → Type 0
+IsBadFor plan spool events broken number = (len : ℕ) × HasLength spool len × IsBadRecord plan len events broken number

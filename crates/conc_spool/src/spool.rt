@@ -1,7 +1,7 @@
 ghost use Rattle.std.specs.Prelude.{◌≡◌, ◌+◌, ◌<◌, ◌≤◌, ◌^◌, length, vec_len, IfErr, IfOk, IsErrOf, OnErr, OnOk};
 ghost use Rattle.conc_outside.specs.Counts.{Rose};
-ghost use Rattle.conc_disk.specs.Disk.{HasAt, Reaches, SeenFollows, Stays};
-ghost use Rattle.conc_disk.specs.Left.{LeavesOnly};
+ghost use Rattle.conc_disk.specs.Disk.{HasAt, Reaches, SeenFollows, Stays, Torn};
+ghost use Rattle.conc_disk.specs.Left.{HasWritten, LeavesOnly, TornFrom};
 
 use crate::{ReadBack, SpoolFail};
 use conc_disk::{Disk, DiskFault};
@@ -50,8 +50,9 @@ impl Spool {
     }
 
     /// Adds a text of 1 to 1,048,576 bytes and gives its place. An `Ok` means that it is on the
-    /// disk. After a fault the spool is as before, and the next text goes to the same place. It
-    /// takes no memory.
+    /// disk, where nothing else changed. After a fault the spool is as before, and the next text goes
+    /// to the same place. A stop at any moment leaves all bytes but those of that place. It takes no
+    /// memory.
     pub fn append<E: Disk>(&mut self, disk: &mut E, bytes: &[u8]) -> Result<Extent, DiskFault>
         requires some { 1 ≤ length bytes.now }
         requires few { length bytes.now ≤ 1048576 }
@@ -62,6 +63,14 @@ impl Spool {
         ensures length { IfOk result (λ extent. extent.length ≡ length bytes.now) }
         ensures used { OnOk result (used_of self.new ≡ used_of self.old + length bytes.now) }
         ensures text { OnOk result (HasAt (E.state disk.new) (used_of self.old) bytes.now) }
+
+        // What it writes, and where.
+        ensures written { OnOk result (HasWritten (used_of self.old) bytes.now (E.state disk.old)
+            (E.state disk.new)) }
+        ensures torn { SeenFollows (Torn (used_of self.old) (length bytes.now)) (E.state disk.old)
+            (E.state disk.new) }
+        ensures writes_there { LeavesOnly (TornFrom (E.state disk.old) (used_of self.old)
+            (length bytes.now)) (E.state disk.old) (E.state disk.new) }
 
         ensures unchanged { OnErr result (used_of self.new ≡ used_of self.old) }
         ensures fault { OnErr result (Rose (E.state disk.old).faults (E.state disk.new).faults) }

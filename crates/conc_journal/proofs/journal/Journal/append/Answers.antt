@@ -1,9 +1,13 @@
-use Rattle.std.proofs.Common.{◌+◌, ◌*◌, [], ◌∷◌, ◌++◌, List, subst, sym, ◌∙◌, arith}
+use Rattle.std.proofs.Common.{◌≡◌, ℕ, ◌+◌, ◌*◌, [], ◌∷◌, ◌++◌, List, length, length-append, subst, sym, ap, ◌∙◌, refl, arith}
 use Rattle.conc_types.specs.declared.event.Event.{Event}
 use Rattle.conc_journal.specs.Journals.{FitsState}
-use Rattle.conc_disk.specs.Left.{EachImage, LeavesOnly}
-use Rattle.conc_journal.specs.JournalStates.{after_fault}
+use Rattle.conc_disk.specs.Left.{EachImage, HasWritten, LeavesOnly}
+use Rattle.conc_disk.proofs.Leaving.{leaves-none}
+use Rattle.conc_journal.specs.Acknowledged.{event_at, HasEventOf}
+use Rattle.conc_journal.specs.JournalStates.{after_fault, takes_events}
+use Rattle.conc_journal.specs.Receipts.{event_of, number_of}
 use Rattle.conc_journal.specs.declared.journal.JournalState.{JournalState}
+use Rattle.conc_journal.proofs.Acknowledging.{append-keeps, event_at-front, event_at-last, on-has}
 use Rattle.conc_journal.proofs.Appended.{begun-images, images-fit, images-have, journal-reaches, left-fits}
 use Rattle.conc_journal.proofs.journal.Journal.append.Goals as goal
 
@@ -48,3 +52,42 @@ returns-in-Ok-clause-survives g c =
     let was = begun-images c.args.self.now c.in-Begun.digest old c.in-Begun.is c.requires.on in
     subst (λ (s : JournalState). LeavesOnly (FitsState (after_fault c.args.event s) events) old new) (sym c.in-Begun.is)
     (left-fits c.in-Begun.digest events c.args.event (32 + 32 * (c.len.result + 1)) c.record_before_gate.result (omega (arith, c.len.ensures)) (omega (arith, c.args.self.now.few, c.requires.room)) c.record_before_gate.ensures old new was c.add_record.ensures.survives)
+
+-- the bytes that it writes, and where
+
+pub returns-in-Ok-clause-written : goal.returns-in-Ok-clause-written
+returns-in-Ok-clause-written g c =
+    let old = g.D.Disk.state c.args.disk.now in
+    let new = g.D.Disk.state c.add_record.new.disk in
+    let is = c.record_before_gate.ensures in
+    let record_is : HasWritten (32 + 32 * (c.len.result + 1)) (1 ∷ (is.0 ++ 0 ∷ [])) old new =
+    subst (λ (s : List ℕ). HasWritten (32 + 32 * (c.len.result + 1)) (1 ∷ s) old new) is.2 c.in-Ok.ensures.written in
+    let numbered : c.len.result + 1 ≡ length c.push.new.self.events.items =
+    omega (arith, c.len.ensures, ap length c.push.ensures.list, length-append c.args.self.now.events.items (c.args.event ∷ [])) in
+    (is.0, record { event_is = is.1; are_bytes = is.3 }, subst (λ (n : ℕ). HasWritten (32 + 32 * n) (1 ∷ (is.0 ++ 0 ∷ [])) old new) numbered record_is)
+
+-- what was acknowledged
+
+pub returns-in-Ok-clause-acknowledged : goal.returns-in-Ok-clause-acknowledged
+returns-in-Ok-clause-acknowledged g c =
+    let events = c.args.self.now.events.items in
+    let takes = ap takes_events c.push.ensures.state ∙ c.requires.takes in
+    let there = ap (λ (l : List Event). event_at l (c.len.result + 1)) c.push.ensures.list ∙ event_at-last events c.args.event (c.len.result + 1) (omega (arith, c.len.ensures)) in
+    on-has _ c.push.new.self (g.D.Disk.state c.add_record.new.disk) (record { takes = takes; at_number = there }) (returns-in-Ok-clause-on g c)
+
+pub returns-in-Ok-clause-stays : goal.returns-in-Ok-clause-stays
+returns-in-Ok-clause-stays g c = λ receipt keeps.
+    let events = c.args.self.now.events.items in
+    let takes = ap takes_events c.push.ensures.state ∙ c.requires.takes in
+    let there = ap (λ (l : List Event). event_at l (number_of receipt)) c.push.ensures.list ∙ event_at-front events (c.args.event ∷ []) (number_of receipt) (event_of receipt) keeps.at_number in
+    append-keeps receipt c.args.event c.args.self.now c.push.new.self (g.D.Disk.state c.args.disk.now) (g.D.Disk.state c.add_record.new.disk) keeps (record { takes = takes; at_number = there }) (returns-in-Ok-clause-on g c) (returns-in-Ok-clause-survives g c)
+
+pub returns-in-Err-clause-stays : goal.returns-in-Err-clause-stays
+returns-in-Err-clause-stays g c = λ receipt keeps.
+    append-keeps receipt c.args.event c.args.self.now _ (g.D.Disk.state c.args.disk.now) (g.D.Disk.state c.add_record.new.disk) keeps (record { takes = refl; at_number = keeps.at_number }) (returns-in-Err-clause-on g c) (returns-in-Err-clause-survives g c)
+
+pub returns-in_default-clause-stays : goal.returns-in_default-clause-stays
+returns-in_default-clause-stays g c = λ receipt keeps. record {
+  now = on-has receipt c.args.self.now (g.D.Disk.state c.args.disk.now) keeps c.requires.on;
+  at_each_moment = leaves-none (HasEventOf receipt) (g.D.Disk.state c.args.disk.now);
+}
