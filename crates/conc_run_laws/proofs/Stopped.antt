@@ -20,7 +20,7 @@ use Rattle.conc_run.specs.Whole.{HasBetween, HasLeft, IsFinished}
 use Rattle.conc_run.proofs.Next.{left-good, not-bad, not-closed, not-other}
 use Rattle.conc_run_state.specs.Causes.{HasCause, IsOther}
 use Rattle.conc_run_state.specs.Handed.{Handed, IsOwnJournal}
-use Rattle.conc_run_state.specs.Judging.{EndWithin, IsBadRecord}
+use Rattle.conc_run_state.specs.Judging.{EndWithin, IsBadFor, IsBadRecord}
 use Rattle.conc_run_state.specs.Lists.{IsPrefix}
 use Rattle.conc_run_state.specs.declared.error.HistoryFail.{HistoryFail}
 use Rattle.conc_run_state.specs.declared.error.HistoryFail.TheVariants as history_fail
@@ -99,9 +99,10 @@ module _ (h : Handed) (image texts : List ℕ) (fit : IsFit h.plan h.digest imag
   refuses-for_room history_fail.NotJournal cause = not-closed h.digest image fit.own (at-some (λ (i : List ℕ). IsFalse (may_open i)) h.journal_before.seen image journal cause)
   refuses-for_room (history_fail.OtherInput found) cause = not-other h.digest found image fit.own.own (at-some (λ (i : List ℕ). IsOther h.digest found i) h.journal_before.seen image journal cause)
   refuses-for_room (history_fail.Unlawful number) cause =
+      let bad = at-some (λ (i : List ℕ). IsBadFor h.plan h.spool_before (events_of i) (broken_of i) number) h.journal_before.seen image journal cause.bad in
+      let long : bad.0 ≡ length texts = at-some (λ (t : List ℕ). bad.0 ≡ length t) h.spool_before.seen texts spool bad.1 in
       not-bad h.plan (length texts) (events_of image) (broken_of image) number fit.good
-      (at-some (λ (t : List ℕ). IsBadRecord h.plan (length t) (events_of image) (broken_of image) number) h.spool_before.seen texts spool
-      (at-some (λ (i : List ℕ). IfSome h.spool_before.seen (λ (t : List ℕ). IsBadRecord h.plan (length t) (events_of i) (broken_of i) number)) h.journal_before.seen image journal cause.bad))
+      (subst (λ (len : ℕ). IsBadRecord h.plan len (events_of image) (broken_of image) number) long bad.2)
   refuses-for_room (history_fail.JournalFull len needed) cause =
       let found = at-some (λ (i : List ℕ). cause.found ≡ events_of i) h.journal_before.seen image journal cause.is_found.events in
       (cause.len_is ∙ ap length found, cause.needed_is, cause.full)

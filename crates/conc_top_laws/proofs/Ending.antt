@@ -1,5 +1,5 @@
 -- Commands whose journal, spool or history fits, by the exit.
-use Rattle.std.proofs.Common.{◌≡◌, inl, inr, ℕ, zero, suc, ◌<◌, Bool, List, [], ◌∷◌, length, take, Option, None, Some, IfSome, IsFalse, refl, sym, ◌∙◌, ap, subst, arith}
+use Rattle.std.proofs.Common.{◌≡◌, inl, inr, ℕ, zero, suc, ◌<◌, Bool, List, [], ◌∷◌, length, take, Option, None, Some, IsFalse, refl, sym, ◌∙◌, ap, subst, arith}
 use Rattle.std.specs.Prelude.{slice_get}
 use Rattle.std.proofs.lemmas.Bool.{both_ways}
 use Rattle.conc_types.specs.declared.event.Event.{Event}
@@ -21,7 +21,7 @@ use Rattle.conc_run_open.specs.Texts.{HasEnd, HasNoEnd}
 use Rattle.conc_run_state.specs.Causes.{IsOther}
 use Rattle.conc_run_state.specs.Disks.{Disks}
 use Rattle.conc_run_state.specs.Handed.{Handed}
-use Rattle.conc_run_state.specs.Judging.{IsBadRecord}
+use Rattle.conc_run_state.specs.Judging.{IsBadFor, IsBadRecord}
 use Rattle.conc_run_state.specs.declared.error.DiskName.TheVariants as which
 use Rattle.conc_run_state.specs.declared.error.HistoryFail.TheVariants as history_fail
 use Rattle.conc_top.specs.declared.exit.Exit.{Exit}
@@ -100,9 +100,10 @@ module _ (plan : Plan) (digest : List ℕ) (id : RequestId) (d : Disks) (sink : 
   output-done exit.NotJournal is = absurd (not-closed digest fits.image fits.fit.own (at-some (λ (i : List ℕ). IsFalse (may_open i)) d.journal_before.seen fits.image fits.journal_seen is.0))
   output-done (exit.OtherInput found given) is = absurd (not-other digest found fits.image fits.fit.own.own (at-some (λ (i : List ℕ). IsOther digest found i) d.journal_before.seen fits.image fits.journal_seen is.0))
   output-done (exit.Unlawful number) is =
+      let bad = at-some (λ (i : List ℕ). IsBadFor plan d.spool_before (events_of i) (broken_of i) number) d.journal_before.seen fits.image fits.journal_seen is.0.bad in
+      let long : bad.0 ≡ length fits.texts = at-some (λ (t : List ℕ). bad.0 ≡ length t) d.spool_before.seen fits.texts fits.spool_seen bad.1 in
       absurd (not-bad plan (length fits.texts) (events_of fits.image) (broken_of fits.image) number fits.fit.good
-      (at-some (λ (t : List ℕ). IsBadRecord plan (length t) (events_of fits.image) (broken_of fits.image) number) d.spool_before.seen fits.texts fits.spool_seen
-      (at-some (λ (i : List ℕ). IfSome d.spool_before.seen (λ (t : List ℕ). IsBadRecord plan (length t) (events_of i) (broken_of i) number)) d.journal_before.seen fits.image fits.journal_seen is.0.bad)))
+      (subst (λ (len : ℕ). IsBadRecord plan len (events_of fits.image) (broken_of fits.image) number) long bad.2))
   output-done (exit.DiskFault which.Journal) is = absurd (quiet.journal is.0)
   output-done (exit.DiskFault which.Spool) is = absurd (quiet.spool is.0.1)
   output-done (exit.NotEnded number) is =
