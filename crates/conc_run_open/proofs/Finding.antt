@@ -47,7 +47,7 @@ bad-in plan spool opened image number is bad = (
   bad.0,
   bad.1,
   subst (λ (l : List Event). IsBadRecord plan bad.0 l (broken_of image) number) is.events
-  (subst (λ (b : Option ℕ). IsBadRecord plan bad.0 opened.events.items b number) is.broken bad.2),
+      (subst (λ (b : Option ℕ). IsBadRecord plan bad.0 opened.events.items b number) is.broken bad.2),
 )
 
 -- the first bad record

@@ -10,7 +10,7 @@ use Rattle.conc_disk.specs.Disk.{DiskState, HasAt, Reaches, Stays}
 use Rattle.conc_disk.specs.Left.{LeavesOnly}
 use Rattle.conc_disk.proofs.Leaving.{leaves-twice}
 use Rattle.conc_law.specs.Law.{LawfulSoFar}
-use Rattle.conc_journal.specs.Opens.{broken_of, IsFoundIn}
+use Rattle.conc_journal.specs.Opens.{IsFoundIn}
 use Rattle.conc_journal.specs.declared.opened.Opened.{Opened}
 use Rattle.conc_run_state.specs.Disks.{Disks}
 use Rattle.conc_run_state.specs.Handed.{IsOwnJournal}
