@@ -10,6 +10,9 @@ use Rattle.conc_run.proofs.Ran.{cut-run, finished-run}
 use Rattle.conc_run.proofs.Stops.{rose-since, stop-cause, stop-late, stop-memory}
 use Rattle.conc_run.proofs.whole.run_plan.Goals as goal
 
+apart : true ≡ false → ⊥
+apart is = cc
+
 same-err : {T E : Type 0} (r : Result T E) (x y : E) → r ≡ Err x → r ≡ Err y → x ≡ y
 same-err (Ok t) x y a b = cc
 same-err (Err e) x y a b = cc
@@ -49,7 +52,7 @@ returns-clause-cut_short g c =
     (λ quiet. c.in-Err.ensures.sound (λ is.
     let fail = same-err _ c.in-Err.fail run_fail.JournalFault refl is in
     let two : true ≡ false = sym (ap (λ (s : HistoryFail). is_journal_fault s) (made.journal fail)) ∙ quiet in
-    absurd (cc)))
+    apart two))
     (c.lawful_is_lawful_so_far.ensures c.args.plan.now c.args.readings.now) c.open.ensures.spool c.open.ensures.spool_survives
     (λ lacks.
     let fail : c.in-Err.fail ≡ run_fail.NoMemory = stop-memory c.in-Err.fail c.history_fail_of.result made.journal made.spool lacks in
