@@ -1,13 +1,21 @@
-use Rattle.std.proofs.Common.{◌≡◌, sym, ◌∙◌, ap, true, false}
+use Rattle.std.proofs.Common.{◌≡◌, Result, Ok, Err, refl, sym, ◌∙◌, ap, true, false}
 use Rattle.std.proofs.lemmas.Result.{err_from_is_err_and}
 use Rattle.conc_run_state.specs.Causes.{is_journal_fault}
 use Rattle.conc_run_state.specs.Handed.{handed, Handed}
+use Rattle.conc_run_state.specs.declared.error.RunFail.{RunFail}
 use Rattle.conc_run_state.specs.declared.error.RunFail.TheVariants as run_fail
 use Rattle.conc_run_state.specs.declared.error.HistoryFail.{HistoryFail}
 use Rattle.conc_run.proofs.Opened.{cut-opening}
 use Rattle.conc_run.proofs.Ran.{cut-run, finished-run}
 use Rattle.conc_run.proofs.Stops.{rose-since, stop-cause, stop-late, stop-memory}
 use Rattle.conc_run.proofs.whole.run_plan.Goals as goal
+
+apart : true ≡ false → ⊥
+apart is = cc
+
+same-err : {T E : Type 0} (r : Result T E) (x y : E) → r ≡ Err x → r ≡ Err y → x ≡ y
+same-err (Ok t) x y a b = cc
+same-err (Err e) x y a b = cc
 
 pub returns-in_err-work-clause-cut_short : goal.returns-in_err-work-clause-cut_short
 returns-in_err-work-clause-cut_short g c =
@@ -42,10 +50,10 @@ returns-clause-cut_short g c =
     (λ is. (begun.taken.is_found.own, rose-since spool-before.faults spool-begun.faults spool-after.faults c.open.ensures.spool_survives.faults (c.in-Err.ensures.spool_fault (cc)))))
     (stop-late h c.in-Err.fail c.history_fail_of.result made.journal made.spool made.memory)
     (λ quiet. c.in-Err.ensures.sound (λ is.
-    let fail : c.in-Err.fail ≡ run_fail.JournalFault = cc in
+    let fail = same-err _ c.in-Err.fail run_fail.JournalFault refl is in
     let two : true ≡ false = sym (ap (λ (s : HistoryFail). is_journal_fault s) (made.journal fail)) ∙ quiet in
-    absurd (cc)))
+    apart two))
     (c.lawful_is_lawful_so_far.ensures c.args.plan.now c.args.readings.now) c.open.ensures.spool c.open.ensures.spool_survives
     (λ lacks.
     let fail : c.in-Err.fail ≡ run_fail.NoMemory = stop-memory c.in-Err.fail c.history_fail_of.result made.journal made.spool lacks in
-    c.in-Err.ensures.memory (cc) c.args.readings.now.list begun.ready.tied.readings_are)
+    c.in-Err.ensures.memory (ap (λ (f : RunFail). Err f) fail) c.args.readings.now.list begun.ready.tied.readings_are)
