@@ -34,8 +34,8 @@ returns-in-Ok-put_history g c =
     (c.alone_reports.ensures plan readings.list finished.found history finished.alone) (g.met.D.Disk.seen_is_left c.run_plan.new.journal))
     c.write_text.ensures
 
-pub returns-in-Err-put_history : goal.returns-in-Err-put_history
-returns-in-Err-put_history g c =
+pub returns : goal.returns
+returns g c =
     let journal = g.D.Disk.state in
     let spool = g.E.Disk.state in
     let plan = c.args.plan.now in
