@@ -6,6 +6,7 @@ use Rattle.std.specs.Result.{result_err}
 use Rattle.std.proofs.lemmas.Bool.{cond-false, le-ltb}
 use Rattle.std.proofs.lemmas.List.Sums.{sum_by-cons}
 use Rattle.conc_outside_clock.specs.Clocks.{ClockState}
+use Rattle.conc_types.specs.declared.kind.RefusalKind.TheVariants as refused
 use Rattle.conc_types.specs.declared.refusal.FileKind.{FileKind}
 use Rattle.conc_types.specs.declared.refusal.FileKind.TheVariants as kind
 use Rattle.conc_types.specs.declared.refusal.Refusal.{Refusal}
@@ -73,7 +74,7 @@ tables-one files (n ∷ ns) (x ∷ xs) (y ∷ ys) (u ∷ us) [] a b p q = absurd
 first-faultless : (before total : ℕ) (bytes : List ℕ) (table : Table) → SpellsTable bytes table → before + (length bytes + total) ≤ 134217728 → fault_of_table before bytes ≡ None
 first-faultless before total bytes table spells fit =
     let within : nat_lt 134217728 (before + length bytes) ≡ false = le-ltb _ _ (omega (arith, fit)) in
-    cond-false (nat_lt 134217728 (before + length bytes)) (Some (0, 33)) (table_fault bytes) within ∙ spells.faultless
+    cond-false (nat_lt 134217728 (before + length bytes)) (Some (0, refused.TooLarge)) (table_fault bytes) within ∙ spells.faultless
 
 each-faultless : (files : Files) (names c : List (List ℕ)) (tables : List Table) → AllZip (Gives (Some files)) names c → AllZip SpellsTable c tables
     → (before : ℕ) → before + sum_by length c ≤ 134217728 → (n : ℕ) (name : List ℕ) → slice_get names n ≡ Some name → (d : List (List ℕ)) → AllZip (Gives (Some files)) (take n names) d
