@@ -100,6 +100,13 @@ impl Plan {
         self.requests.get((number as usize).checked_sub(1)?)
     }
 
+    fn admits_all(&self) -> bool {
+        match &self.managers[..] {
+            [manager] => self.requests.iter().all(|request| manager.admits(request)),
+            _ => false,
+        }
+    }
+
     fn owners(&self) -> Vec<usize> {
         let places = |(owner, manager): (usize, &Manager)| (0..manager.places()).map(move |_| owner);
         self.managers.iter().enumerate().flat_map(places).collect()
@@ -449,8 +456,13 @@ impl Bench {
             && self.collect_all(first, times)
     }
 
-    // All rounds of a thread, the one with the lead or another one.
+    // All rounds of a thread, the one with the lead or another one. First it asks whether the manager admits
+    // each request, so that the plan is in its cache.
     fn run(&self, leads: bool, workers: &mut [Worker]) -> Option<Times> {
+        if !self.plan.admits_all() {
+            self.meeting.broken.store(true, SeqCst);
+            return None;
+        }
         let mut member = Member { meeting: &self.meeting, due: 0 };
         let mut times = Times::default();
         for round in 0..ROUNDS {

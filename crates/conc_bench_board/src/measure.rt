@@ -9,7 +9,7 @@ use crate::Fail;
 use crate::crews::crews_of;
 use crate::lead_calls::{collect_all, go_all, let_out_all};
 use crate::meeting::{Meeting, Member};
-use crate::plans::{PLACES, ROUNDS, bench_plan};
+use crate::plans::{PLACES, ROUNDS, admits_all, bench_plan};
 use crate::times::Times;
 use crate::workers::{Worker, claim_all, poll_all, post_all};
 use conc_board::{Board, Lead};
@@ -68,6 +68,10 @@ fn work<R: Clock>(
     requires plan { plan.now ≡ plan_of board.now }
     requires workers { All (Fits board.now) workers.old }
 {
+    if !admits_all(plan) {
+        meeting.break_off();
+        return None;
+    }
     let mut member = Member::new(meeting);
     let mut times = Times::new();
     for _ in 0..ROUNDS {
@@ -127,6 +131,10 @@ fn lead_and_work<R: Clock>(
     requires lead { IsFresh board.now 0 lead.old }
     requires workers { All (Fits board.now) workers.old }
 {
+    if !admits_all(plan) {
+        meeting.break_off();
+        return None;
+    }
     let mut member = Member::new(meeting);
     let mut times = Times::new();
     for round in 0..ROUNDS {

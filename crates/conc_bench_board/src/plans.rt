@@ -4,6 +4,7 @@ ghost use Rattle.conc_bench_board.specs.Benches.{ExcludesNothing, IsBench};
 
 use crate::Fail;
 use conc_plan::make_plan;
+use conc_rules::admits;
 use conc_script::read_script;
 use conc_setup::read_setup;
 use conc_tables::read_table;
@@ -51,6 +52,15 @@ fn tables_of(alloc: Global) -> Result<Vec<Table>, ReadFail> {
     let mut tables = Vec::new(alloc);
     tables.push(read_table(alloc, b"k,v\na,1\n", 0)?)?;
     Ok(tables)
+}
+
+/// Whether the manager admits each request of the plan. A thread that asks this first has the plan in its
+/// cache when it measures.
+pub(crate) fn admits_all(plan: &Plan) -> bool {
+    match plan.setup.managers.as_slice() {
+        [manager] => plan.requests.as_slice().iter().all(|r| admits(manager, r)),
+        _ => false,
+    }
 }
 
 /// A plan with so many requests of one program, which exclude nothing.
