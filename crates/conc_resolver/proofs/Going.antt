@@ -28,12 +28,12 @@ use Rattle.conc_run_state.specs.Works.{AreReady, AreTied, list_in, longest_in}
 use Rattle.conc_run_state.specs.declared.work.Work.{Work}
 use Rattle.conc_run_state.specs.Disks.{disks}
 use Rattle.conc_resolver.specs.Runs.{WentOn}
-use Rattle.conc_resolver.specs.Steps.{SurvivesFor, StoresOn}
-use Rattle.conc_resolver.proofs.Extents.{used-more}
+use Rattle.conc_run_steps.specs.Steps.{SurvivesFor, StoresOn}
+use Rattle.conc_run_steps.proofs.Extents.{used-more}
 use Rattle.conc_run_state.proofs.Prefixes.{prefix-self}
 use Rattle.conc_run_state.proofs.Surviving.{survives-wider}
-use Rattle.conc_resolver.proofs.Logs.{sound-begun, sound-whole}
-use Rattle.conc_resolver.proofs.Texts.{agrees-on}
+use Rattle.conc_run_steps.proofs.Logs.{sound-begun, sound-whole}
+use Rattle.conc_run_steps.proofs.Texts.{agrees-on}
 
 -- where no append met a fault, the disk has at most the list
 pub sound-longest : (work : Work) → has_faulted (state_of work.journal) ≡ false → longest_in work ≡ list_in work

@@ -11,9 +11,9 @@ use Rattle.conc_run_state.specs.Works.{AreReady, list_in}
 use Rattle.conc_run_state.specs.declared.work.Work.{Work}
 use Rattle.conc_run_state.specs.Disks.{Disks, disks}
 use Rattle.conc_resolver.specs.Runs.{LacksMemory, WentOn}
-use Rattle.conc_resolver.specs.Steps.{IsReady, plan_in, readings_in}
+use Rattle.conc_run_steps.specs.Steps.{IsReady, plan_in, readings_in}
 use Rattle.conc_resolver.proofs.Going.{went-twice}
-use Rattle.conc_resolver.proofs.Logs.{sound-begun}
+use Rattle.conc_run_steps.proofs.Logs.{sound-begun}
 
 -- from a first work on, which was ready, a run has gone on to one that is ready
 pub record IsUnderway (plan : Plan) (first work : Work) (d : Disks) : Type 0 where

@@ -11,17 +11,16 @@ ghost use Rattle.conc_journal.specs.Receipts.{IsNextOf};
 ghost use Rattle.conc_machine.specs.StandsFor.{readings_of};
 ghost use Rattle.conc_run_state.specs.Disks.{disks};
 ghost use Rattle.conc_resolver.specs.Runs.{LacksMemory, WentOn};
-ghost use Rattle.conc_resolver.specs.Steps.{any_disk, FitInTurn, IsFinished, IsReady, IsTied, left_in, next_in, plan_in, readings_in};
+ghost use Rattle.conc_run_steps.specs.Steps.{any_disk, FitInTurn, IsFinished, IsReady, IsTied, left_in, next_in, plan_in, readings_in};
 ghost use Rattle.conc_run_state.specs.Stored.{AreStored};
 ghost use Rattle.conc_run_state.specs.Works.{AreReady, list_in};
 ghost use Rattle.conc_run_state.specs.declared.error.RunFail.TheVariants as RunFail;
 
-use crate::keeping::keep;
-use crate::logging::log_event;
 use conc_disk::Disk;
 use conc_journal::Receipt;
 use conc_resolver_choice::{Next, next_event};
 use conc_run_state::{RunFail, Work};
+use conc_run_steps::{keep, log_event};
 use conc_types::{NoMemory, Plan};
 use std::alloc::Global;
 

@@ -1,5 +1,5 @@
 use Rattle.conc_run_state.specs.Disks.{disks}
-use Rattle.conc_resolver.specs.Steps.{left_in}
+use Rattle.conc_run_steps.specs.Steps.{left_in}
 use Rattle.conc_resolver.proofs.Underway.{IsUnderway}
 use Rattle.conc_resolver.proofs.running.run_alone.Given as goal
 

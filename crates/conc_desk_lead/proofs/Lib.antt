@@ -1,0 +1,4 @@
+pub mod Ties
+pub mod After
+pub mod Named
+pub mod Apart

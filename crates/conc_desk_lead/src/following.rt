@@ -1,0 +1,66 @@
+ghost use Rattle.std.specs.Prelude.{◌≡◌};
+ghost use Rattle.conc_types.specs.declared.event.Event.TheVariants as events;
+ghost use Rattle.conc_types.specs.declared.event.PlaceId.{PlaceId};
+ghost use Rattle.conc_types.specs.declared.event.RequestId.{RequestId};
+ghost use Rattle.conc_board.specs.Seats.{IsLeadOf, places_of_lead, plan_of, stage_of};
+ghost use Rattle.conc_board_seats.specs.Words.{IsRequest};
+ghost use Rattle.conc_board_seats.specs.declared.views.Stage.TheVariants as stage;
+ghost use Rattle.conc_desk_lead.specs.Following.{Follows, SameBut, TakenBack, ToldToStop};
+
+use conc_board::{Board, Lead, Progress};
+use conc_law_effects::act;
+use conc_types::{Act, Event, Plan, RequestId};
+
+// Takes a request back that is let out and has no go.
+fn take_back(board: &Board, lead: &mut Lead, plan: &Plan, r: RequestId)
+    requires lead { IsLeadOf board.now lead.old }
+    requires plan { plan.now ≡ plan_of board.now }
+    ensures lead { IsLeadOf board.now lead.new }
+    ensures stage { TakenBack (stage_of lead.old r) (stage_of lead.new r) }
+    ensures others { SameBut r lead.old lead.new }
+{
+    if plan.request(r).is_none() {
+        return;
+    }
+    if matches!(board.progress(lead, r), Progress::Let) {
+        board.back(lead, r);
+    }
+}
+
+// Tells a request to stop that has the go.
+fn tell_to_stop(board: &Board, lead: &mut Lead, plan: &Plan, r: RequestId)
+    requires lead { IsLeadOf board.now lead.old }
+    requires plan { plan.now ≡ plan_of board.now }
+    ensures lead { IsLeadOf board.now lead.new }
+    ensures stage { ToldToStop (stage_of lead.old r) (stage_of lead.new r) }
+    ensures others { SameBut r lead.old lead.new }
+{
+    if plan.request(r).is_none() {
+        return;
+    }
+    if matches!(board.progress(lead, r), Progress::Gone) {
+        board.stop(lead, r);
+    }
+}
+
+/// Does what a logged event means for the board: the go after a start; a request that is held or
+/// cancelled is taken back, and one that is terminated is told to stop.
+pub fn follow(board: &Board, lead: &mut Lead, plan: &Plan, event: Event)
+    requires lead { IsLeadOf board.now lead.old }
+    requires plan { plan.now ≡ plan_of board.now }
+    requires start { (r : RequestId) (p : PlaceId) → event ≡ events.Started r p
+        → IsRequest plan.now r × (stage_of lead.old r ≡ stage.Seen p) }
+    ensures lead { IsLeadOf board.now lead.new }
+    ensures follows { Follows plan.now event lead.old lead.new }
+{
+    if let Event::Started { request, place } = event {
+        board.go(lead, request, place);
+        return;
+    }
+    match act(plan, event) {
+        Some(Act::Hold { request }) => take_back(board, lead, plan, *request),
+        Some(Act::Cancel { request }) => take_back(board, lead, plan, *request),
+        Some(Act::Terminate { request }) => tell_to_stop(board, lead, plan, *request),
+        _ => {}
+    }
+}
