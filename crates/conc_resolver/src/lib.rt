@@ -1,7 +1,4 @@
-//! The run without workers: it makes the history of a plan, event by event, in a journal, and its reports' texts in
-//! a spool.
-#![tactic(auto)]
+//! The one writer of a history: the run without workers, and the desk of a run with workers.
 
-mod running;
-
-pub use running::run_alone;
+pub use conc_desk::{Desk, KeepFail, Kept, waits_to_start};
+pub use conc_resolver_alone::run_alone;

@@ -49,8 +49,8 @@ fn report_of(alloc: Global, plan: &Plan, r: &Req) -> Result<Option<Made>, NoMemo
     }
 }
 
-// The end of a request that was terminated.
-fn terminated(r: &Req) -> Next
+/// The end of a request that was terminated. It has no text.
+pub fn terminated_end(r: &Req) -> Next
     ensures event { result.event ≡ event.Ended r.now.number outcome.Terminated None }
     ensures text { result.text ≡ None }
 {
@@ -64,8 +64,8 @@ fn terminated(r: &Req) -> Next
     }
 }
 
-// The end with this report, whose text comes behind those that the spool has.
-fn reported(r: &Req, made: Made, offset: u64) -> Next
+/// The end of a request with this report, whose text comes behind those that the spool has, at this offset.
+pub fn reported_end(r: &Req, made: Made, offset: u64) -> Next
     requires { length made.text < 2 ^ 32 }
     ensures event { result.event ≡ end_with r.now (as_report made) offset }
     ensures text { result.text ≡ Some made.text }
@@ -103,13 +103,13 @@ fn end_by(
         (alone_spec.report_of plan.now r.now)) IsEndWithReport) }
 {
     if stopping {
-        return Ok(Some(terminated(r)));
+        return Ok(Some(terminated_end(r)));
     }
     let Some(offset) = used else {
         return Ok(None);
     };
     match report_of(alloc, plan, r)? {
-        Some(made) => Ok(Some(reported(r, made, offset))),
+        Some(made) => Ok(Some(reported_end(r, made, offset))),
         None => Ok(None),
     }
 }

@@ -1,6 +1,6 @@
-//! What comes next in a run without workers, told by the machine.
+//! What comes next in a run without workers, told by the machine; and the ends of requests, with and without a report.
 #![tactic(auto)]
 
 mod choosing;
 
-pub use choosing::{Next, next_event};
+pub use choosing::{Next, next_event, reported_end, terminated_end};

@@ -13,7 +13,7 @@ use Rattle.conc_law.specs.State.{used}
 use Rattle.conc_run_open.specs.Opening.{IsBegun}
 use Rattle.conc_run_state.specs.Causes.{HasCause, is_journal_fault, is_refusal}
 use Rattle.conc_run_state.specs.Disks.{disks}
-use Rattle.conc_resolver.specs.Runs.{LacksMemory, WentOn}
+use Rattle.conc_resolver_alone.specs.Runs.{LacksMemory, WentOn}
 use Rattle.conc_spool.specs.Spools.{Agrees, used_of}
 use Rattle.conc_run_state.specs.Handed.{Handed, IsTaken, IsUntouched}
 use Rattle.conc_run_state.specs.Lists.{GoesOn, IsPrefix}

@@ -8,7 +8,7 @@ use Rattle.conc_disk.specs.Left.{EachImage, LeavesOnly}
 use Rattle.conc_journal_image.specs.Image.{IsJournal}
 use Rattle.conc_journal.specs.Opens.{events_of}
 use Rattle.conc_spool.specs.Spools.{KeepsBelow}
-use Rattle.conc_resolver.specs.Runs.{LacksMemory}
+use Rattle.conc_resolver_alone.specs.Runs.{LacksMemory}
 use Rattle.conc_run_state.specs.Causes.{HasCause, is_journal_fault, is_refusal}
 use Rattle.conc_run_state.specs.Handed.{Handed, IsTaken, IsUntouched}
 use Rattle.conc_run_state.specs.Lists.{GoesOn, IsPrefix}

@@ -8,7 +8,7 @@ ghost use Rattle.conc_run_state.specs.declared.error.DiskName.TheVariants as whi
 
 use conc_disk::Disk;
 use conc_law::lawful_is_lawful_so_far;
-use conc_resolver::run_alone;
+use conc_resolver_alone::run_alone;
 use conc_run_open::open;
 use conc_run_state::{DiskName, HistoryFail, RunFail, Work};
 use conc_types::{Plan, Readings};

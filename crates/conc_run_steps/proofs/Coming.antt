@@ -68,7 +68,7 @@ next-lawful plan readings list e lawful next =
 
 -- ---- reports
 
-made-good : (plan : Plan) (r : Req) (made : Report) → report_of plan r ≡ Some made → IsGood made
+pub made-good : (plan : Plan) (r : Req) (made : Report) → report_of plan r ≡ Some made → IsGood made
 unfolding report_of
 made-good plan r made h =
     let program = and_then-some (λ p. option_map (report p.job r.argument) (table_named plan.setup plan.tables p.job.table)) (program_of plan r) made h in
@@ -112,7 +112,7 @@ close-record set outcome.Error h = refl
 close-record set o h = cc
 
 -- an event that may follow has a record, where an end with an extent is that of its request's report
-follows-record : (plan : Plan) (past : List Event) (e : Event) (text : Option (List ℕ)) → may_follow plan None past e ≡ true → HasItsText plan e text → has_record e ≡ true
+pub follows-record : (plan : Plan) (past : List Event) (e : Event) (text : Option (List ℕ)) → may_follow plan None past e ≡ true → HasItsText plan e text → has_record e ≡ true
 follows-record plan past (event.CloseSet set o) text may stored = close-record set o (close_outcome plan past set o may)
 follows-record plan past (event.Ended id o None) text may stored = terminated-record id o (end_outcome plan past id o may)
 follows-record plan past (event.Ended id o (Some x)) text may stored =
@@ -120,7 +120,7 @@ follows-record plan past (event.Ended id o (Some x)) text may stored =
     reported-record id o x (ap is_report_outcome stored.0.same_outcome ∙ good.outcome) (omega (arith, stored.0.same_length, good.some))
 follows-record plan past e text may stored = refl
 
-last-follows : (plan : Plan) (list : List Event) (e : Event) → LawfulSoFar plan (list ++ e ∷ []) → may_follow plan None (reverse list) e ≡ true
+pub last-follows : (plan : Plan) (list : List Event) (e : Event) → LawfulSoFar plan (list ++ e ∷ []) → may_follow plan None (reverse list) e ≡ true
 unfolding is_lawful_so_far
 last-follows plan list e past =
     (and_parts (is_lawful_so_far plan (reverse list)) (may_follow plan None (reverse list) e) (ap (is_lawful_so_far plan) (sym (reverse-push list e)) ∙ past)).1

@@ -1,4 +1,4 @@
-ghost use Rattle.std.specs.Prelude.{◌≡◌, ◌∷◌, ◌++◌, [], IfErr, None, OnErr, OnOk, Some};
+ghost use Rattle.std.specs.Prelude.{◌≡◌, ◌∷◌, ◌++◌, [], IfErr, IsOk, None, OnErr, OnOk, Some};
 ghost use Rattle.conc_resolver_choice.specs.Choices.{HasItsText};
 ghost use Rattle.conc_law.specs.Law.{Lawful};
 ghost use Rattle.conc_outside.specs.Counts.{Rose};
@@ -23,6 +23,10 @@ pub fn keep<E: Disk>(work: &mut Work<'_>, spool: &mut E, next: &Next) -> Result<
     ensures stored { OnOk result (StoresOn (plan_in work.old) (used_of work.old.spool)
         (list_in work.old) (list_in work.old ++ next.now.event ∷ []) (E.state spool.old)
         (E.state spool.new)) }
+
+    // An event without a text asks nothing of the disk.
+    ensures without_text { next.now.text ≡ None → IsOk result
+        × (spool.new ≡ spool.old) }
 
     // A fault.
     ensures not_kept { OnErr result (IsTied None work.new any_disk (E.state spool.new)) }

@@ -1,4 +1,3 @@
 mod board;
 mod gate;
 mod lanes;
-mod rounds;

@@ -5,9 +5,9 @@ use Rattle.conc_law.proofs.Finishes.{next_alone-none}
 use Rattle.conc_run_state.specs.Works.{list_in}
 use Rattle.conc_run_steps.specs.Steps.{next_in, plan_in, readings_in}
 use Rattle.conc_run_steps.proofs.Coming.{lawful-past, may-log}
-use Rattle.conc_resolver.proofs.Stepping.{less-logged, ready-logged, went-logged, went-unkept, went-unlogged}
-use Rattle.conc_resolver.proofs.Turning.{turn-kept, turn-logged, turn-still}
-use Rattle.conc_resolver.proofs.running.step.Goals as goal
+use Rattle.conc_resolver_alone.proofs.Stepping.{less-logged, ready-logged, went-logged, went-unkept, went-unlogged}
+use Rattle.conc_resolver_alone.proofs.Turning.{turn-kept, turn-logged, turn-still}
+use Rattle.conc_resolver_alone.proofs.running.step.Goals as goal
 
 pub keep-requires-clause-lawful : goal.keep-requires-clause-lawful
 keep-requires-clause-lawful g c =

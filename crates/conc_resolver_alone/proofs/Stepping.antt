@@ -23,10 +23,10 @@ use Rattle.conc_run_state.specs.Lists.{failed_in}
 use Rattle.conc_run_state.specs.Works.{AreTied, HasKeptText, HasRoom, list_in, longest_in}
 use Rattle.conc_run_state.specs.declared.work.Work.{Work}
 use Rattle.conc_run_state.specs.Disks.{disks}
-use Rattle.conc_resolver.specs.Runs.{WentOn}
+use Rattle.conc_resolver_alone.specs.Runs.{WentOn}
 use Rattle.conc_run_steps.specs.Steps.{any_disk, IsReady, IsTied, left_in, MayLog, next_in, plan_in, readings_in, SurvivesFor, StoresOn}
 use Rattle.conc_run_steps.proofs.Coming.{has-room, lawful-past}
-use Rattle.conc_resolver.proofs.Going.{sound-longest, went-none, went-one}
+use Rattle.conc_resolver_alone.proofs.Going.{sound-longest, went-none, went-one}
 use Rattle.conc_run_steps.proofs.Logs.{faulted-digest, faulted-longest}
 
 -- what is tied by its own plan and readings is tied by those that are the same

@@ -27,7 +27,7 @@ use Rattle.conc_run_state.specs.Stored.{AreStored}
 use Rattle.conc_run_state.specs.Works.{AreReady, AreTied, list_in, longest_in}
 use Rattle.conc_run_state.specs.declared.work.Work.{Work}
 use Rattle.conc_run_state.specs.Disks.{disks}
-use Rattle.conc_resolver.specs.Runs.{WentOn}
+use Rattle.conc_resolver_alone.specs.Runs.{WentOn}
 use Rattle.conc_run_steps.specs.Steps.{SurvivesFor, StoresOn}
 use Rattle.conc_run_steps.proofs.Extents.{used-more}
 use Rattle.conc_run_state.proofs.Prefixes.{prefix-self}

@@ -10,7 +10,7 @@ ghost use Rattle.conc_journal.specs.declared.journal.JournalState.TheVariants.{B
 ghost use Rattle.conc_journal.specs.Receipts.{IsNextOf};
 ghost use Rattle.conc_machine.specs.StandsFor.{readings_of};
 ghost use Rattle.conc_run_state.specs.Disks.{disks};
-ghost use Rattle.conc_resolver.specs.Runs.{LacksMemory, WentOn};
+ghost use Rattle.conc_resolver_alone.specs.Runs.{LacksMemory, WentOn};
 ghost use Rattle.conc_run_steps.specs.Steps.{any_disk, FitInTurn, IsFinished, IsReady, IsTied, left_in, next_in, plan_in, readings_in};
 ghost use Rattle.conc_run_state.specs.Stored.{AreStored};
 ghost use Rattle.conc_run_state.specs.Works.{AreReady, list_in};

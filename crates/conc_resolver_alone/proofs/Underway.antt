@@ -10,9 +10,9 @@ use Rattle.conc_machine.specs.StandsFor.{readings_of}
 use Rattle.conc_run_state.specs.Works.{AreReady, list_in}
 use Rattle.conc_run_state.specs.declared.work.Work.{Work}
 use Rattle.conc_run_state.specs.Disks.{Disks, disks}
-use Rattle.conc_resolver.specs.Runs.{LacksMemory, WentOn}
+use Rattle.conc_resolver_alone.specs.Runs.{LacksMemory, WentOn}
 use Rattle.conc_run_steps.specs.Steps.{IsReady, plan_in, readings_in}
-use Rattle.conc_resolver.proofs.Going.{went-twice}
+use Rattle.conc_resolver_alone.proofs.Going.{went-twice}
 use Rattle.conc_run_steps.proofs.Logs.{sound-begun}
 
 -- from a first work on, which was ready, a run has gone on to one that is ready

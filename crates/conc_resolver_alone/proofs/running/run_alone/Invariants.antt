@@ -1,7 +1,7 @@
 use Rattle.conc_run_state.specs.Disks.{disks}
 use Rattle.conc_run_steps.specs.Steps.{left_in}
-use Rattle.conc_resolver.proofs.Underway.{IsUnderway}
-use Rattle.conc_resolver.proofs.running.run_alone.Given as goal
+use Rattle.conc_resolver_alone.proofs.Underway.{IsUnderway}
+use Rattle.conc_resolver_alone.proofs.running.run_alone.Given as goal
 
 abbrev pub invariant-loop : goal.invariant-loop
 invariant-loop g l =

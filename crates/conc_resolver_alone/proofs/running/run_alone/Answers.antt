@@ -2,8 +2,8 @@ use Rattle.std.proofs.Common.{◌≡◌, Result, Ok, Err, sym, ◌∙◌, ap}
 use Rattle.std.proofs.lemmas.Result.{err_from_is_err_and}
 use Rattle.conc_run_state.specs.declared.error.RunFail.{RunFail}
 use Rattle.conc_run_state.specs.declared.error.RunFail.TheVariants as run_fail
-use Rattle.conc_resolver.proofs.Underway.{all-went, lacks-by, underway-more}
-use Rattle.conc_resolver.proofs.running.run_alone.Goals as goal
+use Rattle.conc_resolver_alone.proofs.Underway.{all-went, lacks-by, underway-more}
+use Rattle.conc_resolver_alone.proofs.running.run_alone.Goals as goal
 
 not-both : {T E : Type 0} (x : T) (e : E) → Ok x ≡ Err e → ⊥
 not-both x e is = cc

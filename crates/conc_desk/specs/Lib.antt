@@ -1,0 +1,6 @@
+pub mod Seated
+pub mod Kept
+pub mod State
+pub mod Desks
+pub mod Logging
+pub mod Keeping
