@@ -1,5 +1,6 @@
 ghost use Rattle.std.specs.Prelude.{◌≡◌, ◌↔◌, ◌+◌, ◌<◌, ◌≤◌, [], ◌∷◌, ◌++◌, length, max, vec_len, IfOk, IsErrOf, IsOk, IsTrue, OnErr, OnOk};
 ghost use Rattle.std.specs.Vec.{vec_capacity};
+ghost use Rattle.conc_journal_image.specs.declared.found.TheConstants.{MOST_RECORDS};
 ghost use Rattle.conc_journal.specs.JournalStates.{fits_count};
 
 use crate::append::{add_record, record_before_gate};
@@ -31,7 +32,7 @@ pub struct Journal {
     events: Vec<Event>,
     room: u64,
     ghost kept: { room + vec_len events ≤ vec_capacity events },
-    ghost few: { room + vec_len events ≤ 1048576 },
+    ghost few: { room + vec_len events ≤ MOST_RECORDS },
     ghost begun: { IsTrue (fits_count state (vec_len events)) },
 }
 
@@ -50,7 +51,7 @@ impl Journal {
 
     // A journal with these events, without room for more.
     pub(crate) fn with_events(state: JournalState, events: Vec<Event>) -> Journal
-        requires few { vec_len events ≤ 1048576 }
+        requires few { vec_len events ≤ MOST_RECORDS }
         requires state { IsTrue (fits_count state (vec_len events)) }
         ensures list { list_of result ≡ events.items }
         ensures state { state_of result ≡ state }
@@ -89,7 +90,7 @@ impl Journal {
 
     /// Takes room for this many events, unless there is as much.
     pub fn reserve(&mut self, records: u64) -> Result<(), NoMemory>
-        requires { length (list_of self.old) + records ≤ 1048576 }
+        requires { length (list_of self.old) + records ≤ MOST_RECORDS }
         ensures room { OnOk result (room_of self.new ≡ max records (room_of self.old)) }
         ensures unchanged { OnErr result (room_of self.new ≡ room_of self.old) }
         ensures enough { records ≤ room_of self.old → IsOk result }

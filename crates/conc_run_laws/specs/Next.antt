@@ -5,6 +5,7 @@ use Rattle.conc_types.specs.declared.plan.Plan.{Plan}
 use Rattle.conc_types.specs.declared.plan.Req.{Req}
 use Rattle.conc_disk.specs.Disk.{DiskState}
 use Rattle.conc_journal.specs.Opens.{broken_of, events_of}
+use Rattle.conc_journal_image.specs.declared.found.TheConstants.{MOST_RECORDS}
 use Rattle.conc_law.specs.Facts.{runs}
 use Rattle.conc_law.specs.Words.{Has}
 use Rattle.conc_restart.specs.Need.{need}
@@ -52,7 +53,7 @@ pub record IsNextOver (before after : DiskState) (next : Handed) (image texts : 
 -- of all refusals only that for want of room may come: the journal has these events, and a life needs more than there is left
 abbrev pub RefusesForRoom : Handed → List ℕ → HistoryFail → Type 0
 RefusesForRoom h image (history_fail.JournalFull len needed) =
-    (len ≡ length (events_of image)) × (needed ≡ need h.plan h.readings) × (1048576 < len + needed)
+    (len ≡ length (events_of image)) × (needed ≡ need h.plan h.readings) × (MOST_RECORDS < len + needed)
 RefusesForRoom h image (history_fail.DiskFault which) = ⊤
 RefusesForRoom h image history_fail.NoMemory = ⊤
 RefusesForRoom h image _ = ⊥

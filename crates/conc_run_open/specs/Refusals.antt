@@ -7,6 +7,7 @@ use Rattle.conc_outside.specs.Counts.{Rose}
 use Rattle.conc_disk.specs.Disk.{DiskState}
 use Rattle.conc_law.specs.Law.{LawfulSoFar}
 use Rattle.conc_journal.specs.Opens.{may_open}
+use Rattle.conc_journal_image.specs.declared.found.TheConstants.{MOST_RECORDS}
 use Rattle.conc_restart.specs.Need.{need}
 use Rattle.conc_run_state.specs.Causes.{IsOther}
 use Rattle.conc_run_state.specs.Judging.{IsBadFor, IsBadRecord}
@@ -39,7 +40,7 @@ IsUnreadable plan events broken old new _ = ⊥
 -- there is no room for one more life, or no memory
 abbrev pub LacksRoom : Plan → List Reading → List Event → HistoryFail → Type 0
 LacksRoom plan readings events (history_fail.JournalFull len needed) =
-    (len ≡ length events) × (needed ≡ need plan readings) × (1048576 < len + needed)
+    (len ≡ length events) × (needed ≡ need plan readings) × (MOST_RECORDS < len + needed)
 LacksRoom plan readings events history_fail.NoMemory = ⊤
 LacksRoom plan readings events _ = ⊥
 

@@ -3,6 +3,7 @@ use Rattle.std.specs.Prelude.{◌≡◌, ℕ, ◌+◌, ◌<◌, Bool, false, tru
 use Rattle.conc_types.specs.declared.event.Event.{Event}
 use Rattle.conc_outside.specs.Counts.{Rose}
 use Rattle.conc_journal.specs.Opens.{broken_of, digest_of, events_of, may_open}
+use Rattle.conc_journal_image.specs.declared.found.TheConstants.{MOST_RECORDS}
 use Rattle.conc_restart.specs.Need.{need}
 use Rattle.conc_run_state.specs.Handed.{Handed, IsFound, IsOwnJournal}
 use Rattle.conc_run_state.specs.Judging.{IsBadFor}
@@ -23,7 +24,7 @@ pub record IsFull (h : Handed) (len needed : ℕ) : Type 0 where
   pub is_found : IsFound h found
   pub len_is : len ≡ length found
   pub needed_is : needed ≡ need h.plan h.readings
-  pub full : 1048576 < len + needed
+  pub full : MOST_RECORDS < len + needed
 
 -- the journal is this input's, and, where it tells, its record with this number is the first that is bad
 pub record IsUnlawful (h : Handed) (number : ℕ) : Type 0 where

@@ -1,4 +1,5 @@
 ghost use Rattle.std.specs.Prelude.{◌≡◌, ◌+◌, ◌<◌, ◌≤◌, ◌^◌, length, vec_len, IfErr, IfOk, IsErrOf, OnErr, OnOk};
+ghost use Rattle.conc_types.specs.declared.limits.TheConstants.{MOST_REPORT_BYTES};
 ghost use Rattle.conc_outside.specs.Counts.{Rose};
 ghost use Rattle.conc_disk.specs.Disk.{HasAt, Reaches, SeenFollows, Stays, Torn};
 ghost use Rattle.conc_disk.specs.Left.{HasWritten, LeavesOnly, TornFrom};
@@ -55,7 +56,7 @@ impl Spool {
     /// memory.
     pub fn append<E: Disk>(&mut self, disk: &mut E, bytes: &[u8]) -> Result<Extent, DiskFault>
         requires some { 1 ≤ length bytes.now }
-        requires few { length bytes.now ≤ 1048576 }
+        requires few { length bytes.now ≤ MOST_REPORT_BYTES }
         requires fits { used_of self.old + length bytes.now < 2 ^ 64 }
         requires on { IsOn self.old (E.state disk.old) }
 

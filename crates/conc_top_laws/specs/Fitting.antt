@@ -6,6 +6,7 @@ use Rattle.conc_types.specs.declared.plan.Plan.{Plan}
 use Rattle.conc_disk.specs.Disk.{DiskState}
 use Rattle.conc_history_verdict.specs.declared.verdict.Verdict.TheVariants as verdict
 use Rattle.conc_journal.specs.Opens.{broken_of, events_of}
+use Rattle.conc_journal_image.specs.declared.found.TheConstants.{MOST_RECORDS}
 use Rattle.conc_law.specs.Law.{LawfulSoFar}
 use Rattle.conc_restart.specs.Need.{need}
 use Rattle.conc_run_laws.specs.Next.{IsFit}
@@ -20,7 +21,7 @@ pub record FitsRun (h : Handed) : Type 0 where
   pub journal : h.journal_before.seen ≡ Some image
   pub spool : h.spool_before.seen ≡ Some texts
   pub fit : IsFit h.plan h.digest image texts
-  pub room : length (events_of image) + need h.plan h.readings ≤ 1048576
+  pub room : length (events_of image) + need h.plan h.readings ≤ MOST_RECORDS
 
 -- the journal's disk tells; the journal is that of these files or not begun, no record is broken, and its list is lawful so far
 pub record FitsStatus (plan : Plan) (digest : List ℕ) (journal : DiskState) : Type 0 where
