@@ -3,7 +3,7 @@ use Rattle.std.specs.Prelude.{ℕ, ◌+◌, ◌<◌, length, ⊤, IfSome, IsFals
 use Rattle.conc_outside.specs.Counts.{Rose}
 use Rattle.conc_disk.specs.Disk.{DiskState}
 use Rattle.conc_journal.specs.Opens.{broken_of, events_of, may_open}
-use Rattle.conc_journal_image.specs.declared.found.TheConstants.{MOST_RECORDS}
+use Rattle.conc_journal_image.specs.declared.layout.TheConstants.{MOST_RECORDS}
 use Rattle.conc_bench_append.specs.declared.Fail.{Fail}
 use Rattle.conc_bench_append.specs.declared.Fail.TheVariants.{Words, File, NotJournal, Broken, Full, Disk, NoMemory}
 

@@ -1,12 +1,13 @@
 ghost use Rattle.std.specs.Prelude.{◌≡◌, ◌↔◌, ◌+◌, ◌<◌, ◌≤◌, [], ◌∷◌, ◌++◌, length, max, vec_len, IfOk, IsErrOf, IsOk, IsTrue, OnErr, OnOk};
 ghost use Rattle.std.specs.Vec.{vec_capacity};
-ghost use Rattle.conc_journal_image.specs.declared.found.TheConstants.{MOST_RECORDS};
+ghost use Rattle.conc_journal_image.specs.declared.layout.TheConstants.{MOST_RECORDS};
 ghost use Rattle.conc_journal.specs.JournalStates.{fits_count};
 
 use crate::append::{add_record, record_before_gate};
 use crate::begin::write_header;
 use crate::{AppendFail, Receipt};
 use conc_disk::{Disk, DiskFault};
+use conc_journal_image::offset_behind;
 use conc_outside::Failed;
 use conc_types::{Event, NoMemory};
 
@@ -39,11 +40,13 @@ pub struct Journal {
 impl Journal {
     ghost use Rattle.conc_outside.specs.Counts.{Rose};
     ghost use Rattle.conc_journal_image.specs.Fields.{has_record};
+    ghost use Rattle.conc_journal_image.specs.Layout.{offset_behind};
+    ghost use Rattle.conc_journal_image.specs.declared.layout.TheConstants.{HEADER_BYTES, RECORD_BYTES};
     ghost use Rattle.conc_journal.specs.Journals.{FitsState, IsOn, list_of, room_of, state_of};
     ghost use Rattle.conc_disk.specs.Left.{LeavesOnly, TornFrom};
     ghost use Rattle.conc_journal.specs.Acknowledged.{IsAcknowledged, Keeps, StaysIn};
     ghost use Rattle.conc_journal.specs.Receipts.{event_of, number_of};
-    ghost use Rattle.conc_journal.specs.Writes.{HasAppended, HasBegun, place_of};
+    ghost use Rattle.conc_journal.specs.Writes.{HasAppended, HasBegun};
     ghost use Rattle.conc_journal.specs.declared.receipt.Receipt.{Receipt as Acknowledged};
     ghost use Rattle.conc_journal.specs.JournalStates.{after_fault, has_faulted, takes_events};
     ghost use Rattle.conc_journal.specs.declared.error.AppendFail.TheVariants as AppendFail;
@@ -118,8 +121,8 @@ impl Journal {
         ensures written { OnOk result (HasBegun digest.now (D.state disk.old) (D.state disk.new)) }
         ensures survives { LeavesOnly (FitsState (BeginFailed digest.now) []) (D.state disk.old)
             (D.state disk.new) }
-        ensures writes_there { LeavesOnly (TornFrom (D.state disk.old) 0 65) (D.state disk.old)
-            (D.state disk.new) }
+        ensures writes_there { LeavesOnly (TornFrom (D.state disk.old) 0 (HEADER_BYTES + 1))
+            (D.state disk.old) (D.state disk.new) }
     {
         match write_header(disk, digest) {
             Ok(()) => {
@@ -168,7 +171,7 @@ impl Journal {
 
         ensures acknowledged { IfOk result (λ receipt. IsAcknowledged receipt self.new
             (D.state disk.new)) }
-        ensures written { OnOk result (HasAppended event (length (list_of self.new))
+        ensures written { OnOk result (HasAppended event (length (list_of self.old))
             (D.state disk.old) (D.state disk.new)) }
 
         // A fault.
@@ -189,7 +192,8 @@ impl Journal {
         ensures survives { LeavesOnly (FitsState (after_fault event (state_of self.old))
             (list_of self.old)) (D.state disk.old) (D.state disk.new) }
         ensures writes_there { LeavesOnly (TornFrom (D.state disk.old)
-            (place_of (length (list_of self.old) + 1)) 33) (D.state disk.old) (D.state disk.new) }
+            (offset_behind (length (list_of self.old))) (RECORD_BYTES + 1))
+            (D.state disk.old) (D.state disk.new) }
 
         // What was acknowledged before stays.
         ensures stays { (receipt : Acknowledged) → Keeps self.old receipt
@@ -198,9 +202,9 @@ impl Journal {
         let JournalState::Begun { digest } = self.state else {
             return Err(AppendFail::Failed);
         };
-        let number = self.events.len() as u64 + 1;
-        let at = 32 + 32 * number;
-        match add_record(disk, at, &record_before_gate(event)) {
+        let before = self.events.len() as u64;
+        let number = before + 1;
+        match add_record(disk, offset_behind(before), &record_before_gate(event)) {
             Ok(()) => {
                 self.push(event);
                 Ok(Receipt { number, event })

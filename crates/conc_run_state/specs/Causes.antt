@@ -3,7 +3,7 @@ use Rattle.std.specs.Prelude.{◌≡◌, ℕ, ◌+◌, ◌<◌, Bool, false, tru
 use Rattle.conc_types.specs.declared.event.Event.{Event}
 use Rattle.conc_outside.specs.Counts.{Rose}
 use Rattle.conc_journal.specs.Opens.{broken_of, digest_of, events_of, may_open}
-use Rattle.conc_journal_image.specs.declared.found.TheConstants.{MOST_RECORDS}
+use Rattle.conc_journal_image.specs.declared.layout.TheConstants.{MOST_RECORDS}
 use Rattle.conc_restart.specs.Need.{need}
 use Rattle.conc_run_state.specs.Handed.{Handed, IsFound, IsOwnJournal}
 use Rattle.conc_run_state.specs.Judging.{IsBadFor}

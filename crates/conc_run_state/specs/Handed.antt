@@ -7,7 +7,7 @@ use Rattle.conc_types.specs.declared.script.Readings.{Readings}
 use Rattle.conc_disk.specs.Disk.{DiskState}
 use Rattle.conc_law.specs.Law.{LawfulSoFar}
 use Rattle.conc_journal.specs.Opens.{broken_of, events_of, may_open}
-use Rattle.conc_journal_image.specs.declared.found.TheConstants.{MOST_RECORDS}
+use Rattle.conc_journal_image.specs.declared.layout.TheConstants.{MOST_RECORDS}
 use Rattle.conc_restart.specs.Need.{need}
 use Rattle.conc_run_state.specs.Disks.{AreUntouched, disks}
 use Rattle.conc_run_state.specs.Judging.{EndWithin}

@@ -6,7 +6,7 @@ use Rattle.conc_types.specs.declared.plan.Plan.{Plan}
 use Rattle.conc_disk.specs.Disk.{DiskState}
 use Rattle.conc_history_verdict.specs.declared.verdict.Verdict.TheVariants as verdict
 use Rattle.conc_journal.specs.Opens.{broken_of, events_of}
-use Rattle.conc_journal_image.specs.declared.found.TheConstants.{MOST_RECORDS}
+use Rattle.conc_journal_image.specs.declared.layout.TheConstants.{MOST_RECORDS}
 use Rattle.conc_law.specs.Law.{LawfulSoFar}
 use Rattle.conc_restart.specs.Need.{need}
 use Rattle.conc_run_laws.specs.Next.{IsFit}
