@@ -18,8 +18,8 @@ use Rattle.conc_run_state.specs.declared.error.HistoryFail.{HistoryFail}
 use Rattle.conc_run_state.specs.declared.error.HistoryFail.TheVariants as history_fail
 use Rattle.conc_run_state.specs.declared.error.DiskName.TheVariants as which
 use Rattle.conc_run_open.specs.Listing.{IsListed}
-use Rattle.conc_run_open.specs.declared.text.TextFail.{TextFail}
-use Rattle.conc_run_open.specs.declared.text.TextFail.TheVariants as text_fail
+use Rattle.conc_run_open.specs.declared.error.TextFail.{TextFail}
+use Rattle.conc_run_open.specs.declared.error.TextFail.TheVariants as text_fail
 
 -- ---- ends
 

@@ -2,10 +2,12 @@
 //! the machine. Neither call writes both disks.
 #![tactic(auto)]
 
+mod error;
 mod keeping;
 mod laws;
 mod logging;
 
+pub use error::JournalFault;
 pub use keeping::keep;
 pub use laws::journal_and_spool_fit;
-pub use logging::{JournalFault, add_event, log_event};
+pub use logging::{add_event, log_event};

@@ -9,14 +9,11 @@ ghost use Rattle.conc_run_steps.specs.Steps.{any_disk, IsTied, MayLog, plan_in, 
 ghost use Rattle.conc_run_state.specs.Works.{list_in};
 ghost use Rattle.conc_run_state.specs.declared.error.RunFail.TheVariants as RunFail;
 
+use crate::JournalFault;
 use conc_disk::Disk;
 use conc_journal::Receipt;
 use conc_run_state::{RunFail, Work};
 use conc_types::Event;
-
-/// The journal's disk failed, or an earlier append to the journal had met a fault.
-#[derive(Clone, Copy, Debug, PartialEq, Eq)]
-pub struct JournalFault;
 
 /// Adds an event to the journal, and then takes it into the machine. After a fault the machine has not taken
 /// it, and the journal's disk has it or not; where an earlier append had met one nothing is done. The spool

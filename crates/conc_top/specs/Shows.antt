@@ -8,7 +8,7 @@ use Rattle.conc_disk.specs.Left.{LeavesOnly}
 use Rattle.conc_law.specs.Text.{table_text}
 use Rattle.conc_run_open.specs.Listing.{HasListCause, IsListed}
 use Rattle.conc_run_open.specs.Texts.{HasReadCause, HasText, HasTextCause}
-use Rattle.conc_run_open.specs.declared.text.TextFail.TheVariants as text_fail
+use Rattle.conc_run_open.specs.declared.error.TextFail.TheVariants as text_fail
 use Rattle.conc_run_state.specs.Disks.{Disks}
 use Rattle.conc_run_state.specs.declared.error.HistoryFail.TheVariants as history_fail
 use Rattle.conc_top.specs.declared.exit.Exit.{Exit}

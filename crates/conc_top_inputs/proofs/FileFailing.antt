@@ -18,8 +18,8 @@ use Rattle.conc_outside.specs.Files.{file_named, Files, Gives, IsLater, Lacks, S
 use Rattle.conc_tables.specs.Tables.{SpellsTable}
 use Rattle.conc_top_inputs.specs.declared.error.InputFail.{InputFail}
 use Rattle.conc_top_inputs.specs.declared.error.InputFail.TheVariants as input
-use Rattle.conc_top_inputs.specs.declared.file_fail.FileFail.{FileFail}
-use Rattle.conc_top_inputs.specs.declared.file_fail.FileFail.TheVariants as file_fail
+use Rattle.conc_top_inputs.specs.declared.error.FileFail.{FileFail}
+use Rattle.conc_top_inputs.specs.declared.error.FileFail.TheVariants as file_fail
 use Rattle.conc_top_inputs.specs.Fails.{IsThere, FailsWith}
 use Rattle.conc_top_inputs.specs.Given.{HasScript, HasTables, is_system, IsNext, Names, ReadsFrom, sources, Sources, Told, told_by}
 use Rattle.conc_top_inputs.specs.Reading.{HasTablesIn}

@@ -10,8 +10,8 @@ use Rattle.conc_types.specs.Faults.{Fault}
 use Rattle.conc_outside.specs.Counts.{Rose}
 use Rattle.conc_outside.specs.Files.{Files, Gives, Lacks, ShelfState}
 use Rattle.conc_script.specs.Clock.{clock_fault}
-use Rattle.conc_top_inputs.specs.declared.file_fail.FileFail.{FileFail}
-use Rattle.conc_top_inputs.specs.declared.file_fail.FileFail.TheVariants as file_fail
+use Rattle.conc_top_inputs.specs.declared.error.FileFail.{FileFail}
+use Rattle.conc_top_inputs.specs.declared.error.FileFail.TheVariants as file_fail
 use Rattle.conc_top_inputs.specs.declared.error.InputFail.{InputFail}
 use Rattle.conc_top_inputs.specs.declared.error.InputFail.TheVariants as input
 use Rattle.conc_top_inputs.specs.Fails.{IsSilent, IsThere}

@@ -5,7 +5,7 @@ ghost use Rattle.conc_top_inputs.specs.Given.{IsShown, ReadsFrom, sources, told_
 ghost use Rattle.conc_top_inputs.specs.FileFails.{FailsAtClock, FailsUnshown};
 
 use crate::InputFail;
-use crate::file_fail::fail_at;
+use crate::error::fail_at;
 use crate::given::judge_clock;
 use conc_outside::Shelf;
 use conc_outside_clock::Clock;
