@@ -103,7 +103,7 @@ leaves-wider kind wider old new run wide = record {
       ⊎_elim inl (λ of_kind. inr (is c of_kind)) (before t c at left));
 }
 
--- Where each image was of this kind before a run, whatever a stop since then may have left is of this kind.
+-- Where each image was of this kind before a run, whatever a crash since then may have left is of this kind.
 pub left-is-kind : (kind : List ℕ → Type 0) (old new : DiskState) → ((c : List ℕ) → old.left_since old.moment c → old.may_leave c) → EachImage kind old → LeavesOnly kind old new
     → IfSome old.seen (λ bytes. (c : List ℕ) → new.left_since old.moment c → kind c)
 left-is-kind kind old new only_now each run = if_some-both old.seen each run.nothing_else (λ bytes here since c left.

@@ -5,16 +5,16 @@ use Rattle.std.specs.Prelude.{◌≡◌, ◌⊎◌, ℕ, ◌+◌, ◌≤◌, min
 pub record DiskState : Type 1 where
   -- what a read gives
   pub seen : Option (List ℕ)
-  -- the images that a stop now may leave
+  -- the images that a crash now may leave
   pub may_leave : List ℕ → Type 0
   -- now, as a number that does not fall
   pub moment : ℕ
-  -- the images that a stop at some moment since this one may have left
+  -- the images that a crash at some moment since this one may have left
   pub left_since : ℕ → List ℕ → Type 0
   -- how often a call failed
   pub faults : ℕ
 
--- a disk that tells nothing of bytes: a stop may leave anything
+-- a disk that tells nothing of bytes: a crash may leave anything
 abbrev pub tells_nothing : ℕ → DiskState
 tells_nothing faults = record {
   seen = None;
@@ -42,7 +42,7 @@ pub record Shortened (n : ℕ) (old new : List ℕ) : Type 0 where
 
 -- ---- from call to call
 
--- The counts do not fall. A stop since a moment may have left what it may have left before, or what
+-- The counts do not fall. A crash since a moment may have left what it may have left before, or what
 -- it may leave now.
 pub record IsLater (old new : DiskState) : Type 0 where
   pub faults : old.faults ≤ new.faults
@@ -50,7 +50,7 @@ pub record IsLater (old new : DiskState) : Type 0 where
   pub keeps : (t : ℕ) (c : List ℕ) → t ≤ old.moment → old.left_since t c → new.left_since t c
   pub nothing_else : (t : ℕ) (c : List ℕ) → t ≤ old.moment → new.left_since t c → old.left_since t c ⊎ new.may_leave c
 
--- what is read stays, and a stop may leave nothing new
+-- what is read stays, and a crash may leave nothing new
 pub record Stays (old new : DiskState) : Type 0 where
   pub seen : new.seen ≡ old.seen
   pub images : (c : List ℕ) → new.may_leave c → old.may_leave c

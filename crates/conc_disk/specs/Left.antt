@@ -6,7 +6,7 @@ use Rattle.conc_disk.specs.Disk.{DiskState, Torn, written}
 abbrev pub EachImage : (List ℕ → Type 0) → DiskState → Type 0
 EachImage kind disk = IfSome disk.seen (λ bytes. (image : List ℕ) → disk.may_leave image → kind image)
 
--- Faults and moments do not fall, and what it tells it goes on telling. A stop since an earlier moment left
+-- Faults and moments do not fall, and what it tells it goes on telling. A crash since an earlier moment left
 -- what it may have left before the call, or, where the disk tells, an image of this kind; and what it may
 -- have left before still counts.
 pub record LeavesOnly (kind : List ℕ → Type 0) (old new : DiskState) : Type 0 where

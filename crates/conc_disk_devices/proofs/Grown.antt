@@ -1,4 +1,4 @@
--- A trace with one more change: what is read, what a stop may leave, and how time goes on.
+-- A trace with one more change: what is read, what a crash may leave, and how time goes on.
 use Rattle.std.proofs.Common.{◌≡◌, ℕ, ◌≤◌, List, [], ◌∷◌, ◌++◌, Some, sym, ◌∙◌, ap, subst}
 use Rattle.conc_disk.specs.Disk.{IsLater, Stays}
 use Rattle.conc_disk_devices.specs.Grows.{Grows, start}

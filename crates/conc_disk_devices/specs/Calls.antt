@@ -27,7 +27,7 @@ starved_of disk = disk.counts.starved
 abbrev pub coming_fails : MemDisk → Bool
 coming_fails disk = is_listed disk.counts
 
--- a stop in the call with this number may leave this image
+-- a crash in the call with this number may leave this image
 abbrev pub MayLeaveIn : MemDisk → ℕ → List ℕ → Type 0
 MayLeaveIn disk call image = LeavesInCall disk.trace call image
 

@@ -31,7 +31,7 @@ pub record IsAcknowledged (receipt : Receipt) (journal : Journal) (disk : DiskSt
   pub kept : Keeps journal receipt
   pub images : EachImage (HasEventOf receipt) disk
 
--- after a call they have it still, and a stop in the call leaves it too
+-- after a call they have it still, and a crash in the call leaves it too
 pub record StaysIn (receipt : Receipt) (journal : Journal) (old new : DiskState) : Type 0 where
   pub now : IsAcknowledged receipt journal new
   pub at_each_moment : LeavesOnly (HasEventOf receipt) old new

@@ -106,7 +106,7 @@ impl Journal {
     }
 
     /// Begins a journal for the input with this digest, where none was begun. After an `Ok` each image
-    /// that a stop may leave has its header, and no event: its 65 bytes are written, and no others. After
+    /// that a crash may leave has its header, and no event: its 65 bytes are written, and no others. After
     /// a fault only `events` is of use.
     pub fn begin<D: Disk>(&mut self, disk: &mut D, digest: &[u8; 32]) -> Result<(), DiskFault>
         requires state { state_of self.old ≡ NotBegun }
@@ -150,7 +150,7 @@ impl Journal {
         }
     }
 
-    /// Adds an event. After an `Ok` each image that a stop may leave has it: its record and the closed
+    /// Adds an event. After an `Ok` each image that a crash may leave has it: its record and the closed
     /// gate behind it are written, 33 bytes, and no others. After a fault the disk has the list with the
     /// event or without, and each later call fails and does nothing until the file is opened again. What
     /// was acknowledged before stays throughout. It takes no memory.
@@ -188,7 +188,7 @@ impl Journal {
         ensures same { IsErrOf result AppendFail.Failed → self.new ≡ self.old }
         ensures untouched { IsErrOf result AppendFail.Failed → disk.new ≡ disk.old }
 
-        // A stop at any moment leaves the list with the event or without.
+        // A crash at any moment leaves the list with the event or without.
         ensures survives { LeavesOnly (FitsState (after_fault event (state_of self.old))
             (list_of self.old)) (D.state disk.old) (D.state disk.new) }
         ensures writes_there { LeavesOnly (TornFrom (D.state disk.old)

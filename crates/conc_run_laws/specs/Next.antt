@@ -1,4 +1,4 @@
--- A run that is stopped, and the next one of the same files.
+-- A run that crashed, and the next one of the same files.
 use Rattle.std.specs.Prelude.{◌≡◌, ◌⊎◌, ⊤, ℕ, ◌+◌, ◌<◌, List, length, reverse, Some, is_some, IfSome, IsTrue}
 use Rattle.conc_types.specs.declared.event.Event.{Event}
 use Rattle.conc_types.specs.declared.plan.Plan.{Plan}
@@ -27,7 +27,7 @@ pub record IsFit (plan : Plan) (digest image texts : List ℕ) : Type 0 where
   pub own : IsOwnJournal digest image
   pub good : AreGood plan (length texts) (events_of image) (broken_of image)
 
--- a read gives these bytes, and nothing is pending: a stop leaves them too
+-- a read gives these bytes, and nothing is pending: a crash leaves them too
 pub record Holds (disk : DiskState) (bytes : List ℕ) : Type 0 where
   pub seen : disk.seen ≡ Some bytes
   pub settled : (image : List ℕ) → disk.may_leave image → image ≡ bytes
@@ -42,7 +42,7 @@ pub record BeganWell (h : Handed) : Type 0 where
 
 -- ---- the next run
 
--- A stop at some moment of the first run, which had this disk for its journal, left this image of it. The next run was handed the
+-- A crash at some moment of the first run, which had this disk for its journal, left this image of it. The next run was handed the
 -- image, and a spool with these texts, which has the extent of each event of the image.
 pub record IsNextOver (before after : DiskState) (next : Handed) (image texts : List ℕ) : Type 0 where
   pub left : after.left_since before.moment image
@@ -71,8 +71,8 @@ pub record IsNextRun (next : Handed) (found : List Event) (image : List ℕ) : T
 
 -- ---- the end of a run
 
--- a stop at its end leaves these images of its disks, which tell; and the spool held the texts of the events found
-pub record StopsAtEnd (h : Handed) (found : List Event) (image texts : List ℕ) : Type 0 where
+-- a crash at its end leaves these images of its disks, which tell; and the spool held the texts of the events found
+pub record CrashesAtEnd (h : Handed) (found : List Event) (image texts : List ℕ) : Type 0 where
   pub journal_tells : IsTrue (is_some h.journal_after.seen)
   pub journal : h.journal_after.may_leave image
   pub spool_tells : IsTrue (is_some h.spool_after.seen)

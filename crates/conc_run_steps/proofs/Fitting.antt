@@ -50,7 +50,7 @@ fit plan digest from first last journal spool past is long stored =
           stored i id o x at (ap (λ (l : List Event). slice_get l i) is.within.1 ∙ get-more events is.within.0 i (event.Ended id o (Some x)) here);
     }
 
--- ---- what a stop at some moment left
+-- ---- what a crash at some moment left
 
 -- a journal that is begun and has this list, which only an event more may have followed
 journal-left : (digest : List ℕ) (list last : List Event) (old new : DiskState) → EachImage (FitsState (Begun digest) list) old → ((c : List ℕ) → old.left_since old.moment c → old.may_leave c)

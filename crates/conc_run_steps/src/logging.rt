@@ -46,7 +46,7 @@ pub fn add_event<D: Disk>(
     ensures fault { OnErr result (Rose (D.state journal.old).faults (D.state journal.new).faults
         ⊎ IsTrue (has_faulted (state_of work.old.journal))) }
 
-    // A stop at any moment, and what stays.
+    // A crash at any moment, and what stays.
     ensures survives { SurvivesFor work.old.journal (list_in work.old)
         (list_in work.old ++ event ∷ []) (D.state journal.old) (D.state journal.new) }
     ensures plan { plan_in work.new ≡ plan_in work.old }
@@ -91,7 +91,7 @@ pub fn log_event<D: Disk, E: Disk>(
     ensures fault { OnErr result (Rose (D.state journal.old).faults (D.state journal.new).faults) }
     ensures cause { IfErr result (λ e. e ≡ RunFail.JournalFault) }
 
-    // A stop at any moment, and what stays.
+    // A crash at any moment, and what stays.
     ensures survives { SurvivesFor work.old.journal (list_in work.old)
         (list_in work.old ++ event ∷ []) (D.state journal.old) (D.state journal.new) }
     ensures plan { plan_in work.new ≡ plan_in work.old }

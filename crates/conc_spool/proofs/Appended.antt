@@ -1,4 +1,4 @@
--- What is read, and what a stop may leave, after a text was written at the end of a spool and synced.
+-- What is read, and what a crash may leave, after a text was written at the end of a spool and synced.
 use Rattle.std.proofs.Common.{◌≡◌, ◌∙◌, sym, ap, subst, refl, ℕ, ◌+◌, ◌≤◌, List, ◌++◌, length, take, drop, Option, Some, None, IfSome, IsSomeAnd, MatchOption, arith, append_assoc, length-append, length-take, length-drop}
 use Rattle.std.proofs.lemmas.List.{take_at, drop_at}
 use Rattle.std.proofs.lemmas.Option.{same_Some}

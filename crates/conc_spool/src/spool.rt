@@ -52,7 +52,7 @@ impl Spool {
 
     /// Adds a text of 1 to 1,048,576 bytes and gives its place. An `Ok` means that it is on the
     /// disk, where nothing else changed. After a fault the spool is as before, and the next text goes
-    /// to the same place. A stop at any moment leaves all bytes but those of that place. It takes no
+    /// to the same place. A crash at any moment leaves all bytes but those of that place. It takes no
     /// memory.
     pub fn append<E: Disk>(&mut self, disk: &mut E, bytes: &[u8]) -> Result<Extent, DiskFault>
         requires some { 1 ≤ length bytes.now }

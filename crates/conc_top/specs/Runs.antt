@@ -18,7 +18,7 @@ use Rattle.conc_top.specs.Printing.{Sunk, TookNothing}
 
 -- This is the history of the run. From what was found it goes on as the run without workers does. It is lawful and
 -- finished, running intervals of requests that exclude each other do not overlap, and each end that was added tells what its
--- report says. The journal has it, as a read and as a stop now would leave it.
+-- report says. The journal has it, as a read and as a crash now would leave it.
 pub record IsHistory (h : Handed) (history : List Event) : Type 0 where
   pub finished : IsFinished h history
   pub lawful : Lawful h.plan h.readings history

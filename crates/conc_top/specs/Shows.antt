@@ -15,7 +15,7 @@ use Rattle.conc_top.specs.declared.exit.Exit.{Exit}
 use Rattle.conc_top.specs.declared.exit.Exit.TheVariants as exit
 use Rattle.conc_top.specs.Printing.{Prints, Sunk, TookNothing}
 
--- nothing was written to the disk: what is read of it stays, and a stop leaves nothing that it did not leave before
+-- nothing was written to the disk: what is read of it stays, and a crash leaves nothing that it did not leave before
 pub record IsDiskUntouched (before after : DiskState) : Type 0 where
   pub stays : Stays before after
   pub survives : LeavesOnly before.may_leave before after

@@ -1,4 +1,4 @@
--- What a stop of a run leaves, and the next run over it.
+-- What a crash of a run leaves, and the next run over it.
 use Rattle.std.proofs.Common.{◌≡◌, ◌⊎◌, inl, inr, ℕ, ◌≤◌, true, List, length, reverse, Option, Some, IfSome, IsFalse, IsTrue, sym, ◌∙◌, ap, subst, le_refl, arith}
 use Rattle.std.specs.Prelude.{slice_get}
 use Rattle.std.proofs.lemmas.List.{length-append}
@@ -33,7 +33,7 @@ use Rattle.conc_run_laws.proofs.RightLives.{finished-interrupts, right-life}
 pub at-some : {X : Type 0} (P : X → Type 0) (o : Option X) (x : X) → o ≡ Some x → IfSome o P → P x
 at-some {X = X} P o x is holds = subst (λ (s : Option X). IfSome s P) is holds
 
--- ---- what a stop leaves
+-- ---- what a crash leaves
 
 -- since now only what is left now
 abbrev pub OnlyNow : DiskState → Type 0
