@@ -71,7 +71,7 @@ begins plan readings digest journal mid new spool spool' examined list is stays 
           lawful = subst (Lawful plan readings.list) (sym all) (opening-lawful plan readings.list found is.ready.so_far);
           takes = ap takes_events state;
           used_is = is.ready.used_is ∙ sym (opening-used found) ∙ ap (λ (l : List Event). used (reverse l)) (sym all);
-          kept_text = tt;
+          pending_text = tt;
           journal_on = on;
           spool_on = is.spool_on;
         };

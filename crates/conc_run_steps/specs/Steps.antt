@@ -36,7 +36,7 @@ abbrev pub any_disk : DiskState
 any_disk = tells_nothing 0
 
 abbrev pub IsTied : Option Event → Work → DiskState → DiskState → Type 0
-IsTied kept work journal spool = AreTied (plan_in work) (readings_in work) kept work journal spool
+IsTied pending work journal spool = AreTied (plan_in work) (readings_in work) pending work journal spool
 
 abbrev pub IsReady : Work → DiskState → DiskState → Type 0
 IsReady work journal spool = AreReady (plan_in work) (readings_in work) work journal spool
