@@ -1,7 +1,7 @@
--- What a disk tells, and what its calls do to it.
+-- What a disk exposes, and what its calls do to it.
 use Rattle.std.specs.Prelude.{◌≡◌, ◌⊎◌, ℕ, ◌+◌, ◌≤◌, min, max, List, ◌++◌, length, take, drop, Option, None, ⊤, IfSome, IsSomeAnd, MatchOption}
 
--- A disk at a moment. Where `seen` is none it tells nothing of bytes.
+-- A disk at a moment. Where `seen` is none it exposes nothing of bytes.
 pub record DiskState : Type 1 where
   -- what a read gives
   pub seen : Option (List ℕ)
@@ -14,9 +14,9 @@ pub record DiskState : Type 1 where
   -- how often a call failed
   pub faults : ℕ
 
--- a disk that tells nothing of bytes: a crash may leave anything
-abbrev pub tells_nothing : ℕ → DiskState
-tells_nothing faults = record {
+-- a disk that exposes nothing of bytes: a crash may leave anything
+abbrev pub exposes_nothing : ℕ → DiskState
+exposes_nothing faults = record {
   seen = None;
   may_leave = λ image. ⊤;
   moment = 0;
@@ -59,24 +59,24 @@ pub record Stays (old new : DiskState) : Type 0 where
 abbrev pub Follows : (List ℕ → List ℕ → Type 0) → DiskState → DiskState → Type 0
 Follows step old new = (c : List ℕ) → new.may_leave c → (d : List ℕ) × old.may_leave d × step d c
 
--- where the disk tells, what is read took this step; else it goes on telling nothing
+-- where the disk exposes its bytes, what is read took this step; else it goes on exposing nothing
 abbrev pub SeenFollows : (List ℕ → List ℕ → Type 0) → DiskState → DiskState → Type 0
 SeenFollows step old new = MatchOption old.seen (new.seen ≡ None) (λ before. IsSomeAnd new.seen (λ after. step before after))
 
--- where the disk tells, each image is this one
+-- where the disk exposes its bytes, each image is this one
 abbrev pub LeavesWhatWasSeen : DiskState → DiskState → Type 0
 LeavesWhatWasSeen old new = IfSome old.seen (λ bytes. (c : List ℕ) → new.may_leave c → c ≡ bytes)
 
 -- ---- of one state
 
--- where the disk tells, it has at least n bytes
+-- where the disk exposes its bytes, it has at least n bytes
 abbrev pub Reaches : DiskState → ℕ → Type 0
 Reaches disk n = IfSome disk.seen (λ bytes. n ≤ length bytes)
 
--- where the disk tells, it has n bytes
+-- where the disk exposes its bytes, it has n bytes
 abbrev pub HasLength : DiskState → ℕ → Type 0
 HasLength disk n = IfSome disk.seen (λ bytes. n ≡ length bytes)
 
--- where the disk tells, these are the bytes from here on
+-- where the disk exposes its bytes, these are the bytes from here on
 abbrev pub HasAt : DiskState → ℕ → List ℕ → Type 0
 HasAt disk at piece = IfSome disk.seen (λ bytes. piece ≡ take (length piece) (drop at bytes))

@@ -7,10 +7,10 @@ use conc_outside::Failed;
 
 /// A disk whose machine may crash at any moment. Between two syncs each written range, and the part
 /// past the old end, may hold any bytes after a crash; all other bytes stay. After a sync that
-/// succeeds a crash leaves what a read gives. A disk may tell nothing of its bytes; then it fails
+/// succeeds a crash leaves what a read gives. A disk may expose nothing of its bytes; then it fails
 /// where a range does not fit. A call fails only where the count of faults rises.
 pub trait Disk {
-    /// What it tells, and its count of faults.
+    /// What it exposes, and its count of faults.
     ghost state: { Self → DiskState };
 
     /// The number of bytes that a read gives.

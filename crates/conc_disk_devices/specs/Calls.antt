@@ -4,12 +4,12 @@ use Rattle.conc_outside.specs.Counts.{Rose}
 use Rattle.conc_disk.specs.Disk.{DiskState}
 use Rattle.conc_disk_devices.specs.Faults.{is_listed}
 use Rattle.conc_disk_devices.specs.Grows.{LeavesInCall, seen_in_call, start}
-use Rattle.conc_disk_devices.specs.Memory.{told}
+use Rattle.conc_disk_devices.specs.Memory.{exposed}
 use Rattle.conc_disk_devices.specs.declared.memory.MemDisk.{MemDisk}
 
--- what it tells
+-- what it exposes
 abbrev pub state_of : MemDisk → DiskState
-state_of disk = told (start disk.trace) disk.trace.bytes.items disk.trace.changes.items disk.counts.faults
+state_of disk = exposed (start disk.trace) disk.trace.bytes.items disk.trace.changes.items disk.counts.faults
 
 -- the numbers of the calls that are to fail
 abbrev pub fails_of : MemDisk → List ℕ

@@ -14,7 +14,7 @@ use conc_outside::Failed;
 use conc_types::NoMemory;
 use std::alloc::Global;
 
-/// A disk in memory. It tells its bytes and keeps what it had at first and each write, cut and sync,
+/// A disk in memory. It exposes its bytes and keeps what it had at first and each write, cut and sync,
 /// each with the number of its call, so that it can show what a crash in any call may have left. A
 /// call fails exactly where its number is listed or there is no memory, and then changes nothing.
 #[derive(Drop)]

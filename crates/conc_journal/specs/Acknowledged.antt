@@ -26,7 +26,7 @@ pub record HasEventOf (receipt : Receipt) (image : List ℕ) : Type 0 where
   pub whole : (found_in image).broken ≡ None
   pub at_number : event_at (found_in image).events (number_of receipt) ≡ Some (event_of receipt)
 
--- the journal has it, and, where the disk tells, so has each image now
+-- the journal has it, and, where the disk exposes its bytes, so has each image now
 pub record IsAcknowledged (receipt : Receipt) (journal : Journal) (disk : DiskState) : Type 0 where
   pub kept : Keeps journal receipt
   pub images : EachImage (HasEventOf receipt) disk

@@ -16,10 +16,10 @@ pub record Spells (event : Event) (bytes : List ℕ) : Type 0 where
 abbrev pub behind_open_gate : List ℕ → List ℕ
 behind_open_gate bytes = 1 ∷ (bytes ++ 0 ∷ [])
 
--- where the disk tells, the record behind so many others was written, with the closed gate behind it, and nothing else
+-- where the disk exposes its bytes, the record behind so many others was written, with the closed gate behind it, and nothing else
 abbrev pub HasAppended : Event → ℕ → DiskState → DiskState → Type 0
 HasAppended event records old new = (bytes : List ℕ) × Spells event bytes × HasWritten (offset_behind records) (behind_open_gate bytes) old new
 
--- where the disk tells, the header with this digest was written, with the closed gate behind it, and nothing else
+-- where the disk exposes its bytes, the header with this digest was written, with the closed gate behind it, and nothing else
 abbrev pub HasBegun : List ℕ → DiskState → DiskState → Type 0
 HasBegun digest old new = HasWritten 0 (1 ∷ header_behind digest) old new

@@ -1,6 +1,6 @@
 // The edge, which is trusted: that the bytes of a `FileShelf` are those of the file that the system
 // has under the name, and that the bytes given to a `WriterSink` reach its writer. No clause can say
-// either, so neither type tells what it holds. A call that a signal interrupts is made again.
+// either, so neither type exposes what it holds. A call that a signal interrupts is made again.
 ghost use Rattle.std.specs.Prelude.{◌≡◌, ◌≢◌, ◌<◌, ◌≤◌, [], None, length, vec_len, IfOk, IsErrOf};
 ghost use Rattle.conc_outside.specs.declared.error.ShelfFail.TheVariants.{Absent};
 

@@ -6,7 +6,7 @@ use crate::Failed;
 
 /// A sink that takes bytes.
 pub trait Sink {
-    /// The bytes taken so far, if the sink tells them, and how often a write failed, a count that never
+    /// The bytes taken so far, if the sink exposes them, and how often a write failed, a count that never
     /// falls.
     ghost state: { Self → SinkState };
 

@@ -7,10 +7,10 @@ use conc_types::Moment;
 
 /// A clock, which gives one moment after the other.
 pub trait Clock {
-    /// The moments that it still gives, if the clock tells them, and its count of faults.
+    /// The moments that it still gives, if the clock exposes them, and its count of faults.
     ghost state: { Self → ClockState };
 
-    /// The moment now: the first of those that the clock told. The count of faults never falls.
+    /// The moment now: the first of those that the clock exposed. The count of faults never falls.
     fn now(&mut self) -> Result<Moment, Failed>
         ensures faults { (state self.old).faults ≤ (state self.new).faults }
         ensures given { IfOk result (λ moment. Gives (state self.old).moments moment

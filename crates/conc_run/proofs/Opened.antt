@@ -20,7 +20,7 @@ use Rattle.conc_run.specs.Whole.{HasBetween, HasLeft, IsCutShort, KeepsTexts}
 use Rattle.conc_run_state.proofs.Prefixes.{prefix-self}
 use Rattle.conc_run.proofs.Lists.{opening-adds, stored-opening}
 
--- what is found in what a disk tells
+-- what is found in what a disk exposes
 found-in : Option (List ℕ) → List Event
 found-in None = []
 found-in (Some image) = events_of image

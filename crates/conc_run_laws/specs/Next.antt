@@ -71,11 +71,11 @@ pub record IsNextRun (next : Handed) (found : List Event) (image : List ℕ) : T
 
 -- ---- the end of a run
 
--- a crash at its end leaves these images of its disks, which tell; and the spool held the texts of the events found
+-- a crash at its end leaves these images of its disks, which expose their bytes; and the spool held the texts of the events found
 pub record CrashesAtEnd (h : Handed) (found : List Event) (image texts : List ℕ) : Type 0 where
-  pub journal_tells : IsTrue (is_some h.journal_after.seen)
+  pub journal_exposes : IsTrue (is_some h.journal_after.seen)
   pub journal : h.journal_after.may_leave image
-  pub spool_tells : IsTrue (is_some h.spool_after.seen)
+  pub spool_exposes : IsTrue (is_some h.spool_after.seen)
   pub spool : h.spool_after.may_leave texts
   pub stored : IfSome h.spool_before.seen (AreStored h.plan 0 found)
 

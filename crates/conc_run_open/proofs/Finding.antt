@@ -32,7 +32,7 @@ found-good h opened has so_far whole long = record {
   within = IfSome_then h.spool_before.seen long (λ texts far. end-within h.plan (length texts) opened.events.items so_far (omega (arith, far, counted-is h.plan opened.events.items so_far)));
 }
 
--- the spool reaches as far as its length, which it may tell
+-- the spool reaches as far as its length, which it may expose
 pub long-enough : (disk : DiskState) (n : ℕ) → Reaches disk n → (len : ℕ) × HasLength disk len × (n ≤ len)
 long-enough disk n reach = go disk.seen reach
   where

@@ -62,7 +62,7 @@ pub record HasNotEnded (plan : Plan) (digest : List ℕ) (id : RequestId) (journ
 
 -- ---- why no text is given
 
--- the journal is this input's, and, where it tells, its record with this number is the first that is bad
+-- the journal is this input's, and, where it exposes its bytes, its record with this number is the first that is bad
 pub record HasBadRecord (plan : Plan) (digest : List ℕ) (journal spool : DiskState) (number : ℕ) : Type 0 where
   pub own : IfSome journal.seen (IsOwnJournal digest)
   pub bad : IfSome journal.seen (λ image. IsBadFor plan spool (events_of image) (broken_of image) number)

@@ -26,7 +26,7 @@ pub record IsFull (h : Handed) (len needed : ℕ) : Type 0 where
   pub needed_is : needed ≡ need h.plan h.readings
   pub full : MOST_RECORDS < len + needed
 
--- the journal is this input's, and, where it tells, its record with this number is the first that is bad
+-- the journal is this input's, and, where it exposes its bytes, its record with this number is the first that is bad
 pub record IsUnlawful (h : Handed) (number : ℕ) : Type 0 where
   pub own : IfSome h.journal_before.seen (IsOwnJournal h.digest)
   pub bad : IfSome h.journal_before.seen (λ image. IsBadFor h.plan h.spool_before (events_of image) (broken_of image) number)

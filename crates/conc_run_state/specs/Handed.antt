@@ -43,8 +43,8 @@ pub record IsOwnJournal (digest : List ℕ) (image : List ℕ) : Type 0 where
   pub opens : IsTrue (may_open image)
   pub own : IsOwn digest image
 
--- These are the events found. They are lawful, every life judged as an earlier one. Where the journal's disk tells, they are
--- those of a journal of this input of which no record is broken; and where the spool's tells, each extent ends within it.
+-- These are the events found. They are lawful, every life judged as an earlier one. Where the journal's disk exposes its bytes, they are
+-- those of a journal of this input of which no record is broken; and where the spool's does, each extent ends within it.
 pub record IsFound (h : Handed) (found : List Event) : Type 0 where
   pub so_far : LawfulSoFar h.plan found
   pub own : IfSome h.journal_before.seen (IsOwnJournal h.digest)

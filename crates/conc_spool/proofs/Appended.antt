@@ -7,7 +7,7 @@ use Rattle.conc_disk.specs.Disk.{Torn, written}
 use Rattle.conc_disk.proofs.Leaving.{if_some-both}
 use Rattle.conc_spool.specs.Spools.{Agrees}
 
--- where the disk tells, the bytes of the spool are there, since what a read gives is one of the images
+-- where the disk exposes its bytes, the bytes of the spool are there, since what a read gives is one of the images
 pub reaches : (used : ℕ) (seen : Option (List ℕ)) (may_leave : List ℕ → Type 0) → IfSome seen (λ bytes. (image : List ℕ) → may_leave image → Agrees used bytes image) → IfSome seen may_leave
     → IfSome seen (λ bytes. used ≤ length bytes)
 reaches used seen may_leave on here = if_some-both seen on here (λ bytes each left. (each bytes left).no_shorter)

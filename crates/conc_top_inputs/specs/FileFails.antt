@@ -20,9 +20,9 @@ use Rattle.conc_top_inputs.specs.Refusals.{fault_of_table}
 use Rattle.conc_top_inputs.specs.Ways.{fail_at}
 
 -- the bytes of the file were read, and have this fault
-pub record WasRefused (told : Option Files) (has_fault : List ℕ → Fault → Type 0) (file : FileKind) (name : List ℕ) (refusal : Refusal) : Type 0 where
+pub record WasRefused (exposed : Option Files) (has_fault : List ℕ → Fault → Type 0) (file : FileKind) (name : List ℕ) (refusal : Refusal) : Type 0 where
   pub bytes : List ℕ
-  pub given : Gives told name bytes
+  pub given : Gives exposed name bytes
   pub file_is : refusal.file ≡ file
   pub fault : has_fault bytes (refusal.line, refusal.kind)
 

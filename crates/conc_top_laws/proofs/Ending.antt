@@ -141,13 +141,13 @@ not-unlawful plan readings bytes events finished line is (inl bad) =
 not-unlawful plan readings bytes events finished line is (inr (lawful, inl bad)) = let two : None ≡ Some line = sym is.whole.whole ∙ bad in cc two
 not-unlawful plan readings bytes events finished line is (inr (lawful, inr bad)) = no-other (table_lines plan bytes) (lines_behind plan bytes) bad.number is.whole.table bad.other
 
-module _ (j : Judging) (files : Files) (told : j.before.files ≡ Some files) (sink : Sunk) (has : HasLawfulHistory j) (absences : IsQuiet j.before.absences j.after.absences)
+module _ (j : Judging) (files : Files) (exposed : j.before.files ≡ Some files) (sink : Sunk) (has : HasLawfulHistory j) (absences : IsQuiet j.before.absences j.after.absences)
     (quiet : IsQuiet j.before.faults j.after.faults) (sink_quiet : IsQuiet sink.before.faults sink.after.faults) where
   pub check-done : (end : Exit) → CheckEnds j sink end → IsDone end
   check-done (exit.NotLawful line) is =
       let good = has.2 in
-      let one = subst (λ (o : Option Files). Gives o j.name good.bytes) told good.given in
-      let other = subst (λ (o : Option Files). Gives o j.name is.0.bytes) told is.0.given in
+      let one = subst (λ (o : Option Files). Gives o j.name good.bytes) exposed good.given in
+      let other = subst (λ (o : Option Files). Gives o j.name is.0.bytes) exposed is.0.given in
       let same = gives-one files j.name is.0.bytes good.bytes other one in
       absurd (not-unlawful j.plan j.readings good.bytes has.0 has.1 line good.found_is (subst (λ (b : List ℕ). IsNotLawful j.plan j.readings b line) same is.0.found_is))
   check-done (exit.Absent name) is = absurd (absences is.0.2)

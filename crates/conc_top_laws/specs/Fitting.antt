@@ -14,7 +14,7 @@ use Rattle.conc_run_open.specs.Texts.{HasEnd}
 use Rattle.conc_run_state.specs.Handed.{Handed, IsOwnJournal}
 use Rattle.conc_top.specs.Checks.{IsJudged, Judging}
 
--- the disks tell, the journal and the spool fit the files, and the journal has room for one more life
+-- the disks expose their bytes, the journal and the spool fit the files, and the journal has room for one more life
 pub record FitsRun (h : Handed) : Type 0 where
   pub image : List ℕ
   pub texts : List ℕ
@@ -23,7 +23,7 @@ pub record FitsRun (h : Handed) : Type 0 where
   pub fit : IsFit h.plan h.digest image texts
   pub room : length (events_of image) + need h.plan h.readings ≤ MOST_RECORDS
 
--- the journal's disk tells; the journal is that of these files or not begun, no record is broken, and its list is lawful so far
+-- the journal's disk exposes its bytes; the journal is that of these files or not begun, no record is broken, and its list is lawful so far
 pub record FitsStatus (plan : Plan) (digest : List ℕ) (journal : DiskState) : Type 0 where
   pub image : List ℕ
   pub seen : journal.seen ≡ Some image
@@ -31,7 +31,7 @@ pub record FitsStatus (plan : Plan) (digest : List ℕ) (journal : DiskState) : 
   pub whole : broken_of image ≡ None
   pub so_far : LawfulSoFar plan (events_of image)
 
--- the disks tell, the journal and the spool fit the files, and the journal has an end of the request with an extent
+-- the disks expose their bytes, the journal and the spool fit the files, and the journal has an end of the request with an extent
 pub record FitsOutput (plan : Plan) (digest : List ℕ) (id : RequestId) (journal spool : DiskState) : Type 0 where
   pub image : List ℕ
   pub texts : List ℕ

@@ -22,7 +22,7 @@ returns-in-Err-clause-on g c =
     let old = g.D.Disk.state c.args.disk.now in
     let was = begun-images c.args.self.now c.in-Begun.digest old c.in-Begun.is c.requires.on in
     images-fit c.in-Begun.digest c.args.self.now.events.items c.args.event c.offset_behind.result c.record_before_gate.result (omega (arith, c.len-before.ensures, c.offset_behind.ensures)) (omega (arith, c.args.self.now.few, c.requires.room)) c.record_before_gate.ensures old (g.D.Disk.state c.add_record.new.disk) was
-    c.add_record.ensures.survives.tells c.add_record.ensures.images
+    c.add_record.ensures.survives.exposes c.add_record.ensures.images
 
 pub returns-in-Err-clause-survives : goal.returns-in-Err-clause-survives
 returns-in-Err-clause-survives g c =
@@ -40,7 +40,7 @@ returns-in-Ok-clause-on g c =
     let events = c.args.self.now.events.items in
     let was = begun-images c.args.self.now c.in-Begun.digest old c.in-Begun.is c.requires.on in
     let have = images-have c.in-Begun.digest events c.args.event c.offset_behind.result c.record_before_gate.result (omega (arith, c.len-before.ensures, c.offset_behind.ensures)) (omega (arith, c.args.self.now.few, c.requires.room)) c.record_before_gate.ensures old new was
-    c.add_record.ensures.survives.tells c.in-Ok.ensures.added in
+    c.add_record.ensures.survives.exposes c.in-Ok.ensures.added in
     subst (λ (l : List Event). EachImage (FitsState c.push.new.self.state l) new) (sym c.push.ensures.list)
     (subst (λ (s : JournalState). EachImage (FitsState s (events ++ c.args.event ∷ [])) new) (sym (c.push.ensures.state ∙ c.in-Begun.is)) have)
 
