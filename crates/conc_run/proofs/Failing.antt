@@ -7,7 +7,7 @@ use Rattle.conc_run_state.specs.declared.error.RunFail.{RunFail}
 use Rattle.conc_run_state.specs.declared.error.RunFail.TheVariants as run_fail
 use Rattle.conc_run_state.specs.declared.error.HistoryFail.{HistoryFail}
 use Rattle.conc_run_state.specs.declared.error.HistoryFail.TheVariants as history_fail
-use Rattle.conc_run_state.specs.declared.error.DiskName.TheVariants as which
+use Rattle.conc_run_state.specs.declared.error.DiskName.TheVariants as disk_name
 
 -- a count that rose after it did not fall rose
 pub rose-since : (before mid after : ℕ) → before ≤ mid → Rose mid after → Rose before after
@@ -16,15 +16,15 @@ rose-since before mid after le (inr most) = inr most
 
 -- each failure of a run has its cause
 pub failure-cause : (h : Handed) (fail : RunFail) (failure : HistoryFail)
-    → (fail ≡ run_fail.JournalFault → failure ≡ history_fail.DiskFault which.Journal) → (fail ≡ run_fail.SpoolFault → failure ≡ history_fail.DiskFault which.Spool) → (fail ≡ run_fail.NoMemory → failure ≡ history_fail.NoMemory)
-    → (fail ≡ run_fail.JournalFault → Faulted h which.Journal) → (fail ≡ run_fail.SpoolFault → Faulted h which.Spool) → HasCause h failure
+    → (fail ≡ run_fail.JournalFault → failure ≡ history_fail.DiskFault disk_name.Journal) → (fail ≡ run_fail.SpoolFault → failure ≡ history_fail.DiskFault disk_name.Spool) → (fail ≡ run_fail.NoMemory → failure ≡ history_fail.NoMemory)
+    → (fail ≡ run_fail.JournalFault → Faulted h disk_name.Journal) → (fail ≡ run_fail.SpoolFault → Faulted h disk_name.Spool) → HasCause h failure
 failure-cause h run_fail.JournalFault failure journal spool memory at_journal at_spool = subst (λ (s : HistoryFail). HasCause h s) (sym (journal refl)) (at_journal refl)
 failure-cause h run_fail.SpoolFault failure journal spool memory at_journal at_spool = subst (λ (s : HistoryFail). HasCause h s) (sym (spool refl)) (at_spool refl)
 failure-cause h run_fail.NoMemory failure journal spool memory at_journal at_spool = subst (λ (s : HistoryFail). HasCause h s) (sym (memory refl)) tt
 
 -- and is no refusal
 pub failure-late : (h : Handed) (fail : RunFail) (failure : HistoryFail)
-    → (fail ≡ run_fail.JournalFault → failure ≡ history_fail.DiskFault which.Journal) → (fail ≡ run_fail.SpoolFault → failure ≡ history_fail.DiskFault which.Spool) → (fail ≡ run_fail.NoMemory → failure ≡ history_fail.NoMemory)
+    → (fail ≡ run_fail.JournalFault → failure ≡ history_fail.DiskFault disk_name.Journal) → (fail ≡ run_fail.SpoolFault → failure ≡ history_fail.DiskFault disk_name.Spool) → (fail ≡ run_fail.NoMemory → failure ≡ history_fail.NoMemory)
     → IsTrue (is_refusal failure) → IsUntouched h
 failure-late h run_fail.JournalFault failure journal spool memory refusal = let two : false ≡ true = sym (ap (λ (s : HistoryFail). is_refusal s) (journal refl)) ∙ refusal in absurd (cc)
 failure-late h run_fail.SpoolFault failure journal spool memory refusal = let two : false ≡ true = sym (ap (λ (s : HistoryFail). is_refusal s) (spool refl)) ∙ refusal in absurd (cc)
@@ -32,8 +32,8 @@ failure-late h run_fail.NoMemory failure journal spool memory refusal = let two 
 
 -- want of memory is told where a report found none
 pub failure-memory : (fail : RunFail) (failure : HistoryFail)
-    → (fail ≡ run_fail.JournalFault → failure ≡ history_fail.DiskFault which.Journal) → (fail ≡ run_fail.SpoolFault → failure ≡ history_fail.DiskFault which.Spool)
+    → (fail ≡ run_fail.JournalFault → failure ≡ history_fail.DiskFault disk_name.Journal) → (fail ≡ run_fail.SpoolFault → failure ≡ history_fail.DiskFault disk_name.Spool)
     → failure ≡ history_fail.NoMemory → fail ≡ run_fail.NoMemory
-failure-memory run_fail.JournalFault failure journal spool is = let never : history_fail.DiskFault which.Journal ≡ history_fail.NoMemory = sym (journal refl) ∙ is in absurd (cc)
-failure-memory run_fail.SpoolFault failure journal spool is = let never : history_fail.DiskFault which.Spool ≡ history_fail.NoMemory = sym (spool refl) ∙ is in absurd (cc)
+failure-memory run_fail.JournalFault failure journal spool is = let never : history_fail.DiskFault disk_name.Journal ≡ history_fail.NoMemory = sym (journal refl) ∙ is in absurd (cc)
+failure-memory run_fail.SpoolFault failure journal spool is = let never : history_fail.DiskFault disk_name.Spool ≡ history_fail.NoMemory = sym (spool refl) ∙ is in absurd (cc)
 failure-memory run_fail.NoMemory failure journal spool is = refl

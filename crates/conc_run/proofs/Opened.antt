@@ -15,7 +15,7 @@ use Rattle.conc_run_state.specs.Handed.{Handed, IsUntouched}
 use Rattle.conc_run_state.specs.Lists.{GoesOn}
 use Rattle.conc_run_state.specs.declared.error.HistoryFail.{HistoryFail}
 use Rattle.conc_run_state.specs.declared.error.HistoryFail.TheVariants as history_fail
-use Rattle.conc_run_state.specs.declared.error.DiskName.TheVariants as which
+use Rattle.conc_run_state.specs.declared.error.DiskName.TheVariants as disk_name
 use Rattle.conc_run.specs.Whole.{HasBetween, HasLeft, IsCutShort, KeepsTexts}
 use Rattle.conc_run_state.proofs.Prefixes.{prefix-self}
 use Rattle.conc_run.proofs.Lists.{opening-adds, stored-opening}
@@ -76,8 +76,8 @@ refused-before history_fail.NotJournal is = refl
 refused-before (history_fail.OtherInput found) is = refl
 refused-before (history_fail.Unlawful number) is = refl
 refused-before (history_fail.JournalFull len needed) is = refl
-refused-before (history_fail.DiskFault which.Spool) is = refl
-refused-before (history_fail.DiskFault which.Journal) is = cc is
+refused-before (history_fail.DiskFault disk_name.Spool) is = refl
+refused-before (history_fail.DiskFault disk_name.Journal) is = cc is
 refused-before history_fail.NoMemory is = refl
 
 -- where nothing was written

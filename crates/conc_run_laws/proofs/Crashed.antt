@@ -106,7 +106,7 @@ module _ (h : Handed) (image texts : List ℕ) (fit : IsFit h.plan h.digest imag
   refuses-for_room (history_fail.JournalFull len needed) cause =
       let found = at-some (λ (i : List ℕ). cause.found ≡ events_of i) h.journal_before.seen image journal cause.is_found.events in
       (cause.len_is ∙ ap length found, cause.needed_is, cause.full)
-  refuses-for_room (history_fail.DiskFault which) cause = tt
+  refuses-for_room (history_fail.DiskFault disk) cause = tt
   refuses-for_room history_fail.NoMemory cause = tt
 
   pub finds-events : (found kept last : List Event) → HasLeft h found kept last → found ≡ events_of image

@@ -54,7 +54,7 @@ pub record IsNextOver (before after : DiskState) (next : Handed) (image texts : 
 abbrev pub RefusesForRoom : Handed → List ℕ → HistoryFail → Type 0
 RefusesForRoom h image (history_fail.JournalFull len needed) =
     (len ≡ length (events_of image)) × (needed ≡ need h.plan h.readings) × (MOST_RECORDS < len + needed)
-RefusesForRoom h image (history_fail.DiskFault which) = ⊤
+RefusesForRoom h image (history_fail.DiskFault disk) = ⊤
 RefusesForRoom h image history_fail.NoMemory = ⊤
 RefusesForRoom h image _ = ⊥
 

@@ -16,7 +16,7 @@ use Rattle.conc_run_state.specs.Handed.{IsOwnJournal}
 use Rattle.conc_run_state.specs.Judging.{EndWithin, IsBadFor}
 use Rattle.conc_run_state.specs.declared.error.HistoryFail.{HistoryFail}
 use Rattle.conc_run_state.specs.declared.error.HistoryFail.TheVariants as history_fail
-use Rattle.conc_run_state.specs.declared.error.DiskName.TheVariants as which
+use Rattle.conc_run_state.specs.declared.error.DiskName.TheVariants as disk_name
 use Rattle.conc_run_open.specs.Listing.{IsListed}
 use Rattle.conc_run_open.specs.declared.error.TextFail.{TextFail}
 use Rattle.conc_run_open.specs.declared.error.TextFail.TheVariants as text_fail
@@ -72,8 +72,8 @@ abbrev pub HasReadCause : Plan → List ℕ → Disks → HistoryFail → Type 0
 HasReadCause plan digest d history_fail.NotJournal = IfSome d.journal_before.seen (λ image. IsFalse (may_open image))
 HasReadCause plan digest d (history_fail.OtherInput found) = IfSome d.journal_before.seen (IsOther digest found)
 HasReadCause plan digest d (history_fail.Unlawful number) = HasBadRecord plan digest d.journal_before d.spool_before number
-HasReadCause plan digest d (history_fail.DiskFault which.Journal) = Rose d.journal_before.faults d.journal_after.faults
-HasReadCause plan digest d (history_fail.DiskFault which.Spool) =
+HasReadCause plan digest d (history_fail.DiskFault disk_name.Journal) = Rose d.journal_before.faults d.journal_after.faults
+HasReadCause plan digest d (history_fail.DiskFault disk_name.Spool) =
     IfSome d.journal_before.seen (IsOwnJournal digest) × Rose d.spool_before.faults d.spool_after.faults
 HasReadCause plan digest d history_fail.NoMemory = ⊤
 HasReadCause plan digest d (history_fail.JournalFull len needed) = ⊥

@@ -60,7 +60,7 @@ pub fn open<'p, D: Disk, E: Disk>(
             spool: texts,
         }),
         Err(DiskFault) => Err(HistoryFail::DiskFault {
-            which: DiskName::Journal,
+            disk: DiskName::Journal,
         }),
     }
 }

@@ -74,7 +74,7 @@ pub fn read_text<D: Disk, E: Disk>(
     match texts.read(alloc, spool, extent) {
         Ok(text) => Ok(text),
         Err(ReadBack::DiskFault) => Err(TextFail::NoHistory(HistoryFail::DiskFault {
-            which: DiskName::Spool,
+            disk: DiskName::Spool,
         })),
         Err(ReadBack::NoMemory) => Err(TextFail::NoHistory(HistoryFail::NoMemory)),
     }

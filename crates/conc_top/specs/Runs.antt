@@ -34,7 +34,7 @@ RunEnds h sink exit.WriteFault =
     (history : List Event) × IsHistory h history × TookPrefix sink.before.taken sink.after.taken (text_of h.plan history)
     × Rose sink.before.faults sink.after.faults
 RunEnds h sink exit.NoMemory = (IsCutShort h history_fail.NoMemory ⊎ ((history : List Event) × IsHistory h history)) × TookNothing sink
-RunEnds h sink (exit.DiskFault which) = IsCutShort h (history_fail.DiskFault which) × TookNothing sink
+RunEnds h sink (exit.DiskFault disk) = IsCutShort h (history_fail.DiskFault disk) × TookNothing sink
 RunEnds h sink exit.NotJournal = IsCutShort h history_fail.NotJournal × TookNothing sink
 RunEnds h sink (exit.OtherInput found given) = IsCutShort h (history_fail.OtherInput found) × (given ≡ h.digest) × TookNothing sink
 RunEnds h sink (exit.JournalFull len needed) = IsCutShort h (history_fail.JournalFull len needed) × TookNothing sink

@@ -33,7 +33,7 @@ StatusEnds plan digest old new sink exit.NotJournal = HasListCause plan digest o
 StatusEnds plan digest old new sink (exit.OtherInput found given) =
     HasListCause plan digest old new (history_fail.OtherInput found) × (given ≡ digest) × TookNothing sink
 StatusEnds plan digest old new sink (exit.Unlawful number) = HasListCause plan digest old new (history_fail.Unlawful number) × TookNothing sink
-StatusEnds plan digest old new sink (exit.DiskFault which) = HasListCause plan digest old new (history_fail.DiskFault which) × TookNothing sink
+StatusEnds plan digest old new sink (exit.DiskFault disk) = HasListCause plan digest old new (history_fail.DiskFault disk) × TookNothing sink
 StatusEnds plan digest old new sink end = Prints (IsStatusText plan digest old) sink end
 
 -- ---- a report
@@ -43,7 +43,7 @@ OutputEnds plan digest id d sink exit.NotJournal = HasReadCause plan digest d hi
 OutputEnds plan digest id d sink (exit.OtherInput found given) =
     HasReadCause plan digest d (history_fail.OtherInput found) × (given ≡ digest) × TookNothing sink
 OutputEnds plan digest id d sink (exit.Unlawful number) = HasReadCause plan digest d (history_fail.Unlawful number) × TookNothing sink
-OutputEnds plan digest id d sink (exit.DiskFault which) = HasReadCause plan digest d (history_fail.DiskFault which) × TookNothing sink
+OutputEnds plan digest id d sink (exit.DiskFault disk) = HasReadCause plan digest d (history_fail.DiskFault disk) × TookNothing sink
 OutputEnds plan digest id d sink (exit.NotEnded number) =
     HasTextCause plan digest id d text_fail.NotEnded × (number ≡ id.number) × TookNothing sink
 OutputEnds plan digest id d sink end = Prints (HasText plan digest id d.journal_before d.spool_before) sink end

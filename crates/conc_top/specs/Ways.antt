@@ -24,7 +24,7 @@ exit_for digest history_fail.NotJournal = exit.NotJournal
 exit_for digest (history_fail.OtherInput found) = exit.OtherInput found digest
 exit_for digest (history_fail.Unlawful number) = exit.Unlawful number
 exit_for digest (history_fail.JournalFull len needed) = exit.JournalFull len needed
-exit_for digest (history_fail.DiskFault which) = exit.DiskFault which
+exit_for digest (history_fail.DiskFault disk) = exit.DiskFault disk
 exit_for digest history_fail.NoMemory = exit.NoMemory
 
 -- where no text of this request's report is given

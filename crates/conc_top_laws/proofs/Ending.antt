@@ -22,7 +22,7 @@ use Rattle.conc_run_state.specs.Causes.{IsOther}
 use Rattle.conc_run_state.specs.Disks.{Disks}
 use Rattle.conc_run_state.specs.Handed.{Handed}
 use Rattle.conc_run_state.specs.Judging.{IsBadFor, IsBadRecord}
-use Rattle.conc_run_state.specs.declared.error.DiskName.TheVariants as which
+use Rattle.conc_run_state.specs.declared.error.DiskName.TheVariants as disk_name
 use Rattle.conc_run_state.specs.declared.error.HistoryFail.TheVariants as history_fail
 use Rattle.conc_top.specs.declared.exit.Exit.{Exit}
 use Rattle.conc_top.specs.declared.exit.Exit.TheVariants as exit
@@ -43,8 +43,8 @@ module _ (h : Handed) (sink : Sunk) (fits : FitsRun h) (journal_quiet : IsQuiet 
   run-done exit.Done is = inl refl
   run-done exit.NoMemory is = inr refl
   run-done exit.WriteFault is = absurd (sink_quiet is.3)
-  run-done (exit.DiskFault which.Journal) is = absurd (journal_quiet is.0.cause)
-  run-done (exit.DiskFault which.Spool) is = absurd (spool_quiet is.0.cause.1)
+  run-done (exit.DiskFault disk_name.Journal) is = absurd (journal_quiet is.0.cause)
+  run-done (exit.DiskFault disk_name.Spool) is = absurd (spool_quiet is.0.cause.1)
   run-done exit.NotJournal is = absurd (refuses-for_room h fits.image fits.texts fits.fit fits.journal fits.spool history_fail.NotJournal is.0.cause)
   run-done (exit.OtherInput found given) is = absurd (refuses-for_room h fits.image fits.texts fits.fit fits.journal fits.spool (history_fail.OtherInput found) is.0.cause)
   run-done (exit.Unlawful number) is = absurd (refuses-for_room h fits.image fits.texts fits.fit fits.journal fits.spool (history_fail.Unlawful number) is.0.cause)
@@ -75,8 +75,8 @@ module _ (plan : Plan) (digest : List ℕ) (old new : DiskState) (sink : Sunk) (
   status-done exit.NotJournal is = absurd (not-closed digest fits.image fits.own (at-some (λ (i : List ℕ). IsFalse (may_open i)) old.seen fits.image fits.seen is.0))
   status-done (exit.OtherInput found given) is = absurd (not-other digest found fits.image fits.own.own (at-some (λ (i : List ℕ). IsOther digest found i) old.seen fits.image fits.seen is.0))
   status-done (exit.Unlawful number) is = absurd (listed number is.0)
-  status-done (exit.DiskFault which.Journal) is = absurd (quiet is.0)
-  status-done (exit.DiskFault which.Spool) is = absurd is.0
+  status-done (exit.DiskFault disk_name.Journal) is = absurd (quiet is.0)
+  status-done (exit.DiskFault disk_name.Spool) is = absurd is.0
   status-done exit.Done is = inl refl
   status-done exit.NoMemory is = inr refl
   status-done exit.WriteFault is = absurd (sink_quiet is.3)
@@ -104,8 +104,8 @@ module _ (plan : Plan) (digest : List ℕ) (id : RequestId) (d : Disks) (sink : 
       let long : bad.0 ≡ length fits.texts = at-some (λ (t : List ℕ). bad.0 ≡ length t) d.spool_before.seen fits.texts fits.spool_seen bad.1 in
       absurd (not-bad plan (length fits.texts) (events_of fits.image) (broken_of fits.image) number fits.fit.good
       (subst (λ (len : ℕ). IsBadRecord plan len (events_of fits.image) (broken_of fits.image) number) long bad.2))
-  output-done (exit.DiskFault which.Journal) is = absurd (quiet.journal is.0)
-  output-done (exit.DiskFault which.Spool) is = absurd (quiet.spool is.0.1)
+  output-done (exit.DiskFault disk_name.Journal) is = absurd (quiet.journal is.0)
+  output-done (exit.DiskFault disk_name.Spool) is = absurd (quiet.spool is.0.1)
   output-done (exit.NotEnded number) is =
       absurd (has-end is.0.events (events_of fits.image) id fits.extent (at-some (λ (i : List ℕ). is.0.events ≡ events_of i) d.journal_before.seen fits.image fits.journal_seen is.0.whole.listed.events_are) fits.ended is.0.none)
   output-done exit.Done is = inl refl
@@ -158,7 +158,7 @@ module _ (j : Judging) (files : Files) (exposed : j.before.files ≡ Some files)
   check-done exit.Usage is = absurd is
   check-done exit.ClockFault is = absurd is
   check-done (exit.Refused refusal name) is = absurd is
-  check-done (exit.DiskFault which) is = absurd is
+  check-done (exit.DiskFault disk) is = absurd is
   check-done exit.NotJournal is = absurd is
   check-done (exit.OtherInput found given) is = absurd is
   check-done (exit.JournalFull len needed) is = absurd is
