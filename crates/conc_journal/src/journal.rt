@@ -44,7 +44,7 @@ impl Journal {
     ghost use Rattle.conc_journal_image.specs.declared.layout.TheConstants.{HEADER_BYTES, RECORD_BYTES};
     ghost use Rattle.conc_journal.specs.Journals.{FitsState, IsOn, list_of, room_of, state_of};
     ghost use Rattle.conc_disk.specs.Left.{LeavesOnly, TornFrom};
-    ghost use Rattle.conc_journal.specs.Acknowledged.{IsAcknowledged, Keeps, StaysIn};
+    ghost use Rattle.conc_journal.specs.Acknowledged.{IsAcknowledged, HasReceipt, StaysIn};
     ghost use Rattle.conc_journal.specs.Receipts.{event_of, number_of};
     ghost use Rattle.conc_journal.specs.Writes.{HasAppended, HasBegun};
     ghost use Rattle.conc_journal.specs.declared.receipt.Receipt.{Receipt as Acknowledged};
@@ -196,7 +196,7 @@ impl Journal {
             (D.state disk.old) (D.state disk.new) }
 
         // What was acknowledged before stays.
-        ensures stays { (receipt : Acknowledged) → Keeps self.old receipt
+        ensures stays { (receipt : Acknowledged) → HasReceipt self.old receipt
             → StaysIn receipt self.new (D.state disk.old) (D.state disk.new) }
     {
         let JournalState::Begun { digest } = self.state else {
