@@ -32,7 +32,7 @@ pub struct Journal {
     state: JournalState,
     events: Vec<Event>,
     room: u64,
-    ghost kept: { room + vec_len events ≤ vec_capacity events },
+    ghost has_room: { room + vec_len events ≤ vec_capacity events },
     ghost few: { room + vec_len events ≤ MOST_RECORDS },
     ghost begun: { IsTrue (fits_count state (vec_len events)) },
 }

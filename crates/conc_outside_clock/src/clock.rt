@@ -15,6 +15,6 @@ pub trait Clock {
         ensures faults { (state self.old).faults ≤ (state self.new).faults }
         ensures given { IfOk result (λ moment. Gives (state self.old).moments moment
             (state self.new).moments) }
-        ensures kept { OnErr result ((state self.new).moments ≡ (state self.old).moments) }
+        ensures unchanged { OnErr result ((state self.new).moments ≡ (state self.old).moments) }
         ensures failed { OnErr result (Rose (state self.old).faults (state self.new).faults) };
 }
