@@ -11,6 +11,7 @@ ghost use Rattle.conc_bench_append.specs.Causes.{HasCause};
 use conc_disk::Disk;
 use conc_disk_devices::open_disk;
 use conc_journal::{Journal, JournalFail};
+use conc_journal_image::MOST_RECORDS;
 use conc_types::{Event, Moment, read_decimal};
 use std::alloc::Global;
 use std::env;
@@ -22,8 +23,6 @@ const TICK: Event = Event::Tick {
         seconds: 63_876_589_200,
     },
 };
-
-const MOST_EVENTS: u64 = 1_048_576;
 
 // Why nothing was told.
 #[derive(Clone, Copy, Debug)]
@@ -58,7 +57,7 @@ fn begun<D: Disk>(alloc: Global, disk: &mut D, count: u64) -> Result<Journal, Fa
         return Err(Fail::Broken);
     }
     let mut journal = opened.journal;
-    if count > MOST_EVENTS - journal.events().len() as u64 {
+    if count > MOST_RECORDS - journal.events().len() as u64 {
         return Err(Fail::Full);
     }
     if opened.digest.is_none() && journal.begin(disk, &[0; 32]).is_err() {

@@ -20,7 +20,7 @@ use Rattle.conc_board.specs.declared.lead.Lead.{Lead}
 use Rattle.conc_board.specs.Seats.{stage_of}
 use Rattle.conc_board_seats.specs.Stages.{IsGone}
 use Rattle.conc_resolver_choice.specs.Choices.{HasItsText}
-use Rattle.conc_run_state.specs.Works.{AreTied, HasKeptText, list_in}
+use Rattle.conc_run_state.specs.Works.{AreTied, HasPendingText, list_in}
 use Rattle.conc_run_state.specs.declared.work.Work.{Work}
 use Rattle.conc_run_steps.specs.Steps.{any_disk, IsTied, plan_in, readings_in}
 use Rattle.conc_run_steps.proofs.Coming.{follows-record, lawful-past, last-follows}
@@ -34,7 +34,7 @@ no_length : (e : Event) → IsItsTurn None e → extent_length e ≡ 0
 no_length (event.Ended r o x) turn = absurd turn
 no_length _ turn = refl
 
-no_text : (plan : Plan) (list : List Event) (spool : DiskState) (e : Event) → IsItsTurn None e → HasKeptText plan list spool (Some e)
+no_text : (plan : Plan) (list : List Event) (spool : DiskState) (e : Event) → IsItsTurn None e → HasPendingText plan list spool (Some e)
 no_text plan list spool (event.Ended r o x) turn = absurd turn
 no_text plan list spool _ turn = tt
 
@@ -52,7 +52,7 @@ module _ (work : Work) (e : Event) where
     lawful = tied.lawful;
     takes = tied.takes;
     used_is = tied.used_is;
-    kept_text = tied.kept_text;
+    pending_text = tied.pending_text;
     journal_on = on;
     spool_on = tt;
   }
@@ -65,7 +65,7 @@ module _ (work : Work) (e : Event) where
     lawful = tied.lawful;
     takes = tied.takes;
     used_is = tied.used_is;
-    kept_text = tied.kept_text;
+    pending_text = tied.pending_text;
     journal_on = tt;
     spool_on = tt;
   }
@@ -78,7 +78,7 @@ module _ (work : Work) (e : Event) where
     lawful = tied.lawful;
     takes = tied.takes;
     used_is = tied.used_is ∙ sym (same_used (list_in work) e turn);
-    kept_text = no_text (plan_in work) (list_in work) any_disk e turn;
+    pending_text = no_text (plan_in work) (list_in work) any_disk e turn;
     journal_on = on;
     spool_on = tt;
   }
@@ -92,7 +92,7 @@ module _ (work : Work) (e : Event) where
     lawful = tied.lawful;
     takes = tied.takes;
     used_is = tied.used_is ∙ same_used (list_in work) e turn;
-    kept_text = tt;
+    pending_text = tt;
     journal_on = tt;
     spool_on = tt;
   }
@@ -100,7 +100,7 @@ module _ (work : Work) (e : Event) where
 
 -- ---- what may come
 
-spelled_kept : (plan : Plan) (past list : List Event) (spool : DiskState) (e : Event) → may_follow plan None past e ≡ true → HasKeptText plan list spool (Some e) → has_record e ≡ true
+spelled_kept : (plan : Plan) (past list : List Event) (spool : DiskState) (e : Event) → may_follow plan None past e ≡ true → HasPendingText plan list spool (Some e) → has_record e ≡ true
 spelled_kept plan past list spool (event.Ended id o (Some x)) may text =
     follows-record plan past (event.Ended id o (Some x)) (Some text.reported.made.text) may (text.reported, refl)
 spelled_kept plan past list spool (event.Ended id o None) may text = follows-record plan past (event.Ended id o None) None may refl
@@ -118,7 +118,7 @@ spelled_kept plan past list spool (event.Interrupt q) may text = follows-record 
 pub spelled : (work : Work) (e : Event) (journal : DiskState) → IsTied (Some e) work journal any_disk → Lawful (plan_in work) (readings_in work) (list_in work ++ e ∷ []) → has_record e ≡ true
 spelled work e journal tied lawful =
     let past = lawful-past (plan_in work) work.machine (readings_in work) (list_in work ++ e ∷ []) tied.readings_are lawful in
-    spelled_kept (plan_in work) (reverse (list_in work)) (list_in work) any_disk e (last-follows (plan_in work) (list_in work) e past) tied.kept_text
+    spelled_kept (plan_in work) (reverse (list_in work)) (list_in work) any_disk e (last-follows (plan_in work) (list_in work) e past) tied.pending_text
 
 -- an event behind a lawful list may follow it
 pub may_come_now : (plan : Plan) (readings : List Reading) (list : List Event) (e : Event) → Lawful plan readings (list ++ e ∷ []) → may_follow plan (Some readings) (reverse list) e ≡ true

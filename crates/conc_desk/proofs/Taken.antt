@@ -30,7 +30,7 @@ use Rattle.conc_resolver_choice.specs.declared.choosing.Next.{Next}
 use Rattle.conc_run_state.specs.Works.{list_in}
 use Rattle.conc_run_state.specs.declared.work.Work.{Work}
 use Rattle.conc_run_steps.specs.Steps.{any_disk, IsTied, plan_in, readings_in}
-use Rattle.conc_run_steps.proofs.Kept.{tied-without}
+use Rattle.conc_run_steps.proofs.Pending.{tied-without}
 use Rattle.conc_desk.specs.Keeping.{AnswersTo, end_in, IsLeftIn, MakesOf}
 use Rattle.conc_desk.specs.Kept.{MayBeKept}
 use Rattle.conc_desk.specs.Seated.{IsSeated}

@@ -23,7 +23,7 @@ use Rattle.conc_board_seats.specs.Reports.{MayLeave}
 use Rattle.conc_board_seats.specs.declared.posted.Posted.{Posted}
 use Rattle.conc_board_seats.specs.declared.posted.Posted.TheVariants.{Text, Stopped, NoMemory}
 use Rattle.conc_resolver_choice.specs.declared.choosing.Next.{Next}
-use Rattle.conc_run_state.specs.Works.{HasKeptText}
+use Rattle.conc_run_state.specs.Works.{HasPendingText}
 use Rattle.conc_run_steps.specs.Steps.{readings_in, StoresOn}
 use Rattle.conc_spool.specs.Spools.{used_of}
 use Rattle.conc_desk.specs.declared.keeping.KeepFail.{KeepFail}
@@ -103,7 +103,7 @@ pub record IsReady (e : Event) (r : RequestId) (old new : Desk) (before after : 
   pub kept : new.kept ≡ Some e
   pub is_end : end_at old r ≡ Some e
   pub lawful : Lawful (plan_at old) (readings_in old.work) (list_at old ++ e ∷ [])
-  pub text : HasKeptText (plan_at old) (list_at old) after (Some e)
+  pub text : HasPendingText (plan_at old) (list_at old) after (Some e)
   pub stores : StoresOn (plan_at old) (used_of old.work.spool) (list_at old) (list_at old ++ e ∷ []) before after
 
 -- none is kept: the spool's disk failed, and has the texts of the list as before

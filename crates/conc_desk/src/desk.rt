@@ -14,7 +14,7 @@ use conc_disk::Disk;
 use conc_journal::Receipt;
 use conc_machine::Machine;
 use conc_run_state::Work;
-use conc_run_steps::{JournalFault, add_event, keep};
+use conc_run_steps::{JournalFault, add_event, store_text};
 use conc_types::{Event, PlaceId, Plan, RequestId};
 use std::marker::Model;
 
@@ -248,7 +248,7 @@ impl<'a> Desk<'a> {
         let Some(next) = end_left(self.plan, &self.work, r, posted) else {
             return Err(KeepFail::NoMemory);
         };
-        match keep(&mut self.work, spool, &next) {
+        match store_text(&mut self.work, spool, &next) {
             Ok(()) => {
                 self.kept = Some(next.event);
                 Ok(Kept::Ready(next.event))

@@ -5,12 +5,12 @@ ghost use Rattle.conc_disk.specs.Disk.{DiskState, Follows, HasAt, HasLength, IsL
 
 use conc_outside::Failed;
 
-/// A disk whose machine may stop at any moment. Between two syncs each written range, and the part
-/// past the old end, may hold any bytes after a stop; all other bytes stay. After a sync that
-/// succeeds a stop leaves what a read gives. A disk may tell nothing of its bytes; then it fails
+/// A disk whose machine may crash at any moment. Between two syncs each written range, and the part
+/// past the old end, may hold any bytes after a crash; all other bytes stay. After a sync that
+/// succeeds a crash leaves what a read gives. A disk may expose nothing of its bytes; then it fails
 /// where a range does not fit. A call fails only where the count of faults rises.
 pub trait Disk {
-    /// What it tells, and its count of faults.
+    /// What it exposes, and its count of faults.
     ghost state: { Self → DiskState };
 
     /// The number of bytes that a read gives.
@@ -51,7 +51,7 @@ pub trait Disk {
         ensures images { Follows (Shortened len) (state self.old) (state self.new) }
         ensures failed { OnErr result (Rose (state self.old).faults (state self.new).faults) };
 
-    /// Brings all that was written to the disk: from then on a stop leaves what a read gives.
+    /// Brings all that was written to the disk: from then on a crash leaves what a read gives.
     fn sync(&mut self) -> Result<(), Failed>
         ensures later { IsLater (state self.old) (state self.new) }
         ensures durable { OnOk result (LeavesWhatWasSeen (state self.old) (state self.new)) }

@@ -1,4 +1,4 @@
-//! What a disk is: what is read of it, what a stop at any moment may leave, and how often it failed.
+//! What a disk is: what is read of it, what a crash at any moment may leave, and how often it failed.
 #![tactic(auto)]
 
 mod disk;

@@ -1,4 +1,4 @@
--- The changes that a stop in a call has begun are the first of a trace, and what they may leave was left since its start.
+-- The changes that a crash in a call has begun are the first of a trace, and what they may leave was left since its start.
 use Rattle.std.proofs.Common.{◌≡◌, ℕ, suc, ◌≤◌, List, [], ◌∷◌, length, take, true, false, IsTrue, if◌then◌else◌, refl, ap, subst, arith}
 use Rattle.conc_disk_devices.specs.Laws.{both, both-first, both-second}
 use Rattle.conc_disk_devices.specs.Trace.{act_fits, after_act, all_fit, begun_in, is_begun, Leaves, LeavesSince}

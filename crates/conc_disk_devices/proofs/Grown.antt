@@ -1,9 +1,9 @@
--- A trace with one more change: what is read, what a stop may leave, and how time goes on.
+-- A trace with one more change: what is read, what a crash may leave, and how time goes on.
 use Rattle.std.proofs.Common.{◌≡◌, ℕ, ◌≤◌, List, [], ◌∷◌, ◌++◌, Some, sym, ◌∙◌, ap, subst}
 use Rattle.conc_disk.specs.Disk.{IsLater, Stays}
 use Rattle.conc_disk_devices.specs.Grows.{Grows, start}
 use Rattle.conc_disk_devices.specs.Laws.{seen-is-left}
-use Rattle.conc_disk_devices.specs.Memory.{told}
+use Rattle.conc_disk_devices.specs.Memory.{exposed}
 use Rattle.conc_disk_devices.specs.Trace.{ActLeaves, after, after_act, Leaves}
 use Rattle.conc_disk_devices.specs.declared.trace.Act.{Act}
 use Rattle.conc_disk_devices.specs.declared.trace.Act.TheVariants.{Sync}
@@ -31,14 +31,14 @@ module _ (old new : Trace) (number : ℕ) (act : Act) (grows : Grows old new num
       let split = leaves-push old.changes.items (record { number = number; act = act }) (start old) (start old) c more in
       (split.0, split.1, subst (λ (s : List ℕ). ActLeaves act s split.0 c) (sym old.kept) split.2)
 
-  pub later-grown : (before now : ℕ) → before ≤ now → IsLater (told (start old) old.bytes.items old.changes.items before) (told (start new) new.bytes.items new.changes.items now)
+  pub later-grown : (before now : ℕ) → before ≤ now → IsLater (exposed (start old) old.bytes.items old.changes.items before) (exposed (start new) new.bytes.items new.changes.items now)
   later-grown before now le =
-      subst (λ (s : List ℕ). IsLater (told (start old) old.bytes.items old.changes.items before) (told s new.bytes.items new.changes.items now)) (sym grows.start)
-      (subst (λ (l : List Change). IsLater (told (start old) old.bytes.items old.changes.items before) (told (start old) new.bytes.items l now)) (sym grows.changes)
+      subst (λ (s : List ℕ). IsLater (exposed (start old) old.bytes.items old.changes.items before) (exposed s new.bytes.items new.changes.items now)) (sym grows.start)
+      (subst (λ (l : List Change). IsLater (exposed (start old) old.bytes.items old.changes.items before) (exposed (start old) new.bytes.items l now)) (sym grows.changes)
       (later-push old.changes.items (record { number = number; act = act }) (start old) old.bytes.items new.bytes.items before now le))
 
 -- a sync
-pub stays-synced : (old new : Trace) (number before now : ℕ) → Grows old new number Sync → Stays (told (start old) old.bytes.items old.changes.items before) (told (start new) new.bytes.items new.changes.items now)
+pub stays-synced : (old new : Trace) (number before now : ℕ) → Grows old new number Sync → Stays (exposed (start old) old.bytes.items old.changes.items before) (exposed (start new) new.bytes.items new.changes.items now)
 stays-synced old new number before now grows = record {
   seen = ap Some (bytes-grown old new number Sync grows);
   images = λ c left.

@@ -1,15 +1,15 @@
--- The moments of a trace: what a stop since one of them may have left, and how this goes on.
+-- The moments of a trace: what a crash since one of them may have left, and how this goes on.
 use Rattle.std.proofs.Common.{◌≡◌, ◌⊎◌, inl, inr, ⊎_elim, ℕ, ◌+◌, ◌<◌, ◌≤◌, List, [], ◌∷◌, ◌++◌, length, take, sym, subst, le_refl, arith, length-append}
 use Rattle.std.proofs.lemmas.Bool.{cases_lt}
 use Rattle.std.proofs.lemmas.List.{take_all, take-append-le}
 use Rattle.conc_disk.specs.Disk.{IsLater}
-use Rattle.conc_disk_devices.specs.Memory.{told}
+use Rattle.conc_disk_devices.specs.Memory.{exposed}
 use Rattle.conc_disk_devices.specs.Trace.{Leaves, LeavesSince}
 use Rattle.conc_disk_devices.specs.declared.trace.Change.{Change}
 
 -- ---- time goes on
 
-pub later-same : (xs : List Change) (start old new : List ℕ) (before now : ℕ) → before ≤ now → IsLater (told start old xs before) (told start new xs now)
+pub later-same : (xs : List Change) (start old new : List ℕ) (before now : ℕ) → before ≤ now → IsLater (exposed start old xs before) (exposed start new xs now)
 later-same xs start old new before now le = record {
   faults = le;
   moment = le_refl (length xs);
@@ -34,7 +34,7 @@ module _ (xs : List Change) (y : Change) (start : List ℕ) where
       (λ (before : left.0 ≤ length xs). inl (left.0, left.1, before, subst (λ (l : List Change). Leaves l start start c) (shorter left.0 before) left.3))
       (cases_lt (length xs) left.0)
 
-  pub later-push : (old new : List ℕ) (before now : ℕ) → before ≤ now → IsLater (told start old xs before) (told start new (xs ++ y ∷ []) now)
+  pub later-push : (old new : List ℕ) (before now : ℕ) → before ≤ now → IsLater (exposed start old xs before) (exposed start new (xs ++ y ∷ []) now)
   later-push old new before now le = record {
     faults = le;
     moment = omega (arith, longer);

@@ -4,12 +4,12 @@ use Rattle.conc_outside.specs.Counts.{Rose}
 use Rattle.conc_disk.specs.Disk.{DiskState}
 use Rattle.conc_disk_devices.specs.Faults.{is_listed}
 use Rattle.conc_disk_devices.specs.Grows.{LeavesInCall, seen_in_call, start}
-use Rattle.conc_disk_devices.specs.Memory.{told}
+use Rattle.conc_disk_devices.specs.Memory.{exposed}
 use Rattle.conc_disk_devices.specs.declared.memory.MemDisk.{MemDisk}
 
--- what it tells
+-- what it exposes
 abbrev pub state_of : MemDisk → DiskState
-state_of disk = told (start disk.trace) disk.trace.bytes.items disk.trace.changes.items disk.counts.faults
+state_of disk = exposed (start disk.trace) disk.trace.bytes.items disk.trace.changes.items disk.counts.faults
 
 -- the numbers of the calls that are to fail
 abbrev pub fails_of : MemDisk → List ℕ
@@ -27,7 +27,7 @@ starved_of disk = disk.counts.starved
 abbrev pub coming_fails : MemDisk → Bool
 coming_fails disk = is_listed disk.counts
 
--- a stop in the call with this number may leave this image
+-- a crash in the call with this number may leave this image
 abbrev pub MayLeaveIn : MemDisk → ℕ → List ℕ → Type 0
 MayLeaveIn disk call image = LeavesInCall disk.trace call image
 

@@ -18,7 +18,7 @@ pub record IsSame (old new : Trace) : Type 0 where
   pub changes : new.changes.items ≡ old.changes.items
   pub bytes : new.bytes.items ≡ old.bytes.items
 
--- a stop in the call with this number may leave this image
+-- a crash in the call with this number may leave this image
 abbrev pub LeavesInCall : Trace → ℕ → List ℕ → Type 0
 LeavesInCall trace call image = Leaves (begun_in call trace.changes.items) (start trace) (start trace) image
 

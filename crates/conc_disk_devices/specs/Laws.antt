@@ -1,4 +1,4 @@
--- The laws of a disk in memory: what is seen is among what a stop may leave, and now is a moment since any.
+-- The laws of a disk in memory: what is seen is among what a crash may leave, and now is a moment since any.
 use Rattle.std.proofs.Common.{◌≡◌, ℕ, ◌≤◌, List, [], ◌∷◌, length, take, Bool, true, false, ◌&&◌, IsTrue, refl, subst, le_refl, sym, arith, length-append, length-take, length-drop, append_assoc}
 use Rattle.std.proofs.lemmas.List.{take_all, take_at, take_min, same_lists, places}
 use Rattle.conc_disk.specs.Disk.{Shortened, Torn, written}

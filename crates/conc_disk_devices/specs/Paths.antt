@@ -1,13 +1,13 @@
 -- A disk over the file at a path.
 use Rattle.std.specs.Prelude.{◌≡◌, Bool, IfSome, IsSomeAnd, IsTrue}
-use Rattle.conc_disk.specs.Disk.{DiskState, tells_nothing}
+use Rattle.conc_disk.specs.Disk.{DiskState, exposes_nothing}
 use Rattle.conc_disk_devices.specs.Files.{is_broken}
 use Rattle.conc_disk_devices.specs.declared.path.PathDisk.{PathDisk}
 
 module _ {R F D : Type 0} where
-  -- it tells nothing but its faults
+  -- it exposes nothing but its faults
   abbrev pub path_state : PathDisk R F D → DiskState
-  path_state disk = tells_nothing disk.faults.count
+  path_state disk = exposes_nothing disk.faults.count
 
   -- a sync of the open file has failed
   abbrev pub IsBroken : PathDisk R F D → Type 0

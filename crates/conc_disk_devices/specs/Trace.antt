@@ -29,7 +29,7 @@ abbrev pub all_fit : List Change → List ℕ → Bool
 all_fit [] seen = true
 all_fit (change ∷ changes) seen = act_fits change.act seen && all_fit changes (after_act change.act seen)
 
--- ---- what a stop may leave
+-- ---- what a crash may leave
 
 -- where this is seen, the act may leave the second image of the first
 abbrev pub ActLeaves : Act → List ℕ → List ℕ → List ℕ → Type 0
@@ -53,7 +53,7 @@ is_sync (Write at bytes) = false
 is_sync (Cut len) = false
 is_sync Sync = true
 
--- A stop in the call with this number has this change begun. A sync that is cut off counts for nothing.
+-- A crash in the call with this number has this change begun. A sync that is cut off counts for nothing.
 abbrev pub is_begun : ℕ → Change → Bool
 is_begun call change = if is_sync change.act then nat_lt change.number call else nat_le change.number call
 

@@ -1,6 +1,6 @@
 // The edge, which is trusted: that a read gives what was written, that a cut takes off what is past
 // its length, that a sync which succeeds has brought all of it to the disk, and that nobody else
-// writes the file, which is locked. No clause can say any of this, so a `FileDisk` tells nothing of
+// writes the file, which is locked. No clause can say any of this, so a `FileDisk` exposes nothing of
 // its bytes.
 ghost use Rattle.std.specs.Prelude.{◌≡◌, ◌≤◌, ◌+◌, length, take, is_err, IfOk, IsErr, IsTrue, OnErr, OnOk, false};
 ghost use Rattle.std.specs.Option.{option_map};

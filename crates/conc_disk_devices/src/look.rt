@@ -6,7 +6,7 @@ ghost use Rattle.conc_disk_devices.specs.Looks.{growing_state, snapshot_state};
 
 use crate::faults::Faults;
 use crate::file::{length_of, read_piece};
-use crate::opening::{must_stand_apart, open_old};
+use crate::opening::{must_be_elsewhere, open_old};
 use conc_disk::Disk;
 use conc_outside::{Failed, metadata_of, read_up_to};
 use std::alloc::Global;
@@ -18,7 +18,7 @@ use std::rt::Files;
 fn open_to_look<R: Files>(rt: &R, path: &str, others: &[&str]) -> Result<Option<R::File>, Failed> {
     let opened = open_old(rt, path, false)?;
     if let Some(file) = &opened {
-        must_stand_apart(rt, file, others)?;
+        must_be_elsewhere(rt, file, others)?;
         if metadata_of(file)?.is_dir() {
             return Err(Failed);
         }

@@ -14,8 +14,8 @@ use conc_outside::Failed;
 use conc_types::NoMemory;
 use std::alloc::Global;
 
-/// A disk in memory. It tells its bytes and keeps what it had at first and each write, cut and sync,
-/// each with the number of its call, so that it can show what a stop in any call may have left. A
+/// A disk in memory. It exposes its bytes and keeps what it had at first and each write, cut and sync,
+/// each with the number of its call, so that it can show what a crash in any call may have left. A
 /// call fails exactly where its number is listed or there is no memory, and then changes nothing.
 #[derive(Drop)]
 pub struct MemDisk {
@@ -54,7 +54,7 @@ impl MemDisk {
         self.counts.starved()
     }
 
-    /// One image that a stop in the call with this number may leave, the calls being counted from 0.
+    /// One image that a crash in the call with this number may leave, the calls being counted from 0.
     /// At the choice 0 nothing that was pending reached the disk, and at 1 all of it did. Any other
     /// takes a part of each write and cut, and an odd one also turns the rest of each write.
     pub fn image(&self, alloc: Global, calls: u64, choice: u64) -> Result<Vec<u8>, NoMemory>

@@ -4,7 +4,7 @@ ghost use Rattle.std.specs.Prelude.{◌≡◌, IfOk};
 ghost use Rattle.conc_disk_devices.specs.Files.{file_state};
 
 use crate::FileDisk;
-use conc_outside::{Failed, stands_at};
+use conc_outside::{Failed, is_at_one_of};
 use std::fs::{File, OpenFile, OpenOptions};
 use std::io::ErrorKind;
 use std::os::unix::fs::FileExt;
@@ -40,13 +40,13 @@ pub(crate) fn open_old<R: Files>(
     }
 }
 
-/// Fails where an open file stands at one of these paths too.
-pub(crate) fn must_stand_apart<R: Files>(
+/// Fails where an open file is at one of these paths too.
+pub(crate) fn must_be_elsewhere<R: Files>(
     rt: &R,
     file: &R::File,
     others: &[&str],
 ) -> Result<(), Failed> {
-    if stands_at(rt, file, others)? {
+    if is_at_one_of(rt, file, others)? {
         return Err(Failed);
     }
     Ok(())
@@ -92,6 +92,6 @@ where
         None => make_new(rt, path)?,
     };
     file.lock_file()?;
-    must_stand_apart(rt, &file, others)?;
+    must_be_elsewhere(rt, &file, others)?;
     Ok(FileDisk::new(file))
 }

@@ -13,7 +13,7 @@ use std::rt::Files;
 
 /// A disk over the file at a path. The first call opens and locks the file, and makes it where there is
 /// none; where that fails the call fails, and the next one tries again. From then on each call is one of
-/// the `FileDisk`, so it tells nothing of its bytes, and after a sync that failed each call fails. Each
+/// the `FileDisk`, so it exposes nothing of its bytes, and after a sync that failed each call fails. Each
 /// call that fails is counted. The count is of 64 bits and stands still at its end.
 #[derive(Drop)]
 pub struct PathDisk<'a, R: Files>

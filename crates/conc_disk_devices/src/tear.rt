@@ -1,4 +1,4 @@
-// What a stop may leave: one image of many.
+// What a crash may leave: one image of many.
 ghost use Rattle.std.specs.Prelude.{◌≡◌, ◌≤◌, ◌<◌, ◌+◌, ◌^◌, length, drop, take, IfOk, IsTrue, OnOk, vec_len};
 ghost use Rattle.conc_disk.specs.Disk.{Shortened, Torn, written};
 ghost use Rattle.conc_disk_devices.specs.Grows.{LeavesInCall, seen_in_call};
@@ -39,7 +39,7 @@ fn turned(alloc: Global, bytes: &[u8], kept: usize) -> Result<Vec<u8>, AllocErro
     Ok(piece)
 }
 
-/// A write that a stop cuts off: the first bytes are written, and the others stay or, at an odd
+/// A write that a crash cuts off: the first bytes are written, and the others stay or, at an odd
 /// choice, are turned. A write past the end of the image does not reach it.
 fn tear_write(
     alloc: Global,
@@ -65,7 +65,7 @@ fn tear_write(
     }
 }
 
-/// A cut that a stop cuts off: some of what is past the length is off.
+/// A cut that a crash cuts off: some of what is past the length is off.
 fn tear_cut(image: &mut Vec<u8>, len: usize, choice: u64, number: u64)
     ensures cut { Shortened len image.old.items image.new.items }
     ensures all { choice ≡ 1 → image.new.items ≡ take len image.old.items }
@@ -77,7 +77,7 @@ fn tear_cut(image: &mut Vec<u8>, len: usize, choice: u64, number: u64)
     }
 }
 
-/// What a stop may leave of an image after this change, where the given bytes are seen.
+/// What a crash may leave of an image after this change, where the given bytes are seen.
 fn tear(
     alloc: Global,
     change: &Change,
@@ -118,7 +118,7 @@ fn apply(change: &Change, seen: &mut Vec<u8>) -> Result<(), AllocError>
     }
 }
 
-/// Whether a stop in the call with this number has the change begun. A sync that is cut off counts
+/// Whether a crash in the call with this number has the change begun. A sync that is cut off counts
 /// for nothing.
 fn is_begun(change: &Change, call: u64) -> bool
     ensures { result ≡ is_begun call change.now }
@@ -129,7 +129,7 @@ fn is_begun(change: &Change, call: u64) -> bool
     }
 }
 
-/// The changes up to the first that is not begun at a stop in the call with this number.
+/// The changes up to the first that is not begun at a crash in the call with this number.
 fn begun(changes: &[Change], call: u64) -> &[Change]
     ensures { result.now ≡ begun_in call changes.now }
 {
@@ -140,7 +140,7 @@ fn begun(changes: &[Change], call: u64) -> &[Change]
     &changes[..count]
 }
 
-/// One image that a stop may leave after these changes.
+/// One image that a crash may leave after these changes.
 fn image_after(
     alloc: Global,
     start: &[u8],
@@ -160,7 +160,7 @@ fn image_after(
     Ok(image)
 }
 
-/// One image that a stop in the call with this number may leave.
+/// One image that a crash in the call with this number may leave.
 pub(crate) fn image_in_call(
     alloc: Global,
     trace: &Trace,

@@ -41,5 +41,6 @@ pub fn texts_are_read_back()
 /// table.
 pub fn read_texts_have_one_spelling()
     ensures { (plan : Plan) (bytes : List ℕ) → (history_in (starts_of plan) bytes).bad ≡ None →
-        bytes ≡ events_text plan (history_in (starts_of plan) bytes).events ++ codes "--\n" ++ drop (history_in (starts_of plan) bytes).next bytes }
+        bytes ≡ events_text plan (history_in (starts_of plan) bytes).events ++ codes "--\n"
+        ++ drop (history_in (starts_of plan) bytes).next bytes }
 {}

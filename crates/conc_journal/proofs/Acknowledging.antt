@@ -8,7 +8,7 @@ use Rattle.conc_disk.specs.Disk.{DiskState, LeavesWhatWasSeen, Stays}
 use Rattle.conc_disk.specs.Left.{EachImage, LeavesOnly}
 use Rattle.conc_journal_image.proofs.Beginning.{header-begun}
 use Rattle.conc_journal_image.specs.Image.{digest_in, found_in, IsJournal}
-use Rattle.conc_journal.specs.Acknowledged.{event_at, HasEventOf, IsAcknowledged, Keeps, StaysIn}
+use Rattle.conc_journal.specs.Acknowledged.{event_at, HasEventOf, IsAcknowledged, HasReceipt, StaysIn}
 use Rattle.conc_journal.specs.Journals.{FitsState, IsOn, list_of, state_of}
 use Rattle.conc_journal.specs.JournalStates.{after_fault, state_with, takes_events}
 use Rattle.conc_journal.specs.Opens.{IsFoundIn}
@@ -64,14 +64,14 @@ module _ (receipt : Receipt) where
   after-takes event (Broken digest) takes = takes
   after-takes event (AppendFailed digest other) takes = takes
 
-  pub on-has : (journal : Journal) (disk : DiskState) → Keeps journal receipt → IsOn journal disk → IsAcknowledged receipt journal disk
+  pub on-has : (journal : Journal) (disk : DiskState) → HasReceipt journal receipt → IsOn journal disk → IsAcknowledged receipt journal disk
   on-has journal disk keeps on = record {
-    kept = keeps;
+    in_list = keeps;
     images = each-more (FitsState (state_of journal) (list_of journal)) (HasEventOf receipt) disk on (λ c fits. fits-has (state_of journal) (list_of journal) c keeps.takes keeps.at_number fits);
   }
 
   -- an append keeps it
-  pub append-keeps : (event : Event) (was journal : Journal) (old new : DiskState) → Keeps was receipt → Keeps journal receipt → IsOn journal new
+  pub append-keeps : (event : Event) (was journal : Journal) (old new : DiskState) → HasReceipt was receipt → HasReceipt journal receipt → IsOn journal new
       → LeavesOnly (FitsState (after_fault event (state_of was)) (list_of was)) old new → StaysIn receipt journal old new
   append-keeps event was journal old new before keeps on left = record {
     now = on-has journal new keeps on;
@@ -81,7 +81,7 @@ module _ (receipt : Receipt) where
 
   -- ---- a journal that is opened
 
-  opened-keeps : (image : List ℕ) (opened : Opened) → HasEventOf receipt image → IsFoundIn image opened → state_of opened.journal ≡ state_with opened.digest opened.broken → list_of opened.journal ≡ opened.events.items → Keeps opened.journal receipt
+  opened-keeps : (image : List ℕ) (opened : Opened) → HasEventOf receipt image → IsFoundIn image opened → state_of opened.journal ≡ state_with opened.digest opened.broken → list_of opened.journal ≡ opened.events.items → HasReceipt opened.journal receipt
   opened-keeps image opened has found state list =
       let begun = header-begun image has.header in
       let digest : opened.digest ≡ Some (digest_in image) = found.digest ∙ ap (λ (b : Bool). if b then None else Some (digest_in image)) begun in
@@ -109,7 +109,7 @@ module _ (receipt : Receipt) where
         go : (seen : Option (List ℕ)) → IfSome seen old.may_leave → IfSome seen (λ bytes. (c : List ℕ) → old.may_leave c → HasEventOf receipt c) → IfSome seen (λ image. IsFoundIn image opened)
             → IfSome seen (λ image. IsAcknowledged receipt opened.journal new)
         go None is all finds = tt
-        go (Some bytes) is all finds = record { kept = opened-keeps bytes opened (all bytes is) finds state list; images = images-have }
+        go (Some bytes) is all finds = record { in_list = opened-keeps bytes opened (all bytes is) finds state list; images = images-have }
 
     pub answer-has : (answer : Result Opened JournalFail) → IfOk answer (λ opened. IfSome old.seen (λ image. IsFoundIn image opened)) → IfOk answer (λ opened. state_of opened.journal ≡ state_with opened.digest opened.broken)
         → IfOk answer (λ opened. list_of opened.journal ≡ opened.events.items) → IfOk answer (λ opened. IfSome old.seen (λ image. IsAcknowledged receipt opened.journal new))

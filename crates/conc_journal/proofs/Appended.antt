@@ -30,14 +30,14 @@ journal-reaches digest events at disk is is_left each =
 module _ (digest : List ℕ) (events : List Event) (event : Event) (at : ℕ) (spelled : List ℕ) (at_is : at ≡ 64 + 32 * length events) (room : length events < 1048576) (is : IsSpelled event spelled) (old new : DiskState) (was : EachImage (IsJournal digest events) old) where
   -- while it is added
   pub images-fit : is_some new.seen ≡ is_some old.seen → EachImage (AddedFrom old at spelled) new → EachImage (HasOrAdds digest events event) new
-  images-fit tells each =
-      each-from (AddedFrom old at spelled) (HasOrAdds digest events event) (IsJournal digest events) old new tells was each (λ before c from.
+  images-fit exposes each =
+      each-from (AddedFrom old at spelled) (HasOrAdds digest events event) (IsJournal digest events) old new exposes was each (λ before c from.
       adds-fits digest events event spelled from.0 room is (before from.0 from.1) at c at_is from.2)
 
   -- when it is added
   pub images-have : is_some new.seen ≡ is_some old.seen → LeavesAdded at spelled old new → EachImage (IsJournal digest (events ++ event ∷ [])) new
-  images-have tells each =
-      each-from (λ image. (before : List ℕ) × old.may_leave before × (at < length before) × (image ≡ written at (1 ∷ []) (written (at + 1) spelled before))) (IsJournal digest (events ++ event ∷ [])) (IsJournal digest events) old new tells was each (λ before c from.
+  images-have exposes each =
+      each-from (λ image. (before : List ℕ) × old.may_leave before × (at < length before) × (image ≡ written at (1 ∷ []) (written (at + 1) spelled before))) (IsJournal digest (events ++ event ∷ [])) (IsJournal digest events) old new exposes was each (λ before c from.
       added-fits digest events event spelled from.0 room is (before from.0 from.1) at c at_is from.3)
 
   -- at each moment

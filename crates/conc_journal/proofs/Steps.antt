@@ -4,18 +4,18 @@ use Rattle.conc_disk.specs.Disk.{DiskState, Follows, HasLength, LeavesWhatWasSee
 use Rattle.conc_disk.specs.Left.{EachImage, LeavesOnly, TornFrom}
 use Rattle.conc_journal.specs.Left.{LeavesWritten}
 
--- ---- where it tells
+-- ---- where it exposes its bytes
 
--- what tells now told before, so what was known there goes on
-pub told-if : (old new : Option (List ℕ)) (P Q : Type 0) → is_some new ≡ is_some old → IfSome old (λ bytes. P) → (P → Q) → IfSome new (λ bytes. Q)
-told-if None None P Q same p f = tt
-told-if None (Some b) P Q same p f = absurd (cc)
-told-if (Some a) None P Q same p f = tt
-told-if (Some a) (Some b) P Q same p f = f p
+-- what is exposed now was exposed before, so what was known there goes on
+pub exposed-if : (old new : Option (List ℕ)) (P Q : Type 0) → is_some new ≡ is_some old → IfSome old (λ bytes. P) → (P → Q) → IfSome new (λ bytes. Q)
+exposed-if None None P Q same p f = tt
+exposed-if None (Some b) P Q same p f = absurd (cc)
+exposed-if (Some a) None P Q same p f = tt
+exposed-if (Some a) (Some b) P Q same p f = f p
 
-pub told-both : (old : Option (List ℕ)) (P Q R : Type 0) → IfSome old (λ bytes. P) → IfSome old (λ bytes. Q) → (P → Q → R) → IfSome old (λ bytes. R)
-told-both None P Q R p q f = tt
-told-both (Some a) P Q R p q f = f p q
+pub exposed-both : (old : Option (List ℕ)) (P Q R : Type 0) → IfSome old (λ bytes. P) → IfSome old (λ bytes. Q) → (P → Q → R) → IfSome old (λ bytes. R)
+exposed-both None P Q R p q f = tt
+exposed-both (Some a) P Q R p q f = f p q
 
 -- what follows where a call did what it was to do
 pub on-ok : {E : Type 0} (r : Result (Unit {0}) E) (P Q : Type 0) → OnOk r P → (P → Q) → OnOk r Q
@@ -27,13 +27,13 @@ on-ok (Err e) P Q p f = tt
 -- images of one kind are of each kind that follows from it
 pub each-more : (P Q : List ℕ → Type 0) (disk : DiskState) → EachImage P disk → ((c : List ℕ) → P c → Q c) → EachImage Q disk
 each-more P Q disk each more =
-    told-if disk.seen disk.seen ((c : List ℕ) → disk.may_leave c → P c) ((c : List ℕ) → disk.may_leave c → Q c) refl each (λ p c left. more c (p c left))
+    exposed-if disk.seen disk.seen ((c : List ℕ) → disk.may_leave c → P c) ((c : List ℕ) → disk.may_leave c → Q c) refl each (λ p c left. more c (p c left))
 
--- the same from one state to the next, where the disk tells what the images before were like
+-- the same from one state to the next, where the disk exposes what the images before were like
 pub each-from : (P Q R : List ℕ → Type 0) (old new : DiskState) → is_some new.seen ≡ is_some old.seen → EachImage R old → EachImage P new → (((d : List ℕ) → old.may_leave d → R d) → (c : List ℕ) → P c → Q c) → EachImage Q new
-each-from P Q R old new tells was is more =
-    told-both new.seen ((d : List ℕ) → old.may_leave d → R d) ((c : List ℕ) → new.may_leave c → P c) ((c : List ℕ) → new.may_leave c → Q c)
-    (told-if old.seen new.seen ((d : List ℕ) → old.may_leave d → R d) ((d : List ℕ) → old.may_leave d → R d) tells was (λ r. r)) is (λ r p c left. more r c (p c left))
+each-from P Q R old new exposes was is more =
+    exposed-both new.seen ((d : List ℕ) → old.may_leave d → R d) ((c : List ℕ) → new.may_leave c → P c) ((c : List ℕ) → new.may_leave c → Q c)
+    (exposed-if old.seen new.seen ((d : List ℕ) → old.may_leave d → R d) ((d : List ℕ) → old.may_leave d → R d) exposes was (λ r. r)) is (λ r p c left. more r c (p c left))
 
 -- a disk reaches as far as each of its images
 pub reaches : (P : List ℕ → Type 0) (n : ℕ) (disk : DiskState) → IfSome disk.seen disk.may_leave → EachImage P disk → ((c : List ℕ) → P c → n ≤ length c) → Reaches disk n
@@ -50,29 +50,29 @@ pub left-more : (P Q : List ℕ → Type 0) (old new : DiskState) → LeavesOnly
 left-more P Q old new left more = record {
   faults = left.faults;
   moment = left.moment;
-  tells = left.tells;
+  exposes = left.exposes;
   keeps = left.keeps;
   nothing_else =
-      told-if old.seen old.seen ((t : ℕ) (c : List ℕ) → t ≤ old.moment → new.left_since t c → old.left_since t c ⊎ P c) ((t : ℕ) (c : List ℕ) → t ≤ old.moment → new.left_since t c → old.left_since t c ⊎ Q c) refl left.nothing_else (λ p t c le since. ⊎_elim (λ was. inl was) (λ is. inr (more c is)) (p t c le since));
+      exposed-if old.seen old.seen ((t : ℕ) (c : List ℕ) → t ≤ old.moment → new.left_since t c → old.left_since t c ⊎ P c) ((t : ℕ) (c : List ℕ) → t ≤ old.moment → new.left_since t c → old.left_since t c ⊎ Q c) refl left.nothing_else (λ p t c le since. ⊎_elim (λ was. inl was) (λ is. inr (more c is)) (p t c le since));
 }
 
--- the same, where the disk tells what the images before were like
+-- the same, where the disk exposes what the images before were like
 pub left-from : (P Q R : List ℕ → Type 0) (old new : DiskState) → EachImage R old → LeavesOnly P old new → (((d : List ℕ) → old.may_leave d → R d) → (c : List ℕ) → P c → Q c) → LeavesOnly Q old new
 left-from P Q R old new each left more = record {
   faults = left.faults;
   moment = left.moment;
-  tells = left.tells;
+  exposes = left.exposes;
   keeps = left.keeps;
   nothing_else =
-      told-both old.seen ((d : List ℕ) → old.may_leave d → R d) ((t : ℕ) (c : List ℕ) → t ≤ old.moment → new.left_since t c → old.left_since t c ⊎ P c) ((t : ℕ) (c : List ℕ) → t ≤ old.moment → new.left_since t c → old.left_since t c ⊎ Q c) each left.nothing_else (λ r p t c le since. ⊎_elim (λ was. inl was) (λ is. inr (more r c is)) (p t c le since));
+      exposed-both old.seen ((d : List ℕ) → old.may_leave d → R d) ((t : ℕ) (c : List ℕ) → t ≤ old.moment → new.left_since t c → old.left_since t c ⊎ P c) ((t : ℕ) (c : List ℕ) → t ≤ old.moment → new.left_since t c → old.left_since t c ⊎ Q c) each left.nothing_else (λ r p t c le since. ⊎_elim (λ was. inl was) (λ is. inr (more r c is)) (p t c le since));
 }
 
 -- ---- one write, where it is known what the images before were like
 
 -- what each image is then
 pub each-torn : (R Q : List ℕ → Type 0) (at n : ℕ) (old new : DiskState) → is_some new.seen ≡ is_some old.seen → EachImage R old → Follows (Torn at n) old new → ((d c : List ℕ) → R d → Torn at n d c → Q c) → EachImage Q new
-each-torn R Q at n old new tells was follows more =
-    told-if old.seen new.seen ((d : List ℕ) → old.may_leave d → R d) ((c : List ℕ) → new.may_leave c → Q c) tells was (λ r c left. let from = follows c left in more from.0 c (r from.0 from.1) from.2)
+each-torn R Q at n old new exposes was follows more =
+    exposed-if old.seen new.seen ((d : List ℕ) → old.may_leave d → R d) ((c : List ℕ) → new.may_leave c → Q c) exposes was (λ r c left. let from = follows c left in more from.0 c (r from.0 from.1) from.2)
 
 -- at each moment
 pub left-torn : (R Q : List ℕ → Type 0) (at n : ℕ) (old new : DiskState) → EachImage R old → LeavesOnly (TornFrom old at n) old new → ((d c : List ℕ) → R d → Torn at n d c → Q c) → LeavesOnly Q old new
@@ -80,8 +80,8 @@ left-torn R Q at n old new was left more = left-from (TornFrom old at n) Q R old
 
 -- and when it is done
 pub each-written : (R Q : List ℕ → Type 0) (at : ℕ) (bytes : List ℕ) (old new : DiskState) → is_some new.seen ≡ is_some old.seen → EachImage R old → LeavesWritten at bytes old new → ((d c : List ℕ) → R d → c ≡ written at bytes d → Q c) → EachImage Q new
-each-written R Q at bytes old new tells was done more =
-    each-from (λ image. (before : List ℕ) × old.may_leave before × (at ≤ length before) × (image ≡ written at bytes before)) Q R old new tells was done (λ r c from. more from.0 c (r from.0 from.1) from.3)
+each-written R Q at bytes old new exposes was done more =
+    each-from (λ image. (before : List ℕ) × old.may_leave before × (at ≤ length before) × (image ≡ written at bytes before)) Q R old new exposes was done (λ r c from. more from.0 c (r from.0 from.1) from.3)
 
 -- after a sync each image has the length that is told
 pub settled : (R : List ℕ → Type 0) (n : ℕ) (old new : DiskState) → EachImage R old → Stays old new → LeavesWhatWasSeen old new → HasLength new n → EachImage (λ c. R c × (n ≡ length c)) new

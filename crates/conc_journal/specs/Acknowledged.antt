@@ -16,7 +16,7 @@ event_at events zero = None
 event_at events (suc before) = slice_get events before
 
 -- the journal has the receipt's event at its number
-pub record Keeps (journal : Journal) (receipt : Receipt) : Type 0 where
+pub record HasReceipt (journal : Journal) (receipt : Receipt) : Type 0 where
   pub takes : IsTrue (takes_events (state_of journal))
   pub at_number : event_at (list_of journal) (number_of receipt) ≡ Some (event_of receipt)
 
@@ -26,12 +26,12 @@ pub record HasEventOf (receipt : Receipt) (image : List ℕ) : Type 0 where
   pub whole : (found_in image).broken ≡ None
   pub at_number : event_at (found_in image).events (number_of receipt) ≡ Some (event_of receipt)
 
--- the journal has it, and, where the disk tells, so has each image now
+-- the journal has it, and, where the disk exposes its bytes, so has each image now
 pub record IsAcknowledged (receipt : Receipt) (journal : Journal) (disk : DiskState) : Type 0 where
-  pub kept : Keeps journal receipt
+  pub in_list : HasReceipt journal receipt
   pub images : EachImage (HasEventOf receipt) disk
 
--- after a call they have it still, and a stop in the call leaves it too
+-- after a call they have it still, and a crash in the call leaves it too
 pub record StaysIn (receipt : Receipt) (journal : Journal) (old new : DiskState) : Type 0 where
   pub now : IsAcknowledged receipt journal new
   pub at_each_moment : LeavesOnly (HasEventOf receipt) old new

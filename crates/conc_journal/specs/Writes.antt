@@ -1,14 +1,11 @@
 -- The bytes that a journal writes.
-use Rattle.std.specs.Prelude.{◌≡◌, ℕ, ◌+◌, ◌*◌, ◌<◌, List, [], ◌∷◌, ◌++◌, All, Some}
+use Rattle.std.specs.Prelude.{◌≡◌, ℕ, ◌<◌, List, [], ◌∷◌, ◌++◌, All, Some}
 use Rattle.conc_types.specs.declared.event.Event.{Event}
 use Rattle.conc_disk.specs.Disk.{DiskState}
 use Rattle.conc_disk.specs.Left.{HasWritten}
 use Rattle.conc_journal_image.specs.Fields.{event_in}
 use Rattle.conc_journal_image.specs.Headers.{header_behind}
-
--- where the record with this number begins, counted from 1
-abbrev pub place_of : ℕ → ℕ
-place_of number = 32 + 32 * number
+use Rattle.conc_journal_image.specs.Layout.{offset_behind}
 
 -- these are the 31 bytes that spell the event; it has no others
 pub record Spells (event : Event) (bytes : List ℕ) : Type 0 where
@@ -19,10 +16,10 @@ pub record Spells (event : Event) (bytes : List ℕ) : Type 0 where
 abbrev pub behind_open_gate : List ℕ → List ℕ
 behind_open_gate bytes = 1 ∷ (bytes ++ 0 ∷ [])
 
--- where the disk tells, the record with this number was written, with the closed gate behind it, and nothing else
+-- where the disk exposes its bytes, the record behind so many others was written, with the closed gate behind it, and nothing else
 abbrev pub HasAppended : Event → ℕ → DiskState → DiskState → Type 0
-HasAppended event number old new = (bytes : List ℕ) × Spells event bytes × HasWritten (place_of number) (behind_open_gate bytes) old new
+HasAppended event records old new = (bytes : List ℕ) × Spells event bytes × HasWritten (offset_behind records) (behind_open_gate bytes) old new
 
--- where the disk tells, the header with this digest was written, with the closed gate behind it, and nothing else
+-- where the disk exposes its bytes, the header with this digest was written, with the closed gate behind it, and nothing else
 abbrev pub HasBegun : List ℕ → DiskState → DiskState → Type 0
 HasBegun digest old new = HasWritten 0 (1 ∷ header_behind digest) old new

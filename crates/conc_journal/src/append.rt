@@ -2,6 +2,7 @@ ghost use Rattle.std.specs.Prelude.{◌≡◌, ◌+◌, ◌^◌, ◌<◌, [], �
 ghost use Rattle.conc_outside.specs.Counts.{Rose};
 ghost use Rattle.conc_disk.specs.Disk.{Reaches};
 ghost use Rattle.conc_journal_image.specs.Fields.{has_record};
+ghost use Rattle.conc_journal_image.specs.declared.layout.TheConstants.{RECORD_BYTES};
 ghost use Rattle.conc_disk.specs.Left.{EachImage, HasWritten, LeavesOnly, TornFrom};
 ghost use Rattle.conc_journal.specs.Left.{AddedFrom, LeavesAdded};
 ghost use Rattle.conc_journal.specs.Records.{IsSpelled};
@@ -41,8 +42,8 @@ pub(crate) fn add_record<D: Disk>(disk: &mut D, at: u64, spelled: &[u8; 32]) -> 
         (D.state disk.new)) }
     ensures survives { LeavesOnly (AddedFrom (D.state disk.old) at spelled.now) (D.state disk.old)
         (D.state disk.new) }
-    ensures writes_there { LeavesOnly (TornFrom (D.state disk.old) at 33) (D.state disk.old)
-        (D.state disk.new) }
+    ensures writes_there { LeavesOnly (TornFrom (D.state disk.old) at (RECORD_BYTES + 1))
+        (D.state disk.old) (D.state disk.new) }
     ensures failed { OnErr result (Rose (D.state disk.old).faults (D.state disk.new).faults) }
 {
     write_durable(disk, at + 1, spelled)?;

@@ -1,11 +1,13 @@
 ghost use Rattle.std.specs.Prelude.{◌≡◌, ◌↔◌, ◌+◌, ◌<◌, ◌≤◌, [], ◌∷◌, ◌++◌, length, max, vec_len, IfOk, IsErrOf, IsOk, IsTrue, OnErr, OnOk};
 ghost use Rattle.std.specs.Vec.{vec_capacity};
+ghost use Rattle.conc_journal_image.specs.declared.layout.TheConstants.{MOST_RECORDS};
 ghost use Rattle.conc_journal.specs.JournalStates.{fits_count};
 
 use crate::append::{add_record, record_before_gate};
 use crate::begin::write_header;
 use crate::{AppendFail, Receipt};
 use conc_disk::{Disk, DiskFault};
+use conc_journal_image::offset_behind;
 use conc_outside::Failed;
 use conc_types::{Event, NoMemory};
 
@@ -30,19 +32,21 @@ pub struct Journal {
     state: JournalState,
     events: Vec<Event>,
     room: u64,
-    ghost kept: { room + vec_len events ≤ vec_capacity events },
-    ghost few: { room + vec_len events ≤ 1048576 },
+    ghost has_room: { room + vec_len events ≤ vec_capacity events },
+    ghost few: { room + vec_len events ≤ MOST_RECORDS },
     ghost begun: { IsTrue (fits_count state (vec_len events)) },
 }
 
 impl Journal {
     ghost use Rattle.conc_outside.specs.Counts.{Rose};
     ghost use Rattle.conc_journal_image.specs.Fields.{has_record};
+    ghost use Rattle.conc_journal_image.specs.Layout.{offset_behind};
+    ghost use Rattle.conc_journal_image.specs.declared.layout.TheConstants.{HEADER_BYTES, RECORD_BYTES};
     ghost use Rattle.conc_journal.specs.Journals.{FitsState, IsOn, list_of, room_of, state_of};
     ghost use Rattle.conc_disk.specs.Left.{LeavesOnly, TornFrom};
-    ghost use Rattle.conc_journal.specs.Acknowledged.{IsAcknowledged, Keeps, StaysIn};
+    ghost use Rattle.conc_journal.specs.Acknowledged.{IsAcknowledged, HasReceipt, StaysIn};
     ghost use Rattle.conc_journal.specs.Receipts.{event_of, number_of};
-    ghost use Rattle.conc_journal.specs.Writes.{HasAppended, HasBegun, place_of};
+    ghost use Rattle.conc_journal.specs.Writes.{HasAppended, HasBegun};
     ghost use Rattle.conc_journal.specs.declared.receipt.Receipt.{Receipt as Acknowledged};
     ghost use Rattle.conc_journal.specs.JournalStates.{after_fault, has_faulted, takes_events};
     ghost use Rattle.conc_journal.specs.declared.error.AppendFail.TheVariants as AppendFail;
@@ -50,7 +54,7 @@ impl Journal {
 
     // A journal with these events, without room for more.
     pub(crate) fn with_events(state: JournalState, events: Vec<Event>) -> Journal
-        requires few { vec_len events ≤ 1048576 }
+        requires few { vec_len events ≤ MOST_RECORDS }
         requires state { IsTrue (fits_count state (vec_len events)) }
         ensures list { list_of result ≡ events.items }
         ensures state { state_of result ≡ state }
@@ -89,7 +93,7 @@ impl Journal {
 
     /// Takes room for this many events, unless there is as much.
     pub fn reserve(&mut self, records: u64) -> Result<(), NoMemory>
-        requires { length (list_of self.old) + records ≤ 1048576 }
+        requires { length (list_of self.old) + records ≤ MOST_RECORDS }
         ensures room { OnOk result (room_of self.new ≡ max records (room_of self.old)) }
         ensures unchanged { OnErr result (room_of self.new ≡ room_of self.old) }
         ensures enough { records ≤ room_of self.old → IsOk result }
@@ -102,7 +106,7 @@ impl Journal {
     }
 
     /// Begins a journal for the input with this digest, where none was begun. After an `Ok` each image
-    /// that a stop may leave has its header, and no event: its 65 bytes are written, and no others. After
+    /// that a crash may leave has its header, and no event: its 65 bytes are written, and no others. After
     /// a fault only `events` is of use.
     pub fn begin<D: Disk>(&mut self, disk: &mut D, digest: &[u8; 32]) -> Result<(), DiskFault>
         requires state { state_of self.old ≡ NotBegun }
@@ -117,8 +121,8 @@ impl Journal {
         ensures written { OnOk result (HasBegun digest.now (D.state disk.old) (D.state disk.new)) }
         ensures survives { LeavesOnly (FitsState (BeginFailed digest.now) []) (D.state disk.old)
             (D.state disk.new) }
-        ensures writes_there { LeavesOnly (TornFrom (D.state disk.old) 0 65) (D.state disk.old)
-            (D.state disk.new) }
+        ensures writes_there { LeavesOnly (TornFrom (D.state disk.old) 0 (HEADER_BYTES + 1))
+            (D.state disk.old) (D.state disk.new) }
     {
         match write_header(disk, digest) {
             Ok(()) => {
@@ -146,7 +150,7 @@ impl Journal {
         }
     }
 
-    /// Adds an event. After an `Ok` each image that a stop may leave has it: its record and the closed
+    /// Adds an event. After an `Ok` each image that a crash may leave has it: its record and the closed
     /// gate behind it are written, 33 bytes, and no others. After a fault the disk has the list with the
     /// event or without, and each later call fails and does nothing until the file is opened again. What
     /// was acknowledged before stays throughout. It takes no memory.
@@ -167,7 +171,7 @@ impl Journal {
 
         ensures acknowledged { IfOk result (λ receipt. IsAcknowledged receipt self.new
             (D.state disk.new)) }
-        ensures written { OnOk result (HasAppended event (length (list_of self.new))
+        ensures written { OnOk result (HasAppended event (length (list_of self.old))
             (D.state disk.old) (D.state disk.new)) }
 
         // A fault.
@@ -184,22 +188,23 @@ impl Journal {
         ensures same { IsErrOf result AppendFail.Failed → self.new ≡ self.old }
         ensures untouched { IsErrOf result AppendFail.Failed → disk.new ≡ disk.old }
 
-        // A stop at any moment leaves the list with the event or without.
+        // A crash at any moment leaves the list with the event or without.
         ensures survives { LeavesOnly (FitsState (after_fault event (state_of self.old))
             (list_of self.old)) (D.state disk.old) (D.state disk.new) }
         ensures writes_there { LeavesOnly (TornFrom (D.state disk.old)
-            (place_of (length (list_of self.old) + 1)) 33) (D.state disk.old) (D.state disk.new) }
+            (offset_behind (length (list_of self.old))) (RECORD_BYTES + 1))
+            (D.state disk.old) (D.state disk.new) }
 
         // What was acknowledged before stays.
-        ensures stays { (receipt : Acknowledged) → Keeps self.old receipt
+        ensures stays { (receipt : Acknowledged) → HasReceipt self.old receipt
             → StaysIn receipt self.new (D.state disk.old) (D.state disk.new) }
     {
         let JournalState::Begun { digest } = self.state else {
             return Err(AppendFail::Failed);
         };
-        let number = self.events.len() as u64 + 1;
-        let at = 32 + 32 * number;
-        match add_record(disk, at, &record_before_gate(event)) {
+        let before = self.events.len() as u64;
+        let number = before + 1;
+        match add_record(disk, offset_behind(before), &record_before_gate(event)) {
             Ok(()) => {
                 self.push(event);
                 Ok(Receipt { number, event })

@@ -1,4 +1,4 @@
-//! A journal over a disk: each event is on the disk before it is acknowledged, and a stop within any write
+//! A journal over a disk: each event is on the disk before it is acknowledged, and a crash within any write
 //! leaves the events before it, with that event or without.
 #![tactic(auto)]
 

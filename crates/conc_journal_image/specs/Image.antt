@@ -1,9 +1,10 @@
 -- What the bytes of a journal stand for.
-use Rattle.std.specs.Prelude.{◌≡◌, ℕ, zero, suc, ◌+◌, ◌*◌, Bool, ◌&&◌, ◌||◌, not, ◌==◌, nat_le, if◌then◌else◌, List, [], ◌∷◌, ◌++◌, codes, length, take, drop, slice_index, Option, None, Some, IsTrue}
+use Rattle.std.specs.Prelude.{◌≡◌, ℕ, zero, suc, ◌+◌, Bool, ◌&&◌, ◌||◌, not, ◌==◌, nat_le, if◌then◌else◌, List, [], ◌∷◌, ◌++◌, codes, length, take, drop, slice_index, Option, None, Some, IsTrue}
 use Rattle.std.specs.Str.{bytes_eq}
 use Rattle.conc_types.specs.declared.event.Event.{Event}
-use Rattle.conc_journal_image.specs.declared.found.TheConstants.{MOST_RECORDS}
+use Rattle.conc_journal_image.specs.declared.layout.TheConstants.{MOST_RECORDS}
 use Rattle.conc_journal_image.specs.Fields.{are_zero, event_in}
+use Rattle.conc_journal_image.specs.Layout.{offset_behind}
 
 -- ---- the header
 
@@ -74,4 +75,4 @@ pub record IsJournal (digest : List ℕ) (events : List Event) (image : List ℕ
 pub record HasNext (events : List Event) (e : Event) (image : List ℕ) : Type 0 where
   pub bytes : List ℕ
   pub spelled : event_in bytes ≡ Some e
-  pub here : take 32 (drop (64 + 32 * length events + 1) image) ≡ bytes ++ 0 ∷ []
+  pub here : take 32 (drop (offset_behind (length events) + 1) image) ≡ bytes ++ 0 ∷ []

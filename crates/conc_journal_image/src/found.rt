@@ -3,16 +3,10 @@ ghost use Rattle.std.specs.Option.{option_map};
 ghost use Rattle.conc_journal_image.specs.Image.{found_in, whole_record};
 
 use crate::header::is_closed;
+use crate::layout::MOST_RECORDS;
 use crate::record::read_record;
 use conc_types::{Event, NoMemory};
 use std::alloc::Global;
-
-/// A journal has at most so many records.
-pub const MOST_RECORDS: u64 = 1_048_576;
-
-/// Of an image no more than so many bytes tell what stands in it: the header, the most records, and
-/// the gate behind them.
-pub const MOST_BYTES: u64 = 64 + 32 * MOST_RECORDS + 1;
 
 /// What stands in a journal.
 #[derive(Debug, Drop)]

@@ -40,7 +40,8 @@ fn is_not_begun(image: &[u8]) -> bool
 // The title and the bytes behind the digest are those of a journal.
 fn is_titled(image: &[u8]) -> bool
     requires { 65 ≤ length image.now }
-    ensures { result ≡ (bytes_eq (take 15 (drop 1 image.now)) (codes "conc journal 1\n") && are_zero (take 16 (drop 48 image.now))) }
+    ensures { result ≡ (bytes_eq (take 15 (drop 1 image.now)) (codes "conc journal 1\n")
+        && are_zero (take 16 (drop 48 image.now))) }
 {
     &image[1..16] == TITLE.as_slice() && are_zero(&image[48..64])
 }

@@ -1,11 +1,12 @@
 //! Laws over all bytes. Each function here has an empty body; its contract is the law.
-ghost use Rattle.std.specs.Prelude.{◌≡◌, ◌≢◌, ◌⊎◌, ◌+◌, ◌*◌, ◌<◌, ◌≤◌, ◌∷◌, ◌++◌, [], ℕ, List, All, IsTrue, Some, drop, length, min, slice_index, take};
+ghost use Rattle.std.specs.Prelude.{◌≡◌, ◌≢◌, ◌⊎◌, ◌+◌, ◌<◌, ◌≤◌, ◌∷◌, ◌++◌, [], ℕ, List, All, IsTrue, Some, drop, length, min, slice_index, take};
 ghost use Rattle.conc_types.specs.declared.event.Event.{Event};
 ghost use Rattle.conc_journal_image.specs.Fields.{event_in, has_record};
 ghost use Rattle.conc_journal_image.specs.Headers.{BeginsJournal};
 ghost use Rattle.conc_journal_image.specs.Image.{digest_in, found_in, has_header, HasNext, IsJournal, is_not_begun};
+ghost use Rattle.conc_journal_image.specs.Layout.{offset_behind};
 
-use crate::found::{MOST_BYTES, MOST_RECORDS};
+use crate::layout::{MOST_BYTES, MOST_RECORDS};
 
 // ---- records
 
@@ -38,7 +39,7 @@ pub fn front_tells_all()
 /// A journal with n events has at least 64 + 32n + 1 bytes, and at most 1,048,576 events.
 pub fn journal_is_long_enough()
     ensures bytes { (digest image : List ℕ) (events : List Event) → IsJournal digest events image →
-        64 + 32 * length events + 1 ≤ length image }
+        offset_behind (length events) + 1 ≤ length image }
     ensures events { (digest image : List ℕ) (events : List Event) → IsJournal digest events image
         → length events ≤ MOST_RECORDS }
 {}
@@ -61,7 +62,7 @@ pub fn gate_begins()
 /// A journal stays the same while the bytes behind its last gate change.
 pub fn journal_stays()
     ensures { (digest old new : List ℕ) (events : List Event) → IsJournal digest events old →
-        take (64 + 32 * length events + 1) new ≡ take (64 + 32 * length events + 1) old
+        take (offset_behind (length events) + 1) new ≡ take (offset_behind (length events) + 1) old
         → IsJournal digest events new }
 {}
 
@@ -70,13 +71,14 @@ pub fn journal_stays()
 pub fn gate_adds()
     ensures either { (digest old new : List ℕ) (events : List Event) (e : Event) →
         IsJournal digest events old → length events < MOST_RECORDS → HasNext events e old →
-        take (64 + 32 * length events) new ≡ take (64 + 32 * length events) old →
-        drop (64 + 32 * length events + 1) new ≡ drop (64 + 32 * length events + 1) old
+        take (offset_behind (length events)) new ≡ take (offset_behind (length events)) old →
+        drop (offset_behind (length events) + 1) new ≡ drop (offset_behind (length events) + 1) old
         → length old ≤ length new →
         IsJournal digest events new ⊎ IsJournal digest (events ++ e ∷ []) new }
     ensures opened { (digest old new : List ℕ) (events : List Event) (e : Event) →
         IsJournal digest events old → length events < MOST_RECORDS → HasNext events e old →
-        take (64 + 32 * length events) new ≡ take (64 + 32 * length events) old →
-        drop (64 + 32 * length events + 1) new ≡ drop (64 + 32 * length events + 1) old →
-        slice_index new (64 + 32 * length events) ≢ 0 → IsJournal digest (events ++ e ∷ []) new }
+        take (offset_behind (length events)) new ≡ take (offset_behind (length events)) old →
+        drop (offset_behind (length events) + 1) new ≡ drop (offset_behind (length events) + 1) old
+        → slice_index new (offset_behind (length events)) ≢ 0
+        → IsJournal digest (events ++ e ∷ []) new }
 {}

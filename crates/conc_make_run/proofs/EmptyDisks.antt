@@ -77,7 +77,7 @@ not-refused h (history_fail.Unlawful number) journal spool room cause =
 not-refused h (history_fail.JournalFull len needed) journal spool room cause =
     let none = found-none h cause.found journal cause.is_found in
     absurd (omega (arith, ap length none, cause.len_is, cause.needed_is, cause.full, room))
-not-refused h (history_fail.DiskFault which) journal spool room cause = refl
+not-refused h (history_fail.DiskFault disk) journal spool room cause = refl
 not-refused h history_fail.NoMemory journal spool room cause = refl
 
 pub ends-alone : (h : Handed) (list : List Event) → h.journal_before.seen ≡ Some [] → IsFinished h list → Alone h.plan h.readings [] list

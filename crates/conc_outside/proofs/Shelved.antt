@@ -6,24 +6,24 @@ use Rattle.std.specs.Option.{option_map}
 use Rattle.std.specs.Str.{bytes_eq}
 use Rattle.std.specs.declared.alloc.Global.{Global}
 use Rattle.conc_outside.specs.Files.{file_named, front_of}
-use Rattle.conc_outside.specs.Told.{told}
+use Rattle.conc_outside.specs.Exposed.{exposed}
 
 -- the file with a name is that of the first row with this name
-pub file_named-told :
+pub file_named-exposed :
     (files : List (List ℕ × Vec ℕ Global)) (name : List ℕ) →
-    file_named (told files) name ≡ option_map (λ f. f.1.items) (find (λ f. bytes_eq f.0 name) files)
-file_named-told [] name = refl
-file_named-told (file ∷ files) name =
+    file_named (exposed files) name ≡ option_map (λ f. f.1.items) (find (λ f. bytes_eq f.0 name) files)
+file_named-exposed [] name = refl
+file_named-exposed (file ∷ files) name =
     elim (bytes_eq file.0 name) as (λ same.
-    option_map (λ f. f.1) (cond same (Some (file.0, file.1.items)) (find (λ f. bytes_eq f.0 name) (told files)))
+    option_map (λ f. f.1) (cond same (Some (file.0, file.1.items)) (find (λ f. bytes_eq f.0 name) (exposed files)))
     ≡ option_map (λ f. f.1.items) (cond same (Some file) (find (λ f. bytes_eq f.0 name) files)))
-    [ true ↦ refl | false ↦ file_named-told files name ]
+    [ true ↦ refl | false ↦ file_named-exposed files name ]
 
 -- the file with a name, by the row that was found
 pub file_named-row :
     (files : List (List ℕ × Vec ℕ Global)) (name : List ℕ) (row : Option (List ℕ × Vec ℕ Global)) →
-    row ≡ find (λ f. bytes_eq f.0 name) files → option_map (λ f. f.1.items) row ≡ file_named (told files) name
-file_named-row files name row found = ap (λ r. option_map (λ f. f.1.items) r) found ∙ sym (file_named-told files name)
+    row ≡ find (λ f. bytes_eq f.0 name) files → option_map (λ f. f.1.items) row ≡ file_named (exposed files) name
+file_named-row files name row found = ap (λ r. option_map (λ f. f.1.items) r) found ∙ sym (file_named-exposed files name)
 
 -- what is read of a file
 pub front_of-file :

@@ -15,17 +15,17 @@ file_named files name = option_map (λ f. f.1) (find (λ f. bytes_eq f.0 name) f
 abbrev pub front_of : List ℕ → List ℕ
 front_of bytes = take 67108865 bytes
 
--- where the shelf tells its files, these bytes are what is read of the one with this name
+-- where the shelf exposes its files, these bytes are what is read of the one with this name
 abbrev pub Gives : Option Files → List ℕ → List ℕ → Type 0
-Gives told name bytes = IfSome told (λ files. option_map front_of (file_named files name) ≡ Some bytes)
+Gives exposed name bytes = IfSome exposed (λ files. option_map front_of (file_named files name) ≡ Some bytes)
 
--- where the shelf tells its files, there is none with this name
+-- where the shelf exposes its files, there is none with this name
 abbrev pub Lacks : Option Files → List ℕ → Type 0
-Lacks told name = IfSome told (λ files. file_named files name ≡ None)
+Lacks exposed name = IfSome exposed (λ files. file_named files name ≡ None)
 
 -- ---- a shelf
 
--- what a shelf tells of its files, if it tells them, and how often a file was lacking and a read failed
+-- what a shelf exposes of its files, if it exposes them, and how often a file was lacking and a read failed
 pub record ShelfState : Type 0 where
   pub files : Option Files
   pub absences : ℕ

@@ -2,5 +2,5 @@ pub mod Counts
 pub mod Files
 pub mod Reads
 pub mod Taken
-pub mod Told
+pub mod Exposed
 pub mod Writes

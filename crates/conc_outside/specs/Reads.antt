@@ -3,16 +3,16 @@ use Rattle.std.specs.Prelude.{◌≡◌, ℕ, ◌+◌, ◌==◌, min, List, Bool
 use Rattle.std.specs.List.{list_any}
 use Rattle.std.specs.declared.alloc.Global.{Global}
 use Rattle.conc_outside.specs.Files.{Files, file_named, ShelfState}
-use Rattle.conc_outside.specs.Told.{told}
+use Rattle.conc_outside.specs.Exposed.{exposed}
 use Rattle.conc_outside.specs.declared.error.ShelfFail.{ShelfFail}
 use Rattle.conc_outside.specs.declared.error.ShelfFail.TheVariants.{Failed}
 use Rattle.conc_outside.specs.declared.memory_shelf.MemShelf.{MemShelf}
 
 -- its files
 abbrev pub files_of : MemShelf → Files
-files_of shelf = told shelf.files.items
+files_of shelf = exposed shelf.files.items
 
--- what it tells
+-- what it exposes
 abbrev pub shelf_state : MemShelf → ShelfState
 shelf_state shelf = record { files = Some (files_of shelf); absences = shelf.absences; faults = shelf.faults }
 

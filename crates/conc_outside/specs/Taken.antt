@@ -2,12 +2,12 @@
 use Rattle.std.specs.Prelude.{◌≡◌, ℕ, List, ◌++◌, Option, take}
 use Rattle.std.specs.Option.{option_map}
 
--- what a sink tells of the bytes that it took, if it tells them, and how often a write failed
+-- what a sink exposes of the bytes that it took, if it exposes them, and how often a write failed
 pub record SinkState : Type 0 where
   pub taken : Option (List ℕ)
   pub faults : ℕ
 
--- where the sink tells, it took exactly these bytes after what it had
+-- where the sink exposes its bytes, it took exactly these bytes after what it had
 abbrev pub Took : Option (List ℕ) → Option (List ℕ) → List ℕ → Type 0
 Took old new bytes = new ≡ option_map (λ taken. taken ++ bytes) old
 

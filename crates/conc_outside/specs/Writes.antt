@@ -5,7 +5,7 @@ use Rattle.conc_outside.specs.Counts.{Rose}
 use Rattle.conc_outside.specs.Taken.{SinkState}
 use Rattle.conc_outside.specs.declared.memory_sink.MemSink.{MemSink}
 
--- what it tells
+-- what it exposes
 abbrev pub sink_state : MemSink → SinkState
 sink_state sink = record { taken = Some sink.bytes.items; faults = sink.faults }
 

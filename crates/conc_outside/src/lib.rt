@@ -15,4 +15,4 @@ pub use memory_sink::MemSink;
 pub use real::{FileShelf, WriterSink};
 pub use shelf::Shelf;
 pub use sink::{Sink, write_all};
-pub use system::{metadata_of, read_up_to, stands_at};
+pub use system::{is_at_one_of, metadata_of, read_up_to};

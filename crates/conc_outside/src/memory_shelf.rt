@@ -5,7 +5,7 @@ ghost use Rattle.std.specs.Str.{bytes_eq};
 ghost use Rattle.conc_types.specs.Words.{are_distinct};
 ghost use Rattle.conc_outside.specs.Counts.{Rose};
 ghost use Rattle.conc_outside.specs.Files as spec;
-ghost use Rattle.conc_outside.specs.Told.{told};
+ghost use Rattle.conc_outside.specs.Exposed.{exposed};
 ghost use Rattle.conc_outside.specs.declared.error.ShelfFail.TheVariants.{Absent, Failed};
 
 use crate::shelf::MOST_BYTES;
@@ -33,7 +33,7 @@ impl MemShelf {
     pub fn new(files: Vec<(Name, Vec<u8>)>, fails: Vec<u64>) -> Self
         requires { IsTrue (are_distinct bytes_eq (map (λ f. f.0) files.items)) }
         ensures state { ⟦<MemShelf as Shelf>⟧.state result
-            ≡ record { files = Some (told files.items); absences = 0; faults = 0 } }
+            ≡ record { files = Some (exposed files.items); absences = 0; faults = 0 } }
         ensures fails { fails_of result ≡ fails.items }
         ensures reads { reads_of result ≡ 0 }
     {
@@ -58,7 +58,7 @@ fn row_named<'a>(files: &'a [(Name, Vec<u8>)], name: &Name) -> Option<&'a (Name,
 
 /// The bytes of the file with this name.
 fn file_named<'a>(files: &'a [(Name, Vec<u8>)], name: &Name) -> Option<&'a [u8]>
-    ensures { option_copied result ≡ spec.file_named (told files.now) name.now }
+    ensures { option_copied result ≡ spec.file_named (exposed files.now) name.now }
 {
     match row_named(files, name) {
         Some(file) => Some(file.1.as_slice()),
@@ -79,7 +79,7 @@ impl Shelf for MemShelf {
             → Rose (shelf_state self.old).absences (shelf_state self.new).absences
             × spec.Lacks (shelf_state self.old).files name.now }
         ensures lacking { IfSome (shelf_state self.old).files
-            (λ told. spec.file_named told name.now ≡ None → IsErrOf result Absent) }
+            (λ exposed. spec.file_named exposed name.now ≡ None → IsErrOf result Absent) }
         ensures failed { IsErrOf result Failed
             → Rose (shelf_state self.old).faults (shelf_state self.new).faults }
         ensures exact { FailsAsListed self.old self.new name.now result }

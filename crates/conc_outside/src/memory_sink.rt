@@ -66,7 +66,8 @@ impl Sink for MemSink {
         ensures some { IfOk result (λ n. piece.now ≢ [] → 0 < n) }
         ensures taken { IfOk result (λ n. Took (sink_state self.old).taken
             (sink_state self.new).taken (take n piece.now)) }
-        ensures kept { OnErr result ((sink_state self.new).taken ≡ (sink_state self.old).taken) }
+        ensures unchanged { OnErr result ((sink_state self.new).taken
+            ≡ (sink_state self.old).taken) }
         ensures failed { OnErr result (Rose (sink_state self.old).faults
             (sink_state self.new).faults) }
         ensures exact { FailsAsListed self.old self.new result }

@@ -1,11 +1,11 @@
 // The edge, which is trusted: that the bytes of a `FileShelf` are those of the file that the system
 // has under the name, and that the bytes given to a `WriterSink` reach its writer. No clause can say
-// either, so neither type tells what it holds. A call that a signal interrupts is made again.
+// either, so neither type exposes what it holds. A call that a signal interrupts is made again.
 ghost use Rattle.std.specs.Prelude.{◌≡◌, ◌≢◌, ◌<◌, ◌≤◌, [], None, length, vec_len, IfOk, IsErrOf};
 ghost use Rattle.conc_outside.specs.declared.error.ShelfFail.TheVariants.{Absent};
 
 use crate::shelf::MOST_BYTES;
-use crate::system::{read_up_to, stands_at};
+use crate::system::{is_at_one_of, read_up_to};
 use crate::{Failed, Shelf, ShelfFail, Sink};
 use conc_types::Name;
 use std::alloc::Global;
@@ -60,7 +60,7 @@ fn read_front<R: Files>(
     ensures few { IfOk result (λ bytes. vec_len bytes ≤ MOST_BYTES) }
 {
     let mut file = open(rt, path)?;
-    if !matches!(stands_at(rt, &file, disks), Ok(false)) {
+    if !matches!(is_at_one_of(rt, &file, disks), Ok(false)) {
         return Err(ShelfFail::Failed);
     }
     read_up_to(alloc, &mut file, MOST_BYTES)

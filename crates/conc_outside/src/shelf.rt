@@ -12,7 +12,7 @@ pub(crate) const MOST_BYTES: usize = 67_108_865;
 
 /// A shelf of files, each with a name of its own.
 pub trait Shelf {
-    /// Its files, if the shelf tells them, and its counts.
+    /// Its files, if the shelf exposes them, and its counts.
     ghost state: { Self → ShelfState };
 
     /// The bytes of a file, or its first 67,108,865 bytes where it is longer. The counts of absences
@@ -26,7 +26,7 @@ pub trait Shelf {
             → Rose (state self.old).absences (state self.new).absences
             × Lacks (state self.old).files name.now }
         ensures lacking { IfSome (state self.old).files
-            (λ told. file_named told name.now ≡ None → IsErrOf result Absent) }
+            (λ exposed. file_named exposed name.now ≡ None → IsErrOf result Absent) }
 
         ensures failed { IsErrOf result Failed
             → Rose (state self.old).faults (state self.new).faults };

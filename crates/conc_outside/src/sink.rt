@@ -6,7 +6,7 @@ use crate::Failed;
 
 /// A sink that takes bytes.
 pub trait Sink {
-    /// The bytes taken so far, if the sink tells them, and how often a write failed, a count that never
+    /// The bytes taken so far, if the sink exposes them, and how often a write failed, a count that never
     /// falls.
     ghost state: { Self → SinkState };
 
@@ -18,7 +18,7 @@ pub trait Sink {
         ensures some { IfOk result (λ n. piece.now ≢ [] → 0 < n) }
         ensures taken { IfOk result (λ n. Took (state self.old).taken (state self.new).taken
             (take n piece.now)) }
-        ensures kept { OnErr result ((state self.new).taken ≡ (state self.old).taken) }
+        ensures unchanged { OnErr result ((state self.new).taken ≡ (state self.old).taken) }
         ensures failed { OnErr result (Rose (state self.old).faults (state self.new).faults) };
 }
 

@@ -70,9 +70,9 @@ fn metadata_at<R: Files>(rt: &R, path: &str) -> io::Result<Metadata> {
     Err(io::Error::from(ErrorKind::Interrupted))
 }
 
-/// Whether an open file stands at one of these paths too: links count, since the system tells each
+/// Whether an open file is at one of these paths too: links count, since the system tells each
 /// file by its device and its number there. Where it shows nothing at a path, no file stands there.
-pub fn stands_at<R: Files>(rt: &R, file: &R::File, paths: &[&str]) -> Result<bool, Failed> {
+pub fn is_at_one_of<R: Files>(rt: &R, file: &R::File, paths: &[&str]) -> Result<bool, Failed> {
     let own = metadata_of(file)?;
     for path in paths {
         if let Ok(other) = metadata_at(rt, path)

@@ -8,7 +8,7 @@ use Rattle.conc_outside_clock.specs.declared.memory.MemClock.{MemClock}
 abbrev pub moments_of : MemClock → List Moment
 moments_of clock = clock.left.items
 
--- what it tells
+-- what it exposes
 abbrev pub clock_state : MemClock → ClockState
 clock_state clock = record { moments = Some (moments_of clock); faults = clock.faults }
 

@@ -7,14 +7,14 @@ use conc_types::Moment;
 
 /// A clock, which gives one moment after the other.
 pub trait Clock {
-    /// The moments that it still gives, if the clock tells them, and its count of faults.
+    /// The moments that it still gives, if the clock exposes them, and its count of faults.
     ghost state: { Self → ClockState };
 
-    /// The moment now: the first of those that the clock told. The count of faults never falls.
+    /// The moment now: the first of those that the clock exposed. The count of faults never falls.
     fn now(&mut self) -> Result<Moment, Failed>
         ensures faults { (state self.old).faults ≤ (state self.new).faults }
         ensures given { IfOk result (λ moment. Gives (state self.old).moments moment
             (state self.new).moments) }
-        ensures kept { OnErr result ((state self.new).moments ≡ (state self.old).moments) }
+        ensures unchanged { OnErr result ((state self.new).moments ≡ (state self.old).moments) }
         ensures failed { OnErr result (Rose (state self.old).faults (state self.new).faults) };
 }

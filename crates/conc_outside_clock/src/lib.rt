@@ -1,4 +1,4 @@
-//! The clock that is handed in, and what it tells: the moments that it still gives.
+//! The clock that is handed in, and what it exposes: the moments that it still gives.
 #![tactic(auto)]
 
 mod clock;

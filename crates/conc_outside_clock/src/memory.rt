@@ -37,7 +37,7 @@ impl Clock for MemClock {
         ensures faults { (clock_state self.old).faults ≤ (clock_state self.new).faults }
         ensures given { IfOk result (λ moment. Gives (clock_state self.old).moments moment
             (clock_state self.new).moments) }
-        ensures kept { OnErr result ((clock_state self.new).moments
+        ensures unchanged { OnErr result ((clock_state self.new).moments
             ≡ (clock_state self.old).moments) }
         ensures failed { OnErr result (Rose (clock_state self.old).faults
             (clock_state self.new).faults) }

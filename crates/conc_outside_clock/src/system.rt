@@ -1,5 +1,5 @@
 // The edge, which is trusted: that a moment of a `SystemClock` is what the system's clock shows in
-// the system's zone. No clause can say so, and the type tells no moments.
+// the system's zone. No clause can say so, and the type exposes no moments.
 ghost use Rattle.std.specs.Prelude.{◌≡◌, pos, None, IfOk, MatchOption};
 ghost use Rattle.conc_outside_clock.specs.Civil.{IsOffYears, shown_at};
 

@@ -48,7 +48,7 @@ module _ (plan : Plan) (readings : List Reading) (old new : Work) (journal spool
 
   pub went-none : AreTied plan readings None new journal spool' → StoresOn plan (used_of old.spool) (list_in old) (list_in old) spool spool' → WentOn plan readings (disks journal journal spool spool') old new
   went-none tied stores = record {
-    kept = None;
+    pending = None;
     tied = tied;
     list = record {
       added = [];
@@ -67,16 +67,16 @@ module _ (plan : Plan) (readings : List Reading) (old new : Work) (journal spool
 
 -- ---- one event
 
-module _ (plan : Plan) (readings : List Reading) (old new : Work) (e : Event) (kept : Option Event) (journal journal' spool spool' : DiskState) (next : next_alone plan readings (reverse (list_in old)) ≡ Some e)
+module _ (plan : Plan) (readings : List Reading) (old new : Work) (e : Event) (pending : Option Event) (journal journal' spool spool' : DiskState) (next : next_alone plan readings (reverse (list_in old)) ≡ Some e)
     (longest : longest_in new ≡ list_in old ++ e ∷ []) where
-  pub went-one : AreTied plan readings kept new journal' spool' → Lawful plan readings (list_in old ++ e ∷ [])
+  pub went-one : AreTied plan readings pending new journal' spool' → Lawful plan readings (list_in old ++ e ∷ [])
       → (longest_in new ≡ list_in new) ⊎ ((e : Event) × (longest_in new ≡ list_in new ++ e ∷ []))
       → StoresOn plan (used_of old.spool) (list_in old) (list_in old ++ e ∷ []) spool spool'
       → state_digest (state_of new.journal) ≡ state_digest (state_of old.journal)
       → SurvivesFor old.journal (list_in old) (list_in old ++ e ∷ []) journal journal'
       → WentOn plan readings (disks journal journal' spool spool') old new
   went-one tied lawful acknowledged stores digest left = record {
-    kept = kept;
+    pending = pending;
     tied = tied;
     list = record {
       added = e ∷ [];
@@ -157,7 +157,7 @@ module _ (plan : Plan) (readings : List Reading) (old mid new : Work) (journal j
 
     pub went-twice : WentOn plan readings (disks journal journal'' spool spool'') old new
     went-twice = record {
-      kept = second.kept;
+      pending = second.pending;
       tied = second.tied;
       list = goes-twice plan readings (list_in old) (list_in mid) (longest_in new) goes second.list;
       lawful = second.lawful;

@@ -1,4 +1,4 @@
--- One step of a run: its text is kept, and then its event is logged.
+-- One step of a run: its text is stored, and then its event is logged.
 use Rattle.std.proofs.Common.{◌≡◌, inl, inr, ◌+◌, ◌<◌, false, List, [], ◌∷◌, ◌++◌, reverse, Option, None, Some, refl, sym, ◌∙◌, ap, subst, arith}
 use Rattle.std.specs.Prelude.{unwrap_or}
 use Rattle.conc_types.specs.declared.event.Event.{Event}
@@ -20,7 +20,7 @@ use Rattle.conc_machine.specs.declared.machine.Machine.{Machine}
 use Rattle.conc_spool.specs.Spools.{used_of}
 use Rattle.conc_spool.specs.Spools.{IsOn as SpoolIsOn}
 use Rattle.conc_run_state.specs.Lists.{failed_in}
-use Rattle.conc_run_state.specs.Works.{AreTied, HasKeptText, HasRoom, list_in, longest_in}
+use Rattle.conc_run_state.specs.Works.{AreTied, HasPendingText, HasRoom, list_in, longest_in}
 use Rattle.conc_run_state.specs.declared.work.Work.{Work}
 use Rattle.conc_run_state.specs.Disks.{disks}
 use Rattle.conc_resolver_alone.specs.Runs.{WentOn}
@@ -30,9 +30,9 @@ use Rattle.conc_resolver_alone.proofs.Going.{sound-longest, went-none, went-one}
 use Rattle.conc_run_steps.proofs.Logs.{faulted-digest, faulted-longest}
 
 -- what is tied by its own plan and readings is tied by those that are the same
-pub tied-by : (plan : Plan) (readings : List Reading) (kept : Option Event) (work : Work) (journal journal' spool spool' : DiskState) → plan_in work ≡ plan → readings_in work ≡ readings
-    → JournalIsOn work.journal journal' → SpoolIsOn work.spool spool' → HasKeptText (plan_in work) (list_in work) spool' kept → IsTied kept work journal spool → AreTied plan readings kept work journal' spool'
-tied-by plan readings kept work journal journal' spool spool' same known journal_on spool_on text tied = record {
+pub tied-by : (plan : Plan) (readings : List Reading) (pending : Option Event) (work : Work) (journal journal' spool spool' : DiskState) → plan_in work ≡ plan → readings_in work ≡ readings
+    → JournalIsOn work.journal journal' → SpoolIsOn work.spool spool' → HasPendingText (plan_in work) (list_in work) spool' pending → IsTied pending work journal spool → AreTied plan readings pending work journal' spool'
+tied-by plan readings pending work journal journal' spool spool' same known journal_on spool_on text tied = record {
   plan_is = same;
   readings_are = tied.readings_are ∙ ap (λ (l : List Reading). Some l) known;
   stands = tied.stands;
@@ -41,7 +41,7 @@ tied-by plan readings kept work journal journal' spool spool' same known journal
       (subst (λ (l : List Reading). Lawful (plan_in work) l (list_in work)) known tied.lawful);
   takes = tied.takes;
   used_is = tied.used_is;
-  kept_text = subst (λ (p : Plan). HasKeptText p (list_in work) spool' kept) same text;
+  pending_text = subst (λ (p : Plan). HasPendingText p (list_in work) spool' pending) same text;
   journal_on = journal_on;
   spool_on = spool_on;
 }
@@ -57,9 +57,9 @@ module _ (old mid : Work) (journal spool spool' : DiskState) (ready : IsReady ol
   mid-readings = ap (λ (m : Machine). unwrap_or (readings_of m) []) machine
 
   -- the text met a fault
-  pub went-unkept : IsTied None mid any_disk spool' → StoresOn (plan_in old) (used_of old.spool) (list_in old) (list_in old) spool spool'
+  pub went-unstored : IsTied None mid any_disk spool' → StoresOn (plan_in old) (used_of old.spool) (list_in old) (list_in old) spool spool'
       → WentOn (plan_in old) (readings_in old) (disks journal journal spool spool') old mid
-  went-unkept tied stores =
+  went-unstored tied stores =
       went-none (plan_in old) (readings_in old) old mid journal spool spool' ready.tied.lawful ready.sound same
       (tied-by (plan_in old) (readings_in old) None mid any_disk journal spool' spool' mid-plan mid-readings mid-on tied.spool_on tt tied) stores
 
@@ -89,7 +89,7 @@ module _ (old mid : Work) (journal spool spool' : DiskState) (ready : IsReady ol
         let longest : longest_in new ≡ list_in new ++ e ∷ [] = ap (λ l. list_in new ++ l) behind in
         went-one (plan_in old) (readings_in old) old new e (Some e) journal journal' spool spool' next
         (longest ∙ ap (λ l. l ++ e ∷ []) (stays ∙ ap (λ j. list_of j) same))
-        (tied-by (plan_in old) (readings_in old) (Some e) new journal' journal' spool' spool' new-plan new-readings tied.journal_on tied.spool_on tied.kept_text tied)
+        (tied-by (plan_in old) (readings_in old) (Some e) new journal' journal' spool' spool' new-plan new-readings tied.journal_on tied.spool_on tied.pending_text tied)
         lawful (inr (e, longest)) stores
         (ap state_digest failed ∙ faulted-digest e (state_of mid.journal) ∙ ap (λ j. state_digest (state_of j)) same)
         old-survives

@@ -47,8 +47,8 @@ module _ (old mid : Work) (digest : List ℕ) (from : ℕ) (journal spool spool'
   written run = fit-text (plan_in old) (readings_in old) digest from old begun journal spool spool' ready.tied stored journal-now spool-now seen run
 
   -- no event was journaled
-  pub turn-kept : IsTied None mid any_disk spool' → StoresOn (plan_in old) (used_of old.spool) (list_in old) (list_in old) spool spool' → FitInTurn (plan_in old) digest from (disks journal journal spool spool')
-  turn-kept tied stores =
+  pub turn-unstored : IsTied None mid any_disk spool' → StoresOn (plan_in old) (used_of old.spool) (list_in old) (list_in old) spool spool' → FitInTurn (plan_in old) digest from (disks journal journal spool spool')
+  turn-unstored tied stores =
       let mid-tied = tied-by (plan_in old) (readings_in old) None mid any_disk journal spool' spool' same-plan same-readings on tied.spool_on tt tied in
       let mid-stored = subst (λ (j : Journal). EachImage (AreStored (plan_in old) from (list_of j)) spool') (sym same) (stores.stored from stored) in (
         written stores.left,
@@ -68,7 +68,7 @@ module _ (old mid : Work) (digest : List ℕ) (from : ℕ) (journal spool spool'
 
     pub turn-logged : FitInTurn (plan_in old) digest from (disks journal journal' spool spool')
     turn-logged =
-        let mid-tied = tied-by (plan_in old) (readings_in old) (Some e) mid any_disk journal spool' spool' same-plan same-readings on tied.spool_on tied.kept_text tied in (
+        let mid-tied = tied-by (plan_in old) (readings_in old) (Some e) mid any_disk journal spool' spool' same-plan same-readings on tied.spool_on tied.pending_text tied in (
           written stores.left,
           fit-event (plan_in old) (readings_in old) digest from mid still-begun e journal journal' spool' mid-tied lawful mid-stored journal-now spool-now' (survives digest still-begun),
         )

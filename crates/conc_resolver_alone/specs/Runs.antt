@@ -24,8 +24,8 @@ use Rattle.conc_run_state.specs.declared.work.Work.{Work}
 -- each moment the journal's disk had a list between the one before and the longest after, and the spool's bytes of earlier
 -- ends stayed.
 pub record WentOn (plan : Plan) (readings : List Reading) (d : Disks) (old new : Work) : Type 0 where
-  pub kept : Option Event
-  pub tied : AreTied plan readings kept new d.journal_after d.spool_after
+  pub pending : Option Event
+  pub tied : AreTied plan readings pending new d.journal_after d.spool_after
   pub list : GoesOn plan readings (list_in old) (longest_in new)
   pub lawful : Lawful plan readings (longest_in new)
   pub acknowledged : (longest_in new ≡ list_in new) ⊎ ((e : Event) × (longest_in new ≡ list_in new ++ e ∷ []))

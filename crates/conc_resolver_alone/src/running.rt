@@ -20,7 +20,7 @@ use conc_disk::Disk;
 use conc_journal::Receipt;
 use conc_resolver_choice::{Next, next_event};
 use conc_run_state::{RunFail, Work};
-use conc_run_steps::{keep, log_event};
+use conc_run_steps::{log_event, store_text};
 use conc_types::{NoMemory, Plan};
 use std::alloc::Global;
 
@@ -79,7 +79,7 @@ fn step<D: Disk, E: Disk>(
     match next(alloc, plan, work)? {
         None => Ok(None),
         Some(next) => {
-            keep(work, spool, &next)?;
+            store_text(work, spool, &next)?;
             Ok(Some(log_event(work, journal, spool, next.event)?))
         }
     }

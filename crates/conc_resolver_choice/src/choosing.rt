@@ -4,6 +4,7 @@ ghost use Rattle.std.specs.Option.{ForSome, option_and_then, option_copied, opti
 ghost use Rattle.conc_types.specs.declared.event.Event.{Event};
 ghost use Rattle.conc_types.specs.declared.event.Event.TheVariants as event;
 ghost use Rattle.conc_types.specs.declared.event.Outcome.TheVariants as outcome;
+ghost use Rattle.conc_types.specs.declared.limits.TheConstants.{MOST_REPORT_BYTES};
 ghost use Rattle.conc_types.specs.declared.script.Reading.{Reading};
 ghost use Rattle.conc_law.specs.Alone as alone_spec;
 ghost use Rattle.conc_law.specs.Alone.{end_with, next_alone};
@@ -34,7 +35,7 @@ pub struct Next {
 fn report_of(alloc: Global, plan: &Plan, r: &Req) -> Result<Option<Made>, NoMemory>
     ensures made { IfOk result (λ made. option_map as_report made
         ≡ alone_spec.report_of plan.now r.now) }
-    ensures short { IfOk result (λ made. ForSome made (λ m. length m.text ≤ 1048576)) }
+    ensures short { IfOk result (λ made. ForSome made (λ m. length m.text ≤ MOST_REPORT_BYTES)) }
     ensures memory { OnErr result (IsSome (alone_spec.report_of plan.now r.now)) }
 {
     match program_of(plan, r) {

@@ -3,5 +3,5 @@ pub mod Survived
 pub mod Texts
 pub mod Opened
 pub mod Ran
-pub mod Stops
+pub mod Failing
 pub mod Next

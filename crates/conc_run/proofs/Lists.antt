@@ -15,7 +15,7 @@ use Rattle.conc_law.specs.State.{used}
 use Rattle.conc_law.proofs.Positions.{reverse-push}
 use Rattle.conc_run_state.specs.Lists.{IsPrefix}
 use Rattle.conc_run_state.specs.Stored.{AreStored}
-use Rattle.conc_run_state.specs.Works.{with_kept}
+use Rattle.conc_run_state.specs.Works.{with_pending}
 use Rattle.conc_run_state.proofs.Prefixes.{prefix-opening, prefix-self, prefix-twice}
 
 -- ---- beginnings
@@ -42,9 +42,9 @@ pub opening-adds : (found : List Event) → (opening found ≡ found) ⊎ ((e : 
 opening-adds [] = inl refl
 opening-adds (e ∷ es) = inr (event.Resume, refl)
 
-pub prefix-with_kept : (kept : Option Event) (list : List Event) → IsPrefix list (with_kept kept list)
-prefix-with_kept None list = prefix-self list
-prefix-with_kept (Some e) list = (e ∷ [], refl)
+pub prefix-with_pending : (pending : Option Event) (list : List Event) → IsPrefix list (with_pending pending list)
+prefix-with_pending None list = prefix-self list
+prefix-with_pending (Some e) list = (e ∷ [], refl)
 
 -- ---- the bytes of their texts
 

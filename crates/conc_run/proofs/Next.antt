@@ -1,4 +1,4 @@
--- What a stop leaves is taken by the next run.
+-- What a crash leaves is taken by the next run.
 use Rattle.std.proofs.Common.{◌≡◌, ℕ, zero, suc, ◌+◌, ◌++◌, ◌-◌, List, Option, None, Some, sym, ◌∙◌, subst, arith, inl, inr}
 use Rattle.std.specs.Prelude.{IsFalse, IsTrue}
 use Rattle.conc_types.specs.declared.event.Event.{Event}

@@ -15,12 +15,12 @@ use Rattle.conc_run_state.specs.Handed.{Handed, IsUntouched}
 use Rattle.conc_run_state.specs.Lists.{GoesOn}
 use Rattle.conc_run_state.specs.declared.error.HistoryFail.{HistoryFail}
 use Rattle.conc_run_state.specs.declared.error.HistoryFail.TheVariants as history_fail
-use Rattle.conc_run_state.specs.declared.error.DiskName.TheVariants as which
+use Rattle.conc_run_state.specs.declared.error.DiskName.TheVariants as disk_name
 use Rattle.conc_run.specs.Whole.{HasBetween, HasLeft, IsCutShort, KeepsTexts}
 use Rattle.conc_run_state.proofs.Prefixes.{prefix-self}
 use Rattle.conc_run.proofs.Lists.{opening-adds, stored-opening}
 
--- what is found in what a disk tells
+-- what is found in what a disk exposes
 found-in : Option (List ℕ) → List Event
 found-in None = []
 found-in (Some image) = events_of image
@@ -76,8 +76,8 @@ refused-before history_fail.NotJournal is = refl
 refused-before (history_fail.OtherInput found) is = refl
 refused-before (history_fail.Unlawful number) is = refl
 refused-before (history_fail.JournalFull len needed) is = refl
-refused-before (history_fail.DiskFault which.Spool) is = refl
-refused-before (history_fail.DiskFault which.Journal) is = cc is
+refused-before (history_fail.DiskFault disk_name.Spool) is = refl
+refused-before (history_fail.DiskFault disk_name.Journal) is = cc is
 refused-before history_fail.NoMemory is = refl
 
 -- where nothing was written
@@ -96,9 +96,9 @@ cut-untouched h e cause is =
     }
 
 -- the journal's disk failed while the life was begun
-cut-stopped : (h : Handed) (e : HistoryFail) → HasCause h e → is_journal_fault e ≡ true → (IsFalse (is_journal_fault e) → IsUntouched h) → IsGivenUp h → ((list : List Event) → Lawful h.plan h.readings list → LawfulSoFar h.plan list)
+cut-given_up : (h : Handed) (e : HistoryFail) → HasCause h e → is_journal_fault e ≡ true → (IsFalse (is_journal_fault e) → IsUntouched h) → IsGivenUp h → ((list : List Event) → Lawful h.plan h.readings list → LawfulSoFar h.plan list)
     → LeavesOnly h.spool_before.may_leave h.spool_before h.spool_after → IsCutShort h e
-cut-stopped h e cause fault quiet s to_so_far survives = record {
+cut-given_up h e cause fault quiet s to_so_far survives = record {
   cause = cause;
   untouched = λ refusal. quiet (refused-before e refusal);
   found = s.found;
@@ -109,11 +109,11 @@ cut-stopped h e cause fault quiet s to_so_far survives = record {
   memory = λ lacks. let two : true ≡ false = sym fault ∙ ap (λ (s : HistoryFail). is_journal_fault s) lacks in absurd (cc);
 }
 
--- the beginning of a life was stopped
+-- the beginning of a life was given up
 pub cut-opening : (h : Handed) (e : HistoryFail) → HasCause h e → (IsFalse (is_journal_fault e) → IsUntouched h) → IsUntouched h ⊎ IsGivenUp h → ((list : List Event) → Lawful h.plan h.readings list → LawfulSoFar h.plan list)
     → LeavesOnly h.spool_before.may_leave h.spool_before h.spool_after → IsCutShort h e
 cut-opening h e cause quiet (inl is) to_so_far survives = cut-untouched h e cause is
 cut-opening h e cause quiet (inr s) to_so_far survives = elim (cases_Bool (is_journal_fault e)) [
-  | inl fault ↦ cut-stopped h e cause fault quiet s to_so_far survives
+  | inl fault ↦ cut-given_up h e cause fault quiet s to_so_far survives
   | inr none ↦ cut-untouched h e cause (quiet none)
 ]

@@ -19,13 +19,13 @@ use Rattle.conc_run_state.specs.Handed.{Handed, IsTaken, IsUntouched}
 use Rattle.conc_run_state.specs.Lists.{GoesOn, IsPrefix}
 use Rattle.conc_run_state.specs.Survival.{Survives}
 use Rattle.conc_run_state.specs.Stored.{AreStored}
-use Rattle.conc_run_state.specs.Works.{list_in, longest_in, with_kept}
+use Rattle.conc_run_state.specs.Works.{list_in, longest_in, with_pending}
 use Rattle.conc_run_state.specs.declared.error.HistoryFail.{HistoryFail}
 use Rattle.conc_run_state.specs.declared.error.HistoryFail.TheVariants as history_fail
 use Rattle.conc_run_state.specs.declared.work.Work.{Work}
 use Rattle.conc_run.specs.Whole.{HasLeft, HasNow, IsCutShort, IsFinished}
 use Rattle.conc_run_state.proofs.Prefixes.{prefix-twice}
-use Rattle.conc_run.proofs.Lists.{prefix-kept, prefix-with_kept, stored-opening, used-opening, used-prefix}
+use Rattle.conc_run.proofs.Lists.{prefix-kept, prefix-with_pending, stored-opening, used-opening, used-prefix}
 use Rattle.conc_run.proofs.Survived.{begun-longest, fits-survives, journal-left}
 use Rattle.conc_run.proofs.Texts.{Keeps, spool-left, spool-now}
 
@@ -54,8 +54,8 @@ module _ (h : Handed) (journal spool : DiskState) (old new : Work) (begun : IsBe
   used-grows : used_of old.spool ≤ used_of new.spool
   used-grows =
       let kept = prefix-kept begun.found (list_in new) (longest_in new) begins went.acknowledged in
-      let with = prefix-twice begun.found (list_in new) (with_kept went.kept (list_in new)) kept (prefix-with_kept went.kept (list_in new)) in
-      omega (arith, used-found, used-prefix begun.found (with_kept went.kept (list_in new)) with, went.tied.used_is)
+      let with = prefix-twice begun.found (list_in new) (with_pending went.pending (list_in new)) kept (prefix-with_pending went.pending (list_in new)) in
+      omega (arith, used-found, used-prefix begun.found (with_pending went.pending (list_in new)) with, went.tied.used_is)
 
   own-digest : state_digest (state_of new.journal) ≡ Some h.digest
   own-digest = went.digest ∙ ap (λ (s : JournalState). state_digest s) begun.state

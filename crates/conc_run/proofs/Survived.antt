@@ -1,4 +1,4 @@
--- What a stop may leave of a journal.
+-- What a crash may leave of a journal.
 use Rattle.std.proofs.Common.{◌≡◌, ◌⊎◌, inl, inr, ⊎_elim, ℕ, List, [], ◌∷◌, ◌++◌, Some, IsTrue, refl, ◌∙◌, ap, subst}
 use Rattle.std.proofs.lemmas.List.{append-nil}
 use Rattle.conc_types.specs.declared.event.Event.{Event}

@@ -19,11 +19,11 @@ use Rattle.conc_run_state.specs.declared.error.HistoryFail.TheVariants as histor
 
 -- ---- what is left
 
--- an image that a stop might have left before, or one of a journal whose list is between these
+-- an image that a crash might have left before, or one of a journal whose list is between these
 abbrev pub HasBetween : Handed → List Event → List Event → List ℕ → Type 0
 HasBetween h first last image = h.journal_before.may_leave image ⊎ Survives h.digest first last image
 
--- an image that a stop might have left before, or one with the bytes of the texts of these events' ends
+-- an image that a crash might have left before, or one with the bytes of the texts of these events' ends
 abbrev pub KeepsTexts : Handed → List Event → List ℕ → Type 0
 KeepsTexts h found image = h.spool_before.may_leave image ⊎ KeepsBelow (used (reverse found)) h.spool_before image
 
@@ -38,7 +38,7 @@ pub record HasNow (h : Handed) (found kept last : List Event) : Type 0 where
   pub stored : (from : ℕ) → IfSome h.spool_before.seen (AreStored h.plan from found) → EachImage (AreStored h.plan from last) h.spool_after
 
 -- What the run leaves on its disks, however it ended. `found` is the list found, `kept` the one that was acknowledged, and `last`
--- the longest that the journal's disk may have: `kept`, or `kept` and the event whose append met a fault. At each moment a stop
+-- the longest that the journal's disk may have: `kept`, or `kept` and the event whose append met a fault. At each moment a crash
 -- left a list that begins with the one found and is a beginning of the last one. Now nothing was written, or it leaves the kept
 -- one or the last.
 pub record HasLeft (h : Handed) (found kept last : List Event) : Type 0 where

@@ -1,4 +1,4 @@
-//! Laws on what a stop leaves of a run. Each function here has an empty body; its contract is the law.
+//! Laws on what a crash leaves of a run. Each function here has an empty body; its contract is the law.
 ghost use Rattle.std.specs.Prelude.{ℕ, IsFalse, List};
 ghost use Rattle.conc_types.specs.declared.event.Event.{Event};
 ghost use Rattle.conc_types.specs.declared.plan.Plan.{Plan};
@@ -9,9 +9,9 @@ ghost use Rattle.conc_run_state.specs.Handed.{IsOwnJournal};
 ghost use Rattle.conc_run_state.specs.Judging.{AreGood, EndWithin, IsBadRecord};
 ghost use Rattle.conc_run_state.specs.Survival.{Survives};
 
-/// What a stop leaves of a run's journal is good for the next run of the same files, where the spool has
+/// What a crash leaves of a run's journal is good for the next run of the same files, where the spool has
 /// the extents: it is theirs, no record of it is broken, and its list is lawful.
-pub fn what_a_stop_leaves_is_good()
+pub fn what_a_crash_leaves_is_good()
     ensures { (plan : Plan) (digest : List ℕ) (first last : List Event) (image : List ℕ) (len : ℕ) →
         LawfulSoFar plan last → Survives digest first last image → EndWithin len (events_of image) →
         IsOwnJournal digest image × AreGood plan len (events_of image) (broken_of image) }

@@ -4,7 +4,7 @@ ghost use Rattle.conc_run_state.specs.Works.{list_in};
 ghost use Rattle.conc_run.specs.Whole.{IsCutShort, IsFinished};
 ghost use Rattle.conc_run_state.specs.declared.error.RunFail.TheVariants as run_fail;
 ghost use Rattle.conc_run_state.specs.declared.error.HistoryFail.TheVariants as history_fail;
-ghost use Rattle.conc_run_state.specs.declared.error.DiskName.TheVariants as which;
+ghost use Rattle.conc_run_state.specs.declared.error.DiskName.TheVariants as disk_name;
 
 use conc_disk::Disk;
 use conc_law::lawful_is_lawful_so_far;
@@ -16,16 +16,17 @@ use std::alloc::Global;
 
 // Why a run ended.
 fn history_fail_of(fail: RunFail) -> HistoryFail
-    ensures journal { fail ≡ run_fail.JournalFault → result ≡ history_fail.DiskFault which.Journal }
-    ensures spool { fail ≡ run_fail.SpoolFault → result ≡ history_fail.DiskFault which.Spool }
+    ensures journal { fail ≡ run_fail.JournalFault
+        → result ≡ history_fail.DiskFault disk_name.Journal }
+    ensures spool { fail ≡ run_fail.SpoolFault → result ≡ history_fail.DiskFault disk_name.Spool }
     ensures memory { fail ≡ run_fail.NoMemory → result ≡ history_fail.NoMemory }
 {
     match fail {
         RunFail::JournalFault => HistoryFail::DiskFault {
-            which: DiskName::Journal,
+            disk: DiskName::Journal,
         },
         RunFail::SpoolFault => HistoryFail::DiskFault {
-            which: DiskName::Spool,
+            disk: DiskName::Spool,
         },
         RunFail::NoMemory => HistoryFail::NoMemory,
     }

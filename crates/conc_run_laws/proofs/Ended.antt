@@ -27,7 +27,7 @@ use Rattle.conc_run_state.specs.Judging.{EndWithin}
 use Rattle.conc_run_state.specs.Lists.{IsPrefix}
 use Rattle.conc_run_state.specs.Stored.{AreStored, IsStored}
 use Rattle.conc_run_state.specs.Survival.{Survives}
-use Rattle.conc_run_laws.specs.Next.{IsFitEnd, StopsAtEnd}
+use Rattle.conc_run_laws.specs.Next.{IsFitEnd, CrashesAtEnd}
 
 -- ---- where the texts are stored each extent ends within the spool
 
@@ -66,15 +66,15 @@ held : {X : Type 0} (o : Option X) (P : Type 0) → IsTrue (is_some o) → IfSom
 held (Some x) P is holds = holds
 held None P is holds = cc is
 
-now-fit : (h : Handed) (found kept last : List Event) (image texts : List ℕ) → HasNow h found kept last → StopsAtEnd h found image texts → IsFitEnd h kept image texts
+now-fit : (h : Handed) (found kept last : List Event) (image texts : List ℕ) → HasNow h found kept last → CrashesAtEnd h found image texts → IsFitEnd h kept image texts
 now-fit h found kept last image texts now end =
-    let survives = held h.journal_after.seen ((i : List ℕ) → h.journal_after.may_leave i → Survives h.digest kept last i) end.journal_tells now.journal image end.journal in
-    let stored = held h.spool_after.seen ((t : List ℕ) → h.spool_after.may_leave t → AreStored h.plan 0 last t) end.spool_tells (now.stored 0 end.stored) texts end.spool in
+    let survives = held h.journal_after.seen ((i : List ℕ) → h.journal_after.may_leave i → Survives h.digest kept last i) end.journal_exposes now.journal image end.journal in
+    let stored = held h.spool_after.seen ((t : List ℕ) → h.spool_after.may_leave t → AreStored h.plan 0 last t) end.spool_exposes (now.stored 0 end.stored) texts end.spool in
     let within = all-within h.plan (events_of image) last texts survives.within stored in
     let both = left-good h.plan h.digest kept last image (length texts) (is_lawful_so_far-prefix h.plan) now.so_far survives within in
     inr (record { own = both.0; good = both.1 }, survives.begins)
 
-pub end-fit : (h : Handed) (found kept last : List Event) (image texts : List ℕ) → HasLeft h found kept last → StopsAtEnd h found image texts → IsFitEnd h kept image texts
+pub end-fit : (h : Handed) (found kept last : List Event) (image texts : List ℕ) → HasLeft h found kept last → CrashesAtEnd h found image texts → IsFitEnd h kept image texts
 end-fit h found kept last image texts left end = elim left.now [
   | inl untouched ↦ inl untouched
   | inr now ↦ now-fit h found kept last image texts now end

@@ -1,5 +1,5 @@
 pub mod Interrupts
 pub mod Starts
 pub mod RightLives
-pub mod Stopped
+pub mod Crashed
 pub mod Ended

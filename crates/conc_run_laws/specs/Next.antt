@@ -1,10 +1,11 @@
--- A run that is stopped, and the next one of the same files.
+-- A run that crashed, and the next one of the same files.
 use Rattle.std.specs.Prelude.{◌≡◌, ◌⊎◌, ⊤, ℕ, ◌+◌, ◌<◌, List, length, reverse, Some, is_some, IfSome, IsTrue}
 use Rattle.conc_types.specs.declared.event.Event.{Event}
 use Rattle.conc_types.specs.declared.plan.Plan.{Plan}
 use Rattle.conc_types.specs.declared.plan.Req.{Req}
 use Rattle.conc_disk.specs.Disk.{DiskState}
 use Rattle.conc_journal.specs.Opens.{broken_of, events_of}
+use Rattle.conc_journal_image.specs.declared.layout.TheConstants.{MOST_RECORDS}
 use Rattle.conc_law.specs.Facts.{runs}
 use Rattle.conc_law.specs.Words.{Has}
 use Rattle.conc_restart.specs.Need.{need}
@@ -26,7 +27,7 @@ pub record IsFit (plan : Plan) (digest image texts : List ℕ) : Type 0 where
   pub own : IsOwnJournal digest image
   pub good : AreGood plan (length texts) (events_of image) (broken_of image)
 
--- a read gives these bytes, and nothing is pending: a stop leaves them too
+-- a read gives these bytes, and nothing is pending: a crash leaves them too
 pub record Holds (disk : DiskState) (bytes : List ℕ) : Type 0 where
   pub seen : disk.seen ≡ Some bytes
   pub settled : (image : List ℕ) → disk.may_leave image → image ≡ bytes
@@ -41,7 +42,7 @@ pub record BeganWell (h : Handed) : Type 0 where
 
 -- ---- the next run
 
--- A stop at some moment of the first run, which had this disk for its journal, left this image of it. The next run was handed the
+-- A crash at some moment of the first run, which had this disk for its journal, left this image of it. The next run was handed the
 -- image, and a spool with these texts, which has the extent of each event of the image.
 pub record IsNextOver (before after : DiskState) (next : Handed) (image texts : List ℕ) : Type 0 where
   pub left : after.left_since before.moment image
@@ -52,8 +53,8 @@ pub record IsNextOver (before after : DiskState) (next : Handed) (image texts : 
 -- of all refusals only that for want of room may come: the journal has these events, and a life needs more than there is left
 abbrev pub RefusesForRoom : Handed → List ℕ → HistoryFail → Type 0
 RefusesForRoom h image (history_fail.JournalFull len needed) =
-    (len ≡ length (events_of image)) × (needed ≡ need h.plan h.readings) × (1048576 < len + needed)
-RefusesForRoom h image (history_fail.DiskFault which) = ⊤
+    (len ≡ length (events_of image)) × (needed ≡ need h.plan h.readings) × (MOST_RECORDS < len + needed)
+RefusesForRoom h image (history_fail.DiskFault disk) = ⊤
 RefusesForRoom h image history_fail.NoMemory = ⊤
 RefusesForRoom h image _ = ⊥
 
@@ -70,11 +71,11 @@ pub record IsNextRun (next : Handed) (found : List Event) (image : List ℕ) : T
 
 -- ---- the end of a run
 
--- a stop at its end leaves these images of its disks, which tell; and the spool held the texts of the events found
-pub record StopsAtEnd (h : Handed) (found : List Event) (image texts : List ℕ) : Type 0 where
-  pub journal_tells : IsTrue (is_some h.journal_after.seen)
+-- a crash at its end leaves these images of its disks, which expose their bytes; and the spool held the texts of the events found
+pub record CrashesAtEnd (h : Handed) (found : List Event) (image texts : List ℕ) : Type 0 where
+  pub journal_exposes : IsTrue (is_some h.journal_after.seen)
   pub journal : h.journal_after.may_leave image
-  pub spool_tells : IsTrue (is_some h.spool_after.seen)
+  pub spool_exposes : IsTrue (is_some h.spool_after.seen)
   pub spool : h.spool_after.may_leave texts
   pub stored : IfSome h.spool_before.seen (AreStored h.plan 0 found)
 

@@ -1,4 +1,4 @@
-//! Laws on a run that is stopped and on the next run of the same files. Each function here has an
+//! Laws on a run that crashed and on the next run of the same files. Each function here has an
 //! empty body; its contract is the law.
 #![tactic(auto)]
 

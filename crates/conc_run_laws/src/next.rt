@@ -1,29 +1,29 @@
-//! A run that is stopped, and the next one of the same files over what the stop left.
+//! A run that crashed, and the next one of the same files over what the crash left.
 ghost use Rattle.std.specs.Prelude.{ℕ, List};
 ghost use Rattle.conc_types.specs.declared.event.Event.{Event};
 ghost use Rattle.conc_types.specs.declared.plan.Plan.{Plan};
 ghost use Rattle.conc_types.specs.declared.script.Readings.{Readings};
 ghost use Rattle.conc_run.specs.Whole.{HasLeft};
 ghost use Rattle.conc_run_state.specs.Handed.{handed};
-ghost use Rattle.conc_run_laws.specs.Next.{BeganWell, IsFitEnd, IsNextOver, IsNextRun, StopsAtEnd};
+ghost use Rattle.conc_run_laws.specs.Next.{BeganWell, IsFitEnd, IsNextOver, IsNextRun, CrashesAtEnd};
 
 use conc_disk::Disk;
 
 /// Let a run begin on a journal and a spool that fit its files, with nothing pending, and let a
-/// stop at any moment leave an image of its journal. A run of the same files over this image, and
+/// crash at any moment leave an image of its journal. A run of the same files over this image, and
 /// over a spool that has each extent of its events, refuses nothing but for want of room. Its
 /// list begins with the events that the first run found. Behind what it finds it starts no
 /// request that was completed, and interrupts by its number each one that ran, before it does
 /// anything else; once it is finished, each of these was interrupted.
 pub fn the_next_run<D: Disk, E: Disk>()
     ensures { (plan : Plan) (readings again : Readings) (digest : List ℕ)
-        (journal stopped shown after : D) (spool spool_stopped spool_shown spool_after : E)
+        (journal crashed shown after : D) (spool spool_crashed spool_shown spool_after : E)
         (found kept last : List Event) (image texts : List ℕ) →
-        BeganWell (handed plan readings digest (D.state journal) (D.state stopped)
-        (E.state spool) (E.state spool_stopped))
-        → HasLeft (handed plan readings digest (D.state journal) (D.state stopped)
-        (E.state spool) (E.state spool_stopped)) found kept last
-        → IsNextOver (D.state journal) (D.state stopped) (handed plan again digest (D.state shown)
+        BeganWell (handed plan readings digest (D.state journal) (D.state crashed)
+        (E.state spool) (E.state spool_crashed))
+        → HasLeft (handed plan readings digest (D.state journal) (D.state crashed)
+        (E.state spool) (E.state spool_crashed)) found kept last
+        → IsNextOver (D.state journal) (D.state crashed) (handed plan again digest (D.state shown)
         (D.state after) (E.state spool_shown) (E.state spool_after)) image texts
         → IsNextRun (handed plan again digest (D.state shown) (D.state after)
         (E.state spool_shown) (E.state spool_after)) found image }
@@ -37,7 +37,7 @@ pub fn the_end_is_fit<D: Disk, E: Disk>()
         (spool spool_after : E) (found kept last : List Event) (image texts : List ℕ) →
         HasLeft (handed plan readings digest (D.state journal) (D.state journal_after)
         (E.state spool) (E.state spool_after)) found kept last
-        → StopsAtEnd (handed plan readings digest (D.state journal) (D.state journal_after)
+        → CrashesAtEnd (handed plan readings digest (D.state journal) (D.state journal_after)
         (E.state spool) (E.state spool_after)) found image texts
         → IsFitEnd (handed plan readings digest (D.state journal) (D.state journal_after)
         (E.state spool) (E.state spool_after)) kept image texts }

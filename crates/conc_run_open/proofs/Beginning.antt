@@ -38,10 +38,10 @@ stored-still plan readings digest journal mid new spool spool' examined is stays
     disk-stored plan from examined.spool.used (list_of examined.journal) spool spool' stays (end-within plan examined.spool.used (list_of examined.journal) is.ready.so_far (omega (arith, is.ready.used_is))) is.spool_on stored
 
 -- the journal's disk failed
-pub stops : (plan : Plan) (readings : Readings) (digest : List ℕ) (journal mid new spool spool' : DiskState) (examined : Examined)
+pub gives_up : (plan : Plan) (readings : Readings) (digest : List ℕ) (journal mid new spool spool' : DiskState) (examined : Examined)
     → IsExamined (handed plan readings digest journal mid spool spool') examined → Stays spool spool' → LeavesOpening (handed plan readings digest journal new spool spool') (list_of examined.journal)
     → EachImage (HasOpening (handed plan readings digest journal new spool spool') (list_of examined.journal)) new → IsGivenUp (handed plan readings digest journal new spool spool')
-stops plan readings digest journal mid new spool spool' examined is stays left now = record {
+gives_up plan readings digest journal mid new spool spool' examined is stays left now = record {
   found = list_of examined.journal;
   taken = taken plan readings digest journal mid new spool spool' examined is;
   left = left;
@@ -71,7 +71,7 @@ begins plan readings digest journal mid new spool spool' examined list is stays 
           lawful = subst (Lawful plan readings.list) (sym all) (opening-lawful plan readings.list found is.ready.so_far);
           takes = ap takes_events state;
           used_is = is.ready.used_is ∙ sym (opening-used found) ∙ ap (λ (l : List Event). used (reverse l)) (sym all);
-          kept_text = tt;
+          pending_text = tt;
           journal_on = on;
           spool_on = is.spool_on;
         };

@@ -12,7 +12,7 @@ use Rattle.conc_run_state.specs.Handed.{Handed, IsFound, IsOwnJournal}
 use Rattle.conc_run_state.specs.Judging.{IsBadFor, IsBadRecord}
 use Rattle.conc_run_state.specs.declared.error.HistoryFail.{HistoryFail}
 use Rattle.conc_run_state.specs.declared.error.HistoryFail.TheVariants as history_fail
-use Rattle.conc_run_state.specs.declared.error.DiskName.TheVariants as which
+use Rattle.conc_run_state.specs.declared.error.DiskName.TheVariants as disk_name
 use Rattle.conc_run_open.specs.Extents.{counted}
 use Rattle.conc_run_open.specs.Refusals.{LacksRoom, CannotBegin, IsRefused, IsUnreadable}
 use Rattle.conc_run_open.proofs.Counting.{counted-is, end-within}
@@ -32,7 +32,7 @@ found-good h opened has so_far whole long = record {
   within = IfSome_then h.spool_before.seen long (λ texts far. end-within h.plan (length texts) opened.events.items so_far (omega (arith, far, counted-is h.plan opened.events.items so_far)));
 }
 
--- the spool reaches as far as its length, which it may tell
+-- the spool reaches as far as its length, which it may expose
 pub long-enough : (disk : DiskState) (n : ℕ) → Reaches disk n → (len : ℕ) × HasLength disk len × (n ≤ len)
 long-enough disk n reach = go disk.seen reach
   where
@@ -63,7 +63,7 @@ found-refused h opened len history_fail.NoMemory has long is = tt
 found-refused h opened len history_fail.NotJournal has long is = absurd is
 found-refused h opened len (history_fail.OtherInput found) has long is = absurd is
 found-refused h opened len (history_fail.JournalFull n needed) has long is = absurd is
-found-refused h opened len (history_fail.DiskFault which) has long is = absurd is
+found-refused h opened len (history_fail.DiskFault disk) has long is = absurd is
 
 -- a record is bad, where the spool is too short
 pub short-unreadable : (plan : Plan) (events : List Event) (broken : Option ℕ) (old new : DiskState) (len : ℕ) (e : HistoryFail) → HasLength old len → IsRefused plan len events broken e → IsUnreadable plan events broken old new e
@@ -72,18 +72,18 @@ short-unreadable plan events broken old new len history_fail.NoMemory long is = 
 short-unreadable plan events broken old new len history_fail.NotJournal long is = absurd is
 short-unreadable plan events broken old new len (history_fail.OtherInput found) long is = absurd is
 short-unreadable plan events broken old new len (history_fail.JournalFull n needed) long is = absurd is
-short-unreadable plan events broken old new len (history_fail.DiskFault which) long is = absurd is
+short-unreadable plan events broken old new len (history_fail.DiskFault disk) long is = absurd is
 
 -- or it could not be read
 pub found-unreadable : (h : Handed) (opened : Opened) (events : List Event) (e : HistoryFail) → HasFound h opened → events ≡ opened.events.items → IsUnreadable h.plan events opened.broken h.spool_before h.spool_after e → HasCause h e
 found-unreadable h opened events (history_fail.Unlawful number) has same is =
     found-bad h opened number has (subst (λ (l : List Event). IsBadFor h.plan h.spool_before l opened.broken number) same is)
-found-unreadable h opened events (history_fail.DiskFault which.Spool) has same is = (has.own, is)
+found-unreadable h opened events (history_fail.DiskFault disk_name.Spool) has same is = (has.own, is)
 found-unreadable h opened events history_fail.NoMemory has same is = tt
 found-unreadable h opened events history_fail.NotJournal has same is = absurd is
 found-unreadable h opened events (history_fail.OtherInput found) has same is = absurd is
 found-unreadable h opened events (history_fail.JournalFull n needed) has same is = absurd is
-found-unreadable h opened events (history_fail.DiskFault which.Journal) has same is = absurd is
+found-unreadable h opened events (history_fail.DiskFault disk_name.Journal) has same is = absurd is
 
 found-lacks_room : (h : Handed) (opened : Opened) (e : HistoryFail) → IsFound h opened.events.items → LacksRoom h.plan h.readings opened.events.items e → HasCause h e
 found-lacks_room h opened (history_fail.JournalFull len needed) found is = record { found = opened.events.items; is_found = found; len_is = is.0; needed_is = is.1; full = is.2 }
@@ -91,7 +91,7 @@ found-lacks_room h opened history_fail.NoMemory found is = tt
 found-lacks_room h opened history_fail.NotJournal found is = absurd is
 found-lacks_room h opened (history_fail.OtherInput digest) found is = absurd is
 found-lacks_room h opened (history_fail.Unlawful number) found is = absurd is
-found-lacks_room h opened (history_fail.DiskFault which) found is = absurd is
+found-lacks_room h opened (history_fail.DiskFault disk) found is = absurd is
 
 -- a record is bad, or there is no room, where the spool is as long as all extents
 pub found-cannot_begin : (h : Handed) (opened : Opened) (e : HistoryFail) → HasFound h opened → Reaches h.spool_before (counted opened.events.items) → CannotBegin h.plan h.readings opened.events.items opened.broken e → HasCause h e

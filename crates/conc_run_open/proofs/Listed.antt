@@ -10,7 +10,7 @@ use Rattle.conc_journal.specs.declared.opened.Opened.{Opened}
 use Rattle.conc_run_state.specs.Handed.{IsOwnJournal}
 use Rattle.conc_run_state.specs.declared.error.HistoryFail.{HistoryFail}
 use Rattle.conc_run_state.specs.declared.error.HistoryFail.TheVariants as history_fail
-use Rattle.conc_run_state.specs.declared.error.DiskName.TheVariants as which
+use Rattle.conc_run_state.specs.declared.error.DiskName.TheVariants as disk_name
 use Rattle.conc_run_open.specs.Refusals.{IsUnopened}
 use Rattle.conc_run_open.specs.Listing.{HasListCause, IsBadEvent, IsListed, IsUnlisted}
 
@@ -18,11 +18,11 @@ use Rattle.conc_run_open.specs.Listing.{HasListCause, IsBadEvent, IsListed, IsUn
 pub unopened-listed : (plan : Plan) (digest : List ℕ) (old new : DiskState) (e : HistoryFail) → IsUnopened digest old new e → HasListCause plan digest old new e
 unopened-listed plan digest old new history_fail.NotJournal is = is
 unopened-listed plan digest old new (history_fail.OtherInput found) is = is
-unopened-listed plan digest old new (history_fail.DiskFault which.Journal) is = is
+unopened-listed plan digest old new (history_fail.DiskFault disk_name.Journal) is = is
 unopened-listed plan digest old new history_fail.NoMemory is = tt
 unopened-listed plan digest old new (history_fail.Unlawful number) is = absurd is
 unopened-listed plan digest old new (history_fail.JournalFull len needed) is = absurd is
-unopened-listed plan digest old new (history_fail.DiskFault which.Spool) is = absurd is
+unopened-listed plan digest old new (history_fail.DiskFault disk_name.Spool) is = absurd is
 
 -- an event is bad
 pub unlisted-cause : (plan : Plan) (digest : List ℕ) (old new : DiskState) (opened : Opened) (events : List Event) (e : HistoryFail) → IfSome old.seen (IsOwnJournal digest) → IfSome old.seen (λ image. IsFoundIn image opened)
@@ -36,7 +36,7 @@ unlisted-cause plan digest old new opened events history_fail.NoMemory own found
 unlisted-cause plan digest old new opened events history_fail.NotJournal own found same bad = absurd bad
 unlisted-cause plan digest old new opened events (history_fail.OtherInput other) own found same bad = absurd bad
 unlisted-cause plan digest old new opened events (history_fail.JournalFull len needed) own found same bad = absurd bad
-unlisted-cause plan digest old new opened events (history_fail.DiskFault which) own found same bad = absurd bad
+unlisted-cause plan digest old new opened events (history_fail.DiskFault disk) own found same bad = absurd bad
 
 -- the events are good
 pub listed : (plan : Plan) (digest : List ℕ) (disk : DiskState) (opened : Opened) → IfSome disk.seen (IsOwnJournal digest) → IfSome disk.seen (λ image. IsFoundIn image opened)

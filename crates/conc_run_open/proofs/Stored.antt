@@ -17,7 +17,7 @@ use Rattle.conc_run_state.specs.Handed.{IsOwnJournal}
 use Rattle.conc_run_state.specs.Judging.{IsBadFor}
 use Rattle.conc_run_state.specs.declared.error.HistoryFail.{HistoryFail}
 use Rattle.conc_run_state.specs.declared.error.HistoryFail.TheVariants as history_fail
-use Rattle.conc_run_state.specs.declared.error.DiskName.TheVariants as which
+use Rattle.conc_run_state.specs.declared.error.DiskName.TheVariants as disk_name
 use Rattle.conc_run_open.specs.Extents.{counted}
 use Rattle.conc_run_open.specs.Refusals.{IsRefused, IsUnopened, IsUnreadable}
 use Rattle.conc_run_open.specs.Texts.{AreWhole, HasEnd, HasReadCause}
@@ -32,11 +32,11 @@ use Rattle.conc_run_open.proofs.Surviving.{left-wider}
 pub unopened-read : (plan : Plan) (digest : List ℕ) (d : Disks) (e : HistoryFail) → IsUnopened digest d.journal_before d.journal_after e → HasReadCause plan digest d e
 unopened-read plan digest d history_fail.NotJournal is = is
 unopened-read plan digest d (history_fail.OtherInput found) is = is
-unopened-read plan digest d (history_fail.DiskFault which.Journal) is = is
+unopened-read plan digest d (history_fail.DiskFault disk_name.Journal) is = is
 unopened-read plan digest d history_fail.NoMemory is = tt
 unopened-read plan digest d (history_fail.Unlawful number) is = absurd is
 unopened-read plan digest d (history_fail.JournalFull len needed) is = absurd is
-unopened-read plan digest d (history_fail.DiskFault which.Spool) is = absurd is
+unopened-read plan digest d (history_fail.DiskFault disk_name.Spool) is = absurd is
 
 -- a record is bad, or the spool could not be read
 pub unreadable-read : (plan : Plan) (digest : List ℕ) (d : Disks) (opened : Opened) (events : List Event) (e : HistoryFail) → IfSome d.journal_before.seen (IsOwnJournal digest)
@@ -46,12 +46,12 @@ unreadable-read plan digest d opened events (history_fail.Unlawful number) own f
   bad = IfSome_then d.journal_before.seen found (λ image is.
       bad-in plan d.spool_before opened image number is (subst (λ (l : List Event). IsBadFor plan d.spool_before l opened.broken number) same bad));
 }
-unreadable-read plan digest d opened events (history_fail.DiskFault which.Spool) own found same bad = (own, bad)
+unreadable-read plan digest d opened events (history_fail.DiskFault disk_name.Spool) own found same bad = (own, bad)
 unreadable-read plan digest d opened events history_fail.NoMemory own found same bad = tt
 unreadable-read plan digest d opened events history_fail.NotJournal own found same bad = absurd bad
 unreadable-read plan digest d opened events (history_fail.OtherInput other) own found same bad = absurd bad
 unreadable-read plan digest d opened events (history_fail.JournalFull len needed) own found same bad = absurd bad
-unreadable-read plan digest d opened events (history_fail.DiskFault which.Journal) own found same bad = absurd bad
+unreadable-read plan digest d opened events (history_fail.DiskFault disk_name.Journal) own found same bad = absurd bad
 
 -- a record is bad, where the spool has all extents
 pub refused-unreadable : (plan : Plan) (events : List Event) (broken : Option ℕ) (old new : DiskState) (e : HistoryFail) → Reaches old (counted events) → ((len : ℕ) → counted events ≤ len → IsRefused plan len events broken e)
@@ -61,7 +61,7 @@ refused-unreadable plan events broken old new history_fail.NoMemory long refused
 refused-unreadable plan events broken old new history_fail.NotJournal long refused = absurd (refused (counted events) (le_refl (counted events)))
 refused-unreadable plan events broken old new (history_fail.OtherInput other) long refused = absurd (refused (counted events) (le_refl (counted events)))
 refused-unreadable plan events broken old new (history_fail.JournalFull len needed) long refused = absurd (refused (counted events) (le_refl (counted events)))
-refused-unreadable plan events broken old new (history_fail.DiskFault which) long refused = absurd (refused (counted events) (le_refl (counted events)))
+refused-unreadable plan events broken old new (history_fail.DiskFault disk) long refused = absurd (refused (counted events) (le_refl (counted events)))
 
 -- ---- what is found
 

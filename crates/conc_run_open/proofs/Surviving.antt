@@ -1,4 +1,4 @@
--- What a stop may leave while a life begins.
+-- What a crash may leave while a life begins.
 use Rattle.std.proofs.Common.{IsTrue, ◌≡◌, ◌⊎◌, inl, inr, ℕ, Bool, ◌||◌, if◌then◌else◌, List, [], Option, None, Some, IfSome, refl, sym, ◌∙◌, ap, subst, append-nil}
 use Rattle.std.proofs.lemmas.Option.{IfSome_then}
 use Rattle.conc_types.specs.declared.event.Event.{Event}

@@ -11,7 +11,7 @@ use Rattle.conc_run_state.specs.Causes.{IsOther}
 use Rattle.conc_run_state.specs.Handed.{IsOwnJournal}
 use Rattle.conc_run_state.specs.declared.error.HistoryFail.{HistoryFail}
 use Rattle.conc_run_state.specs.declared.error.HistoryFail.TheVariants as history_fail
-use Rattle.conc_run_state.specs.declared.error.DiskName.TheVariants as which
+use Rattle.conc_run_state.specs.declared.error.DiskName.TheVariants as disk_name
 
 -- the journal is this input's and good, and these are its events
 pub record IsListed (plan : Plan) (digest : List ℕ) (disk : DiskState) (events : List Event) : Type 0 where
@@ -41,6 +41,6 @@ abbrev pub HasListCause : Plan → List ℕ → DiskState → DiskState → Hist
 HasListCause plan digest old new history_fail.NotJournal = IfSome old.seen (λ image. IsFalse (may_open image))
 HasListCause plan digest old new (history_fail.OtherInput found) = IfSome old.seen (IsOther digest found)
 HasListCause plan digest old new (history_fail.Unlawful number) = HasBadEvent plan digest old number
-HasListCause plan digest old new (history_fail.DiskFault which.Journal) = Rose old.faults new.faults
+HasListCause plan digest old new (history_fail.DiskFault disk_name.Journal) = Rose old.faults new.faults
 HasListCause plan digest old new history_fail.NoMemory = ⊤
 HasListCause plan digest old new _ = ⊥

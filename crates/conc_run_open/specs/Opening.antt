@@ -17,7 +17,7 @@ use Rattle.conc_run_state.specs.declared.work.Work.{Work}
 abbrev pub HasOpening : Handed → List Event → List ℕ → Type 0
 HasOpening h found image = Survives h.digest found (opening found) image
 
--- a stop at some moment left of the journal what it might have left before, or such a journal
+-- a crash at some moment left of the journal what it might have left before, or such a journal
 abbrev pub LeavesOpening : Handed → List Event → Type 0
 LeavesOpening h found = LeavesOnly (λ image. h.journal_before.may_leave image ⊎ HasOpening h found image) h.journal_before h.journal_after
 

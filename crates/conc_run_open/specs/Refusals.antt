@@ -7,19 +7,20 @@ use Rattle.conc_outside.specs.Counts.{Rose}
 use Rattle.conc_disk.specs.Disk.{DiskState}
 use Rattle.conc_law.specs.Law.{LawfulSoFar}
 use Rattle.conc_journal.specs.Opens.{may_open}
+use Rattle.conc_journal_image.specs.declared.layout.TheConstants.{MOST_RECORDS}
 use Rattle.conc_restart.specs.Need.{need}
 use Rattle.conc_run_state.specs.Causes.{IsOther}
 use Rattle.conc_run_state.specs.Judging.{IsBadFor, IsBadRecord}
 use Rattle.conc_run_state.specs.declared.error.HistoryFail.{HistoryFail}
 use Rattle.conc_run_state.specs.declared.error.HistoryFail.TheVariants as history_fail
-use Rattle.conc_run_state.specs.declared.error.DiskName.TheVariants as which
+use Rattle.conc_run_state.specs.declared.error.DiskName.TheVariants as disk_name
 use Rattle.conc_run_open.specs.Extents.{counted}
 
 -- this is no journal, or that of another input, or its disk failed, or there is no memory
 abbrev pub IsUnopened : List ℕ → DiskState → DiskState → HistoryFail → Type 0
 IsUnopened digest old new history_fail.NotJournal = IfSome old.seen (λ image. IsFalse (may_open image))
 IsUnopened digest old new (history_fail.OtherInput found) = IfSome old.seen (IsOther digest found)
-IsUnopened digest old new (history_fail.DiskFault which.Journal) = Rose old.faults new.faults
+IsUnopened digest old new (history_fail.DiskFault disk_name.Journal) = Rose old.faults new.faults
 IsUnopened digest old new history_fail.NoMemory = ⊤
 IsUnopened digest old new _ = ⊥
 
@@ -32,14 +33,14 @@ IsRefused plan len events broken _ = ⊥
 -- for this spool a record is bad, or its disk failed, or there is no memory
 abbrev pub IsUnreadable : Plan → List Event → Option ℕ → DiskState → DiskState → HistoryFail → Type 0
 IsUnreadable plan events broken old new (history_fail.Unlawful number) = IsBadFor plan old events broken number
-IsUnreadable plan events broken old new (history_fail.DiskFault which.Spool) = Rose old.faults new.faults
+IsUnreadable plan events broken old new (history_fail.DiskFault disk_name.Spool) = Rose old.faults new.faults
 IsUnreadable plan events broken old new history_fail.NoMemory = ⊤
 IsUnreadable plan events broken old new _ = ⊥
 
 -- there is no room for one more life, or no memory
 abbrev pub LacksRoom : Plan → List Reading → List Event → HistoryFail → Type 0
 LacksRoom plan readings events (history_fail.JournalFull len needed) =
-    (len ≡ length events) × (needed ≡ need plan readings) × (1048576 < len + needed)
+    (len ≡ length events) × (needed ≡ need plan readings) × (MOST_RECORDS < len + needed)
 LacksRoom plan readings events history_fail.NoMemory = ⊤
 LacksRoom plan readings events _ = ⊥
 

@@ -16,10 +16,10 @@ use Rattle.conc_run_state.specs.Handed.{IsOwnJournal}
 use Rattle.conc_run_state.specs.Judging.{EndWithin, IsBadFor}
 use Rattle.conc_run_state.specs.declared.error.HistoryFail.{HistoryFail}
 use Rattle.conc_run_state.specs.declared.error.HistoryFail.TheVariants as history_fail
-use Rattle.conc_run_state.specs.declared.error.DiskName.TheVariants as which
+use Rattle.conc_run_state.specs.declared.error.DiskName.TheVariants as disk_name
 use Rattle.conc_run_open.specs.Listing.{IsListed}
-use Rattle.conc_run_open.specs.declared.text.TextFail.{TextFail}
-use Rattle.conc_run_open.specs.declared.text.TextFail.TheVariants as text_fail
+use Rattle.conc_run_open.specs.declared.error.TextFail.{TextFail}
+use Rattle.conc_run_open.specs.declared.error.TextFail.TheVariants as text_fail
 
 -- ---- ends
 
@@ -62,7 +62,7 @@ pub record HasNotEnded (plan : Plan) (digest : List ℕ) (id : RequestId) (journ
 
 -- ---- why no text is given
 
--- the journal is this input's, and, where it tells, its record with this number is the first that is bad
+-- the journal is this input's, and, where it exposes its bytes, its record with this number is the first that is bad
 pub record HasBadRecord (plan : Plan) (digest : List ℕ) (journal spool : DiskState) (number : ℕ) : Type 0 where
   pub own : IfSome journal.seen (IsOwnJournal digest)
   pub bad : IfSome journal.seen (λ image. IsBadFor plan spool (events_of image) (broken_of image) number)
@@ -72,8 +72,8 @@ abbrev pub HasReadCause : Plan → List ℕ → Disks → HistoryFail → Type 0
 HasReadCause plan digest d history_fail.NotJournal = IfSome d.journal_before.seen (λ image. IsFalse (may_open image))
 HasReadCause plan digest d (history_fail.OtherInput found) = IfSome d.journal_before.seen (IsOther digest found)
 HasReadCause plan digest d (history_fail.Unlawful number) = HasBadRecord plan digest d.journal_before d.spool_before number
-HasReadCause plan digest d (history_fail.DiskFault which.Journal) = Rose d.journal_before.faults d.journal_after.faults
-HasReadCause plan digest d (history_fail.DiskFault which.Spool) =
+HasReadCause plan digest d (history_fail.DiskFault disk_name.Journal) = Rose d.journal_before.faults d.journal_after.faults
+HasReadCause plan digest d (history_fail.DiskFault disk_name.Spool) =
     IfSome d.journal_before.seen (IsOwnJournal digest) × Rose d.spool_before.faults d.spool_after.faults
 HasReadCause plan digest d history_fail.NoMemory = ⊤
 HasReadCause plan digest d (history_fail.JournalFull len needed) = ⊥

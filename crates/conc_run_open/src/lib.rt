@@ -2,6 +2,7 @@
 //! the text of a report.
 #![tactic(auto)]
 
+mod error;
 mod examining;
 mod extents;
 mod judging;
@@ -11,6 +12,7 @@ mod reading;
 mod starting;
 mod text;
 
+pub use error::TextFail;
 pub use listing::read_list;
 pub use opening::open;
-pub use text::{TextFail, read_text};
+pub use text::read_text;

@@ -38,7 +38,7 @@ pub fn open<'p, D: Disk, E: Disk>(
         → IsUntouched (handed plan.now readings.now digest.now (D.state journal.old)
         (D.state journal.new) (E.state spool.old) (E.state spool.new))) }
 
-    // A stop at any moment. What it leaves where a life is begun stands above.
+    // A crash at any moment. What it leaves where a life is begun stands above.
     ensures given_up { OnErr result (IsUntouched
         (handed plan.now readings.now digest.now (D.state journal.old) (D.state journal.new)
         (E.state spool.old) (E.state spool.new))
@@ -60,7 +60,7 @@ pub fn open<'p, D: Disk, E: Disk>(
             spool: texts,
         }),
         Err(DiskFault) => Err(HistoryFail::DiskFault {
-            which: DiskName::Journal,
+            disk: DiskName::Journal,
         }),
     }
 }

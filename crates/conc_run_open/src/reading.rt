@@ -45,7 +45,7 @@ pub(crate) fn open_own<D: Disk>(
         Err(JournalFail::NotJournal) => return Err(HistoryFail::NotJournal),
         Err(JournalFail::DiskFault) => {
             return Err(HistoryFail::DiskFault {
-                which: DiskName::Journal,
+                disk: DiskName::Journal,
             });
         }
         Err(JournalFail::NoMemory) => return Err(HistoryFail::NoMemory),
@@ -77,7 +77,7 @@ pub(crate) fn open_texts<E: Disk>(
         Ok(spool) => Ok(spool),
         Err(SpoolFail::Short { len }) => Err(refuse_short(alloc, plan, events, len)),
         Err(SpoolFail::DiskFault) => Err(HistoryFail::DiskFault {
-            which: DiskName::Spool,
+            disk: DiskName::Spool,
         }),
     }
 }

@@ -3,8 +3,8 @@ ghost use Rattle.conc_disk.specs.Disk.{Stays};
 ghost use Rattle.conc_disk.specs.Left.{LeavesOnly};
 ghost use Rattle.conc_run_state.specs.Disks.{disks};
 ghost use Rattle.conc_run_open.specs.Texts.{HasEnd, HasNoEnd, HasText, HasTextCause, report_in};
-ghost use Rattle.conc_run_open.specs.declared.text.TextFail.TheVariants as text_fail;
 
+use crate::TextFail;
 use crate::judging::resume_whole;
 use crate::reading::{open_own, open_texts};
 use conc_disk::Disk;
@@ -12,26 +12,6 @@ use conc_run_state::{DiskName, HistoryFail};
 use conc_spool::ReadBack;
 use conc_types::{Event, Extent, Plan, RequestId};
 use std::alloc::Global;
-use thiserror::Error;
-
-/// Why no text of a report is given.
-#[derive(Clone, Copy, Debug, PartialEq, Eq, Error)]
-pub enum TextFail {
-    /// What stands on the disks is refused, or could not be read.
-    #[error(transparent)]
-    NoHistory(HistoryFail),
-    /// The journal has no end of the request that has a report.
-    #[error("the request has not ended with a report")]
-    NotEnded,
-}
-
-impl From<HistoryFail> for TextFail {
-    ghost from_gives = { λ fail e. e ≡ text_fail.NoHistory fail };
-
-    fn from(fail: HistoryFail) -> Self {
-        TextFail::NoHistory(fail)
-    }
-}
 
 // Where the report of this request stands, if the event is its end and has one.
 fn report_in(event: Event, id: RequestId) -> Option<Extent>
@@ -94,7 +74,7 @@ pub fn read_text<D: Disk, E: Disk>(
     match texts.read(alloc, spool, extent) {
         Ok(text) => Ok(text),
         Err(ReadBack::DiskFault) => Err(TextFail::NoHistory(HistoryFail::DiskFault {
-            which: DiskName::Spool,
+            disk: DiskName::Spool,
         })),
         Err(ReadBack::NoMemory) => Err(TextFail::NoHistory(HistoryFail::NoMemory)),
     }

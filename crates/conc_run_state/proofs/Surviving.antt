@@ -1,4 +1,4 @@
--- What a stop may leave of a journal.
+-- What a crash may leave of a journal.
 use Rattle.std.proofs.Common.{◌≡◌, inr, ℕ, Bool, ◌||◌, List, [], None, Some, if◌then◌else◌, sym, ◌∙◌, ap, subst}
 use Rattle.conc_types.specs.declared.event.Event.{Event}
 use Rattle.conc_journal_image.specs.Image.{digest_in, Found, found_in, has_header, IsJournal}

@@ -16,7 +16,7 @@ disks journal journal' spool spool' = record {
   spool_after = spool';
 }
 
--- nothing was written: what is read of them stays, and a stop leaves nothing that it did not leave before
+-- nothing was written: what is read of them stays, and a crash leaves nothing that it did not leave before
 pub record AreUntouched (d : Disks) : Type 0 where
   pub journal : Stays d.journal_before d.journal_after
   pub journal_survives : LeavesOnly d.journal_before.may_leave d.journal_before d.journal_after

@@ -14,7 +14,7 @@ pub record Fit (plan : Plan) (digest : List ℕ) (from : ℕ) (journal spool : L
   pub good : AreGood plan (length spool) (events_of journal) (broken_of journal)
   pub stored : AreStored plan from (events_of journal) spool
 
--- where both disks tell, what a stop may have left of the journal at some moment since the first fits what it may have left
+-- where both disks expose their bytes, what a crash may have left of the journal at some moment since the first fits what it may have left
 -- of the spool
 abbrev pub FitThroughout : Plan → List ℕ → ℕ → Disks → Type 0
 FitThroughout plan digest from d = IfSome d.journal_before.seen (λ list. IfSome d.spool_before.seen (λ texts.

@@ -7,6 +7,7 @@ use Rattle.conc_types.specs.declared.script.Readings.{Readings}
 use Rattle.conc_disk.specs.Disk.{DiskState}
 use Rattle.conc_law.specs.Law.{LawfulSoFar}
 use Rattle.conc_journal.specs.Opens.{broken_of, events_of, may_open}
+use Rattle.conc_journal_image.specs.declared.layout.TheConstants.{MOST_RECORDS}
 use Rattle.conc_restart.specs.Need.{need}
 use Rattle.conc_run_state.specs.Disks.{AreUntouched, disks}
 use Rattle.conc_run_state.specs.Judging.{EndWithin}
@@ -42,8 +43,8 @@ pub record IsOwnJournal (digest : List ℕ) (image : List ℕ) : Type 0 where
   pub opens : IsTrue (may_open image)
   pub own : IsOwn digest image
 
--- These are the events found. They are lawful, every life judged as an earlier one. Where the journal's disk tells, they are
--- those of a journal of this input of which no record is broken; and where the spool's tells, each extent ends within it.
+-- These are the events found. They are lawful, every life judged as an earlier one. Where the journal's disk exposes its bytes, they are
+-- those of a journal of this input of which no record is broken; and where the spool's does, each extent ends within it.
 pub record IsFound (h : Handed) (found : List Event) : Type 0 where
   pub so_far : LawfulSoFar h.plan found
   pub own : IfSome h.journal_before.seen (IsOwnJournal h.digest)
@@ -54,4 +55,4 @@ pub record IsFound (h : Handed) (found : List Event) : Type 0 where
 -- these are the events found, and the journal has room for one more life
 pub record IsTaken (h : Handed) (found : List Event) : Type 0 where
   pub is_found : IsFound h found
-  pub room : length found + need h.plan h.readings ≤ 1048576
+  pub room : length found + need h.plan h.readings ≤ MOST_RECORDS

@@ -39,7 +39,7 @@ pub record IsBadRecord (plan : Plan) (len : ℕ) (events : List Event) (broken :
   pub so_far : LawfulSoFar plan (take (number - 1) events)
   pub within : EndWithin len (take (number - 1) events)
 
--- the spool has a number of bytes, which is that of those that it tells where it tells them, and for a spool of so many the
+-- the spool has a number of bytes, which is that of those that it exposes where it does, and for a spool of so many the
 -- record with this number is bad, and none before it
 abbrev pub IsBadFor : Plan → DiskState → List Event → Option ℕ → ℕ → Type 0
 IsBadFor plan spool events broken number = (len : ℕ) × HasLength spool len × IsBadRecord plan len events broken number

@@ -1,4 +1,4 @@
--- What a stop at any moment may leave of a journal.
+-- What a crash at any moment may leave of a journal.
 use Rattle.std.specs.Prelude.{◌≡◌, ◌⊎◌, ℕ, List, None, Some, IsTrue}
 use Rattle.conc_types.specs.declared.event.Event.{Event}
 use Rattle.conc_journal.specs.Opens.{broken_of, digest_of, events_of, may_open}

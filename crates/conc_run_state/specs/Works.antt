@@ -31,33 +31,33 @@ list_in work = list_of work.journal
 abbrev pub longest_in : Work → List Event
 longest_in work = longest_of work.journal
 
--- the list, with the event behind it that is kept and not in the journal yet, if there is one
-abbrev pub with_kept : Option Event → List Event → List Event
-with_kept None list = list
-with_kept (Some e) list = list ++ e ∷ []
+-- the list, with the event behind it that is pending, if there is one: its record is not in the journal yet
+abbrev pub with_pending : Option Event → List Event → List Event
+with_pending None list = list
+with_pending (Some e) list = list ++ e ∷ []
 
 -- An end that comes behind a list and is not in the journal yet: its outcome is that of its request's report, its extent
 -- begins where those of the list end, and each image now of the spool holds its text.
-pub record IsKept (plan : Plan) (list : List Event) (spool : DiskState) (id : RequestId) (outcome : Outcome) (extent : Extent) : Type 0 where
+pub record IsPendingEnd (plan : Plan) (list : List Event) (spool : DiskState) (id : RequestId) (outcome : Outcome) (extent : Extent) : Type 0 where
   pub reported : IsReported plan id outcome extent
   pub next : extent.offset ≡ used (reverse list)
   pub stored : EachImage (λ image. IsStored plan image id outcome extent) spool
 
--- such is the event that is kept, where it is an end with an extent
-abbrev pub HasKeptText : Plan → List Event → DiskState → Option Event → Type 0
-HasKeptText plan list spool (Some (event.Ended id o (Some x))) = IsKept plan list spool id o x
-HasKeptText plan list spool kept = ⊤
+-- such is the pending event, where it is an end with an extent
+abbrev pub HasPendingText : Plan → List Event → DiskState → Option Event → Type 0
+HasPendingText plan list spool (Some (event.Ended id o (Some x))) = IsPendingEnd plan list spool id o x
+HasPendingText plan list spool pending = ⊤
 
 -- The machine, the journal and the spool stand for one list, which is lawful for the readings that the machine took, and
--- both disks are on. The spool has the text of the end that is kept, if one is.
-pub record AreTied (plan : Plan) (readings : List Reading) (kept : Option Event) (work : Work) (journal spool : DiskState) : Type 0 where
+-- both disks are on. The spool has the text of the pending end, if there is one.
+pub record AreTied (plan : Plan) (readings : List Reading) (pending : Option Event) (work : Work) (journal spool : DiskState) : Type 0 where
   pub plan_is : plan_of work.machine ≡ plan
   pub readings_are : readings_of work.machine ≡ Some readings
   pub stands : StandsFor work.machine (reverse (list_in work))
   pub lawful : Lawful plan readings (list_in work)
   pub takes : IsTrue (takes_events (state_of work.journal))
-  pub used_is : used_of work.spool ≡ used (reverse (with_kept kept (list_in work)))
-  pub kept_text : HasKeptText plan (list_in work) spool kept
+  pub used_is : used_of work.spool ≡ used (reverse (with_pending pending (list_in work)))
+  pub pending_text : HasPendingText plan (list_in work) spool pending
   pub journal_on : JournalIsOn work.journal journal
   pub spool_on : SpoolIsOn work.spool spool
 

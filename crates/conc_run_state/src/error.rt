@@ -34,7 +34,7 @@ pub enum HistoryFail {
     #[error("the journal has {len} records and needs {need} more")]
     JournalFull { len: u64, need: u64 },
     #[error("a disk failed")]
-    DiskFault { which: DiskName },
+    DiskFault { disk: DiskName },
     #[error("no memory")]
     NoMemory,
 }

@@ -42,7 +42,7 @@ use Rattle.conc_restart.proofs.LivesFit.{life_fits}
 use Rattle.conc_spool.specs.Spools.{used_of}
 use Rattle.conc_spool.specs.Spools.{IsOn as SpoolIsOn}
 use Rattle.conc_spool.specs.declared.spool.Spool.{Spool}
-use Rattle.conc_run_state.specs.Works.{AreTied, HasKeptText, HasRoom, list_in}
+use Rattle.conc_run_state.specs.Works.{AreTied, HasPendingText, HasRoom, list_in}
 use Rattle.conc_run_state.specs.declared.work.Work.{Work}
 use Rattle.conc_run_steps.specs.Steps.{IsReady, MayLog, next_in, plan_in, readings_in}
 use Rattle.conc_run_steps.proofs.Extents.{used-below, used-push}
@@ -191,18 +191,18 @@ text-fits plan list e text stored past =
       below = omega (arith, text-length plan e text stored, used-push list e, used-below plan (list ++ e ∷ []) past);
     }
 
--- ---- the work after it is kept
+-- ---- the work after its text is stored
 
-pub tied-kept : (plan : Plan) (readings : List Reading) (e : Event) (work : Work) (spool : Spool) (journal disk disk' : DiskState) → AreTied plan readings None work journal disk
-    → used_of spool ≡ extent_length e + used_of work.spool → SpoolIsOn spool disk' → HasKeptText plan (list_in work) disk' (Some e) → AreTied plan readings (Some e) (record { machine = work.machine; journal = work.journal; spool = spool }) journal disk'
-tied-kept plan readings e work spool journal disk disk' tied more on text = record {
+pub tied-pending : (plan : Plan) (readings : List Reading) (e : Event) (work : Work) (spool : Spool) (journal disk disk' : DiskState) → AreTied plan readings None work journal disk
+    → used_of spool ≡ extent_length e + used_of work.spool → SpoolIsOn spool disk' → HasPendingText plan (list_in work) disk' (Some e) → AreTied plan readings (Some e) (record { machine = work.machine; journal = work.journal; spool = spool }) journal disk'
+tied-pending plan readings e work spool journal disk disk' tied more on text = record {
   plan_is = tied.plan_is;
   readings_are = tied.readings_are;
   stands = tied.stands;
   lawful = tied.lawful;
   takes = tied.takes;
   used_is = more ∙ ap (λ n. extent_length e + n) tied.used_is ∙ sym (used-push (list_in work) e);
-  kept_text = text;
+  pending_text = text;
   journal_on = tied.journal_on;
   spool_on = on;
 }

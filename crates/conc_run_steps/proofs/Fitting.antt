@@ -27,7 +27,7 @@ use Rattle.conc_run_state.proofs.Prefixes.{prefix-self}
 use Rattle.conc_run_state.proofs.Surviving.{journal-survives}
 use Rattle.conc_run_steps.proofs.Coming.{lawful-past}
 use Rattle.conc_run_steps.proofs.Extents.{used-more, within-used}
-use Rattle.conc_run_steps.proofs.Texts.{kept-stored, stored-alike, stored-more}
+use Rattle.conc_run_steps.proofs.Texts.{pending-stored, stored-alike, stored-more}
 
 -- ---- one image of each
 
@@ -50,7 +50,7 @@ fit plan digest from first last journal spool past is long stored =
           stored i id o x at (ap (λ (l : List Event). slice_get l i) is.within.1 ∙ get-more events is.within.0 i (event.Ended id o (Some x)) here);
     }
 
--- ---- what a stop at some moment left
+-- ---- what a crash at some moment left
 
 -- a journal that is begun and has this list, which only an event more may have followed
 journal-left : (digest : List ℕ) (list last : List Event) (old new : DiskState) → EachImage (FitsState (Begun digest) list) old → ((c : List ℕ) → old.left_since old.moment c → old.may_leave c)
@@ -115,7 +115,7 @@ module _ (plan : Plan) (readings : List Reading) (digest : List ℕ) (from : ℕ
       let journals = journal-left digest (list_in work) longer journal journal' (on-begun journal tied.journal_on) journal-now
       (λ image fits. journal-survives digest (list_in work) (list_in work) longer image (prefix-self (list_in work)) (e ∷ [], refl) fits) run in
       let all : IfSome spool.seen (λ bytes. (c : List ℕ) → spool.may_leave c → AreStored plan from longer c) =
-      if_some-both spool.seen stored (kept-stored plan (list_in work) e spool tied.kept_text) (λ bytes each kept c left. stored-more plan from (list_in work) e c (each c left) (kept c left)) in
+      if_some-both spool.seen stored (pending-stored plan (list_in work) e spool tied.pending_text) (λ bytes each pending c left. stored-more plan from (list_in work) e c (each c left) (pending c left)) in
       let spools : IfSome spool.seen (λ bytes. (c : List ℕ) → spool.may_leave c → HasAll plan from longer c) =
       if_some-both spool.seen all tied.spool_on (λ bytes held agrees c left. (omega (arith, same, (agrees c left).no_shorter), held c left)) in
       IfSome_then journal.seen journals (λ bytes of_journal.

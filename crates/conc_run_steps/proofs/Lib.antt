@@ -2,5 +2,5 @@ pub mod Extents
 pub mod Coming
 pub mod Texts
 pub mod Logs
-pub mod Kept
+pub mod Pending
 pub mod Fitting

@@ -1,4 +1,4 @@
--- What a stop leaves of a journal to which an event is added, and at which state it is then.
+-- What a crash leaves of a journal to which an event is added, and at which state it is then.
 use Rattle.std.proofs.Common.{◌≡◌, ⊎_elim, ℕ, true, false, List, [], ◌∷◌, ◌++◌, refl, subst}
 use Rattle.conc_types.specs.declared.event.Event.{Event}
 use Rattle.conc_disk.specs.Disk.{DiskState}

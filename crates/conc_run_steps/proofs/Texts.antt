@@ -14,7 +14,7 @@ use Rattle.conc_journal_image.proofs.Fronts.{part-front}
 use Rattle.conc_spool.specs.Spools.{Agrees, KeepsBelow}
 use Rattle.conc_resolver_choice.specs.Choices.{HasItsText}
 use Rattle.conc_run_state.specs.Stored.{AreStored, IsStored}
-use Rattle.conc_run_state.specs.Works.{HasKeptText}
+use Rattle.conc_run_state.specs.Works.{HasPendingText}
 use Rattle.conc_run_steps.specs.Steps.{StoresOn}
 use Rattle.conc_run_steps.proofs.Extents.{last-at, within-used}
 
@@ -66,11 +66,11 @@ module _ (plan : Plan) where
       place (first ∷ list) e zero found here = inl here
       place (first ∷ list) e (suc i) found here = place list e i found here
 
-  -- so is that of the event that is kept
-  pub kept-stored : (list : List Event) (e : Event) (spool : DiskState) → HasKeptText plan list spool (Some e) → IfSome spool.seen (λ bytes. (image : List ℕ) → spool.may_leave image → EventStored image e)
+  -- so is that of the pending event
+  pub pending-stored : (list : List Event) (e : Event) (spool : DiskState) → HasPendingText plan list spool (Some e) → IfSome spool.seen (λ bytes. (image : List ℕ) → spool.may_leave image → EventStored image e)
   unfolding EventStored
-  kept-stored list (event.Ended id o (Some x)) spool kept = kept.stored
-  kept-stored list e spool kept = if_some-any spool.seen (λ bytes image left. tt)
+  pending-stored list (event.Ended id o (Some x)) spool pending = pending.stored
+  pending-stored list e spool pending = if_some-any spool.seen (λ bytes image left. tt)
 
   without-stored : (e : Event) (bytes : List ℕ) → HasItsText plan e None → EventStored bytes e
   unfolding EventStored

@@ -6,7 +6,7 @@ use Rattle.conc_types.specs.declared.script.Reading.{Reading}
 use Rattle.conc_law.specs.Alone.{next_alone}
 use Rattle.conc_law.specs.Law.{Finished, Lawful}
 use Rattle.conc_law.specs.Remaining.{remaining}
-use Rattle.conc_disk.specs.Disk.{DiskState, SeenFollows, tells_nothing}
+use Rattle.conc_disk.specs.Disk.{DiskState, SeenFollows, exposes_nothing}
 use Rattle.conc_disk.specs.Left.{EachImage, LeavesOnly}
 use Rattle.conc_journal_image.specs.Fields.{has_record}
 use Rattle.conc_journal.specs.Journals.{room_of, state_of}
@@ -33,10 +33,10 @@ readings_in work = unwrap_or (readings_of work.machine) []
 
 -- a disk of which nothing is said
 abbrev pub any_disk : DiskState
-any_disk = tells_nothing 0
+any_disk = exposes_nothing 0
 
 abbrev pub IsTied : Option Event → Work → DiskState → DiskState → Type 0
-IsTied kept work journal spool = AreTied (plan_in work) (readings_in work) kept work journal spool
+IsTied pending work journal spool = AreTied (plan_in work) (readings_in work) pending work journal spool
 
 abbrev pub IsReady : Work → DiskState → DiskState → Type 0
 IsReady work journal spool = AreReady (plan_in work) (readings_in work) work journal spool

@@ -1,11 +1,13 @@
-//! One event of a run: its text, if it has one, is kept in the spool, and then it is added to the journal and taken into
+//! One event of a run: its text, if it has one, is stored in the spool, and then it is added to the journal and taken into
 //! the machine. Neither call writes both disks.
 #![tactic(auto)]
 
-mod keeping;
+mod error;
 mod laws;
 mod logging;
+mod storing;
 
-pub use keeping::keep;
+pub use error::JournalFault;
 pub use laws::journal_and_spool_fit;
-pub use logging::{JournalFault, add_event, log_event};
+pub use logging::{add_event, log_event};
+pub use storing::store_text;

@@ -9,14 +9,11 @@ ghost use Rattle.conc_run_steps.specs.Steps.{any_disk, IsTied, MayLog, plan_in, 
 ghost use Rattle.conc_run_state.specs.Works.{list_in};
 ghost use Rattle.conc_run_state.specs.declared.error.RunFail.TheVariants as RunFail;
 
+use crate::JournalFault;
 use conc_disk::Disk;
 use conc_journal::Receipt;
 use conc_run_state::{RunFail, Work};
 use conc_types::Event;
-
-/// The journal's disk failed, or an earlier append to the journal had met a fault.
-#[derive(Clone, Copy, Debug, PartialEq, Eq)]
-pub struct JournalFault;
 
 /// Adds an event to the journal, and then takes it into the machine. After a fault the machine has not taken
 /// it, and the journal's disk has it or not; where an earlier append had met one nothing is done. The spool
@@ -49,7 +46,7 @@ pub fn add_event<D: Disk>(
     ensures fault { OnErr result (Rose (D.state journal.old).faults (D.state journal.new).faults
         ⊎ IsTrue (has_faulted (state_of work.old.journal))) }
 
-    // A stop at any moment, and what stays.
+    // A crash at any moment, and what stays.
     ensures survives { SurvivesFor work.old.journal (list_in work.old)
         (list_in work.old ++ event ∷ []) (D.state journal.old) (D.state journal.new) }
     ensures plan { plan_in work.new ≡ plan_in work.old }
@@ -94,7 +91,7 @@ pub fn log_event<D: Disk, E: Disk>(
     ensures fault { OnErr result (Rose (D.state journal.old).faults (D.state journal.new).faults) }
     ensures cause { IfErr result (λ e. e ≡ RunFail.JournalFault) }
 
-    // A stop at any moment, and what stays.
+    // A crash at any moment, and what stays.
     ensures survives { SurvivesFor work.old.journal (list_in work.old)
         (list_in work.old ++ event ∷ []) (D.state journal.old) (D.state journal.new) }
     ensures plan { plan_in work.new ≡ plan_in work.old }

@@ -1,4 +1,4 @@
--- What is read, and what a stop may leave, after a text was written at the end of a spool and synced.
+-- What is read, and what a crash may leave, after a text was written at the end of a spool and synced.
 use Rattle.std.proofs.Common.{◌≡◌, ◌∙◌, sym, ap, subst, refl, ℕ, ◌+◌, ◌≤◌, List, ◌++◌, length, take, drop, Option, Some, None, IfSome, IsSomeAnd, MatchOption, arith, append_assoc, length-append, length-take, length-drop}
 use Rattle.std.proofs.lemmas.List.{take_at, drop_at}
 use Rattle.std.proofs.lemmas.Option.{same_Some}
@@ -7,7 +7,7 @@ use Rattle.conc_disk.specs.Disk.{Torn, written}
 use Rattle.conc_disk.proofs.Leaving.{if_some-both}
 use Rattle.conc_spool.specs.Spools.{Agrees}
 
--- where the disk tells, the bytes of the spool are there, since what a read gives is one of the images
+-- where the disk exposes its bytes, the bytes of the spool are there, since what a read gives is one of the images
 pub reaches : (used : ℕ) (seen : Option (List ℕ)) (may_leave : List ℕ → Type 0) → IfSome seen (λ bytes. (image : List ℕ) → may_leave image → Agrees used bytes image) → IfSome seen may_leave
     → IfSome seen (λ bytes. used ≤ length bytes)
 reaches used seen may_leave on here = if_some-both seen on here (λ bytes each left. (each bytes left).no_shorter)

@@ -14,11 +14,11 @@ pub record Agrees (n : ℕ) (bytes image : List ℕ) : Type 0 where
   pub no_shorter : n ≤ length image
   pub front : take n image ≡ take n bytes
 
--- The spool's disk is on: where it tells, each image now has the bytes of the texts as a read gives them.
+-- The spool's disk is on: where it exposes its bytes, each image now has the bytes of the texts as a read gives them.
 abbrev pub IsOn : Spool → DiskState → Type 0
 IsOn spool disk = IfSome disk.seen (λ bytes. (image : List ℕ) → disk.may_leave image → Agrees spool.used bytes image)
 
--- where the disk tells, the image has its first n bytes
+-- where the disk exposes its bytes, the image has its first n bytes
 abbrev pub KeepsBelow : ℕ → DiskState → List ℕ → Type 0
 KeepsBelow n disk image = IfSome disk.seen (λ bytes. Agrees n bytes image)
 

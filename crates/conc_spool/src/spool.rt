@@ -1,4 +1,5 @@
 ghost use Rattle.std.specs.Prelude.{◌≡◌, ◌+◌, ◌<◌, ◌≤◌, ◌^◌, length, vec_len, IfErr, IfOk, IsErrOf, OnErr, OnOk};
+ghost use Rattle.conc_types.specs.declared.limits.TheConstants.{MOST_REPORT_BYTES};
 ghost use Rattle.conc_outside.specs.Counts.{Rose};
 ghost use Rattle.conc_disk.specs.Disk.{HasAt, Reaches, SeenFollows, Stays, Torn};
 ghost use Rattle.conc_disk.specs.Left.{HasWritten, LeavesOnly, TornFrom};
@@ -51,11 +52,11 @@ impl Spool {
 
     /// Adds a text of 1 to 1,048,576 bytes and gives its place. An `Ok` means that it is on the
     /// disk, where nothing else changed. After a fault the spool is as before, and the next text goes
-    /// to the same place. A stop at any moment leaves all bytes but those of that place. It takes no
+    /// to the same place. A crash at any moment leaves all bytes but those of that place. It takes no
     /// memory.
     pub fn append<E: Disk>(&mut self, disk: &mut E, bytes: &[u8]) -> Result<Extent, DiskFault>
         requires some { 1 ≤ length bytes.now }
-        requires few { length bytes.now ≤ 1048576 }
+        requires few { length bytes.now ≤ MOST_REPORT_BYTES }
         requires fits { used_of self.old + length bytes.now < 2 ^ 64 }
         requires on { IsOn self.old (E.state disk.old) }
 

@@ -1,16 +1,16 @@
 mod bytes;
 mod call;
 mod examples;
+mod exits;
 mod files;
 mod journals;
-mod stops;
 mod worked;
 
 use examples::check_examples;
+use exits::EXITS;
 use files::FILES;
 use journals::{AFTER_A_FAULT, JOURNALS};
 use std::test::Fail;
-use stops::STOPS;
 use worked::{check_histories, check_runs};
 
 #[test]
@@ -25,7 +25,7 @@ fn worked_histories_and_changed_ones_are_judged(rt: HostRuntime) -> Result<(), F
 
 #[test]
 fn calls_end_as_the_examples_say(rt: HostRuntime) -> Result<(), Fail> {
-    for examples in [FILES, STOPS] {
+    for examples in [FILES, EXITS] {
         check_examples(&rt, rt.alloc(), examples)?;
     }
     Ok(())

@@ -30,7 +30,7 @@ cut-ends h sink history_fail.NotJournal cut nothing = (cut, nothing)
 cut-ends h sink (history_fail.OtherInput found) cut nothing = (cut, refl, nothing)
 cut-ends h sink (history_fail.Unlawful number) cut nothing = (cut, nothing)
 cut-ends h sink (history_fail.JournalFull len needed) cut nothing = (cut, nothing)
-cut-ends h sink (history_fail.DiskFault which) cut nothing = (cut, nothing)
+cut-ends h sink (history_fail.DiskFault disk) cut nothing = (cut, nothing)
 cut-ends h sink history_fail.NoMemory cut nothing = (inl cut, nothing)
 
 written : (h : Handed) (sink : Sunk) (history : List Event) (end : Exit) → IsHistory h history → Wrote (text_of h.plan history) sink end → RunEnds h sink end
@@ -42,7 +42,7 @@ written h sink history exit.ClockFault was none = absurd none
 written h sink history (exit.Refused refusal name) was none = absurd none
 written h sink history (exit.Absent name) was none = absurd none
 written h sink history (exit.ReadFault name) was none = absurd none
-written h sink history (exit.DiskFault which) was none = absurd none
+written h sink history (exit.DiskFault disk) was none = absurd none
 written h sink history exit.NotJournal was none = absurd none
 written h sink history (exit.OtherInput found given) was none = absurd none
 written h sink history (exit.JournalFull len needed) was none = absurd none

@@ -30,18 +30,18 @@ use Rattle.conc_top_words.specs.declared.command.Command.TheVariants as command
 stays-as : (disk : DiskState) → Stays disk disk
 stays-as disk = record { seen = refl; images = λ c left. left }
 
-leaves-as : (told : Option (List ℕ)) (disk : DiskState) → disk.seen ≡ told → LeavesOnly disk.may_leave disk disk
+leaves-as : (exposed : Option (List ℕ)) (disk : DiskState) → disk.seen ≡ exposed → LeavesOnly disk.may_leave disk disk
 leaves-as None disk is = record {
   faults = le_refl disk.faults;
   moment = le_refl disk.moment;
-  tells = refl;
+  exposes = refl;
   keeps = λ t c before left. left;
   nothing_else = rw is tt;
 }
 leaves-as (Some bytes) disk is = record {
   faults = le_refl disk.faults;
   moment = le_refl disk.moment;
-  tells = refl;
+  exposes = refl;
   keeps = λ t c before left. left;
   nothing_else = rw is (λ t c before left. inl left);
 }
@@ -117,7 +117,7 @@ check-earlier plan readings name old mid new sink exit.NoMemory later h = h
 check-earlier plan readings name old mid new sink exit.Usage later h = absurd h
 check-earlier plan readings name old mid new sink exit.ClockFault later h = absurd h
 check-earlier plan readings name old mid new sink (exit.Refused refusal which) later h = absurd h
-check-earlier plan readings name old mid new sink (exit.DiskFault which) later h = absurd h
+check-earlier plan readings name old mid new sink (exit.DiskFault disk) later h = absurd h
 check-earlier plan readings name old mid new sink exit.NotJournal later h = absurd h
 check-earlier plan readings name old mid new sink (exit.OtherInput found given) later h = absurd h
 check-earlier plan readings name old mid new sink (exit.JournalFull len needed) later h = absurd h

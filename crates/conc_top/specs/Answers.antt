@@ -8,7 +8,7 @@ use Rattle.conc_disk.specs.Disk.{DiskState}
 use Rattle.conc_make_run.specs.Summary.{IsSummary}
 use Rattle.conc_history.specs.Listing.{listing}
 use Rattle.conc_top_inputs.specs.Fails.{FailsWith}
-use Rattle.conc_top_inputs.specs.Given.{Accepts, digest_of, Names, Sources, sources, Told, told_by}
+use Rattle.conc_top_inputs.specs.Given.{Accepts, digest_of, Names, Sources, sources, Exposed, exposed_by}
 use Rattle.conc_top_inputs.specs.declared.error.InputFail.TheVariants as input
 use Rattle.conc_outside.specs.Files.{ShelfState}
 use Rattle.conc_run_state.specs.Disks.{AreUntouched, Disks}
@@ -29,8 +29,8 @@ pub record Around : Type 0 where
 abbrev pub around : ShelfState → ShelfState → ClockState → ClockState → Sunk → Around
 around shelf shelf' clock clock' sink = record { before = sources shelf clock; after = sources shelf' clock'; sink = sink }
 
-abbrev pub told_in : Around → Told
-told_in a = told_by a.before a.after
+abbrev pub exposed_in : Around → Exposed
+exposed_in a = exposed_by a.before a.after
 
 -- ---- files that give no plan
 
@@ -48,13 +48,13 @@ IsUnplanned names a _ = ⊥
 -- the plan that the files with these names give
 pub record HasPlan (a : Around) (names : Names) : Type 0 where
   pub plan : Plan
-  pub accepted : Accepts (told_in a) names plan None
+  pub accepted : Accepts (exposed_in a) names plan None
 
 -- the same, and the readings of their clock
 pub record HasRun (a : Around) (names : Names) : Type 0 where
   pub plan : Plan
   pub readings : Readings
-  pub accepted : Accepts (told_in a) names plan (Some readings)
+  pub accepted : Accepts (exposed_in a) names plan (Some readings)
 
 -- what a run of them is handed
 abbrev pub handed_in : (a : Around) (names : Names) → Disks → HasRun a names → Handed

@@ -3,7 +3,7 @@ use Rattle.std.specs.Prelude.{ℕ, List, [], ◌++◌, codes}
 use Rattle.std.specs.Fmt.{decimal}
 use Rattle.hex.specs.Hex.{encode_lower}
 use Rattle.conc_types.specs.RefusalKinds.{number_of as kind_number}
-use Rattle.conc_run_state.specs.declared.error.DiskName.TheVariants as which
+use Rattle.conc_run_state.specs.declared.error.DiskName.TheVariants as disk_name
 use Rattle.conc_top.specs.declared.exit.Exit.{Exit}
 use Rattle.conc_top.specs.declared.exit.Exit.TheVariants as exit
 
@@ -14,7 +14,7 @@ number_of (exit.Refused refusal name) = 3
 number_of (exit.Absent name) = 4
 number_of (exit.ReadFault name) = 5
 number_of exit.WriteFault = 6
-number_of (exit.DiskFault which) = 7
+number_of (exit.DiskFault disk) = 7
 number_of exit.ClockFault = 8
 number_of exit.NotJournal = 9
 number_of (exit.OtherInput found given) = 10
@@ -33,8 +33,8 @@ line_of (exit.Refused refusal name) =
 line_of (exit.Absent name) = codes "absent: " ++ name ++ codes "\n"
 line_of (exit.ReadFault name) = codes "read fault: " ++ name ++ codes "\n"
 line_of exit.WriteFault = codes "write fault\n"
-line_of (exit.DiskFault which.Journal) = codes "disk fault: journal\n"
-line_of (exit.DiskFault which.Spool) = codes "disk fault: spool\n"
+line_of (exit.DiskFault disk_name.Journal) = codes "disk fault: journal\n"
+line_of (exit.DiskFault disk_name.Spool) = codes "disk fault: spool\n"
 line_of exit.ClockFault = codes "clock fault\n"
 line_of exit.NotJournal = codes "not a journal\n"
 line_of (exit.OtherInput found given) =

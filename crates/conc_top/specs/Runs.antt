@@ -18,7 +18,7 @@ use Rattle.conc_top.specs.Printing.{Sunk, TookNothing}
 
 -- This is the history of the run. From what was found it goes on as the run without workers does. It is lawful and
 -- finished, running intervals of requests that exclude each other do not overlap, and each end that was added tells what its
--- report says. The journal has it, as a read and as a stop now would leave it.
+-- report says. The journal has it, as a read and as a crash now would leave it.
 pub record IsHistory (h : Handed) (history : List Event) : Type 0 where
   pub finished : IsFinished h history
   pub lawful : Lawful h.plan h.readings history
@@ -34,7 +34,7 @@ RunEnds h sink exit.WriteFault =
     (history : List Event) × IsHistory h history × TookPrefix sink.before.taken sink.after.taken (text_of h.plan history)
     × Rose sink.before.faults sink.after.faults
 RunEnds h sink exit.NoMemory = (IsCutShort h history_fail.NoMemory ⊎ ((history : List Event) × IsHistory h history)) × TookNothing sink
-RunEnds h sink (exit.DiskFault which) = IsCutShort h (history_fail.DiskFault which) × TookNothing sink
+RunEnds h sink (exit.DiskFault disk) = IsCutShort h (history_fail.DiskFault disk) × TookNothing sink
 RunEnds h sink exit.NotJournal = IsCutShort h history_fail.NotJournal × TookNothing sink
 RunEnds h sink (exit.OtherInput found given) = IsCutShort h (history_fail.OtherInput found) × (given ≡ h.digest) × TookNothing sink
 RunEnds h sink (exit.JournalFull len needed) = IsCutShort h (history_fail.JournalFull len needed) × TookNothing sink

@@ -8,14 +8,14 @@ use Rattle.conc_disk.specs.Left.{LeavesOnly}
 use Rattle.conc_law.specs.Text.{table_text}
 use Rattle.conc_run_open.specs.Listing.{HasListCause, IsListed}
 use Rattle.conc_run_open.specs.Texts.{HasReadCause, HasText, HasTextCause}
-use Rattle.conc_run_open.specs.declared.text.TextFail.TheVariants as text_fail
+use Rattle.conc_run_open.specs.declared.error.TextFail.TheVariants as text_fail
 use Rattle.conc_run_state.specs.Disks.{Disks}
 use Rattle.conc_run_state.specs.declared.error.HistoryFail.TheVariants as history_fail
 use Rattle.conc_top.specs.declared.exit.Exit.{Exit}
 use Rattle.conc_top.specs.declared.exit.Exit.TheVariants as exit
 use Rattle.conc_top.specs.Printing.{Prints, Sunk, TookNothing}
 
--- nothing was written to the disk: what is read of it stays, and a stop leaves nothing that it did not leave before
+-- nothing was written to the disk: what is read of it stays, and a crash leaves nothing that it did not leave before
 pub record IsDiskUntouched (before after : DiskState) : Type 0 where
   pub stays : Stays before after
   pub survives : LeavesOnly before.may_leave before after
@@ -33,7 +33,7 @@ StatusEnds plan digest old new sink exit.NotJournal = HasListCause plan digest o
 StatusEnds plan digest old new sink (exit.OtherInput found given) =
     HasListCause plan digest old new (history_fail.OtherInput found) × (given ≡ digest) × TookNothing sink
 StatusEnds plan digest old new sink (exit.Unlawful number) = HasListCause plan digest old new (history_fail.Unlawful number) × TookNothing sink
-StatusEnds plan digest old new sink (exit.DiskFault which) = HasListCause plan digest old new (history_fail.DiskFault which) × TookNothing sink
+StatusEnds plan digest old new sink (exit.DiskFault disk) = HasListCause plan digest old new (history_fail.DiskFault disk) × TookNothing sink
 StatusEnds plan digest old new sink end = Prints (IsStatusText plan digest old) sink end
 
 -- ---- a report
@@ -43,7 +43,7 @@ OutputEnds plan digest id d sink exit.NotJournal = HasReadCause plan digest d hi
 OutputEnds plan digest id d sink (exit.OtherInput found given) =
     HasReadCause plan digest d (history_fail.OtherInput found) × (given ≡ digest) × TookNothing sink
 OutputEnds plan digest id d sink (exit.Unlawful number) = HasReadCause plan digest d (history_fail.Unlawful number) × TookNothing sink
-OutputEnds plan digest id d sink (exit.DiskFault which) = HasReadCause plan digest d (history_fail.DiskFault which) × TookNothing sink
+OutputEnds plan digest id d sink (exit.DiskFault disk) = HasReadCause plan digest d (history_fail.DiskFault disk) × TookNothing sink
 OutputEnds plan digest id d sink (exit.NotEnded number) =
     HasTextCause plan digest id d text_fail.NotEnded × (number ≡ id.number) × TookNothing sink
 OutputEnds plan digest id d sink end = Prints (HasText plan digest id d.journal_before d.spool_before) sink end

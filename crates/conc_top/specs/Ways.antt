@@ -2,8 +2,8 @@
 use Rattle.std.specs.Prelude.{ℕ, List}
 use Rattle.conc_top_inputs.specs.declared.error.InputFail.{InputFail}
 use Rattle.conc_top_inputs.specs.declared.error.InputFail.TheVariants as input
-use Rattle.conc_run_open.specs.declared.text.TextFail.{TextFail}
-use Rattle.conc_run_open.specs.declared.text.TextFail.TheVariants as text
+use Rattle.conc_run_open.specs.declared.error.TextFail.{TextFail}
+use Rattle.conc_run_open.specs.declared.error.TextFail.TheVariants as text
 use Rattle.conc_types.specs.declared.event.RequestId.{RequestId}
 use Rattle.conc_run_state.specs.declared.error.HistoryFail.{HistoryFail}
 use Rattle.conc_run_state.specs.declared.error.HistoryFail.TheVariants as history_fail
@@ -24,7 +24,7 @@ exit_for digest history_fail.NotJournal = exit.NotJournal
 exit_for digest (history_fail.OtherInput found) = exit.OtherInput found digest
 exit_for digest (history_fail.Unlawful number) = exit.Unlawful number
 exit_for digest (history_fail.JournalFull len needed) = exit.JournalFull len needed
-exit_for digest (history_fail.DiskFault which) = exit.DiskFault which
+exit_for digest (history_fail.DiskFault disk) = exit.DiskFault disk
 exit_for digest history_fail.NoMemory = exit.NoMemory
 
 -- where no text of this request's report is given

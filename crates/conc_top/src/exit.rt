@@ -18,7 +18,7 @@ pub enum Exit {
     /// The output could not be written.
     WriteFault,
     /// One of the two disks failed.
-    DiskFault { which: DiskName },
+    DiskFault { disk: DiskName },
     /// The clock of the system gave no moment.
     ClockFault,
     /// What stands on the journal's disk is no journal.

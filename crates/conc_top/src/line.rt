@@ -89,10 +89,10 @@ fn put_line(alloc: Global, out: &mut Vec<u8>, exit: &Exit) -> Result<(), NoMemor
         Exit::ReadFault { name } => put_name(out, b"read fault: ", name),
         Exit::WriteFault => put(out, b"write fault\n"),
         Exit::DiskFault {
-            which: DiskName::Journal,
+            disk: DiskName::Journal,
         } => put(out, b"disk fault: journal\n"),
         Exit::DiskFault {
-            which: DiskName::Spool,
+            disk: DiskName::Spool,
         } => put(out, b"disk fault: spool\n"),
         Exit::ClockFault => put(out, b"clock fault\n"),
         Exit::NotJournal => put(out, b"not a journal\n"),

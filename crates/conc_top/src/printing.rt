@@ -33,7 +33,7 @@ pub(crate) fn exit_for(fail: HistoryFail, digest: &[u8; 32]) -> Exit
         },
         HistoryFail::Unlawful { number } => Exit::Unlawful { number },
         HistoryFail::JournalFull { len, need } => Exit::JournalFull { len, need },
-        HistoryFail::DiskFault { which } => Exit::DiskFault { which },
+        HistoryFail::DiskFault { disk } => Exit::DiskFault { disk },
         HistoryFail::NoMemory => Exit::NoMemory,
     }
 }

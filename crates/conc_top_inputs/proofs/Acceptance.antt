@@ -19,7 +19,7 @@ use Rattle.conc_top_inputs.specs.declared.error.InputFail.{InputFail}
 use Rattle.conc_top_inputs.specs.declared.reading.Start.{Start}
 use Rattle.conc_top_inputs.specs.Accepting.{IsAccepted}
 use Rattle.conc_top_inputs.specs.Fails.{FailsWith}
-use Rattle.conc_top_inputs.specs.Given.{HasAll, HasTables, Names, ReadsClock, Sources, Told, told_by}
+use Rattle.conc_top_inputs.specs.Given.{HasAll, HasTables, Names, ReadsClock, Sources, Exposed, exposed_by}
 use Rattle.conc_top_inputs.specs.Reading.{HasInputs, HasStart}
 use Rattle.conc_top_inputs.specs.Refusals.{fault_of_table}
 use Rattle.conc_top_inputs.specs.Ways.{fail_without_plan}
@@ -27,14 +27,14 @@ use Rattle.conc_top_inputs.specs.FileFails.{Ends, IsTableFail, FailsInTables}
 use Rattle.conc_top_inputs.proofs.FileFailing.{ends-wider, IsLater-refl, stops-at}
 
 -- there are as many tables as names of them
-pub tables-long : (told : Option Files) (names : List (List ℕ)) (tables : List Table) → HasTables told names tables → length tables ≡ length names
-tables-long told names tables has =
-    AllZip-long SpellsTable has.contents tables has.spell ∙ AllZip-long (Gives told) names has.contents has.given
+pub tables-long : (exposed : Option Files) (names : List (List ℕ)) (tables : List Table) → HasTables exposed names tables → length tables ≡ length names
+tables-long exposed names tables has =
+    AllZip-long SpellsTable has.contents tables has.spell ∙ AllZip-long (Gives exposed) names has.contents has.given
 
 -- a setup and a script that were read, and then the readings of a clock, or none
-pub with-readings : (told : Told) (names : Names) (start : Start) (readings : Option Readings) → HasStart told.files names start
-    → ReadsClock told names.clock readings → HasInputs told names start readings
-with-readings told names start readings has given = record {
+pub with-readings : (exposed : Exposed) (names : Names) (start : Start) (readings : Option Readings) → HasStart exposed.files names start
+    → ReadsClock exposed names.clock readings → HasInputs exposed names start readings
+with-readings exposed names start readings has given = record {
   files = record { before = has.files; readings = readings; given = given };
   setup = has.setup;
   script = has.script;
@@ -43,22 +43,22 @@ with-readings told names start readings has given = record {
 }
 
 -- the tables that were read are those of the setup that was read
-tables-of : (told : Told) (before : Option Files) (names : Names) (start : Start) (readings : Option Readings) (has : HasInputs told names start readings) (named : List (List ℕ)) (tables : List Table)
-    → named ≡ start.setup.tables → before ≡ told.files → HasTables before named tables → HasAll told names tables
-tables-of told before names start readings has named tables same files read =
+tables-of : (exposed : Exposed) (before : Option Files) (names : Names) (start : Start) (readings : Option Readings) (has : HasInputs exposed names start readings) (named : List (List ℕ)) (tables : List Table)
+    → named ≡ start.setup.tables → before ≡ exposed.files → HasTables before named tables → HasAll exposed names tables
+tables-of exposed before names start readings has named tables same files read =
     let at : named ≡ has.files.before.before.setup.tables = same ∙ ap (λ (s : Setup). s.tables) has.setup in
     record { before = has.files; given = subst (λ t. HasTables t has.files.before.before.setup.tables tables) files (subst (λ l. HasTables before l tables) at read) }
 
 -- all was read, and this is the plan and the digest
-pub accepted : (told : Told) (before : Option Files) (names : Names) (a : Accepted) (start : Start) (readings : Option Readings) (has : HasInputs told names start readings) (named : List (List ℕ)) (tables : List Table)
-    → named ≡ start.setup.tables → before ≡ told.files → (read : HasTables before named tables)
+pub accepted : (exposed : Exposed) (before : Option Files) (names : Names) (a : Accepted) (start : Start) (readings : Option Readings) (has : HasInputs exposed names start readings) (named : List (List ℕ)) (tables : List Table)
+    → named ≡ start.setup.tables → before ≡ exposed.files → (read : HasTables before named tables)
     → a.digest ≡ input_digest has.files.before.before.bytes has.files.before.bytes (zip named read.contents)
-    → a.plan.setup ≡ start.setup → a.plan.script ≡ start.script → a.plan.tables ≡ tables → IsAccepted told names readings a
-accepted told before names a start readings has named tables same files read digest setup script these =
+    → a.plan.setup ≡ start.setup → a.plan.script ≡ start.script → a.plan.tables ≡ tables → IsAccepted exposed names readings a
+accepted exposed before names a start readings has named tables same files read digest setup script these =
     let P : Option Files → List (List ℕ) → List Table → Type 0 = λ all l t.
     (given : HasTables all l t) × (a.digest ≡ input_digest has.files.before.before.bytes has.files.before.bytes (zip l given.contents)) in
     let at : named ≡ has.files.before.before.setup.tables = same ∙ ap (λ (s : Setup). s.tables) has.setup in
-    let there : P told.files has.files.before.before.setup.tables a.plan.tables
+    let there : P exposed.files has.files.before.before.setup.tables a.plan.tables
     = subst (λ all. P all has.files.before.before.setup.tables a.plan.tables) files
     (subst (λ l. P before l a.plan.tables) at (subst (λ t. P before named t) (sym these) (read, digest))) in
     record {
@@ -72,7 +72,7 @@ accepted told before names a start readings has named tables same files read dig
     }
 
 -- all was read, and gives no plan
-pub without-plan : (old new : Sources) (before : Option Files) (names : Names) (start : Start) (readings : Option Readings) (has : HasInputs (told_by old new) names start readings) (named : List (List ℕ)) (tables : List Table)
+pub without-plan : (old new : Sources) (before : Option Files) (names : Names) (start : Start) (readings : Option Readings) (has : HasInputs (exposed_by old new) names start readings) (named : List (List ℕ)) (tables : List Table)
     → named ≡ start.setup.tables → before ≡ old.shelf.files → HasTables before named tables
     → (made : List Table) → made ≡ tables → (e : ReadFail) → IsFailure (plan_fault start.setup start.script.commands made) e
     → FailsWith old new names (fail_without_plan names.setup names.script e)
@@ -83,13 +83,13 @@ without-plan old new before names start readings has named tables same files rea
     = ap (plan_fault start.setup start.script.commands) (sym these) ∙ failed in
     inr (record {
       tables = tables;
-      files = tables-of (told_by old new) before names start readings has named tables same files read;
+      files = tables-of (exposed_by old new) before names start readings has named tables same files read;
       fault = ap (λ (s : Setup). plan_fault s has.files.before.script.commands tables) (sym has.setup)
           ∙ ap (λ (s : Script). plan_fault start.setup s.commands tables) (sym has.script) ∙ fault;
       named = refl;
     })
 
-at-table : (old new : Sources) (mid : ShelfState) (names : Names) (start : Start) (readings : Option Readings) (has : HasInputs (told_by old new) names start readings) (named : List (List ℕ)) (end : InputFail)
+at-table : (old new : Sources) (mid : ShelfState) (names : Names) (start : Start) (readings : Option Readings) (has : HasInputs (exposed_by old new) names start readings) (named : List (List ℕ)) (end : InputFail)
     → named ≡ has.files.before.before.setup.tables → IsLater old.shelf mid → IsTableFail mid new.shelf named end → FailsWith old new names end
 at-table old new mid names start readings has named end same later file_fail =
     let P : Option Files → List (List ℕ) → Type 0 = λ files all.
@@ -106,7 +106,7 @@ at-table old new mid names start readings has named end same later file_fail =
     file_fail.cause end (IsLater-refl old.shelf) there.2 (inl file_fail.is)
 
 -- the reading of the tables ended
-pub tables-end : (old new : Sources) (mid : ShelfState) (names : Names) (start : Start) (readings : Option Readings) (has : HasInputs (told_by old new) names start readings) (named : List (List ℕ)) (end : InputFail)
+pub tables-end : (old new : Sources) (mid : ShelfState) (names : Names) (start : Start) (readings : Option Readings) (has : HasInputs (exposed_by old new) names start readings) (named : List (List ℕ)) (end : InputFail)
     → named ≡ start.setup.tables → IsLater old.shelf mid → FailsInTables mid new.shelf named end → FailsWith old new names end
 tables-end old new mid names start readings has named end same later (inl none) = subst (FailsWith old new names) (sym none) tt
 tables-end old new mid names start readings has named end same later (inr file_fail) =

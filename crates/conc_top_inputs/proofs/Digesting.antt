@@ -39,12 +39,12 @@ pub took-none : (old : InputDigest) → TookTables old old [] []
 took-none old setup script before taken = subst (HasTaken old setup script) (sym (append-nil before)) taken
 
 -- one more
-pub took-more : (old mid new : InputDigest) (told : Option Files) (names : List (List ℕ)) (i : ℕ) (name bytes : List ℕ) (tables : List Table) (has : HasTables told (take i names) tables)
+pub took-more : (old mid new : InputDigest) (exposed : Option Files) (names : List (List ℕ)) (i : ℕ) (name bytes : List ℕ) (tables : List Table) (has : HasTables exposed (take i names) tables)
     → i < length names → name ≡ get_or names i name → TookTables old mid (take i names) has.contents
     → ((setup script : List ℕ) (before : List (List ℕ × List ℕ)) → HasTaken mid setup script before → HasTaken new setup script (before ++ (name, bytes) ∷ []))
     → TookTables old new (take (i + 1) names) (has.contents ++ bytes ∷ [])
-took-more old mid new told names i name bytes tables has below here so_far adds setup script before taken =
-    let long : length has.contents ≡ length (take i names) = AllZip-long (Gives told) (take i names) has.contents has.given in
+took-more old mid new exposed names i name bytes tables has below here so_far adds setup script before taken =
+    let long : length has.contents ≡ length (take i names) = AllZip-long (Gives exposed) (take i names) has.contents has.given in
     let named : take i names ++ name ∷ [] ≡ take (i + 1) names = ap (λ z. take i names ++ z ∷ []) here ∙ sym (take_more names i name below) in
     let zipped : zip (take (i + 1) names) (has.contents ++ bytes ∷ []) ≡ zip (take i names) has.contents ++ (name, bytes) ∷ []
     = ap (λ l. zip l (has.contents ++ bytes ∷ [])) (sym named) ∙ zip-push (take i names) has.contents name bytes long in

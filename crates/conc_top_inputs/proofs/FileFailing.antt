@@ -18,10 +18,10 @@ use Rattle.conc_outside.specs.Files.{file_named, Files, Gives, IsLater, Lacks, S
 use Rattle.conc_tables.specs.Tables.{SpellsTable}
 use Rattle.conc_top_inputs.specs.declared.error.InputFail.{InputFail}
 use Rattle.conc_top_inputs.specs.declared.error.InputFail.TheVariants as input
-use Rattle.conc_top_inputs.specs.declared.file_fail.FileFail.{FileFail}
-use Rattle.conc_top_inputs.specs.declared.file_fail.FileFail.TheVariants as file_fail
+use Rattle.conc_top_inputs.specs.declared.error.FileFail.{FileFail}
+use Rattle.conc_top_inputs.specs.declared.error.FileFail.TheVariants as file_fail
 use Rattle.conc_top_inputs.specs.Fails.{IsThere, FailsWith}
-use Rattle.conc_top_inputs.specs.Given.{HasScript, HasTables, is_system, IsNext, Names, ReadsFrom, sources, Sources, Told, told_by}
+use Rattle.conc_top_inputs.specs.Given.{HasScript, HasTables, is_system, IsNext, Names, ReadsFrom, sources, Sources, Exposed, exposed_by}
 use Rattle.conc_top_inputs.specs.Reading.{HasTablesIn}
 use Rattle.conc_top_inputs.specs.Refusals.{fault_of_table, HasFault, IsFileRefused}
 use Rattle.conc_top_inputs.specs.FileFails.{Ends, IsFailAt, FailsAtClock, FailsInTables, FailsUnshown}
@@ -56,30 +56,30 @@ ends-wider old mid new has_fault file name file_fail.ReadFault later h =
     (subst (λ t. IsThere t name) later.files h.0, Rose-wider old.faults mid.faults new.faults later.faults h.1)
 ends-wider old mid new has_fault file name file_fail.NoMemory later h = tt
 
-refused : (told : Told) (names : Names) (file : FileKind) (name : List ℕ) (next : IsNext told names file name) (refusal : Refusal) (bytes : List ℕ)
-    → refusal.file ≡ file → Gives told.files name bytes → HasFault told names file name next bytes (refusal.line, refusal.kind) → IsFileRefused told names refusal name
-refused told names file name next refusal bytes same given fault =
-    let at : (n : IsNext told names refusal.file name) × HasFault told names refusal.file name n bytes (refusal.line, refusal.kind)
-    = subst (λ k. (n : IsNext told names k name) × HasFault told names k name n bytes (refusal.line, refusal.kind)) (sym same) (next, fault) in
+refused : (exposed : Exposed) (names : Names) (file : FileKind) (name : List ℕ) (next : IsNext exposed names file name) (refusal : Refusal) (bytes : List ℕ)
+    → refusal.file ≡ file → Gives exposed.files name bytes → HasFault exposed names file name next bytes (refusal.line, refusal.kind) → IsFileRefused exposed names refusal name
+refused exposed names file name next refusal bytes same given fault =
+    let at : (n : IsNext exposed names refusal.file name) × HasFault exposed names refusal.file name n bytes (refusal.line, refusal.kind)
+    = subst (λ k. (n : IsNext exposed names k name) × HasFault exposed names k name n bytes (refusal.line, refusal.kind)) (sym same) (next, fault) in
     record { next = at.0; bytes = bytes; given = given; fault = at.1 }
 
-stops-by : (old new : Sources) (names : Names) (file : FileKind) (name : List ℕ) (next : IsNext (told_by old new) names file name) (s : FileFail)
-    → Ends old.shelf new.shelf (HasFault (told_by old new) names file name next) file name s → FailsWith old new names (fail_at s name)
-stops-by old new names file name next (file_fail.Refused refusal) h = inl (refused (told_by old new) names file name next refusal h.bytes h.file_is h.given h.fault)
+stops-by : (old new : Sources) (names : Names) (file : FileKind) (name : List ℕ) (next : IsNext (exposed_by old new) names file name) (s : FileFail)
+    → Ends old.shelf new.shelf (HasFault (exposed_by old new) names file name next) file name s → FailsWith old new names (fail_at s name)
+stops-by old new names file name next (file_fail.Refused refusal) h = inl (refused (exposed_by old new) names file name next refusal h.bytes h.file_is h.given h.fault)
 stops-by old new names file name next file_fail.Absent h = record { file = file; next = next; lacking = h.0; counted = h.1 }
 stops-by old new names file name next file_fail.ReadFault h = record { file = file; next = next; there = h.0; counted = h.1 }
 stops-by old new names file name next file_fail.NoMemory h = tt
 
 -- the file that was next ends the reading, and this is its failure
-pub stops-at : (old new : Sources) (mid : ShelfState) (names : Names) (file : FileKind) (name : List ℕ) (next : IsNext (told_by old new) names file name) (s : FileFail) (end : InputFail)
-    → IsLater old.shelf mid → Ends mid new.shelf (HasFault (told_by old new) names file name next) file name s → IsFailAt s name end → FailsWith old new names end
+pub stops-at : (old new : Sources) (mid : ShelfState) (names : Names) (file : FileKind) (name : List ℕ) (next : IsNext (exposed_by old new) names file name) (s : FileFail) (end : InputFail)
+    → IsLater old.shelf mid → Ends mid new.shelf (HasFault (exposed_by old new) names file name next) file name s → IsFailAt s name end → FailsWith old new names end
 stops-at old new mid names file name next s end later h (inl is) = subst (FailsWith old new names) (sym is)
-    (stops-by old new names file name next s (ends-wider old.shelf mid new.shelf (HasFault (told_by old new) names file name next) file name s later h))
+    (stops-by old new names file name next s (ends-wider old.shelf mid new.shelf (HasFault (exposed_by old new) names file name next) file name s later h))
 stops-at old new mid names file name next s end later h (inr is) = subst (FailsWith old new names) (sym is) tt
 
 -- the clock that is named was read, also as seen from the beginning
 pub reads-clock : (old new : Sources) (mid : ShelfState) → mid.files ≡ old.shelf.files → (name : List ℕ) (readings : Readings)
-    → ReadsFrom (told_by (sources mid old.clock) new) name readings (is_system name) → ReadsFrom (told_by old new) name readings (is_system name)
+    → ReadsFrom (exposed_by (sources mid old.clock) new) name readings (is_system name) → ReadsFrom (exposed_by old new) name readings (is_system name)
 reads-clock old new mid same name readings =
     subst (λ files. ReadsFrom (record { files = files; clock_before = old.clock; clock_after = new.clock }) name readings (is_system name)) same
 
@@ -100,7 +100,7 @@ clock-end old new mid names name end before named later (inr h) =
     stops-at old new mid names kind.Clock name (before, named, h.from_file) h.cause end later h.ends h.is
 
 -- a read that failed, where a lacking file is told as absent, was of a file that is there
-pub failed-there : (told : Option Files) (name : List ℕ) → IfSome told (λ files. file_named files name ≡ None → fail.Failed ≡ fail.Absent) → IsThere told name
+pub failed-there : (exposed : Option Files) (name : List ℕ) → IfSome exposed (λ files. file_named files name ≡ None → fail.Failed ≡ fail.Absent) → IsThere exposed name
 failed-there None name h = tt
 failed-there (Some files) name h = λ lacking. let same : fail.Failed ≡ fail.Absent = h lacking in cc
 
@@ -111,35 +111,35 @@ sum_by-one bytes = grind arith
 
 -- the tables were read, have so many bytes together, and the digest took them in
 abbrev pub AreRead : Option Files → List (List ℕ) → List Table → ℕ → InputDigest → InputDigest → Type 0
-AreRead told names tables total old new =
-    (h : HasTables told names tables) × (sum_by length h.contents ≡ total) × TookTables old new names h.contents
+AreRead exposed names tables total old new =
+    (h : HasTables exposed names tables) × (sum_by length h.contents ≡ total) × TookTables old new names h.contents
 
 -- no table was read
-pub tables-none : (told : Option Files) (tables : List Table) (digest : InputDigest) → tables ≡ [] → AreRead told [] tables 0 digest digest
-tables-none told tables digest none = rw none (record { contents = []; given = tt; spell = tt; fit = lit≤ tt }, refl, took-none digest)
+pub tables-none : (exposed : Option Files) (tables : List Table) (digest : InputDigest) → tables ≡ [] → AreRead exposed [] tables 0 digest digest
+tables-none exposed tables digest none = rw none (record { contents = []; given = tt; spell = tt; fit = lit≤ tt }, refl, took-none digest)
 
 -- one more table was read
-pub tables-more : (told : Option Files) (names : List (List ℕ)) (i : ℕ) (name bytes : List ℕ) (tables : List Table) (table : Table) (total : ℕ) (old mid new : InputDigest)
-    → i < length names → name ≡ get_or names i name → Gives told name bytes → SpellsTable bytes table → total + length bytes ≤ 134217728
+pub tables-more : (exposed : Option Files) (names : List (List ℕ)) (i : ℕ) (name bytes : List ℕ) (tables : List Table) (table : Table) (total : ℕ) (old mid new : InputDigest)
+    → i < length names → name ≡ get_or names i name → Gives exposed name bytes → SpellsTable bytes table → total + length bytes ≤ 134217728
     → ((setup script : List ℕ) (before : List (List ℕ × List ℕ)) → HasTaken mid setup script before → HasTaken new setup script (before ++ (name, bytes) ∷ []))
-    → AreRead told (take i names) tables total old mid → AreRead told (take (i + 1) names) (tables ++ table ∷ []) (total + length bytes) old new
-tables-more told names i name bytes tables table total old mid new below here given spells fits adds (has, so_far, taken) =
+    → AreRead exposed (take i names) tables total old mid → AreRead exposed (take (i + 1) names) (tables ++ table ∷ []) (total + length bytes) old new
+tables-more exposed names i name bytes tables table total old mid new below here given spells fits adds (has, so_far, taken) =
     let sum : sum_by length (has.contents ++ bytes ∷ []) ≡ total + length bytes = omega (arith, sum_by-append length has.contents (bytes ∷ []), sum_by-one bytes, so_far) in (
       record {
         contents = has.contents ++ bytes ∷ [];
-        given = all_zip_more (Gives told) names has.contents i name bytes below here has.given given;
+        given = all_zip_more (Gives exposed) names has.contents i name bytes below here has.given given;
         spell = all_zipped_more SpellsTable has.contents tables bytes table has.spell spells;
         fit = omega (arith, sum, fits);
       },
       sum,
-      took-more old mid new told names i name bytes tables has below here taken adds,
+      took-more old mid new exposed names i name bytes tables has below here taken adds,
     )
 
 -- all were read
-pub all-read : (told : Option Files) (names some : List (List ℕ)) (tables : List Table) (total : ℕ) (old new : InputDigest) → some ≡ names
-    → AreRead told some tables total old new → HasTablesIn told names old new tables
-all-read told names some tables total old new all read =
-    subst (λ l. HasTablesIn told l old new tables) all (record { given = read.0; digest = read.2 })
+pub all-read : (exposed : Option Files) (names some : List (List ℕ)) (tables : List Table) (total : ℕ) (old new : InputDigest) → some ≡ names
+    → AreRead exposed some tables total old new → HasTablesIn exposed names old new tables
+all-read exposed names some tables total old new all read =
+    subst (λ l. HasTablesIn exposed l old new tables) all (record { given = read.0; digest = read.2 })
 
 -- the table that was next ends the reading
 pub tables-file_fail : (old mid new : ShelfState) (names : List (List ℕ)) (i number : ℕ) (name : List ℕ) (tables : List Table) (has : HasTables old.files (take i names) tables) (total : ℕ) (s : FileFail) (end : InputFail)

@@ -6,7 +6,7 @@ use Rattle.conc_outside.specs.Counts.{Rose}
 use Rattle.conc_outside.specs.Files.{file_named, Files, Lacks, ShelfState}
 use Rattle.conc_top_inputs.specs.declared.error.InputFail.{InputFail}
 use Rattle.conc_top_inputs.specs.declared.error.InputFail.TheVariants as input
-use Rattle.conc_top_inputs.specs.Given.{HasScript, is_system, IsNext, Names, Sources, told_by}
+use Rattle.conc_top_inputs.specs.Given.{HasScript, is_system, IsNext, Names, Sources, exposed_by}
 use Rattle.conc_top_inputs.specs.Refusals.{IsInputRefused}
 
 -- ---- reading the files
@@ -14,18 +14,18 @@ use Rattle.conc_top_inputs.specs.Refusals.{IsInputRefused}
 -- the file that was next is lacking
 pub record IsAbsent (old new : Sources) (names : Names) (name : List ℕ) : Type 0 where
   pub file : FileKind
-  pub next : IsNext (told_by old new) names file name
+  pub next : IsNext (exposed_by old new) names file name
   pub lacking : Lacks old.shelf.files name
   pub counted : Rose old.shelf.absences new.shelf.absences
 
--- where the shelf tells its files, there is one with this name
+-- where the shelf exposes its files, there is one with this name
 abbrev pub IsThere : Option Files → List ℕ → Type 0
-IsThere told name = IfSome told (λ files. file_named files name ≡ None → ⊥)
+IsThere exposed name = IfSome exposed (λ files. file_named files name ≡ None → ⊥)
 
 -- the file that was next could not be read, and is not lacking
 pub record IsReadFault (old new : Sources) (names : Names) (name : List ℕ) : Type 0 where
   pub file : FileKind
-  pub next : IsNext (told_by old new) names file name
+  pub next : IsNext (exposed_by old new) names file name
   pub there : IsThere old.shelf.files name
   pub counted : Rose old.shelf.faults new.shelf.faults
 
@@ -44,7 +44,7 @@ pub record IsClockFault (old new : Sources) (names : Names) : Type 0 where
 
 -- The reading, old before and new after it, ended for this cause. Want of memory is the one that needs none
 abbrev pub FailsWith : Sources → Sources → Names → InputFail → Type 0
-FailsWith old new names (input.Refused refusal name) = IsInputRefused (told_by old new) names refusal name
+FailsWith old new names (input.Refused refusal name) = IsInputRefused (exposed_by old new) names refusal name
 FailsWith old new names (input.Absent name) = IsAbsent old new names name
 FailsWith old new names (input.ReadFault name) = IsReadFault old new names name
 FailsWith old new names input.ClockFault = IsClockFault old new names

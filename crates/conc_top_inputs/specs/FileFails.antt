@@ -10,8 +10,8 @@ use Rattle.conc_types.specs.Faults.{Fault}
 use Rattle.conc_outside.specs.Counts.{Rose}
 use Rattle.conc_outside.specs.Files.{Files, Gives, Lacks, ShelfState}
 use Rattle.conc_script.specs.Clock.{clock_fault}
-use Rattle.conc_top_inputs.specs.declared.file_fail.FileFail.{FileFail}
-use Rattle.conc_top_inputs.specs.declared.file_fail.FileFail.TheVariants as file_fail
+use Rattle.conc_top_inputs.specs.declared.error.FileFail.{FileFail}
+use Rattle.conc_top_inputs.specs.declared.error.FileFail.TheVariants as file_fail
 use Rattle.conc_top_inputs.specs.declared.error.InputFail.{InputFail}
 use Rattle.conc_top_inputs.specs.declared.error.InputFail.TheVariants as input
 use Rattle.conc_top_inputs.specs.Fails.{IsSilent, IsThere}
@@ -20,9 +20,9 @@ use Rattle.conc_top_inputs.specs.Refusals.{fault_of_table}
 use Rattle.conc_top_inputs.specs.Ways.{fail_at}
 
 -- the bytes of the file were read, and have this fault
-pub record WasRefused (told : Option Files) (has_fault : List ℕ → Fault → Type 0) (file : FileKind) (name : List ℕ) (refusal : Refusal) : Type 0 where
+pub record WasRefused (exposed : Option Files) (has_fault : List ℕ → Fault → Type 0) (file : FileKind) (name : List ℕ) (refusal : Refusal) : Type 0 where
   pub bytes : List ℕ
-  pub given : Gives told name bytes
+  pub given : Gives exposed name bytes
   pub file_is : refusal.file ≡ file
   pub fault : has_fault bytes (refusal.line, refusal.kind)
 

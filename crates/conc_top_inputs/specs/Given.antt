@@ -36,27 +36,27 @@ pub record Sources : Type 0 where
 abbrev pub sources : ShelfState → ClockState → Sources
 sources shelf clock = record { shelf = shelf; clock = clock }
 
--- what they tell: the files, and the clock before and after the reading
-pub record Told : Type 0 where
+-- what they expose: the files, and the clock before and after the reading
+pub record Exposed : Type 0 where
   pub files : Option Files
   pub clock_before : ClockState
   pub clock_after : ClockState
 
-abbrev pub told_by : Sources → Sources → Told
-told_by old new = record { files = old.shelf.files; clock_before = old.clock; clock_after = new.clock }
+abbrev pub exposed_by : Sources → Sources → Exposed
+exposed_by old new = record { files = old.shelf.files; clock_before = old.clock; clock_after = new.clock }
 
 -- the setup's bytes were read under its name, and spell this setup
-pub record HasSetup (told : Option Files) (names : Names) : Type 0 where
+pub record HasSetup (exposed : Option Files) (names : Names) : Type 0 where
   pub bytes : List ℕ
-  pub given : Gives told names.setup bytes
+  pub given : Gives exposed names.setup bytes
   pub setup : Setup
   pub spells : setup_in bytes ≡ Ok setup
 
 -- then the script's
-pub record HasScript (told : Option Files) (names : Names) : Type 0 where
-  pub before : HasSetup told names
+pub record HasScript (exposed : Option Files) (names : Names) : Type 0 where
+  pub before : HasSetup exposed names
   pub bytes : List ℕ
-  pub given : Gives told names.script bytes
+  pub given : Gives exposed names.script bytes
   pub script : Script
   pub spells : SpellsScript before.setup bytes script
 
@@ -73,56 +73,56 @@ abbrev pub IsShown : ClockState → ClockState → Readings → Type 0
 IsShown old new readings = (moment : Moment) × Shows old.moments moment new.moments × (readings.list ≡ reading_at moment ∷ [])
 
 -- readings of the system's clock; or of the file with this name, whose bytes spell them, and that clock was not asked
-abbrev pub ReadsFrom : Told → List ℕ → Readings → Bool → Type 0
-ReadsFrom told name readings true = IsShown told.clock_before told.clock_after readings
-ReadsFrom told name readings false = (bytes : List ℕ) × Gives told.files name bytes × SpellsClock bytes readings × (told.clock_after ≡ told.clock_before)
+abbrev pub ReadsFrom : Exposed → List ℕ → Readings → Bool → Type 0
+ReadsFrom exposed name readings true = IsShown exposed.clock_before exposed.clock_after readings
+ReadsFrom exposed name readings false = (bytes : List ℕ) × Gives exposed.files name bytes × SpellsClock bytes readings × (exposed.clock_after ≡ exposed.clock_before)
 
 -- the clock that is named gave these readings; or none is named, and there are none
-abbrev pub ReadsClock : Told → Option (List ℕ) → Option Readings → Type 0
-ReadsClock told (Some name) (Some readings) = ReadsFrom told name readings (is_system name)
-ReadsClock told None None = told.clock_after ≡ told.clock_before
-ReadsClock told _ _ = ⊥
+abbrev pub ReadsClock : Exposed → Option (List ℕ) → Option Readings → Type 0
+ReadsClock exposed (Some name) (Some readings) = ReadsFrom exposed name readings (is_system name)
+ReadsClock exposed None None = exposed.clock_after ≡ exposed.clock_before
+ReadsClock exposed _ _ = ⊥
 
 -- then the clock's
-pub record HasClock (told : Told) (names : Names) : Type 0 where
-  pub before : HasScript told.files names
+pub record HasClock (exposed : Exposed) (names : Names) : Type 0 where
+  pub before : HasScript exposed.files names
   pub readings : Option Readings
-  pub given : ReadsClock told names.clock readings
+  pub given : ReadsClock exposed names.clock readings
 
 -- then those of the tables with these names, in their order. Together they have at most 134,217,728 bytes
-pub record HasTables (told : Option Files) (names : List (List ℕ)) (tables : List Table) : Type 0 where
+pub record HasTables (exposed : Option Files) (names : List (List ℕ)) (tables : List Table) : Type 0 where
   pub contents : List (List ℕ)
-  pub given : AllZip (Gives told) names contents
+  pub given : AllZip (Gives exposed) names contents
   pub spell : AllZip SpellsTable contents tables
   pub fit : sum_by length contents ≤ 134217728
 
 -- the table with this number, from 0, is to be read next
-pub record IsNextTable (told : Told) (names : Names) (number : ℕ) (name : List ℕ) : Type 0 where
-  pub before : HasClock told names
+pub record IsNextTable (exposed : Exposed) (names : Names) (number : ℕ) (name : List ℕ) : Type 0 where
+  pub before : HasClock exposed names
   pub tables : List Table
-  pub given : HasTables told.files (take number before.before.before.setup.tables) tables
+  pub given : HasTables exposed.files (take number before.before.before.setup.tables) tables
   pub named : slice_get before.before.before.setup.tables number ≡ Some name
 
 -- all files before this one were there and accepted, and it is to be read next, under this name
-abbrev pub IsNext : Told → Names → FileKind → List ℕ → Type 0
-IsNext told names kind.Setup name = name ≡ names.setup
-IsNext told names kind.Script name = HasSetup told.files names × (name ≡ names.script)
-IsNext told names kind.Clock name = HasScript told.files names × (names.clock ≡ Some name) × (is_system name ≡ false)
-IsNext told names (kind.Table number) name = IsNextTable told names number name
+abbrev pub IsNext : Exposed → Names → FileKind → List ℕ → Type 0
+IsNext exposed names kind.Setup name = name ≡ names.setup
+IsNext exposed names kind.Script name = HasSetup exposed.files names × (name ≡ names.script)
+IsNext exposed names kind.Clock name = HasScript exposed.files names × (names.clock ≡ Some name) × (is_system name ≡ false)
+IsNext exposed names (kind.Table number) name = IsNextTable exposed names number name
 
 -- all files were there and accepted, with these tables
-pub record HasAll (told : Told) (names : Names) (tables : List Table) : Type 0 where
-  pub before : HasClock told names
-  pub given : HasTables told.files before.before.before.setup.tables tables
+pub record HasAll (exposed : Exposed) (names : Names) (tables : List Table) : Type 0 where
+  pub before : HasClock exposed names
+  pub given : HasTables exposed.files before.before.before.setup.tables tables
 
 -- the digest of the bytes of the setup and the script, and of the tables under their names
-abbrev pub digest_of : {told : Told} {names : Names} {tables : List Table} → HasAll told names tables → List ℕ
+abbrev pub digest_of : {exposed : Exposed} {names : Names} {tables : List Table} → HasAll exposed names tables → List ℕ
 digest_of all =
     input_digest all.before.before.before.bytes all.before.before.bytes (zip all.before.before.before.setup.tables all.given.contents)
 
 -- they give this plan and, where there is a clock, these readings
-pub record Accepts (told : Told) (names : Names) (plan : Plan) (readings : Option Readings) : Type 0 where
-  pub files : HasAll told names plan.tables
+pub record Accepts (exposed : Exposed) (names : Names) (plan : Plan) (readings : Option Readings) : Type 0 where
+  pub files : HasAll exposed names plan.tables
   pub setup : plan.setup ≡ files.before.before.before.setup
   pub script : plan.script ≡ files.before.before.script
   pub same_readings : readings ≡ files.before.readings

@@ -7,25 +7,25 @@ use Rattle.conc_journal_digest.specs.Taken.{HasTaken}
 use Rattle.conc_journal_digest.specs.declared.input.InputDigest.{InputDigest}
 use Rattle.conc_outside.specs.Files.{Files}
 use Rattle.conc_top_inputs.specs.declared.reading.Start.{Start}
-use Rattle.conc_top_inputs.specs.Given.{HasClock, HasScript, HasTables, Names, Told}
+use Rattle.conc_top_inputs.specs.Given.{HasClock, HasScript, HasTables, Names, Exposed}
 
 -- the setup and the script were read and accepted, and say this
-pub record HasStart (told : Option Files) (names : Names) (start : Start) : Type 0 where
-  pub files : HasScript told names
+pub record HasStart (exposed : Option Files) (names : Names) (start : Start) : Type 0 where
+  pub files : HasScript exposed names
   pub setup : start.setup ≡ files.before.setup
   pub script : start.script ≡ files.script
   pub digest : HasTaken start.digest files.before.bytes files.bytes []
 
 -- the same, and the clock, if one is named, was read and accepted, and gave these readings
-pub record HasInputs (told : Told) (names : Names) (start : Start) (readings : Option Readings) : Type 0 where
-  pub files : HasClock told names
+pub record HasInputs (exposed : Exposed) (names : Names) (start : Start) (readings : Option Readings) : Type 0 where
+  pub files : HasClock exposed names
   pub setup : start.setup ≡ files.before.before.setup
   pub script : start.script ≡ files.before.script
   pub same_readings : readings ≡ files.readings
   pub digest : HasTaken start.digest files.before.before.bytes files.before.bytes []
 
 -- the tables with these names were read and accepted, and the digest took them in
-pub record HasTablesIn (told : Option Files) (names : List (List ℕ)) (old new : InputDigest) (tables : List Table) : Type 0 where
-  pub given : HasTables told names tables
+pub record HasTablesIn (exposed : Option Files) (names : List (List ℕ)) (old new : InputDigest) (tables : List Table) : Type 0 where
+  pub given : HasTables exposed names tables
   pub digest : (setup script : List ℕ) (before : List (List ℕ × List ℕ)) → HasTaken old setup script before
       → HasTaken new setup script (before ++ zip names given.contents)

@@ -4,8 +4,8 @@ use Rattle.conc_types.specs.declared.refusal.ReadFail.{ReadFail}
 use Rattle.conc_types.specs.declared.refusal.ReadFail.TheVariants as fail
 use Rattle.conc_top_inputs.specs.declared.error.InputFail.{InputFail}
 use Rattle.conc_top_inputs.specs.declared.error.InputFail.TheVariants as input
-use Rattle.conc_top_inputs.specs.declared.file_fail.FileFail.{FileFail}
-use Rattle.conc_top_inputs.specs.declared.file_fail.FileFail.TheVariants as file_fail
+use Rattle.conc_top_inputs.specs.declared.error.FileFail.{FileFail}
+use Rattle.conc_top_inputs.specs.declared.error.FileFail.TheVariants as file_fail
 use Rattle.conc_top_inputs.specs.Refusals.{name_of}
 
 abbrev pub fail_at : FileFail → List ℕ → InputFail

@@ -5,7 +5,7 @@ ghost use Rattle.conc_types.specs.declared.script.Readings.{Readings as Readings
 ghost use Rattle.conc_outside.specs.Files.{IsLater, ShelfState};
 ghost use Rattle.conc_top_inputs.specs.Fails.{FailsWith};
 ghost use Rattle.conc_top_inputs.specs.Accepting.{IsAccepted};
-ghost use Rattle.conc_top_inputs.specs.Given.{named, sources, Told, told_by};
+ghost use Rattle.conc_top_inputs.specs.Given.{named, sources, Exposed, exposed_by};
 ghost use Rattle.conc_top_inputs.specs.Reading.{HasInputs};
 ghost use Rattle.conc_top_inputs.specs.Refusals.{name_of};
 ghost use Rattle.conc_top_inputs.specs.Ways as spec;
@@ -60,13 +60,13 @@ fn plan_from<F: Shelf>(
 ) -> Result<Accepted, InputFail>
     requires { IsTrue (are_commands start.setup start.script.commands) }
     ensures later { IsLater (F.state shelf.old) (F.state shelf.new) }
-    ensures ok { (told : Told) (clock : Option (List ℕ)) (readings : Option ReadingsIn)
-        → told.files ≡ (F.state shelf.old).files
-        → HasInputs told (named setup script clock) start readings
-        → IfOk result (IsAccepted told (named setup script clock) readings) }
+    ensures ok { (exposed : Exposed) (clock : Option (List ℕ)) (readings : Option ReadingsIn)
+        → exposed.files ≡ (F.state shelf.old).files
+        → HasInputs exposed (named setup script clock) start readings
+        → IfOk result (IsAccepted exposed (named setup script clock) readings) }
     ensures err { (old : ShelfState) (before after : ClockState) (clock : Option (List ℕ))
         (readings : Option ReadingsIn) → IsLater old (F.state shelf.old)
-        → HasInputs (told_by (sources old before) (sources (F.state shelf.new) after))
+        → HasInputs (exposed_by (sources old before) (sources (F.state shelf.new) after))
         (named setup script clock) start readings
         → IfErr result (FailsWith (sources old before) (sources (F.state shelf.new) after)
         (named setup script clock)) }
@@ -96,7 +96,7 @@ pub fn accept<F: Shelf>(
 ) -> Result<Accepted, InputFail>
     ensures later { IsLater (F.state shelf.old) (F.state shelf.new) }
     ensures ok { (clock : ClockState) → IfOk result
-        (IsAccepted (told_by (sources (F.state shelf.old) clock)
+        (IsAccepted (exposed_by (sources (F.state shelf.old) clock)
         (sources (F.state shelf.new) clock)) (named setup script None) None) }
     ensures err { (clock : ClockState)
         → IfErr result (FailsWith (sources (F.state shelf.old) clock)
@@ -122,7 +122,7 @@ pub fn accept_timed<F: Shelf, C: Clock>(
 ) -> Result<(Accepted, Readings), InputFail>
     ensures later { IsLater (F.state shelf.old) (F.state shelf.new) }
     ensures ok { IfOk result (λ p. IsAccepted
-        (told_by (sources (F.state shelf.old) (C.state clock.old))
+        (exposed_by (sources (F.state shelf.old) (C.state clock.old))
         (sources (F.state shelf.new) (C.state clock.new))) (named setup script (Some file))
         (Some p.1) p.0) }
     ensures err { IfErr result (FailsWith (sources (F.state shelf.old) (C.state clock.old))

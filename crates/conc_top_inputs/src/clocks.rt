@@ -1,11 +1,11 @@
 ghost use Rattle.std.specs.Prelude.{◌≡◌, ◌∷◌, [], codes, IfErr, IfOk};
 ghost use Rattle.conc_outside.specs.Files.{IsLater};
 ghost use Rattle.conc_top_inputs.specs.Given as spec;
-ghost use Rattle.conc_top_inputs.specs.Given.{IsShown, ReadsFrom, sources, told_by};
+ghost use Rattle.conc_top_inputs.specs.Given.{IsShown, ReadsFrom, sources, exposed_by};
 ghost use Rattle.conc_top_inputs.specs.FileFails.{FailsAtClock, FailsUnshown};
 
 use crate::InputFail;
-use crate::file_fail::fail_at;
+use crate::error::fail_at;
 use crate::given::judge_clock;
 use conc_outside::Shelf;
 use conc_outside_clock::Clock;
@@ -57,7 +57,7 @@ pub(crate) fn read_readings<F: Shelf, C: Clock>(
 ) -> Result<Readings, InputFail>
     ensures later { IsLater (F.state shelf.old) (F.state shelf.new) }
     ensures ok { IfOk result (λ readings. ReadsFrom
-        (told_by (sources (F.state shelf.old) (C.state clock.old))
+        (exposed_by (sources (F.state shelf.old) (C.state clock.old))
         (sources (F.state shelf.new) (C.state clock.new))) name.now readings
         (spec.is_system name.now)) }
     ensures err { IfErr result (FailsAtClock (sources (F.state shelf.old) (C.state clock.old))

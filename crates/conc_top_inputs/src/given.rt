@@ -10,7 +10,7 @@ ghost use Rattle.conc_top_inputs.specs.Refusals.{fault_of_table};
 ghost use Rattle.conc_top_inputs.specs.FileFails.{Ends, EndsUnread};
 ghost use Rattle.conc_top_inputs.specs.Ways.{file_fail_for};
 
-use crate::file_fail::FileFail;
+use crate::error::FileFail;
 use conc_outside::{Shelf, ShelfFail};
 use conc_script::{read_clock, read_script};
 use conc_setup::read_setup;

@@ -5,7 +5,6 @@
 mod accepting;
 mod clocks;
 mod error;
-mod file_fail;
 mod given;
 mod reading;
 mod single;

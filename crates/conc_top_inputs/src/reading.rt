@@ -8,7 +8,7 @@ ghost use Rattle.conc_top_inputs.specs.FileFails.{FailsInTables};
 ghost use Rattle.conc_top_inputs.specs.Reading.{HasStart, HasTablesIn};
 
 use crate::InputFail;
-use crate::file_fail::fail_at;
+use crate::error::fail_at;
 use crate::given::{judge_script, judge_setup, judge_table};
 use conc_journal_digest::InputDigest;
 use conc_outside::Shelf;

@@ -3,7 +3,7 @@ ghost use Rattle.conc_outside.specs.Files.{Gives, IsLater};
 ghost use Rattle.conc_top_inputs.specs.Fails.{IsUnread};
 
 use crate::InputFail;
-use crate::file_fail::fail_at;
+use crate::error::fail_at;
 use crate::given::read;
 use conc_outside::Shelf;
 use conc_types::Name;

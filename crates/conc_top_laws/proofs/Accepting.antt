@@ -21,7 +21,7 @@ use Rattle.conc_script.specs.Clock.{clock_fault}
 use Rattle.conc_script.specs.Script.{script_fault, SpellsScript}
 use Rattle.conc_setup.specs.Setups.{fault_in, setup_in}
 use Rattle.conc_tables.specs.Tables.{SpellsTable, table_fault}
-use Rattle.conc_top_inputs.specs.Given.{HasScript, HasSetup, is_system, IsNext, IsNextTable, Names, Told}
+use Rattle.conc_top_inputs.specs.Given.{HasScript, HasSetup, is_system, IsNext, IsNextTable, Names, Exposed}
 use Rattle.conc_top_inputs.specs.Refusals.{fault_of_table, HasFault, IsInputRefused, IsPlanRefused}
 use Rattle.conc_top_laws.specs.Accepted.{AreAccepted, IsClockAccepted}
 
@@ -98,8 +98,8 @@ each-faultless files (x ∷ xs) (y ∷ ys) (t ∷ ts) a p before fit (suc n) nam
 
 -- ---- a file
 
-abbrev pub told-of : Files → ClockState → ClockState → Told
-told-of files before after = record { files = Some files; clock_before = before; clock_after = after }
+abbrev pub exposed-of : Files → ClockState → ClockState → Exposed
+exposed-of files before after = record { files = Some files; clock_before = before; clock_after = after }
 
 clock-faultless : (files : Files) (clock : Option (List ℕ)) (name bytes : List ℕ) → IsClockAccepted files clock → clock ≡ Some name → is_system name ≡ false → Gives (Some files) name bytes
     → clock_fault bytes ≡ None
@@ -114,7 +114,7 @@ clock-faultless files (Some clock) name bytes (inr has) named own given =
     ap clock_fault (sym is) ∙ has.spells.faultless
 
 module _ (files : Files) (before after : ClockState) (names : Names) (accepted : AreAccepted files names) where
-  table-faultless : (number : ℕ) (name : List ℕ) (next : IsNextTable (told-of files before after) names number name) (bytes : List ℕ) → Gives (Some files) name bytes
+  table-faultless : (number : ℕ) (name : List ℕ) (next : IsNextTable (exposed-of files before after) names number name) (bytes : List ℕ) → Gives (Some files) name bytes
       → fault_of_table (sum_by length next.given.contents) bytes ≡ None
   table-faultless number name next bytes given =
       let same = setup-one files names next.before.before.before accepted.script.before in
@@ -125,8 +125,8 @@ module _ (files : Files) (before after : ClockState) (names : Names) (accepted :
       ∙ each-faultless files accepted.script.before.setup.tables accepted.given.contents accepted.tables accepted.given.given accepted.given.spell 0 (omega (arith, accepted.given.fit)) number name
       named next.given.contents read bytes given
 
-  file-unrefused : (file : FileKind) (name : List ℕ) (next : IsNext (told-of files before after) names file name) (bytes : List ℕ) (fault : Fault) → Gives (Some files) name bytes
-      → HasFault (told-of files before after) names file name next bytes fault → ⊥
+  file-unrefused : (file : FileKind) (name : List ℕ) (next : IsNext (exposed-of files before after) names file name) (bytes : List ℕ) (fault : Fault) → Gives (Some files) name bytes
+      → HasFault (exposed-of files before after) names file name next bytes fault → ⊥
   file-unrefused kind.Setup name next bytes fault given has =
       let same = gives-one files names.setup accepted.script.before.bytes bytes accepted.script.before.given (subst (λ (k : List ℕ). Gives (Some files) k bytes) next given) in
       let none : fault_in bytes ≡ None = ap (λ (r : Result Setup Fault). result_err r) (ap setup_in (sym same) ∙ accepted.script.before.spells) in
@@ -141,7 +141,7 @@ module _ (files : Files) (before after : ClockState) (names : Names) (accepted :
   file-unrefused (kind.Table number) name next bytes fault given has =
       no-fault (fault_of_table (sum_by length next.given.contents) bytes) fault (table-faultless number name next bytes given) has
 
-  plan-unrefused : (refusal : Refusal) (name : List ℕ) → IsPlanRefused (told-of files before after) names refusal name → ⊥
+  plan-unrefused : (refusal : Refusal) (name : List ℕ) → IsPlanRefused (exposed-of files before after) names refusal name → ⊥
   plan-unrefused refusal name is =
       let has = is.files.before.before in
       let setup = setup-one files names has.before accepted.script.before in
@@ -154,6 +154,6 @@ module _ (files : Files) (before after : ClockState) (names : Names) (accepted :
       ∙ ap (plan_fault accepted.script.before.setup accepted.script.script.commands) tables ∙ accepted.faultless in
       no-fault _ _ none is.fault
 
-  pub unrefused : (refusal : Refusal) (name : List ℕ) → IsInputRefused (told-of files before after) names refusal name → ⊥
+  pub unrefused : (refusal : Refusal) (name : List ℕ) → IsInputRefused (exposed-of files before after) names refusal name → ⊥
   unrefused refusal name (inl is) = file-unrefused refusal.file name is.next is.bytes (refusal.line, refusal.kind) is.given is.fault
   unrefused refusal name (inr is) = plan-unrefused refusal name is

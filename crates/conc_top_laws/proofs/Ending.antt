@@ -15,14 +15,14 @@ use Rattle.conc_law.proofs.Numbering.{numbered-at}
 use Rattle.conc_outside.specs.Files.{Files, Gives}
 use Rattle.conc_restart.proofs.ReadSoFar.{bad-not_past}
 use Rattle.conc_run.proofs.Next.{not-bad, not-closed, not-other}
-use Rattle.conc_run_laws.proofs.Stopped.{at-some, refuses-for_room}
+use Rattle.conc_run_laws.proofs.Crashed.{at-some, refuses-for_room}
 use Rattle.conc_run_open.specs.Listing.{HasListCause, IsBadEvent}
 use Rattle.conc_run_open.specs.Texts.{HasEnd, HasNoEnd}
 use Rattle.conc_run_state.specs.Causes.{IsOther}
 use Rattle.conc_run_state.specs.Disks.{Disks}
 use Rattle.conc_run_state.specs.Handed.{Handed}
 use Rattle.conc_run_state.specs.Judging.{IsBadFor, IsBadRecord}
-use Rattle.conc_run_state.specs.declared.error.DiskName.TheVariants as which
+use Rattle.conc_run_state.specs.declared.error.DiskName.TheVariants as disk_name
 use Rattle.conc_run_state.specs.declared.error.HistoryFail.TheVariants as history_fail
 use Rattle.conc_top.specs.declared.exit.Exit.{Exit}
 use Rattle.conc_top.specs.declared.exit.Exit.TheVariants as exit
@@ -43,8 +43,8 @@ module _ (h : Handed) (sink : Sunk) (fits : FitsRun h) (journal_quiet : IsQuiet 
   run-done exit.Done is = inl refl
   run-done exit.NoMemory is = inr refl
   run-done exit.WriteFault is = absurd (sink_quiet is.3)
-  run-done (exit.DiskFault which.Journal) is = absurd (journal_quiet is.0.cause)
-  run-done (exit.DiskFault which.Spool) is = absurd (spool_quiet is.0.cause.1)
+  run-done (exit.DiskFault disk_name.Journal) is = absurd (journal_quiet is.0.cause)
+  run-done (exit.DiskFault disk_name.Spool) is = absurd (spool_quiet is.0.cause.1)
   run-done exit.NotJournal is = absurd (refuses-for_room h fits.image fits.texts fits.fit fits.journal fits.spool history_fail.NotJournal is.0.cause)
   run-done (exit.OtherInput found given) is = absurd (refuses-for_room h fits.image fits.texts fits.fit fits.journal fits.spool (history_fail.OtherInput found) is.0.cause)
   run-done (exit.Unlawful number) is = absurd (refuses-for_room h fits.image fits.texts fits.fit fits.journal fits.spool (history_fail.Unlawful number) is.0.cause)
@@ -75,8 +75,8 @@ module _ (plan : Plan) (digest : List ℕ) (old new : DiskState) (sink : Sunk) (
   status-done exit.NotJournal is = absurd (not-closed digest fits.image fits.own (at-some (λ (i : List ℕ). IsFalse (may_open i)) old.seen fits.image fits.seen is.0))
   status-done (exit.OtherInput found given) is = absurd (not-other digest found fits.image fits.own.own (at-some (λ (i : List ℕ). IsOther digest found i) old.seen fits.image fits.seen is.0))
   status-done (exit.Unlawful number) is = absurd (listed number is.0)
-  status-done (exit.DiskFault which.Journal) is = absurd (quiet is.0)
-  status-done (exit.DiskFault which.Spool) is = absurd is.0
+  status-done (exit.DiskFault disk_name.Journal) is = absurd (quiet is.0)
+  status-done (exit.DiskFault disk_name.Spool) is = absurd is.0
   status-done exit.Done is = inl refl
   status-done exit.NoMemory is = inr refl
   status-done exit.WriteFault is = absurd (sink_quiet is.3)
@@ -104,8 +104,8 @@ module _ (plan : Plan) (digest : List ℕ) (id : RequestId) (d : Disks) (sink : 
       let long : bad.0 ≡ length fits.texts = at-some (λ (t : List ℕ). bad.0 ≡ length t) d.spool_before.seen fits.texts fits.spool_seen bad.1 in
       absurd (not-bad plan (length fits.texts) (events_of fits.image) (broken_of fits.image) number fits.fit.good
       (subst (λ (len : ℕ). IsBadRecord plan len (events_of fits.image) (broken_of fits.image) number) long bad.2))
-  output-done (exit.DiskFault which.Journal) is = absurd (quiet.journal is.0)
-  output-done (exit.DiskFault which.Spool) is = absurd (quiet.spool is.0.1)
+  output-done (exit.DiskFault disk_name.Journal) is = absurd (quiet.journal is.0)
+  output-done (exit.DiskFault disk_name.Spool) is = absurd (quiet.spool is.0.1)
   output-done (exit.NotEnded number) is =
       absurd (has-end is.0.events (events_of fits.image) id fits.extent (at-some (λ (i : List ℕ). is.0.events ≡ events_of i) d.journal_before.seen fits.image fits.journal_seen is.0.whole.listed.events_are) fits.ended is.0.none)
   output-done exit.Done is = inl refl
@@ -141,13 +141,13 @@ not-unlawful plan readings bytes events finished line is (inl bad) =
 not-unlawful plan readings bytes events finished line is (inr (lawful, inl bad)) = let two : None ≡ Some line = sym is.whole.whole ∙ bad in cc two
 not-unlawful plan readings bytes events finished line is (inr (lawful, inr bad)) = no-other (table_lines plan bytes) (lines_behind plan bytes) bad.number is.whole.table bad.other
 
-module _ (j : Judging) (files : Files) (told : j.before.files ≡ Some files) (sink : Sunk) (has : HasLawfulHistory j) (absences : IsQuiet j.before.absences j.after.absences)
+module _ (j : Judging) (files : Files) (exposed : j.before.files ≡ Some files) (sink : Sunk) (has : HasLawfulHistory j) (absences : IsQuiet j.before.absences j.after.absences)
     (quiet : IsQuiet j.before.faults j.after.faults) (sink_quiet : IsQuiet sink.before.faults sink.after.faults) where
   pub check-done : (end : Exit) → CheckEnds j sink end → IsDone end
   check-done (exit.NotLawful line) is =
       let good = has.2 in
-      let one = subst (λ (o : Option Files). Gives o j.name good.bytes) told good.given in
-      let other = subst (λ (o : Option Files). Gives o j.name is.0.bytes) told is.0.given in
+      let one = subst (λ (o : Option Files). Gives o j.name good.bytes) exposed good.given in
+      let other = subst (λ (o : Option Files). Gives o j.name is.0.bytes) exposed is.0.given in
       let same = gives-one files j.name is.0.bytes good.bytes other one in
       absurd (not-unlawful j.plan j.readings good.bytes has.0 has.1 line good.found_is (subst (λ (b : List ℕ). IsNotLawful j.plan j.readings b line) same is.0.found_is))
   check-done (exit.Absent name) is = absurd (absences is.0.2)
@@ -158,7 +158,7 @@ module _ (j : Judging) (files : Files) (told : j.before.files ≡ Some files) (s
   check-done exit.Usage is = absurd is
   check-done exit.ClockFault is = absurd is
   check-done (exit.Refused refusal name) is = absurd is
-  check-done (exit.DiskFault which) is = absurd is
+  check-done (exit.DiskFault disk) is = absurd is
   check-done exit.NotJournal is = absurd is
   check-done (exit.OtherInput found given) is = absurd is
   check-done (exit.JournalFull len needed) is = absurd is

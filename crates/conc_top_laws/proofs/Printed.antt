@@ -22,7 +22,7 @@ prints-done kind sink exit.ClockFault is quiet = absurd is
 prints-done kind sink (exit.Refused refusal name) is quiet = absurd is
 prints-done kind sink (exit.Absent name) is quiet = absurd is
 prints-done kind sink (exit.ReadFault name) is quiet = absurd is
-prints-done kind sink (exit.DiskFault which) is quiet = absurd is
+prints-done kind sink (exit.DiskFault disk) is quiet = absurd is
 prints-done kind sink exit.NotJournal is quiet = absurd is
 prints-done kind sink (exit.OtherInput found given) is quiet = absurd is
 prints-done kind sink (exit.JournalFull len needed) is quiet = absurd is
@@ -34,15 +34,15 @@ prints-done kind sink (exit.NotEnded number) is quiet = absurd is
 pub unplanned-done : (names : Names) (a : Around) (end : Exit) → IsUnplanned names a end → HasAccepted a names → IsQuietAround a → IsDone end
 unplanned-done names a exit.NoMemory is has quiet = inr refl
 unplanned-done names a (exit.Refused refusal name) is has quiet =
-    let told = subst (λ (o : Option Files). IsInputRefused (record { files = o; clock_before = a.before.clock; clock_after = a.after.clock }) names refusal name) has.told is.0 in
-    absurd (unrefused has.files a.before.clock a.after.clock names has.accepted refusal name told)
+    let exposed = subst (λ (o : Option Files). IsInputRefused (record { files = o; clock_before = a.before.clock; clock_after = a.after.clock }) names refusal name) has.exposed is.0 in
+    absurd (unrefused has.files a.before.clock a.after.clock names has.accepted refusal name exposed)
 unplanned-done names a (exit.Absent name) is has quiet = absurd (quiet.absences is.0.counted)
 unplanned-done names a (exit.ReadFault name) is has quiet = absurd (quiet.shelf is.0.counted)
 unplanned-done names a exit.ClockFault is has quiet = absurd (quiet.clock is.0.silent.counted)
 unplanned-done names a exit.Done is has quiet = absurd is
 unplanned-done names a exit.WriteFault is has quiet = absurd is
 unplanned-done names a exit.Usage is has quiet = absurd is
-unplanned-done names a (exit.DiskFault which) is has quiet = absurd is
+unplanned-done names a (exit.DiskFault disk) is has quiet = absurd is
 unplanned-done names a exit.NotJournal is has quiet = absurd is
 unplanned-done names a (exit.OtherInput found given) is has quiet = absurd is
 unplanned-done names a (exit.JournalFull len needed) is has quiet = absurd is

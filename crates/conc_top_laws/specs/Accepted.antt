@@ -28,8 +28,8 @@ pub record AreAccepted (files : Files) (names : Names) : Type 0 where
   pub given : HasTables (Some files) script.before.setup.tables tables
   pub faultless : plan_fault script.before.setup script.script.commands tables ≡ None
 
--- the shelf tells its files, and they are accepted
+-- the shelf exposes its files, and they are accepted
 pub record HasAccepted (a : Around) (names : Names) : Type 0 where
   pub files : Files
-  pub told : a.before.shelf.files ≡ Some files
+  pub exposed : a.before.shelf.files ≡ Some files
   pub accepted : AreAccepted files names

@@ -6,6 +6,7 @@ use Rattle.conc_types.specs.declared.plan.Plan.{Plan}
 use Rattle.conc_disk.specs.Disk.{DiskState}
 use Rattle.conc_history_verdict.specs.declared.verdict.Verdict.TheVariants as verdict
 use Rattle.conc_journal.specs.Opens.{broken_of, events_of}
+use Rattle.conc_journal_image.specs.declared.layout.TheConstants.{MOST_RECORDS}
 use Rattle.conc_law.specs.Law.{LawfulSoFar}
 use Rattle.conc_restart.specs.Need.{need}
 use Rattle.conc_run_laws.specs.Next.{IsFit}
@@ -13,16 +14,16 @@ use Rattle.conc_run_open.specs.Texts.{HasEnd}
 use Rattle.conc_run_state.specs.Handed.{Handed, IsOwnJournal}
 use Rattle.conc_top.specs.Checks.{IsJudged, Judging}
 
--- the disks tell, the journal and the spool fit the files, and the journal has room for one more life
+-- the disks expose their bytes, the journal and the spool fit the files, and the journal has room for one more life
 pub record FitsRun (h : Handed) : Type 0 where
   pub image : List ℕ
   pub texts : List ℕ
   pub journal : h.journal_before.seen ≡ Some image
   pub spool : h.spool_before.seen ≡ Some texts
   pub fit : IsFit h.plan h.digest image texts
-  pub room : length (events_of image) + need h.plan h.readings ≤ 1048576
+  pub room : length (events_of image) + need h.plan h.readings ≤ MOST_RECORDS
 
--- the journal's disk tells; the journal is that of these files or not begun, no record is broken, and its list is lawful so far
+-- the journal's disk exposes its bytes; the journal is that of these files or not begun, no record is broken, and its list is lawful so far
 pub record FitsStatus (plan : Plan) (digest : List ℕ) (journal : DiskState) : Type 0 where
   pub image : List ℕ
   pub seen : journal.seen ≡ Some image
@@ -30,7 +31,7 @@ pub record FitsStatus (plan : Plan) (digest : List ℕ) (journal : DiskState) : 
   pub whole : broken_of image ≡ None
   pub so_far : LawfulSoFar plan (events_of image)
 
--- the disks tell, the journal and the spool fit the files, and the journal has an end of the request with an extent
+-- the disks expose their bytes, the journal and the spool fit the files, and the journal has an end of the request with an extent
 pub record FitsOutput (plan : Plan) (digest : List ℕ) (id : RequestId) (journal spool : DiskState) : Type 0 where
   pub image : List ℕ
   pub texts : List ℕ

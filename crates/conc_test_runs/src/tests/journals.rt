@@ -128,7 +128,7 @@ a,2,15
 b,1,20
 total,3,35
 =====
-what ran at a stop is interrupted by the next run: it has no mark for restart
+what ran at a crash is interrupted by the next run: it has no mark for restart
 == script
 2025-03-03T09:00:00,submit,P,ann,,,,
 == run
@@ -155,7 +155,7 @@ a,2,15
 b,1,20
 total,3,35
 =====
-what ran at a stop is interrupted by the next run: with the mark it runs again
+what ran at a crash is interrupted by the next run: with the mark it runs again
 == setup
 tables = ["t.csv"]
 [[program]]

@@ -21,7 +21,7 @@ fn written<Rt: Abort>(rt: &Rt, alloc: Global) -> Result<MemDisk, Fail> {
     Ok(disk)
 }
 
-// In the call with this number, and at this choice, a stop leaves these bytes.
+// In the call with this number, and at this choice, a crash leaves these bytes.
 static IMAGES: [(u64, u64, &[u8]); 6] = [
     (0, 0, b"abcdef"),
     (0, 1, b"abXYef"),

@@ -102,7 +102,7 @@ fn writes_the_format(rt: HostRuntime) -> Result<(), Fail> {
     Ok(())
 }
 
-// How many events an image has that a stop in this call may leave.
+// How many events an image has that a crash in this call may leave.
 fn count_left<Rt: Abort>(
     rt: &Rt,
     alloc: Global,
@@ -111,8 +111,8 @@ fn count_left<Rt: Abort>(
     choice: u64,
 ) -> Result<usize, Fail> {
     let image = disk.image(alloc, call, choice)?;
-    let mut stopped = MemDisk::new(alloc, image, Vec::new(alloc));
-    let opened = Journal::open_on(alloc, &mut stopped)?;
+    let mut crashed = MemDisk::new(alloc, image, Vec::new(alloc));
+    let opened = Journal::open_on(alloc, &mut crashed)?;
     same_at(rt, opened.broken, None, (call, choice));
     Ok(opened.events.len())
 }

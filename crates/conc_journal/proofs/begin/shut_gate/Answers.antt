@@ -22,7 +22,7 @@ returns-clause-images g c =
     let mid = g.D.Disk.state c.settle.new.disk in
     let new = g.D.Disk.state c.write_durable.new.disk in
     let n = c.in_ok-length.length in
-    each-torn (λ (image : List ℕ). IsUnbegun image × (n ≡ length image)) IsUnbegun 0 1 mid new c.write_durable.ensures.survives.tells
+    each-torn (λ (image : List ℕ). IsUnbegun image × (n ≡ length image)) IsUnbegun 0 1 mid new c.write_durable.ensures.survives.exposes
     (settled IsUnbegun n old mid c.requires c.settle.ensures.stays c.in_ok-length.ensures.durable c.in_ok-length.ensures.length)
     c.write_durable.ensures.images
     (λ before image was torn. torn-short before image (omega (arith, was.1)) torn)

@@ -13,7 +13,7 @@ use Rattle.conc_journal.proofs.begin.write_header.Goals as goal
 -- the header is torn
 pub returns-in_err-write_durable-clause-images : goal.returns-in_err-write_durable-clause-images
 returns-in_err-write_durable-clause-images g c =
-    each-torn IsShut (MayBegin c.args.digest.now) 1 (length c.header_of.result) (g.D.Disk.state c.shut_gate.new.disk) (g.D.Disk.state c.write_durable.new.disk) c.write_durable.ensures.survives.tells c.in_ok-shut_gate.ensures.shut
+    each-torn IsShut (MayBegin c.args.digest.now) 1 (length c.header_of.result) (g.D.Disk.state c.shut_gate.new.disk) (g.D.Disk.state c.write_durable.new.disk) c.write_durable.ensures.survives.exposes c.in_ok-shut_gate.ensures.shut
     c.write_durable.ensures.images (λ before image shut torn. inl (torn-behind (length c.header_of.result) before image shut torn))
 
 pub returns-in_err-write_durable-clause-survives : goal.returns-in_err-write_durable-clause-survives
@@ -32,8 +32,8 @@ returns-clause-images g c =
     let header = c.header_of.result in
     let shut = g.D.Disk.state c.shut_gate.new.disk in
     let headed = g.D.Disk.state c.write_durable.new.disk in
-    let stands = each-written IsShut (IsHeaded header) 1 header shut headed c.write_durable.ensures.survives.tells c.in_ok-shut_gate.ensures.shut c.in_ok-write_durable.ensures.durable (λ before image is done. written-headed header before image is done) in
-    each-torn (IsHeaded header) (MayBegin digest) 0 1 headed (g.D.Disk.state c.write_durable-2.new.disk) c.write_durable-2.ensures.survives.tells stands
+    let stands = each-written IsShut (IsHeaded header) 1 header shut headed c.write_durable.ensures.survives.exposes c.in_ok-shut_gate.ensures.shut c.in_ok-write_durable.ensures.durable (λ before image is done. written-headed header before image is done) in
+    each-torn (IsHeaded header) (MayBegin digest) 0 1 headed (g.D.Disk.state c.write_durable-2.new.disk) c.write_durable-2.ensures.survives.exposes stands
     c.write_durable-2.ensures.images (λ before image is torn. torn-gate digest header before image c.header_of.ensures.begins is torn)
 
 pub returns-clause-survives : goal.returns-clause-survives
@@ -45,7 +45,7 @@ returns-clause-survives g c =
     let headed = g.D.Disk.state c.write_durable.new.disk in
     let new = g.D.Disk.state c.write_durable-2.new.disk in
     let P = MayBegin digest in
-    let stands = each-written IsShut (IsHeaded header) 1 header shut headed c.write_durable.ensures.survives.tells c.in_ok-shut_gate.ensures.shut c.in_ok-write_durable.ensures.durable (λ before image is done. written-headed header before image is done) in
+    let stands = each-written IsShut (IsHeaded header) 1 header shut headed c.write_durable.ensures.survives.exposes c.in_ok-shut_gate.ensures.shut c.in_ok-write_durable.ensures.durable (λ before image is done. written-headed header before image is done) in
     let behind =
     leaves-twice P old shut headed (left-more IsUnbegun P old shut c.shut_gate.ensures.survives (λ image is. inl is))
     (left-torn IsShut P 1 (length c.header_of.result) shut headed c.in_ok-shut_gate.ensures.shut c.write_durable.ensures.survives (λ before image is torn. inl (torn-behind (length c.header_of.result) before image is torn))) in
@@ -60,9 +60,9 @@ returns-clause-begun g c =
     let shut = g.D.Disk.state c.shut_gate.new.disk in
     let headed = g.D.Disk.state c.write_durable.new.disk in
     let new = g.D.Disk.state c.write_durable-2.new.disk in
-    let stands = each-written IsShut (IsHeaded header) 1 header shut headed c.write_durable.ensures.survives.tells c.in_ok-shut_gate.ensures.shut c.in_ok-write_durable.ensures.durable (λ before image is done. written-headed header before image is done) in
+    let stands = each-written IsShut (IsHeaded header) 1 header shut headed c.write_durable.ensures.survives.exposes c.in_ok-shut_gate.ensures.shut c.in_ok-write_durable.ensures.durable (λ before image is done. written-headed header before image is done) in
     on-ok c.write_durable-2.result (LeavesWritten 0 (1 ∷ []) headed new) (EachImage (IsJournal digest []) new) c.write_durable-2.ensures.durable (λ opened.
-    each-written (IsHeaded header) (IsJournal digest []) 0 (1 ∷ []) headed new c.write_durable-2.ensures.survives.tells stands opened (λ before image is done. written-gate digest header before image c.header_of.ensures.begins is done))
+    each-written (IsHeaded header) (IsJournal digest []) 0 (1 ∷ []) headed new c.write_durable-2.ensures.survives.exposes stands opened (λ before image is done. written-gate digest header before image c.header_of.ensures.begins is done))
 
 -- what is written, and where
 

@@ -5,7 +5,7 @@ use Rattle.conc_outside.proofs.sink.write_all.Goals as goal
 pub returns-in_err-n-clause-part : goal.returns-in_err-n-clause-part
 returns-in_err-n-clause-part g c =
     let written = c.loop-rest.invariant.written in
-    let part = took_prefix _ _ _ written.0 _ _ written.1 written.2 c.in_err-n.ensures.kept in
+    let part = took_prefix _ _ _ written.0 _ _ written.1 written.2 c.in_err-n.ensures.unchanged in
     search rules
 
 pub loop-rest-preserved : goal.loop-rest-preserved

@@ -5,31 +5,31 @@ use Rattle.conc_law.proofs.Finishes.{next_alone-none}
 use Rattle.conc_run_state.specs.Works.{list_in}
 use Rattle.conc_run_steps.specs.Steps.{next_in, plan_in, readings_in}
 use Rattle.conc_run_steps.proofs.Coming.{lawful-past, may-log}
-use Rattle.conc_resolver_alone.proofs.Stepping.{less-logged, ready-logged, went-logged, went-unkept, went-unlogged}
-use Rattle.conc_resolver_alone.proofs.Turning.{turn-kept, turn-logged, turn-still}
+use Rattle.conc_resolver_alone.proofs.Stepping.{less-logged, ready-logged, went-logged, went-unstored, went-unlogged}
+use Rattle.conc_resolver_alone.proofs.Turning.{turn-unstored, turn-logged, turn-still}
 use Rattle.conc_resolver_alone.proofs.running.step.Goals as goal
 
-pub keep-requires-clause-lawful : goal.keep-requires-clause-lawful
-keep-requires-clause-lawful g c =
+pub store_text-requires-clause-lawful : goal.store_text-requires-clause-lawful
+store_text-requires-clause-lawful g c =
     let next : next_in c.args.work.now ≡ Some c.in-Some.next.event = sym c.in_ok-next.ensures.event ∙ ap (option_map event_of) c.in-Some.is in
     (may-log c.args.work.now c.in-Some.next.event c.in-Some.next.text (g.D.Disk.state c.args.journal.now) (g.E.Disk.state c.args.spool.now) c.requires.ready next (c.in_ok-next.ensures.text c.in-Some.next c.in-Some.is)).lawful
 
 pub log_event-requires-clause-may : goal.log_event-requires-clause-may
 log_event-requires-clause-may g c =
-    c.keep.ensures.may (may-log c.args.work.now c.in-Some.next.event c.in-Some.next.text (g.D.Disk.state c.args.journal.now) (g.E.Disk.state c.args.spool.now) c.requires.ready (sym c.in_ok-next.ensures.event ∙ ap (option_map event_of) c.in-Some.is) (c.in_ok-next.ensures.text c.in-Some.next c.in-Some.is))
+    c.store_text.ensures.may (may-log c.args.work.now c.in-Some.next.event c.in-Some.next.text (g.D.Disk.state c.args.journal.now) (g.E.Disk.state c.args.spool.now) c.requires.ready (sym c.in_ok-next.ensures.event ∙ ap (option_map event_of) c.in-Some.is) (c.in_ok-next.ensures.text c.in-Some.next c.in-Some.is))
 
-pub returns-in_err-keep-in-Some-clause-went_on : goal.returns-in_err-keep-in-Some-clause-went_on
-returns-in_err-keep-in-Some-clause-went_on g c =
-    went-unkept c.args.work.now c.keep.new.work (g.D.Disk.state c.args.journal.now) (g.E.Disk.state c.args.spool.now) (g.E.Disk.state c.keep.new.spool) c.requires.ready c.keep.ensures.machine c.keep.ensures.journal
-    c.in_err-keep-in-Some.ensures.not_kept c.in_err-keep-in-Some.ensures.as_before
+pub returns-in_err-store_text-in-Some-clause-went_on : goal.returns-in_err-store_text-in-Some-clause-went_on
+returns-in_err-store_text-in-Some-clause-went_on g c =
+    went-unstored c.args.work.now c.store_text.new.work (g.D.Disk.state c.args.journal.now) (g.E.Disk.state c.args.spool.now) (g.E.Disk.state c.store_text.new.spool) c.requires.ready c.store_text.ensures.machine c.store_text.ensures.journal
+    c.in_err-store_text-in-Some.ensures.not_stored c.in_err-store_text-in-Some.ensures.as_before
 
 pub returns-in_err-log_event-in-Some-clause-went_on : goal.returns-in_err-log_event-in-Some-clause-went_on
 returns-in_err-log_event-in-Some-clause-went_on g c =
     let next : next_in c.args.work.now ≡ Some c.in-Some.next.event = sym c.in_ok-next.ensures.event ∙ ap (option_map event_of) c.in-Some.is in
-    let kept = c.in_ok-keep-in-Some.ensures in
+    let text = c.in_ok-store_text-in-Some.ensures in
     let logged = c.log_event.ensures in
-    went-unlogged c.args.work.now c.keep.new.work (g.D.Disk.state c.args.journal.now) (g.E.Disk.state c.args.spool.now) (g.E.Disk.state c.keep.new.spool) c.requires.ready c.keep.ensures.machine c.keep.ensures.journal
-    c.log_event.new.work c.in-Some.next.event (g.D.Disk.state c.log_event.new.journal) next (c.keep.ensures.may (may-log c.args.work.now c.in-Some.next.event c.in-Some.next.text (g.D.Disk.state c.args.journal.now) (g.E.Disk.state c.args.spool.now) c.requires.ready (sym c.in_ok-next.ensures.event ∙ ap (option_map event_of) c.in-Some.is) (c.in_ok-next.ensures.text c.in-Some.next c.in-Some.is))) kept.kept kept.stored logged.survives logged.plan logged.readings
+    went-unlogged c.args.work.now c.store_text.new.work (g.D.Disk.state c.args.journal.now) (g.E.Disk.state c.args.spool.now) (g.E.Disk.state c.store_text.new.spool) c.requires.ready c.store_text.ensures.machine c.store_text.ensures.journal
+    c.log_event.new.work c.in-Some.next.event (g.D.Disk.state c.log_event.new.journal) next (c.store_text.ensures.may (may-log c.args.work.now c.in-Some.next.event c.in-Some.next.text (g.D.Disk.state c.args.journal.now) (g.E.Disk.state c.args.spool.now) c.requires.ready (sym c.in_ok-next.ensures.event ∙ ap (option_map event_of) c.in-Some.is) (c.in_ok-next.ensures.text c.in-Some.next c.in-Some.is))) text.pending text.stored logged.survives logged.plan logged.readings
     c.in_err-log_event-in-Some.ensures.not_logged c.in_err-log_event-in-Some.ensures.as_before c.in_err-log_event-in-Some.ensures.failed
 
 pub returns-in-None-clause-finished : goal.returns-in-None-clause-finished
@@ -41,31 +41,31 @@ returns-in-None-clause-finished g c = λ _.
 pub returns-in_ok-log_event-in-Some-clause-went_on : goal.returns-in_ok-log_event-in-Some-clause-went_on
 returns-in_ok-log_event-in-Some-clause-went_on g c =
     let next : next_in c.args.work.now ≡ Some c.in-Some.next.event = sym c.in_ok-next.ensures.event ∙ ap (option_map event_of) c.in-Some.is in
-    let kept = c.in_ok-keep-in-Some.ensures in
+    let text = c.in_ok-store_text-in-Some.ensures in
     let logged = c.log_event.ensures in
     let done = c.in_ok-log_event-in-Some.ensures in
-    went-logged c.args.work.now c.keep.new.work (g.D.Disk.state c.args.journal.now) (g.E.Disk.state c.args.spool.now) (g.E.Disk.state c.keep.new.spool) c.requires.ready c.keep.ensures.machine c.keep.ensures.journal
-    c.log_event.new.work c.in-Some.next.event (g.D.Disk.state c.log_event.new.journal) next (c.keep.ensures.may (may-log c.args.work.now c.in-Some.next.event c.in-Some.next.text (g.D.Disk.state c.args.journal.now) (g.E.Disk.state c.args.spool.now) c.requires.ready (sym c.in_ok-next.ensures.event ∙ ap (option_map event_of) c.in-Some.is) (c.in_ok-next.ensures.text c.in-Some.next c.in-Some.is))) kept.kept kept.stored logged.survives logged.plan logged.readings
+    went-logged c.args.work.now c.store_text.new.work (g.D.Disk.state c.args.journal.now) (g.E.Disk.state c.args.spool.now) (g.E.Disk.state c.store_text.new.spool) c.requires.ready c.store_text.ensures.machine c.store_text.ensures.journal
+    c.log_event.new.work c.in-Some.next.event (g.D.Disk.state c.log_event.new.journal) next (c.store_text.ensures.may (may-log c.args.work.now c.in-Some.next.event c.in-Some.next.text (g.D.Disk.state c.args.journal.now) (g.E.Disk.state c.args.spool.now) c.requires.ready (sym c.in_ok-next.ensures.event ∙ ap (option_map event_of) c.in-Some.is) (c.in_ok-next.ensures.text c.in-Some.next c.in-Some.is))) text.pending text.stored logged.survives logged.plan logged.readings
     done.logged done.added done.state
 
 pub returns-in_ok-log_event-in-Some-clause-ready : goal.returns-in_ok-log_event-in-Some-clause-ready
 returns-in_ok-log_event-in-Some-clause-ready g c =
     let next : next_in c.args.work.now ≡ Some c.in-Some.next.event = sym c.in_ok-next.ensures.event ∙ ap (option_map event_of) c.in-Some.is in
-    let kept = c.in_ok-keep-in-Some.ensures in
+    let text = c.in_ok-store_text-in-Some.ensures in
     let logged = c.log_event.ensures in
     let done = c.in_ok-log_event-in-Some.ensures in
-    ready-logged c.args.work.now c.keep.new.work (g.D.Disk.state c.args.journal.now) (g.E.Disk.state c.args.spool.now) (g.E.Disk.state c.keep.new.spool) c.requires.ready c.keep.ensures.machine c.keep.ensures.journal
-    c.log_event.new.work c.in-Some.next.event (g.D.Disk.state c.log_event.new.journal) next (c.keep.ensures.may (may-log c.args.work.now c.in-Some.next.event c.in-Some.next.text (g.D.Disk.state c.args.journal.now) (g.E.Disk.state c.args.spool.now) c.requires.ready (sym c.in_ok-next.ensures.event ∙ ap (option_map event_of) c.in-Some.is) (c.in_ok-next.ensures.text c.in-Some.next c.in-Some.is))) kept.kept kept.stored logged.survives logged.plan logged.readings
+    ready-logged c.args.work.now c.store_text.new.work (g.D.Disk.state c.args.journal.now) (g.E.Disk.state c.args.spool.now) (g.E.Disk.state c.store_text.new.spool) c.requires.ready c.store_text.ensures.machine c.store_text.ensures.journal
+    c.log_event.new.work c.in-Some.next.event (g.D.Disk.state c.log_event.new.journal) next (c.store_text.ensures.may (may-log c.args.work.now c.in-Some.next.event c.in-Some.next.text (g.D.Disk.state c.args.journal.now) (g.E.Disk.state c.args.spool.now) c.requires.ready (sym c.in_ok-next.ensures.event ∙ ap (option_map event_of) c.in-Some.is) (c.in_ok-next.ensures.text c.in-Some.next c.in-Some.is))) text.pending text.stored logged.survives logged.plan logged.readings
     done.logged done.added done.state done.room
 
 pub returns-in_ok-log_event-in-Some-clause-less : goal.returns-in_ok-log_event-in-Some-clause-less
 returns-in_ok-log_event-in-Some-clause-less g c = λ _.
     let next : next_in c.args.work.now ≡ Some c.in-Some.next.event = sym c.in_ok-next.ensures.event ∙ ap (option_map event_of) c.in-Some.is in
-    let kept = c.in_ok-keep-in-Some.ensures in
+    let text = c.in_ok-store_text-in-Some.ensures in
     let logged = c.log_event.ensures in
     let done = c.in_ok-log_event-in-Some.ensures in
-    less-logged c.args.work.now c.keep.new.work (g.D.Disk.state c.args.journal.now) (g.E.Disk.state c.args.spool.now) (g.E.Disk.state c.keep.new.spool) c.requires.ready c.keep.ensures.machine c.keep.ensures.journal
-    c.log_event.new.work c.in-Some.next.event (g.D.Disk.state c.log_event.new.journal) next (c.keep.ensures.may (may-log c.args.work.now c.in-Some.next.event c.in-Some.next.text (g.D.Disk.state c.args.journal.now) (g.E.Disk.state c.args.spool.now) c.requires.ready (sym c.in_ok-next.ensures.event ∙ ap (option_map event_of) c.in-Some.is) (c.in_ok-next.ensures.text c.in-Some.next c.in-Some.is))) kept.kept kept.stored logged.survives logged.plan logged.readings
+    less-logged c.args.work.now c.store_text.new.work (g.D.Disk.state c.args.journal.now) (g.E.Disk.state c.args.spool.now) (g.E.Disk.state c.store_text.new.spool) c.requires.ready c.store_text.ensures.machine c.store_text.ensures.journal
+    c.log_event.new.work c.in-Some.next.event (g.D.Disk.state c.log_event.new.journal) next (c.store_text.ensures.may (may-log c.args.work.now c.in-Some.next.event c.in-Some.next.text (g.D.Disk.state c.args.journal.now) (g.E.Disk.state c.args.spool.now) c.requires.ready (sym c.in_ok-next.ensures.event ∙ ap (option_map event_of) c.in-Some.is) (c.in_ok-next.ensures.text c.in-Some.next c.in-Some.is))) text.pending text.stored logged.survives logged.plan logged.readings
     done.logged done.added done.state
 
 pub returns-in_err-next-clause-fits : goal.returns-in_err-next-clause-fits
@@ -80,31 +80,31 @@ returns-in-None-clause-fits g c = λ digest from begun stored.
     let spool = c.args.spool.now in
     turn-still c.args.work.now digest from (g.D.Disk.state journal) (g.E.Disk.state spool) c.requires.ready begun stored (g.met.D.Disk.only_now journal) (g.met.E.Disk.only_now spool) (g.met.E.Disk.seen_is_left spool)
 
-pub returns-in_err-keep-in-Some-clause-fits : goal.returns-in_err-keep-in-Some-clause-fits
-returns-in_err-keep-in-Some-clause-fits g c = λ digest from begun stored.
+pub returns-in_err-store_text-in-Some-clause-fits : goal.returns-in_err-store_text-in-Some-clause-fits
+returns-in_err-store_text-in-Some-clause-fits g c = λ digest from begun stored.
     let journal = c.args.journal.now in
     let spool = c.args.spool.now in
-    let spool' = c.keep.new.spool in
-    turn-kept c.args.work.now c.keep.new.work digest from (g.D.Disk.state journal) (g.E.Disk.state spool) (g.E.Disk.state spool') c.requires.ready c.keep.ensures.machine c.keep.ensures.journal begun stored
+    let spool' = c.store_text.new.spool in
+    turn-unstored c.args.work.now c.store_text.new.work digest from (g.D.Disk.state journal) (g.E.Disk.state spool) (g.E.Disk.state spool') c.requires.ready c.store_text.ensures.machine c.store_text.ensures.journal begun stored
     (g.met.D.Disk.only_now journal) (g.met.E.Disk.only_now spool) (g.met.E.Disk.seen_is_left spool) (g.met.E.Disk.only_now spool') (g.met.E.Disk.seen_is_left spool')
-    c.in_err-keep-in-Some.ensures.not_kept c.in_err-keep-in-Some.ensures.as_before
+    c.in_err-store_text-in-Some.ensures.not_stored c.in_err-store_text-in-Some.ensures.as_before
 
 pub returns-in_err-log_event-in-Some-clause-fits : goal.returns-in_err-log_event-in-Some-clause-fits
 returns-in_err-log_event-in-Some-clause-fits g c = λ digest from begun stored.
     let journal = c.args.journal.now in
     let spool = c.args.spool.now in
-    let spool' = c.keep.new.spool in
-    let kept = c.in_ok-keep-in-Some.ensures in
-    turn-logged c.args.work.now c.keep.new.work digest from (g.D.Disk.state journal) (g.E.Disk.state spool) (g.E.Disk.state spool') c.requires.ready c.keep.ensures.machine c.keep.ensures.journal begun stored
+    let spool' = c.store_text.new.spool in
+    let text = c.in_ok-store_text-in-Some.ensures in
+    turn-logged c.args.work.now c.store_text.new.work digest from (g.D.Disk.state journal) (g.E.Disk.state spool) (g.E.Disk.state spool') c.requires.ready c.store_text.ensures.machine c.store_text.ensures.journal begun stored
     (g.met.D.Disk.only_now journal) (g.met.E.Disk.only_now spool) (g.met.E.Disk.seen_is_left spool) (g.met.E.Disk.only_now spool') (g.met.E.Disk.seen_is_left spool')
-    c.in-Some.next.event (g.D.Disk.state c.log_event.new.journal) (c.keep.ensures.may (may-log c.args.work.now c.in-Some.next.event c.in-Some.next.text (g.D.Disk.state c.args.journal.now) (g.E.Disk.state c.args.spool.now) c.requires.ready (sym c.in_ok-next.ensures.event ∙ ap (option_map event_of) c.in-Some.is) (c.in_ok-next.ensures.text c.in-Some.next c.in-Some.is))) kept.kept kept.stored c.log_event.ensures.survives
+    c.in-Some.next.event (g.D.Disk.state c.log_event.new.journal) (c.store_text.ensures.may (may-log c.args.work.now c.in-Some.next.event c.in-Some.next.text (g.D.Disk.state c.args.journal.now) (g.E.Disk.state c.args.spool.now) c.requires.ready (sym c.in_ok-next.ensures.event ∙ ap (option_map event_of) c.in-Some.is) (c.in_ok-next.ensures.text c.in-Some.next c.in-Some.is))) text.pending text.stored c.log_event.ensures.survives
 
 pub returns-in_ok-log_event-in-Some-clause-fits : goal.returns-in_ok-log_event-in-Some-clause-fits
 returns-in_ok-log_event-in-Some-clause-fits g c = λ digest from begun stored.
     let journal = c.args.journal.now in
     let spool = c.args.spool.now in
-    let spool' = c.keep.new.spool in
-    let kept = c.in_ok-keep-in-Some.ensures in
-    turn-logged c.args.work.now c.keep.new.work digest from (g.D.Disk.state journal) (g.E.Disk.state spool) (g.E.Disk.state spool') c.requires.ready c.keep.ensures.machine c.keep.ensures.journal begun stored
+    let spool' = c.store_text.new.spool in
+    let text = c.in_ok-store_text-in-Some.ensures in
+    turn-logged c.args.work.now c.store_text.new.work digest from (g.D.Disk.state journal) (g.E.Disk.state spool) (g.E.Disk.state spool') c.requires.ready c.store_text.ensures.machine c.store_text.ensures.journal begun stored
     (g.met.D.Disk.only_now journal) (g.met.E.Disk.only_now spool) (g.met.E.Disk.seen_is_left spool) (g.met.E.Disk.only_now spool') (g.met.E.Disk.seen_is_left spool')
-    c.in-Some.next.event (g.D.Disk.state c.log_event.new.journal) (c.keep.ensures.may (may-log c.args.work.now c.in-Some.next.event c.in-Some.next.text (g.D.Disk.state c.args.journal.now) (g.E.Disk.state c.args.spool.now) c.requires.ready (sym c.in_ok-next.ensures.event ∙ ap (option_map event_of) c.in-Some.is) (c.in_ok-next.ensures.text c.in-Some.next c.in-Some.is))) kept.kept kept.stored c.log_event.ensures.survives
+    c.in-Some.next.event (g.D.Disk.state c.log_event.new.journal) (c.store_text.ensures.may (may-log c.args.work.now c.in-Some.next.event c.in-Some.next.text (g.D.Disk.state c.args.journal.now) (g.E.Disk.state c.args.spool.now) c.requires.ready (sym c.in_ok-next.ensures.event ∙ ap (option_map event_of) c.in-Some.is) (c.in_ok-next.ensures.text c.in-Some.next c.in-Some.is))) text.pending text.stored c.log_event.ensures.survives

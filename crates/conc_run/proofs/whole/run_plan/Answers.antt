@@ -7,7 +7,7 @@ use Rattle.conc_run_state.specs.declared.error.RunFail.TheVariants as run_fail
 use Rattle.conc_run_state.specs.declared.error.HistoryFail.{HistoryFail}
 use Rattle.conc_run.proofs.Opened.{cut-opening}
 use Rattle.conc_run.proofs.Ran.{cut-run, finished-run}
-use Rattle.conc_run.proofs.Stops.{rose-since, stop-cause, stop-late, stop-memory}
+use Rattle.conc_run.proofs.Failing.{rose-since, failure-cause, failure-late, failure-memory}
 use Rattle.conc_run.proofs.whole.run_plan.Goals as goal
 
 apart : true ≡ false → ⊥
@@ -45,15 +45,15 @@ returns-clause-cut_short g c =
     let begun = c.in_ok-work.ensures.begun in
     let made = c.history_fail_of.ensures in
     cut-run h begun-on spool-begun c.in_ok-work.work c.run_alone.new.work begun (c.run_alone.ensures.went_on c.args.readings.now.list begun.ready.tied.readings_are) c.history_fail_of.result
-    (stop-cause h c.in-Err.fail c.history_fail_of.result made.journal made.spool made.memory
+    (failure-cause h c.in-Err.fail c.history_fail_of.result made.journal made.spool made.memory
     (λ is. rose-since before.faults begun-on.faults after.faults begun.left.faults (c.in-Err.ensures.journal_fault (cc)))
     (λ is. (begun.taken.is_found.own, rose-since spool-before.faults spool-begun.faults spool-after.faults c.open.ensures.spool_survives.faults (c.in-Err.ensures.spool_fault (cc)))))
-    (stop-late h c.in-Err.fail c.history_fail_of.result made.journal made.spool made.memory)
+    (failure-late h c.in-Err.fail c.history_fail_of.result made.journal made.spool made.memory)
     (λ quiet. c.in-Err.ensures.sound (λ is.
     let fail = same-err _ c.in-Err.fail run_fail.JournalFault refl is in
     let two : true ≡ false = sym (ap (λ (s : HistoryFail). is_journal_fault s) (made.journal fail)) ∙ quiet in
     apart two))
     (c.lawful_is_lawful_so_far.ensures c.args.plan.now c.args.readings.now) c.open.ensures.spool c.open.ensures.spool_survives
     (λ lacks.
-    let fail : c.in-Err.fail ≡ run_fail.NoMemory = stop-memory c.in-Err.fail c.history_fail_of.result made.journal made.spool lacks in
+    let fail : c.in-Err.fail ≡ run_fail.NoMemory = failure-memory c.in-Err.fail c.history_fail_of.result made.journal made.spool lacks in
     c.in-Err.ensures.memory (ap (λ (f : RunFail). Err f) fail) c.args.readings.now.list begun.ready.tied.readings_are)

@@ -1,7 +1,7 @@
 use Rattle.std.proofs.Common.{inl, inr}
 use Rattle.std.proofs.lemmas.Result.{err_from_is_err_and}
 use Rattle.conc_run_state.specs.Handed.{handed}
-use Rattle.conc_run_open.proofs.Beginning.{begins, stops}
+use Rattle.conc_run_open.proofs.Beginning.{begins, gives_up}
 use Rattle.conc_run_open.proofs.Surviving.{opening-left}
 use Rattle.conc_run_open.proofs.opening.open.Goals as goal
 
@@ -19,6 +19,6 @@ returns-in-Ok-clause-begun g c =
 pub returns-clause-given_up : goal.returns-clause-given_up
 returns-clause-given_up g c =
     let h = handed c.args.plan.now c.args.readings.now c.args.digest.now (g.D.Disk.state c.args.journal.now) (g.D.Disk.state c.start.new.disk) (g.E.Disk.state c.args.spool.now) (g.E.Disk.state c.examine.new.spool) in
-    inr (stops c.args.plan.now c.args.readings.now c.args.digest.now (g.D.Disk.state c.args.journal.now) (g.D.Disk.state c.examine.new.journal) (g.D.Disk.state c.start.new.disk) (g.E.Disk.state c.args.spool.now) (g.E.Disk.state c.examine.new.spool)
+    inr (gives_up c.args.plan.now c.args.readings.now c.args.digest.now (g.D.Disk.state c.args.journal.now) (g.D.Disk.state c.examine.new.journal) (g.D.Disk.state c.start.new.disk) (g.E.Disk.state c.args.spool.now) (g.E.Disk.state c.examine.new.spool)
     c.in_ok-machine.field-0 c.in_ok-machine.ensures.examined c.examine.ensures.untouched.spool
     (opening-left h c.in_ok-machine.field-0.journal.events.items (g.D.Disk.state c.examine.new.journal) c.examine.ensures.untouched.journal_survives c.start.ensures.survives) c.start.ensures.now)

@@ -1,5 +1,5 @@
 use Rattle.std.proofs.Common.{Some, refl, sym, ◌∙◌}
-use Rattle.conc_top_inputs.specs.Given.{named, sources, told_by}
+use Rattle.conc_top_inputs.specs.Given.{named, sources, exposed_by}
 use Rattle.conc_top_inputs.proofs.Acceptance.{with-readings}
 use Rattle.conc_top_inputs.proofs.FileFailing.{clock-end, IsLater-trans, reads-clock}
 use Rattle.conc_top_inputs.proofs.accepting.accept_timed.Goals as goal
@@ -18,9 +18,9 @@ returns-in-Ok-plan_from-clause-ok g c =
     let old = sources (state c.args.shelf.now) (g.C.Clock.state c.args.clock.now) in
     let new = sources (state c.plan_from.new.shelf) (g.C.Clock.state c.read_readings.new.clock) in
     let readings = c.in-Ok-read_readings.readings in
-    c.in-Ok-plan_from.ensures.ok (told_by old new) (Some c.args.file) (Some readings)
+    c.in-Ok-plan_from.ensures.ok (exposed_by old new) (Some c.args.file) (Some readings)
     (sym (c.read_readings.ensures.later.files ∙ c.read_start.ensures.later.files))
-    (with-readings (told_by old new) (named c.args.setup c.args.script (Some c.args.file)) c.in-Ok.start (Some readings)
+    (with-readings (exposed_by old new) (named c.args.setup c.args.script (Some c.args.file)) c.in-Ok.start (Some readings)
     (c.in-Ok.ensures.ok (Some c.args.file))
     (reads-clock old new (state c.read_start.new.shelf) c.read_start.ensures.later.files c.args.file readings c.in-Ok-read_readings.ensures.ok))
 
@@ -33,7 +33,7 @@ returns-clause-err g c =
     c.in-Err-plan_from.ensures.err (state c.args.shelf.now) (g.C.Clock.state c.args.clock.now) (g.C.Clock.state c.read_readings.new.clock)
     (Some c.args.file) (Some readings)
     (IsLater-trans (state c.args.shelf.now) (state c.read_start.new.shelf) (state c.read_readings.new.shelf) c.read_start.ensures.later c.read_readings.ensures.later)
-    (with-readings (told_by old new) (named c.args.setup c.args.script (Some c.args.file)) c.in-Ok.start (Some readings)
+    (with-readings (exposed_by old new) (named c.args.setup c.args.script (Some c.args.file)) c.in-Ok.start (Some readings)
     (c.in-Ok.ensures.ok (Some c.args.file))
     (reads-clock old new (state c.read_start.new.shelf) c.read_start.ensures.later.files c.args.file readings c.in-Ok-read_readings.ensures.ok))
 

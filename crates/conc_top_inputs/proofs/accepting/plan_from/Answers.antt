@@ -19,9 +19,9 @@ returns-in-Err-clause-err g c old before after clock readings later has =
     later c.in-Err.ensures.err
 
 pub returns-in-Ok-make_plan-clause-ok : goal.returns-in-Ok-make_plan-clause-ok
-returns-in-Ok-make_plan-clause-ok g c told clock readings same has =
+returns-in-Ok-make_plan-clause-ok g c exposed clock readings same has =
     let read = c.in-Ok.ensures.ok in
-    accepted told (g.F.Shelf.state c.args.shelf.now).files (named c.args.setup c.args.script clock)
+    accepted exposed (g.F.Shelf.state c.args.shelf.now).files (named c.args.setup c.args.script clock)
     (record { plan = c.in-Ok-make_plan.plan; digest = c.finish.result })
     c.args.start readings has c.as_slice.result.now c.in-Ok.tables.items c.as_slice.ensures (sym same) read.given
     (c.finish.ensures has.files.before.before.bytes has.files.before.bytes (zip c.as_slice.result.now read.given.contents)

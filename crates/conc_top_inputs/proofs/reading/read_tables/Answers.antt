@@ -28,9 +28,9 @@ loop-name-preserved g c =
     let state = g.F.Shelf.state in
     let ok : is_ok c.push.result ≡ true = c.is_err.ensures.negation ∙ ap not c.if-is_err.false in
     let items : c.push.new.self.items ≡ c.loop-name.tables.items ++ c.in-Ok.table ∷ [] = simp ok at c.push.ensures.items in
-    let told = (state c.args.shelf.now).files in
+    let exposed = (state c.args.shelf.now).files in
     let given = subst (λ t. Gives t c.name-item.result c.in-Ok.bytes.items) c.loop-name.invariant.later.files c.in-Ok.ensures.ok.0 in
-    let more = tables-more told c.args.names.now c.loop-name.name-index c.name-item.result c.in-Ok.bytes.items c.loop-name.tables.items c.in-Ok.table
+    let more = tables-more exposed c.args.names.now c.loop-name.name-index c.name-item.result c.in-Ok.bytes.items c.loop-name.tables.items c.in-Ok.table
     c.loop-name.total c.args.digest.now c.loop-name.digest c.add_table.new.self c.loop-name-test.true c.name-item.is given c.in-Ok.ensures.ok.1
     c.in-Ok.ensures.fit
     (adds-of c.loop-name.digest c.add_table.new.self c.name-item.result c.in-Ok.bytes.items c.as_bytes.result.now c.deref.result.now c.as_bytes.ensures c.deref.ensures.value c.add_table.ensures)
@@ -40,9 +40,9 @@ loop-name-preserved g c =
       number = omega arith;
       later = IsLater-trans (state c.args.shelf.now) (state c.loop-name.shelf) (state c.judge_table.new.shelf) c.loop-name.invariant.later c.in-Ok.ensures.later;
       fit = omega (arith, c.in-Ok.ensures.fit, long);
-      read = subst (λ l. AreRead told (take (c.loop-name.name-index + 1) c.args.names.now) l (c.loop-name.total + c.len-total.result) c.args.digest.now c.add_table.new.self)
+      read = subst (λ l. AreRead exposed (take (c.loop-name.name-index + 1) c.args.names.now) l (c.loop-name.total + c.len-total.result) c.args.digest.now c.add_table.new.self)
           (sym items)
-          (subst (λ n. AreRead told (take (c.loop-name.name-index + 1) c.args.names.now) (c.loop-name.tables.items ++ c.in-Ok.table ∷ []) (c.loop-name.total + n) c.args.digest.now c.add_table.new.self)
+          (subst (λ n. AreRead exposed (take (c.loop-name.name-index + 1) c.args.names.now) (c.loop-name.tables.items ++ c.in-Ok.table ∷ []) (c.loop-name.total + n) c.args.digest.now c.add_table.new.self)
           long more);
     }
 

@@ -12,6 +12,6 @@ returns g c shelf shelf_after out out_after journal journal_after spool spool_af
     (sunk (g.O.Sink.state out) (g.O.Sink.state out_after)) in
     let names = named setup script (Some file) in
     elim means.0 [
-      | inl planned ↦ check-done (judging_in a names history planned.0) accepted.files accepted.told a.sink (lawful planned.0) quiet.absences quiet.shelf quiet.sink end planned.1
+      | inl planned ↦ check-done (judging_in a names history planned.0) accepted.files accepted.exposed a.sink (lawful planned.0) quiet.absences quiet.shelf quiet.sink end planned.1
       | inr not ↦ unplanned-done names a end not accepted quiet
     ]

@@ -5,7 +5,7 @@ use Rattle.conc_journal.specs.Journals.{list_of}
 use Rattle.conc_journal.specs.declared.journal.Journal.{Journal}
 use Rattle.conc_machine.specs.StandsFor.{plan_of}
 use Rattle.conc_machine.specs.declared.machine.Machine.{Machine}
-use Rattle.conc_run_state.specs.Works.{HasKeptText, list_in}
+use Rattle.conc_run_state.specs.Works.{HasPendingText, list_in}
 use Rattle.conc_run_steps.specs.Steps.{plan_in}
 use Rattle.conc_desk.specs.Desks.{plan_at}
 use Rattle.conc_desk.specs.Keeping.{forced_at, IsReady, IsTaken, MakesOf, must_stop}
@@ -22,29 +22,29 @@ end_left-requires-clause-left g c =
     is_left c.args.board.now c.self.inside.plan.now c.self.inside.work c.self.inside.kept c.self.inside.lead c.collect.new.lead c.args.r c.in-Ok.posted is c.self.invariant none
     c.requires.request c.collect.ensures.lead c.in-Ok.ensures.collected c.in-Ok.ensures.posted
 
-pub keep-requires-clause-lawful : goal.keep-requires-clause-lawful
-keep-requires-clause-lawful g c =
+pub store_text-requires-clause-lawful : goal.store_text-requires-clause-lawful
+store_text-requires-clause-lawful g c =
     let is = c.requires.at.plan ∙ ap plan_at (sym c.self.view_is) in
     let none = ap (λ (d : DeskState). d.kept) c.self.view_is ∙ c.requires.nothing_kept in
     let calm = subst (λ (d : DeskState). forced_at d ≡ None) (sym c.self.view_is) c.requires.nothing_forced in
     lawful_with c.args.board.now c.self.inside.plan.now c.self.inside.work c.self.inside.kept c.self.inside.lead c.collect.new.lead c.args.r c.in-Ok.posted is c.self.invariant none
     c.requires.request c.collect.ensures.lead c.in-Ok.ensures.collected c.in-Ok.ensures.posted c.in-Some.next.event calm c.in-Some.ensures.event
 
-pub invariant_of-self-in-Ok-keep : goal.invariant_of-self-in-Ok-keep
-invariant_of-self-in-Ok-keep g c =
+pub invariant_of-self-in-Ok-store_text : goal.invariant_of-self-in-Ok-store_text
+invariant_of-self-in-Ok-store_text g c =
     let is = c.requires.at.plan ∙ ap plan_at (sym c.self.view_is) in
     let none = ap (λ (d : DeskState). d.kept) c.self.view_is ∙ c.requires.nothing_kept in
     let calm = subst (λ (d : DeskState). forced_at d ≡ None) (sym c.self.view_is) c.requires.nothing_forced in
     desk_with c.args.board.now c.self.inside.plan.now c.self.inside.work c.self.inside.kept c.self.inside.lead c.collect.new.lead c.args.r c.in-Ok.posted is c.self.invariant none
     c.requires.request c.collect.ensures.lead c.in-Ok.ensures.collected c.in-Ok.ensures.posted c.in-Some.next.event calm c.in-Some.ensures.event
-    c.keep.new.work (g.E.Disk.state c.keep.new.spool) c.keep.ensures.machine c.keep.ensures.journal c.in-Ok-keep.ensures.kept
+    c.store_text.new.work (g.E.Disk.state c.store_text.new.spool) c.store_text.ensures.machine c.store_text.ensures.journal c.in-Ok-store_text.ensures.pending
 
-pub returns-in-Ok-keep-clause-takes : goal.returns-in-Ok-keep-clause-takes
-returns-in-Ok-keep-clause-takes g c =
+pub returns-in-Ok-store_text-clause-takes : goal.returns-in-Ok-store_text-clause-takes
+returns-in-Ok-store_text-clause-takes g c =
     let past = reverse (list_in c.self.inside.work) in
     let makes = subst (λ (p : Plan). MakesOf (must_stop p past c.args.r) c.in-Ok.posted (Some c.in-Some.next)) c.self.invariant.plan_is c.in-Some.ensures.makes in
     subst (λ (d : DeskState). IsTaken c.args.board.now c.args.r (Ok (keeps.Ready c.in-Some.next.event)) d
-    (record { plan = c.self.inside.plan.now; lead = c.collect.new.lead; work = c.keep.new.work; kept = Some c.in-Some.next.event; begun_with = c.self.inside.begun_with })) c.self.view_is
+    (record { plan = c.self.inside.plan.now; lead = c.collect.new.lead; work = c.store_text.new.work; kept = Some c.in-Some.next.event; begun_with = c.self.inside.begun_with })) c.self.view_is
     (record {
       posted = c.in-Ok.posted;
       left = c.in-Ok.ensures.posted;
@@ -52,15 +52,15 @@ returns-in-Ok-keep-clause-takes g c =
       answers = answers-ready (must_stop (plan_in c.self.inside.work) past c.args.r) c.in-Ok.posted c.in-Some.next c.in-Some.next.event makes;
     })
 
-pub returns-in-Ok-keep-clause-keeps : goal.returns-in-Ok-keep-clause-keeps
-returns-in-Ok-keep-clause-keeps g c =
+pub returns-in-Ok-store_text-clause-keeps : goal.returns-in-Ok-store_text-clause-keeps
+returns-in-Ok-store_text-clause-keeps g c =
     let is = c.requires.at.plan ∙ ap plan_at (sym c.self.view_is) in
     let none = ap (λ (d : DeskState). d.kept) c.self.view_is ∙ c.requires.nothing_kept in
     let calm = subst (λ (d : DeskState). forced_at d ≡ None) (sym c.self.view_is) c.requires.nothing_forced in
     let e = c.in-Some.next.event in
-    let spool = g.E.Disk.state c.keep.new.spool in
+    let spool = g.E.Disk.state c.store_text.new.spool in
     subst (λ (d : DeskState). IsReady e c.args.r d
-    (record { plan = c.self.inside.plan.now; lead = c.collect.new.lead; work = c.keep.new.work; kept = Some e; begun_with = c.self.inside.begun_with })
+    (record { plan = c.self.inside.plan.now; lead = c.collect.new.lead; work = c.store_text.new.work; kept = Some e; begun_with = c.self.inside.begun_with })
     (g.E.Disk.state c.args.spool.now) spool) c.self.view_is
     (record {
       kept = refl;
@@ -68,8 +68,8 @@ returns-in-Ok-keep-clause-keeps g c =
           c.requires.request c.collect.ensures.lead c.in-Ok.ensures.collected c.in-Ok.ensures.posted e calm c.in-Some.ensures.event;
       lawful = lawful_with c.args.board.now c.self.inside.plan.now c.self.inside.work c.self.inside.kept c.self.inside.lead c.collect.new.lead c.args.r c.in-Ok.posted is c.self.invariant none
           c.requires.request c.collect.ensures.lead c.in-Ok.ensures.collected c.in-Ok.ensures.posted e calm c.in-Some.ensures.event;
-      text = subst (λ (z : Machine × Journal). HasKeptText (plan_of z.0) (list_of z.1) spool (Some e)) (λ i. (c.keep.ensures.machine i, c.keep.ensures.journal i)) c.in-Ok-keep.ensures.kept.kept_text;
-      stores = c.in-Ok-keep.ensures.stored;
+      text = subst (λ (z : Machine × Journal). HasPendingText (plan_of z.0) (list_of z.1) spool (Some e)) (λ i. (c.store_text.ensures.machine i, c.store_text.ensures.journal i)) c.in-Ok-store_text.ensures.pending.pending_text;
+      stores = c.in-Ok-store_text.ensures.stored;
     })
 
 pub returns-clause-takes : goal.returns-clause-takes
@@ -77,7 +77,7 @@ returns-clause-takes g c =
     let past = reverse (list_in c.self.inside.work) in
     let makes = subst (λ (p : Plan). MakesOf (must_stop p past c.args.r) c.in-Ok.posted (Some c.in-Some.next)) c.self.invariant.plan_is c.in-Some.ensures.makes in
     subst (λ (d : DeskState). IsTaken c.args.board.now c.args.r (Err fails.SpoolFault) d
-    (record { plan = c.self.inside.plan.now; lead = c.collect.new.lead; work = c.keep.new.work; kept = c.self.inside.kept; begun_with = c.self.inside.begun_with })) c.self.view_is
+    (record { plan = c.self.inside.plan.now; lead = c.collect.new.lead; work = c.store_text.new.work; kept = c.self.inside.kept; begun_with = c.self.inside.begun_with })) c.self.view_is
     (record {
       posted = c.in-Ok.posted;
       left = c.in-Ok.ensures.posted;

@@ -1,7 +1,7 @@
-use Rattle.std.proofs.Common.{◌≡◌, ℕ, ◌+◌, ◌*◌, [], ◌∷◌, ◌++◌, List, length, length-append, subst, sym, ap, ◌∙◌, refl, arith}
+use Rattle.std.proofs.Common.{◌≡◌, ℕ, ◌+◌, ◌*◌, [], ◌∷◌, ◌++◌, List, length, subst, sym, ap, ◌∙◌, refl, arith}
 use Rattle.conc_types.specs.declared.event.Event.{Event}
 use Rattle.conc_journal.specs.Journals.{FitsState}
-use Rattle.conc_disk.specs.Left.{EachImage, HasWritten, LeavesOnly}
+use Rattle.conc_disk.specs.Left.{EachImage, HasWritten, LeavesOnly, TornFrom}
 use Rattle.conc_disk.proofs.Leaving.{leaves-none}
 use Rattle.conc_journal.specs.Acknowledged.{event_at, HasEventOf}
 use Rattle.conc_journal.specs.JournalStates.{after_fault, takes_events}
@@ -15,14 +15,14 @@ pub add_record-requires-clause-behind : goal.add_record-requires-clause-behind
 add_record-requires-clause-behind g c =
     let old = g.D.Disk.state c.args.disk.now in
     let was = begun-images c.args.self.now c.in-Begun.digest old c.in-Begun.is c.requires.on in
-    journal-reaches c.in-Begun.digest c.args.self.now.events.items (32 + 32 * (c.len.result + 1)) old (omega (arith, c.len.ensures)) (g.met.D.Disk.seen_is_left c.args.disk.now) was
+    journal-reaches c.in-Begun.digest c.args.self.now.events.items c.offset_behind.result old (omega (arith, c.len-before.ensures, c.offset_behind.ensures)) (g.met.D.Disk.seen_is_left c.args.disk.now) was
 
 pub returns-in-Err-clause-on : goal.returns-in-Err-clause-on
 returns-in-Err-clause-on g c =
     let old = g.D.Disk.state c.args.disk.now in
     let was = begun-images c.args.self.now c.in-Begun.digest old c.in-Begun.is c.requires.on in
-    images-fit c.in-Begun.digest c.args.self.now.events.items c.args.event (32 + 32 * (c.len.result + 1)) c.record_before_gate.result (omega (arith, c.len.ensures)) (omega (arith, c.args.self.now.few, c.requires.room)) c.record_before_gate.ensures old (g.D.Disk.state c.add_record.new.disk) was
-    c.add_record.ensures.survives.tells c.add_record.ensures.images
+    images-fit c.in-Begun.digest c.args.self.now.events.items c.args.event c.offset_behind.result c.record_before_gate.result (omega (arith, c.len-before.ensures, c.offset_behind.ensures)) (omega (arith, c.args.self.now.few, c.requires.room)) c.record_before_gate.ensures old (g.D.Disk.state c.add_record.new.disk) was
+    c.add_record.ensures.survives.exposes c.add_record.ensures.images
 
 pub returns-in-Err-clause-survives : goal.returns-in-Err-clause-survives
 returns-in-Err-clause-survives g c =
@@ -31,7 +31,7 @@ returns-in-Err-clause-survives g c =
     let events = c.args.self.now.events.items in
     let was = begun-images c.args.self.now c.in-Begun.digest old c.in-Begun.is c.requires.on in
     subst (λ (s : JournalState). LeavesOnly (FitsState (after_fault c.args.event s) events) old new) (sym c.in-Begun.is)
-    (left-fits c.in-Begun.digest events c.args.event (32 + 32 * (c.len.result + 1)) c.record_before_gate.result (omega (arith, c.len.ensures)) (omega (arith, c.args.self.now.few, c.requires.room)) c.record_before_gate.ensures old new was c.add_record.ensures.survives)
+    (left-fits c.in-Begun.digest events c.args.event c.offset_behind.result c.record_before_gate.result (omega (arith, c.len-before.ensures, c.offset_behind.ensures)) (omega (arith, c.args.self.now.few, c.requires.room)) c.record_before_gate.ensures old new was c.add_record.ensures.survives)
 
 pub returns-in-Ok-clause-on : goal.returns-in-Ok-clause-on
 returns-in-Ok-clause-on g c =
@@ -39,8 +39,8 @@ returns-in-Ok-clause-on g c =
     let new = g.D.Disk.state c.add_record.new.disk in
     let events = c.args.self.now.events.items in
     let was = begun-images c.args.self.now c.in-Begun.digest old c.in-Begun.is c.requires.on in
-    let have = images-have c.in-Begun.digest events c.args.event (32 + 32 * (c.len.result + 1)) c.record_before_gate.result (omega (arith, c.len.ensures)) (omega (arith, c.args.self.now.few, c.requires.room)) c.record_before_gate.ensures old new was
-    c.add_record.ensures.survives.tells c.in-Ok.ensures.added in
+    let have = images-have c.in-Begun.digest events c.args.event c.offset_behind.result c.record_before_gate.result (omega (arith, c.len-before.ensures, c.offset_behind.ensures)) (omega (arith, c.args.self.now.few, c.requires.room)) c.record_before_gate.ensures old new was
+    c.add_record.ensures.survives.exposes c.in-Ok.ensures.added in
     subst (λ (l : List Event). EachImage (FitsState c.push.new.self.state l) new) (sym c.push.ensures.list)
     (subst (λ (s : JournalState). EachImage (FitsState s (events ++ c.args.event ∷ [])) new) (sym (c.push.ensures.state ∙ c.in-Begun.is)) have)
 
@@ -51,7 +51,7 @@ returns-in-Ok-clause-survives g c =
     let events = c.args.self.now.events.items in
     let was = begun-images c.args.self.now c.in-Begun.digest old c.in-Begun.is c.requires.on in
     subst (λ (s : JournalState). LeavesOnly (FitsState (after_fault c.args.event s) events) old new) (sym c.in-Begun.is)
-    (left-fits c.in-Begun.digest events c.args.event (32 + 32 * (c.len.result + 1)) c.record_before_gate.result (omega (arith, c.len.ensures)) (omega (arith, c.args.self.now.few, c.requires.room)) c.record_before_gate.ensures old new was c.add_record.ensures.survives)
+    (left-fits c.in-Begun.digest events c.args.event c.offset_behind.result c.record_before_gate.result (omega (arith, c.len-before.ensures, c.offset_behind.ensures)) (omega (arith, c.args.self.now.few, c.requires.room)) c.record_before_gate.ensures old new was c.add_record.ensures.survives)
 
 -- the bytes that it writes, and where
 
@@ -60,11 +60,24 @@ returns-in-Ok-clause-written g c =
     let old = g.D.Disk.state c.args.disk.now in
     let new = g.D.Disk.state c.add_record.new.disk in
     let is = c.record_before_gate.ensures in
-    let record_is : HasWritten (32 + 32 * (c.len.result + 1)) (1 ∷ (is.0 ++ 0 ∷ [])) old new =
-    subst (λ (s : List ℕ). HasWritten (32 + 32 * (c.len.result + 1)) (1 ∷ s) old new) is.2 c.in-Ok.ensures.written in
-    let numbered : c.len.result + 1 ≡ length c.push.new.self.events.items =
-    omega (arith, c.len.ensures, ap length c.push.ensures.list, length-append c.args.self.now.events.items (c.args.event ∷ [])) in
-    (is.0, record { event_is = is.1; are_bytes = is.3 }, subst (λ (n : ℕ). HasWritten (32 + 32 * n) (1 ∷ (is.0 ++ 0 ∷ [])) old new) numbered record_is)
+    let record_is : HasWritten c.offset_behind.result (1 ∷ (is.0 ++ 0 ∷ [])) old new =
+    subst (λ (s : List ℕ). HasWritten c.offset_behind.result (1 ∷ s) old new) is.2 c.in-Ok.ensures.written in
+    let here : c.offset_behind.result ≡ 64 + 32 * length c.args.self.now.events.items = omega (arith, c.len-before.ensures, c.offset_behind.ensures) in
+    (is.0, record { event_is = is.1; are_bytes = is.3 }, subst (λ (n : ℕ). HasWritten n (1 ∷ (is.0 ++ 0 ∷ [])) old new) here record_is)
+
+pub returns-in-Ok-clause-writes_there : goal.returns-in-Ok-clause-writes_there
+returns-in-Ok-clause-writes_there g c =
+    let old = g.D.Disk.state c.args.disk.now in
+    let new = g.D.Disk.state c.add_record.new.disk in
+    let here : c.offset_behind.result ≡ 64 + 32 * length c.args.self.now.events.items = omega (arith, c.len-before.ensures, c.offset_behind.ensures) in
+    subst (λ (n : ℕ). LeavesOnly (TornFrom old n 33) old new) here c.add_record.ensures.writes_there
+
+pub returns-in-Err-clause-writes_there : goal.returns-in-Err-clause-writes_there
+returns-in-Err-clause-writes_there g c =
+    let old = g.D.Disk.state c.args.disk.now in
+    let new = g.D.Disk.state c.add_record.new.disk in
+    let here : c.offset_behind.result ≡ 64 + 32 * length c.args.self.now.events.items = omega (arith, c.len-before.ensures, c.offset_behind.ensures) in
+    subst (λ (n : ℕ). LeavesOnly (TornFrom old n 33) old new) here c.add_record.ensures.writes_there
 
 -- what was acknowledged
 
@@ -72,7 +85,7 @@ pub returns-in-Ok-clause-acknowledged : goal.returns-in-Ok-clause-acknowledged
 returns-in-Ok-clause-acknowledged g c =
     let events = c.args.self.now.events.items in
     let takes = ap takes_events c.push.ensures.state ∙ c.requires.takes in
-    let there = ap (λ (l : List Event). event_at l (c.len.result + 1)) c.push.ensures.list ∙ event_at-last events c.args.event (c.len.result + 1) (omega (arith, c.len.ensures)) in
+    let there = ap (λ (l : List Event). event_at l (c.len-before.result + 1)) c.push.ensures.list ∙ event_at-last events c.args.event (c.len-before.result + 1) (omega (arith, c.len-before.ensures)) in
     on-has _ c.push.new.self (g.D.Disk.state c.add_record.new.disk) (record { takes = takes; at_number = there }) (returns-in-Ok-clause-on g c)
 
 pub returns-in-Ok-clause-stays : goal.returns-in-Ok-clause-stays

@@ -1,6 +1,6 @@
 use Rattle.conc_law.proofs.Prefixes.{is_lawful_so_far-prefix}
 use Rattle.conc_run.proofs.Next.{left-good}
-use Rattle.conc_run.proofs.laws.what_a_stop_leaves_is_good.Goals as goal
+use Rattle.conc_run.proofs.laws.what_a_crash_leaves_is_good.Goals as goal
 
 pub returns : goal.returns
 returns c plan digest first last image len = left-good plan digest first last image len (is_lawful_so_far-prefix plan)

@@ -1,4 +1,4 @@
--- The text of the end that is kept.
+-- The text of the pending end.
 use Rattle.std.proofs.Common.{◌≡◌, ℕ, zero, suc, ◌≤◌, List, [], ◌∷◌, ◌++◌, length, Option, None, Some, refl, sym, ◌∙◌, le_refl, arith}
 use Rattle.std.specs.Prelude.{slice_get}
 use Rattle.std.proofs.lemmas.Option.{IfSome_then}
@@ -13,7 +13,7 @@ use Rattle.conc_resolver_choice.specs.Choices.{HasItsText}
 use Rattle.conc_run_state.specs.Stored.{AreStored}
 use Rattle.conc_types.specs.declared.script.Reading.{Reading}
 use Rattle.conc_spool.specs.Spools.{IsOn as SpoolIsOn}
-use Rattle.conc_run_state.specs.Works.{AreTied, HasKeptText, list_in}
+use Rattle.conc_run_state.specs.Works.{AreTied, HasPendingText, list_in}
 use Rattle.conc_run_state.specs.declared.work.Work.{Work}
 use Rattle.conc_run_steps.specs.Steps.{any_disk, StoresOn}
 use Rattle.conc_run_steps.proofs.Extents.{last-at}
@@ -34,7 +34,7 @@ none-behind plan list bytes = λ i id o x le is.
     absurd (cc)
 
 text-of : (plan : Plan) (list : List Event) (e : Event) (text : Option (List ℕ)) (spool : DiskState) → HasItsText plan e text → LawfulSoFar plan (list ++ e ∷ [])
-    → EachImage (AreStored plan (length list) (list ++ e ∷ [])) spool → HasKeptText plan list spool (Some e)
+    → EachImage (AreStored plan (length list) (list ++ e ∷ [])) spool → HasPendingText plan list spool (Some e)
 text-of plan list (event.Ended id o (Some x)) text spool its past each = record {
   reported = its.0;
   next = last-at plan list id o x past;
@@ -42,15 +42,15 @@ text-of plan list (event.Ended id o (Some x)) text spool its past each = record 
 }
 text-of plan list e text spool its past each = tt
 
--- where the disk holds the texts of the ends that it held, and that of the event, this is kept
-pub text-kept : (plan : Plan) (n : ℕ) (list : List Event) (e : Event) (text : Option (List ℕ)) (spool spool' : DiskState) → HasItsText plan e text → LawfulSoFar plan (list ++ e ∷ [])
-    → StoresOn plan n list (list ++ e ∷ []) spool spool' → HasKeptText plan list spool' (Some e)
-text-kept plan n list e text spool spool' its past stores =
+-- where the disk holds the texts of the ends that it held, and that of the event, this is the pending one
+pub text-pending : (plan : Plan) (n : ℕ) (list : List Event) (e : Event) (text : Option (List ℕ)) (spool spool' : DiskState) → HasItsText plan e text → LawfulSoFar plan (list ++ e ∷ [])
+    → StoresOn plan n list (list ++ e ∷ []) spool spool' → HasPendingText plan list spool' (Some e)
+text-pending plan n list e text spool spool' its past stores =
     text-of plan list e text spool' its past (stores.stored (length list) (if_some-any spool.seen (λ bytes image left. none-behind plan list image)))
 
--- ---- a kept text, where nothing is said of the disk
+-- ---- a pending end, where nothing is said of the disk
 
-text-without : (plan : Plan) (list : List Event) (spool : DiskState) (kept : Option Event) → HasKeptText plan list spool kept → HasKeptText plan list any_disk kept
+text-without : (plan : Plan) (list : List Event) (spool : DiskState) (pending : Option Event) → HasPendingText plan list spool pending → HasPendingText plan list any_disk pending
 text-without plan list spool None text = tt
 text-without plan list spool (Some (event.Ended id o (Some x))) text = record { reported = text.reported; next = text.next; stored = tt }
 text-without plan list spool (Some (event.Ended id o None)) text = tt
@@ -66,32 +66,32 @@ text-without plan list spool (Some (event.Interrupt q)) text = tt
 
 -- ---- a tie, and the disk of the spool
 
--- what is tied where nothing is said of the spool's disk is tied where the spool is on and the kept end has its text
-pub tied-with : (plan : Plan) (readings : List Reading) (kept : Option Event) (work : Work) (journal spool : DiskState) → AreTied plan readings kept work journal any_disk
-    → SpoolIsOn work.spool spool → HasKeptText plan (list_in work) spool kept → AreTied plan readings kept work journal spool
-tied-with plan readings kept work journal spool tied on text = record {
+-- what is tied where nothing is said of the spool's disk is tied where the spool is on and the pending end has its text
+pub tied-with : (plan : Plan) (readings : List Reading) (pending : Option Event) (work : Work) (journal spool : DiskState) → AreTied plan readings pending work journal any_disk
+    → SpoolIsOn work.spool spool → HasPendingText plan (list_in work) spool pending → AreTied plan readings pending work journal spool
+tied-with plan readings pending work journal spool tied on text = record {
   plan_is = tied.plan_is;
   readings_are = tied.readings_are;
   stands = tied.stands;
   lawful = tied.lawful;
   takes = tied.takes;
   used_is = tied.used_is;
-  kept_text = text;
+  pending_text = text;
   journal_on = tied.journal_on;
   spool_on = on;
 }
 
 -- what is tied where the spool is on is tied where nothing is said of its disk
-pub tied-without : (plan : Plan) (readings : List Reading) (kept : Option Event) (work : Work) (journal spool : DiskState) → AreTied plan readings kept work journal spool
-    → AreTied plan readings kept work journal any_disk
-tied-without plan readings kept work journal spool tied = record {
+pub tied-without : (plan : Plan) (readings : List Reading) (pending : Option Event) (work : Work) (journal spool : DiskState) → AreTied plan readings pending work journal spool
+    → AreTied plan readings pending work journal any_disk
+tied-without plan readings pending work journal spool tied = record {
   plan_is = tied.plan_is;
   readings_are = tied.readings_are;
   stands = tied.stands;
   lawful = tied.lawful;
   takes = tied.takes;
   used_is = tied.used_is;
-  kept_text = text-without plan (list_in work) spool kept tied.kept_text;
+  pending_text = text-without plan (list_in work) spool pending tied.pending_text;
   journal_on = tied.journal_on;
   spool_on = tt;
 }

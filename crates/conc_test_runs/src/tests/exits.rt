@@ -1,5 +1,5 @@
-// The words of a call, its clock, each stop, and the listing of a plan.
-pub(crate) const STOPS: &str =
+// The words of a call, its clock, each exit, and the listing of a plan.
+pub(crate) const EXITS: &str =
     r#"the clock of the system is asked by its word: it gives 2025-03-03T10:10:01
 == moment
 == call run a.toml a.csv system --threads 0
@@ -44,14 +44,14 @@ the clock of the system is asked by its word: another name is that of a file tha
 == ends 4
 absent: ./system
 =====
-each stop has its exit: words that are no command line
+each exit has its cause: words that are no command line
 == script
 2025-03-03T09:00:00,submit,P,ann,,,,
 == call run a.toml
 == ends 2
 usage: conc run|plan|check|status|output|make
 =====
-each stop has its exit: a setup with another key
+each exit has its cause: a setup with another key
 == setup
 programs = []
 == script
@@ -60,7 +60,7 @@ programs = []
 == ends 3
 refused: a.toml: 0: 2
 =====
-each stop has its exit: a setup without a program
+each exit has its cause: a setup without a program
 == setup
 tables = []
 == script
@@ -69,14 +69,14 @@ tables = []
 == ends 3
 refused: a.csv: 2: 23
 =====
-each stop has its exit: a file is lacking
+each exit has its cause: a file is lacking
 == script
 2025-03-03T09:00:00,submit,P,ann,,,,
 == call run a.toml a.csv b.clock --threads 0
 == ends 4
 absent: b.clock
 =====
-each stop has its exit: a file cannot be read
+each exit has its cause: a file cannot be read
 == script
 2025-03-03T09:00:00,submit,P,ann,,,,
 == fails read 3
@@ -84,7 +84,7 @@ each stop has its exit: a file cannot be read
 == ends 5
 read fault: t.csv
 =====
-each stop has its exit: the output cannot be written
+each exit has its cause: the output cannot be written
 == script
 2025-03-03T09:00:00,submit,P,ann,,,,
 == fails write 0

@@ -1,4 +1,4 @@
--- What a stop of a run leaves, and the next run over it.
+-- What a crash of a run leaves, and the next run over it.
 use Rattle.std.proofs.Common.{◌≡◌, ◌⊎◌, inl, inr, ℕ, ◌≤◌, true, List, length, reverse, Option, Some, IfSome, IsFalse, IsTrue, sym, ◌∙◌, ap, subst, le_refl, arith}
 use Rattle.std.specs.Prelude.{slice_get}
 use Rattle.std.proofs.lemmas.List.{length-append}
@@ -33,7 +33,7 @@ use Rattle.conc_run_laws.proofs.RightLives.{finished-interrupts, right-life}
 pub at-some : {X : Type 0} (P : X → Type 0) (o : Option X) (x : X) → o ≡ Some x → IfSome o P → P x
 at-some {X = X} P o x is holds = subst (λ (s : Option X). IfSome s P) is holds
 
--- ---- what a stop leaves
+-- ---- what a crash leaves
 
 -- since now only what is left now
 abbrev pub OnlyNow : DiskState → Type 0
@@ -106,7 +106,7 @@ module _ (h : Handed) (image texts : List ℕ) (fit : IsFit h.plan h.digest imag
   refuses-for_room (history_fail.JournalFull len needed) cause =
       let found = at-some (λ (i : List ℕ). cause.found ≡ events_of i) h.journal_before.seen image journal cause.is_found.events in
       (cause.len_is ∙ ap length found, cause.needed_is, cause.full)
-  refuses-for_room (history_fail.DiskFault which) cause = tt
+  refuses-for_room (history_fail.DiskFault disk) cause = tt
   refuses-for_room history_fail.NoMemory cause = tt
 
   pub finds-events : (found kept last : List Event) → HasLeft h found kept last → found ≡ events_of image

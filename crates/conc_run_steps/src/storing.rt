@@ -12,13 +12,13 @@ use conc_resolver_choice::Next;
 use conc_run_state::{RunFail, Work};
 
 /// Brings the text of the event, if it has one, to the spool's disk. After a fault the spool is as before.
-pub fn keep<E: Disk>(work: &mut Work<'_>, spool: &mut E, next: &Next) -> Result<(), RunFail>
+pub fn store_text<E: Disk>(work: &mut Work<'_>, spool: &mut E, next: &Next) -> Result<(), RunFail>
     requires tied { IsTied None work.old any_disk (E.state spool.old) }
     requires lawful { Lawful (plan_in work.old) (readings_in work.old)
         (list_in work.old ++ next.now.event ∷ []) }
     requires text { HasItsText (plan_in work.old) next.now.event next.now.text }
 
-    ensures kept { OnOk result (IsTied (Some next.now.event) work.new any_disk
+    ensures pending { OnOk result (IsTied (Some next.now.event) work.new any_disk
         (E.state spool.new)) }
     ensures stored { OnOk result (StoresOn (plan_in work.old) (used_of work.old.spool)
         (list_in work.old) (list_in work.old ++ next.now.event ∷ []) (E.state spool.old)
@@ -29,7 +29,7 @@ pub fn keep<E: Disk>(work: &mut Work<'_>, spool: &mut E, next: &Next) -> Result<
         × (spool.new ≡ spool.old) }
 
     // A fault.
-    ensures not_kept { OnErr result (IsTied None work.new any_disk (E.state spool.new)) }
+    ensures not_stored { OnErr result (IsTied None work.new any_disk (E.state spool.new)) }
     ensures as_before { OnErr result (StoresOn (plan_in work.old) (used_of work.old.spool)
         (list_in work.old) (list_in work.old) (E.state spool.old) (E.state spool.new)) }
     ensures fault { OnErr result (Rose (E.state spool.old).faults (E.state spool.new).faults) }
