@@ -1,10 +1,11 @@
 ghost use Rattle.std.specs.Prelude.{◌≡◌};
-ghost use Rattle.conc_board.specs.Claims.{HasClaim};
+ghost use Rattle.conc_board.specs.Claims.{HasClaim, HasPermit};
 ghost use Rattle.conc_board.specs.Seats.{IsHandOf, plan_of, Stays};
+ghost use Rattle.conc_worker.specs.Leaving.{Prepares};
 ghost use Rattle.conc_worker.specs.Serving.{Serves};
 
 use crate::leaving::left_for;
-use conc_board::{Board, Claim, Hand, Polled};
+use conc_board::{Board, Claim, Hand, Permit, Polled, Posted};
 use conc_outside_gate::Gate;
 use conc_types::{Plan, RequestId};
 use std::alloc::Global;
@@ -45,8 +46,24 @@ pub fn serve_once<G: Gate>(
     };
     let request = permit.request();
     gate.before(request);
-    let told = board.wants_stop(hand, &permit);
-    let left = left_for(alloc, plan, request, told);
-    board.post(hand, permit, left);
+    let posted = prepare_post(alloc, board, plan, hand, &permit);
+    board.post(hand, permit, posted);
     Served::Posted(request)
+}
+
+// Looks once whether the request was told to stop, and makes what is then left for it.
+fn prepare_post(
+    alloc: Global,
+    board: &Board,
+    plan: &Plan,
+    hand: &mut Hand,
+    permit: &Permit,
+) -> Posted
+    requires hand { IsHandOf board.now hand.old }
+    requires permit { HasPermit hand.old permit.now }
+    ensures hand { Stays board.now hand.old hand.new }
+    ensures posted { Prepares plan.now permit.now result hand.old hand.new }
+{
+    let told = board.wants_stop(hand, permit);
+    left_for(alloc, plan, permit.request(), told)
 }
