@@ -2,3 +2,4 @@ mod board;
 mod gate;
 mod lanes;
 mod rounds;
+mod workers;

@@ -44,7 +44,7 @@ const SCRIPT: &[u8] = b"at,do,what,user,priority,start,domain,argument
 2025-03-03T09:00:00,submit,Q,ann,,,,
 ";
 
-fn plan_of_four(rt: &impl Abort, alloc: Global) -> Result<Plan, ReadFail>
+pub(super) fn plan_of_four(rt: &impl Abort, alloc: Global) -> Result<Plan, ReadFail>
     ensures { IfOk result (λ plan. (count_of_requests plan ≡ 4) × (count_of_places plan ≡ 3)) }
 {
     let setup = read_setup(alloc, SETUP)?;
@@ -332,7 +332,7 @@ fn hints_are_followed<Rt: Abort>(
 // ---- the trial
 
 // Three hands that do nothing, each with a place of its own.
-fn three_hands(board: &Board, lead: &mut Lead) -> (Hand, Hand, Hand)
+pub(super) fn three_hands(board: &Board, lead: &mut Lead) -> (Hand, Hand, Hand)
     requires lead { IsLeadOf board.now lead.old }
     requires places { HasAllPlaces board.now lead.old }
     requires three { count_of_places (plan_of board.now) ≡ 3 }
@@ -349,7 +349,7 @@ fn three_hands(board: &Board, lead: &mut Lead) -> (Hand, Hand, Hand)
 }
 
 // Takes the hands in again.
-fn join_three(board: &Board, lead: &mut Lead, first: Hand, second: Hand, third: Hand)
+pub(super) fn join_three(board: &Board, lead: &mut Lead, first: Hand, second: Hand, third: Hand)
     requires lead { IsLeadOf board.now lead.old }
     requires three { count_of_places (plan_of board.now) ≡ 3 }
     requires first { IsFree board.now (record { index = 0 }) first }
@@ -363,7 +363,7 @@ fn join_three(board: &Board, lead: &mut Lead, first: Hand, second: Hand, third: 
     board.join(lead, third);
 }
 
-fn open_all(board: &Board, lead: &mut Lead)
+pub(super) fn open_all(board: &Board, lead: &mut Lead)
     requires lead { IsLeadOf board.now lead.old }
     requires three { count_of_places (plan_of board.now) ≡ 3 }
     ensures lead { IsLeadOf board.now lead.new }
