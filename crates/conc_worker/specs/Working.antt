@@ -1,27 +1,13 @@
 -- What a worker's hand does from one call to the next.
-use Rattle.std.specs.Prelude.{◌≡◌, ℕ, ◌≤◌, List, [], ◌∷◌, ◌++◌, IsTrue}
-use Rattle.conc_types.specs.declared.event.PlaceId.{PlaceId}
-use Rattle.conc_types.specs.declared.plan.Plan.{Plan}
+use Rattle.std.specs.Prelude.{◌≡◌, ℕ, ◌≤◌, List, [], ◌∷◌, ◌++◌}
 use Rattle.conc_board_seats.specs.declared.views.Doing.TheVariants.{Idle}
-use Rattle.conc_board_seats.specs.Places.{AreAmong, has}
-use Rattle.conc_board_seats.specs.Words.{IsPlace, end_word}
+use Rattle.conc_board_seats.specs.Words.{end_word}
 use Rattle.conc_board.specs.declared.board.Board.{Board}
 use Rattle.conc_board.specs.declared.hand.Hand.{Hand}
 use Rattle.conc_board.specs.Claims.{HasClaim}
-use Rattle.conc_board.specs.Seats.{Stays, doing_of, found_by_hand, places_of_hand, plan_of}
+use Rattle.conc_board.specs.Seats.{Stays, doing_of, found_by_hand, plan_of}
 use Rattle.conc_worker.specs.declared.worker.Next.{Next}
 use Rattle.conc_worker.specs.declared.worker.Next.TheVariants as next
-
--- ---- places
-
--- each of the places is one of the plan
-abbrev pub ArePlaces : Plan → List PlaceId → Type 0
-ArePlaces plan places = (p : PlaceId) → IsTrue (has places p) → IsPlace plan p
-
--- each of the places is one of the plan, and the hand's own
-pub record AreServed (plan : Plan) (hand : Hand) (places : List PlaceId) : Type 0 where
-  pub of_plan : ArePlaces plan places
-  pub own : AreAmong places (places_of_hand hand)
 
 -- ---- steps
 

@@ -1,8 +1,6 @@
-ghost use Rattle.std.specs.Prelude.{◌≡◌, IsTrue};
-ghost use Rattle.conc_types.specs.declared.event.PlaceId.{PlaceId};
-ghost use Rattle.conc_board_seats.specs.Places.{has};
-ghost use Rattle.conc_board_seats.specs.Words.{IsPlace};
+ghost use Rattle.std.specs.Prelude.{◌≡◌};
 ghost use Rattle.conc_board.specs.Seats.{plan_of};
+ghost use Rattle.conc_worker.specs.Places.{ArePlaces};
 
 use crate::serving::{Served, serve_once};
 use conc_board::{Board, Claim, Hand};
@@ -27,7 +25,7 @@ pub(crate) struct Worker<'a> {
     // Those that it serves.
     pub(crate) places: &'a [PlaceId],
     ghost same_plan: { plan.now ≡ plan_of board.now },
-    ghost of_plan: { (p : PlaceId) → IsTrue (has places.now p) → IsPlace plan.now p },
+    ghost of_plan: { ArePlaces plan.now places.now },
 }
 
 // What a hand that does nothing finds to do.
@@ -40,8 +38,8 @@ enum Next {
 }
 
 impl Worker<'_> {
-    ghost use Rattle.std.specs.Prelude.{◌≤◌, IfNone, IfSome, length};
-    ghost use Rattle.conc_board_seats.specs.Places.{AreAmong};
+    ghost use Rattle.std.specs.Prelude.{◌≤◌, IfNone, IfSome, IsTrue, length};
+    ghost use Rattle.conc_board_seats.specs.Places.{AreAmong, has};
     ghost use Rattle.conc_board_seats.specs.declared.views.Doing.TheVariants as does;
     ghost use Rattle.conc_board.specs.Claims.{HasClaim};
     ghost use Rattle.conc_board.specs.Seats.{doing_of, IsHandOf, places_of_hand};

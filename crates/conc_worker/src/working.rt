@@ -1,7 +1,8 @@
 ghost use Rattle.std.specs.Prelude.{◌≡◌};
 ghost use Rattle.conc_board_seats.specs.declared.views.Doing.TheVariants as does;
 ghost use Rattle.conc_board.specs.Seats.{doing_of, IsHandOf, places_of_hand, plan_of};
-ghost use Rattle.conc_worker.specs.Working.{AreServed, SawTheEnd};
+ghost use Rattle.conc_worker.specs.Places.{AreServed};
+ghost use Rattle.conc_worker.specs.Working.{SawTheEnd};
 
 use crate::worker::Worker;
 use conc_board::{Board, Hand};
