@@ -1,3 +1,5 @@
 mod board;
 mod gate;
 mod lanes;
+mod rounds;
+mod workers;

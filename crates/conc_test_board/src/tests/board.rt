@@ -1,16 +1,18 @@
-ghost use Rattle.std.specs.Prelude.{◌≡◌, ◌≢◌, ◌<◌, IfOk, OnOk};
+ghost use Rattle.std.specs.Prelude.{◌≡◌, ◌≢◌, ◌<◌, ◌∷◌, [], IfOk, IsTrue, OnOk};
 ghost use Rattle.conc_types.specs.declared.event.RequestId.{RequestId};
 ghost use Rattle.conc_law.specs.Places.{count_of_places};
 ghost use Rattle.conc_board_seats.specs.Words.{count_of_requests, IsPlace, IsRequest};
+ghost use Rattle.conc_board_seats.specs.Places.{has, without};
 ghost use Rattle.conc_board_seats.specs.Stages.{IsGone, is_marked};
 ghost use Rattle.conc_board_seats.specs.declared.views.Doing.TheVariants as does;
 ghost use Rattle.conc_board_seats.specs.declared.views.Stage.TheVariants as stage;
-ghost use Rattle.conc_board.specs.Claims.{HasClaim};
-ghost use Rattle.conc_board.specs.Seats.{HasAllPlaces, IsHandOf, IsLeadOf, plan_of, SameStages, stage_of, Stays};
+ghost use Rattle.conc_board.specs.Claims.{HasClaim, HasPermit};
+ghost use Rattle.conc_board.specs.Seats.{doing_of, HasAllPlaces, IsHandOf, IsLeadOf, plan_of, places_of_lead, SameStages, stage_of, Stays};
 ghost use Rattle.conc_test_board.specs.Rounds.{IsFree, OnlyOne};
 
-use crate::{claim_some, collect_some, go_where_claimed, hand_at, let_out_apart, look_gone, look_let, permit_for, post_report, post_stopped, withdrawn};
-use conc_board::{Board, Claim, Hand, Lead, Looked, NotYet, Polled, Posted};
+use super::rounds::{claim_some, collect_some, go_where_claimed, let_out_apart, permit_for};
+use crate::{look_gone, look_let, report_for};
+use conc_board::{Board, Claim, Hand, Lead, Looked, NotYet, Permit, Polled, Posted};
 use conc_plan::make_plan;
 use conc_script::read_script;
 use conc_setup::read_setup;
@@ -42,7 +44,7 @@ const SCRIPT: &[u8] = b"at,do,what,user,priority,start,domain,argument
 2025-03-03T09:00:00,submit,Q,ann,,,,
 ";
 
-fn plan_of_four(rt: &impl Abort, alloc: Global) -> Result<Plan, ReadFail>
+pub(super) fn plan_of_four(rt: &impl Abort, alloc: Global) -> Result<Plan, ReadFail>
     ensures { IfOk result (λ plan. (count_of_requests plan ≡ 4) × (count_of_places plan ≡ 3)) }
 {
     let setup = read_setup(alloc, SETUP)?;
@@ -62,6 +64,19 @@ fn same<Rt: Abort, T: PartialEq + Debug + Copy>(rt: &Rt, found: T, want: T) {
 
 // ---- answers that have to come
 
+// A hand that does nothing, with this place of the lead's.
+fn hand_at(board: &Board, lead: &mut Lead, place: PlaceId) -> Hand
+    requires lead { IsLeadOf board.now lead.old }
+    requires place { IsPlace (plan_of board.now) place }
+    requires own { IsTrue (has (places_of_lead lead.old) place) }
+    ensures lead { IsLeadOf board.now lead.new }
+    ensures stages { SameStages lead.old lead.new }
+    ensures left { places_of_lead lead.new ≡ without (places_of_lead lead.old) (place ∷ []) }
+    ensures hand { IsFree board.now place result }
+{
+    board.split(lead, &[place])
+}
+
 fn not_yet<Rt: Abort>(rt: &Rt, board: &Board, hand: &mut Hand, claim: Claim) -> Claim
     requires hand { IsHandOf board.now hand.old }
     requires claim { HasClaim hand.old claim }
@@ -71,6 +86,18 @@ fn not_yet<Rt: Abort>(rt: &Rt, board: &Board, hand: &mut Hand, claim: Claim) -> 
     match board.poll(hand, claim) {
         Polled::NotYet(claim) => claim,
         _ => panic!(rt; "an answer"),
+    }
+}
+
+fn withdrawn<Rt: Abort>(rt: &Rt, board: &Board, hand: &mut Hand, claim: Claim)
+    requires hand { IsHandOf board.now hand.old }
+    requires claim { HasClaim hand.old claim }
+    ensures hand { Stays board.now hand.old hand.new }
+    ensures idle { doing_of hand.new ≡ does.Idle }
+{
+    match board.poll(hand, claim) {
+        Polled::Withdrawn => {}
+        _ => panic!(rt; "not taken back"),
     }
 }
 
@@ -85,6 +112,19 @@ fn finds_nothing<Rt: Abort>(rt: &Rt, board: &Board, lead: &mut Lead, r: RequestI
         Err(NotYet) => {}
         Ok(_) => panic!(rt; "something was left"),
     }
+}
+
+// Leaves that a request stopped, as it was told to.
+fn post_stopped<Rt: Abort>(rt: &Rt, board: &Board, hand: &mut Hand, permit: Permit)
+    requires hand { IsHandOf board.now hand.old }
+    requires permit { HasPermit hand.old permit }
+    ensures hand { Stays board.now hand.old hand.new }
+    ensures idle { doing_of hand.new ≡ does.Idle }
+{
+    if !board.wants_stop(hand, &permit) {
+        panic!(rt; "not told to stop");
+    }
+    board.post(hand, permit, Posted::Stopped);
 }
 
 fn claim_none<Rt: Abort>(
@@ -102,6 +142,26 @@ fn claim_none<Rt: Abort>(
     if board.claim(hand, place, plan, hint).is_some() {
         panic!(rt; "a claim");
     }
+}
+
+// Leaves the report of the request that is served.
+fn post_report<Rt: Abort>(
+    rt: &Rt,
+    alloc: Global,
+    board: &Board,
+    plan: &Plan,
+    hand: &mut Hand,
+    permit: Permit,
+) -> Result<(), NoMemory>
+    requires plan { plan.now ≡ plan_of board.now }
+    requires hand { IsHandOf board.now hand.old }
+    requires permit { HasPermit hand.old permit }
+    ensures hand { OnOk result (Stays board.now hand.old hand.new) }
+    ensures idle { OnOk result (doing_of hand.new ≡ does.Idle) }
+{
+    let made = report_for(alloc, plan, permit.request())?.expect(rt, "a report");
+    board.post(hand, permit, Posted::Text(made));
+    Ok(())
 }
 
 // ---- rounds
@@ -272,7 +332,7 @@ fn hints_are_followed<Rt: Abort>(
 // ---- the trial
 
 // Three hands that do nothing, each with a place of its own.
-fn three_hands(board: &Board, lead: &mut Lead) -> (Hand, Hand, Hand)
+pub(super) fn three_hands(board: &Board, lead: &mut Lead) -> (Hand, Hand, Hand)
     requires lead { IsLeadOf board.now lead.old }
     requires places { HasAllPlaces board.now lead.old }
     requires three { count_of_places (plan_of board.now) ≡ 3 }
@@ -289,7 +349,7 @@ fn three_hands(board: &Board, lead: &mut Lead) -> (Hand, Hand, Hand)
 }
 
 // Takes the hands in again.
-fn join_three(board: &Board, lead: &mut Lead, first: Hand, second: Hand, third: Hand)
+pub(super) fn join_three(board: &Board, lead: &mut Lead, first: Hand, second: Hand, third: Hand)
     requires lead { IsLeadOf board.now lead.old }
     requires three { count_of_places (plan_of board.now) ≡ 3 }
     requires first { IsFree board.now (record { index = 0 }) first }
@@ -303,7 +363,7 @@ fn join_three(board: &Board, lead: &mut Lead, first: Hand, second: Hand, third: 
     board.join(lead, third);
 }
 
-fn open_all(board: &Board, lead: &mut Lead)
+pub(super) fn open_all(board: &Board, lead: &mut Lead)
     requires lead { IsLeadOf board.now lead.old }
     requires three { count_of_places (plan_of board.now) ≡ 3 }
     ensures lead { IsLeadOf board.now lead.new }

@@ -1,21 +1,19 @@
-ghost use Rattle.std.specs.Prelude.{◌≡◌, ◌∷◌, [], ℕ, Bool, false, IsTrue, OnOk};
+ghost use Rattle.std.specs.Prelude.{◌≡◌, ℕ, Bool, false};
 ghost use Rattle.conc_board_seats.specs.Stages.{IsGone, IsLet, is_marked};
-ghost use Rattle.conc_board_seats.specs.Places.{has, without};
-ghost use Rattle.conc_board_seats.specs.Words.{IsPlace, IsRequest};
+ghost use Rattle.conc_board_seats.specs.Words.{IsRequest};
 ghost use Rattle.conc_board_seats.specs.declared.views.Doing.TheVariants as does;
 ghost use Rattle.conc_board_seats.specs.declared.views.Stage.TheVariants as stage;
 ghost use Rattle.conc_board.specs.Claims.{HasClaim, HasPermit};
-ghost use Rattle.conc_board.specs.Seats.{doing_of, IsHandOf, IsLeadOf, plan_of, places_of_hand, places_of_lead, SameStages, stage_of, Stays};
+ghost use Rattle.conc_board.specs.Seats.{IsHandOf, IsLeadOf, plan_of, places_of_hand, stage_of, Stays};
 ghost use Rattle.conc_test_board.specs.Rounds.{IsFree, OnlyOne};
 
-use crate::{let_out_if_apart, look_let, report_for};
+use crate::{let_out_if_apart, look_let};
 use conc_board::{Board, Claim, Hand, Lead, Looked, Permit, Polled, Posted};
-use conc_types::{NoMemory, PlaceId, Plan, RequestId};
-use std::alloc::Global;
+use conc_types::{PlaceId, Plan, RequestId};
 use std::process::Abort;
 
 /// Lets out a request, which has to exclude none of the plan.
-pub fn let_out_apart<Rt: Abort>(
+pub(crate) fn let_out_apart<Rt: Abort>(
     rt: &Rt,
     board: &Board,
     plan: &Plan,
@@ -35,7 +33,7 @@ pub fn let_out_apart<Rt: Abort>(
 }
 
 /// Claims a request, which has to be there.
-pub fn claim_some<Rt: Abort>(
+pub(crate) fn claim_some<Rt: Abort>(
     rt: &Rt,
     board: &Board,
     plan: &Plan,
@@ -52,7 +50,7 @@ pub fn claim_some<Rt: Abort>(
 }
 
 /// Gives the go to a request that has to be claimed, and answers the place.
-pub fn go_where_claimed<Rt: Abort>(
+pub(crate) fn go_where_claimed<Rt: Abort>(
     rt: &Rt,
     board: &Board,
     lead: &mut Lead,
@@ -74,7 +72,7 @@ pub fn go_where_claimed<Rt: Abort>(
 }
 
 /// The permit that has to answer a claim.
-pub fn permit_for<Rt: Abort>(rt: &Rt, board: &Board, hand: &mut Hand, claim: Claim) -> Permit
+pub(crate) fn permit_for<Rt: Abort>(rt: &Rt, board: &Board, hand: &mut Hand, claim: Claim) -> Permit
     requires hand { IsHandOf board.now hand.old }
     requires claim { HasClaim hand.old claim }
     ensures hand { Stays board.now hand.old hand.new }
@@ -87,7 +85,7 @@ pub fn permit_for<Rt: Abort>(rt: &Rt, board: &Board, hand: &mut Hand, claim: Cla
 }
 
 /// Takes what has to be left for a request.
-pub fn collect_some<Rt: Abort>(
+pub(crate) fn collect_some<Rt: Abort>(
     rt: &Rt,
     board: &Board,
     lead: &mut Lead,
@@ -103,63 +101,4 @@ pub fn collect_some<Rt: Abort>(
         Ok(posted) => posted,
         Err(_) => panic!(rt; "nothing was left"),
     }
-}
-
-/// A hand that does nothing, with this place of the lead's.
-pub fn hand_at(board: &Board, lead: &mut Lead, place: PlaceId) -> Hand
-    requires lead { IsLeadOf board.now lead.old }
-    requires place { IsPlace (plan_of board.now) place }
-    requires own { IsTrue (has (places_of_lead lead.old) place) }
-    ensures lead { IsLeadOf board.now lead.new }
-    ensures stages { SameStages lead.old lead.new }
-    ensures left { places_of_lead lead.new ≡ without (places_of_lead lead.old) (place ∷ []) }
-    ensures hand { IsFree board.now place result }
-{
-    board.split(lead, &[place])
-}
-
-/// Sees that a claim was taken back.
-pub fn withdrawn<Rt: Abort>(rt: &Rt, board: &Board, hand: &mut Hand, claim: Claim)
-    requires hand { IsHandOf board.now hand.old }
-    requires claim { HasClaim hand.old claim }
-    ensures hand { Stays board.now hand.old hand.new }
-    ensures idle { doing_of hand.new ≡ does.Idle }
-{
-    match board.poll(hand, claim) {
-        Polled::Withdrawn => {}
-        _ => panic!(rt; "not taken back"),
-    }
-}
-
-/// Leaves that a request stopped, as it was told to.
-pub fn post_stopped<Rt: Abort>(rt: &Rt, board: &Board, hand: &mut Hand, permit: Permit)
-    requires hand { IsHandOf board.now hand.old }
-    requires permit { HasPermit hand.old permit }
-    ensures hand { Stays board.now hand.old hand.new }
-    ensures idle { doing_of hand.new ≡ does.Idle }
-{
-    if !board.wants_stop(hand, &permit) {
-        panic!(rt; "not told to stop");
-    }
-    board.post(hand, permit, Posted::Stopped);
-}
-
-/// Leaves the report of the request that is served.
-pub fn post_report<Rt: Abort>(
-    rt: &Rt,
-    alloc: Global,
-    board: &Board,
-    plan: &Plan,
-    hand: &mut Hand,
-    permit: Permit,
-) -> Result<(), NoMemory>
-    requires plan { plan.now ≡ plan_of board.now }
-    requires hand { IsHandOf board.now hand.old }
-    requires permit { HasPermit hand.old permit }
-    ensures hand { OnOk result (Stays board.now hand.old hand.new) }
-    ensures idle { OnOk result (doing_of hand.new ≡ does.Idle) }
-{
-    let made = report_for(alloc, plan, permit.request())?.expect(rt, "a report");
-    board.post(hand, permit, Posted::Text(made));
-    Ok(())
 }

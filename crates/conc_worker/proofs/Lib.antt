@@ -1,0 +1,3 @@
+pub mod PlacesHad
+pub mod Reported
+pub mod StepsMade

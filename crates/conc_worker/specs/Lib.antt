@@ -1,0 +1,4 @@
+pub mod Leaving
+pub mod Places
+pub mod Serving
+pub mod Working

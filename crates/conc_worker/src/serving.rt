@@ -1,0 +1,69 @@
+ghost use Rattle.std.specs.Prelude.{◌≡◌};
+ghost use Rattle.conc_board.specs.Claims.{HasClaim, HasPermit};
+ghost use Rattle.conc_board.specs.Seats.{IsHandOf, plan_of, Stays};
+ghost use Rattle.conc_worker.specs.Leaving.{Prepares};
+ghost use Rattle.conc_worker.specs.Serving.{Serves};
+
+use crate::leaving::left_for;
+use conc_board::{Board, Claim, Hand, Permit, Polled, Posted};
+use conc_outside_gate::Gate;
+use conc_types::{Plan, RequestId};
+use std::alloc::Global;
+
+/// What came of a look for the answer to a claim.
+#[derive(Drop)]
+pub enum Served {
+    /// The request was served, and something was left for it.
+    Posted(RequestId),
+    /// There is no answer yet.
+    NotYet(Claim),
+    /// The request was taken back.
+    Withdrawn,
+}
+
+/// Looks once for the answer to a claim. With the go it serves the request: it goes through the gate,
+/// looks once whether the request was told to stop, and leaves that it stopped, or its report, or that
+/// there was no memory for one. It waits for nobody but the gate. After `Posted` and `Withdrawn` the
+/// hand does nothing.
+pub fn serve_once<G: Gate>(
+    alloc: Global,
+    board: &Board,
+    plan: &Plan,
+    hand: &mut Hand,
+    claim: Claim,
+    gate: &G,
+) -> Served
+    requires plan { plan.now ≡ plan_of board.now }
+    requires hand { IsHandOf board.now hand.old }
+    requires claim { HasClaim hand.old claim }
+    ensures hand { Stays board.now hand.old hand.new }
+    ensures served { Serves result claim hand.old hand.new }
+{
+    let permit = match board.poll(hand, claim) {
+        Polled::Go(permit) => permit,
+        Polled::NotYet(same) => return Served::NotYet(same),
+        Polled::Withdrawn => return Served::Withdrawn,
+    };
+    let request = permit.request();
+    gate.before(request);
+    let posted = prepare_post(alloc, board, plan, hand, &permit);
+    board.post(hand, permit, posted);
+    Served::Posted(request)
+}
+
+// Looks once whether the request was told to stop, and makes what is then left for it.
+fn prepare_post(
+    alloc: Global,
+    board: &Board,
+    plan: &Plan,
+    hand: &mut Hand,
+    permit: &Permit,
+) -> Posted
+    requires hand { IsHandOf board.now hand.old }
+    requires permit { HasPermit hand.old permit.now }
+    ensures hand { Stays board.now hand.old hand.new }
+    ensures posted { Prepares plan.now permit.now result hand.old hand.new }
+{
+    let told = board.wants_stop(hand, permit);
+    left_for(alloc, plan, permit.request(), told)
+}
