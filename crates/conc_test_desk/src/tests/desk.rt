@@ -14,7 +14,6 @@ use super::driving::{end, log, release, see_claim, start, withdraw};
 use super::hands::{claim_at, permit_of, sees_it_taken_back, serve};
 use crate::Disks;
 use conc_board::{Board, Hand, Lead, Permit};
-use conc_disk::Disk;
 use conc_disk_devices::MemDisk;
 use conc_plan::make_plan;
 use conc_resolver::{Desk, KeepFail};
@@ -61,6 +60,22 @@ const HOLDS: &[u8] = b"at,do,what,user,priority,start,domain,argument
 const ONE: RequestId = RequestId { number: 1 };
 
 const HERE: PlaceId = PlaceId { index: 0 };
+
+const TERMINATED: Event = Event::Ended {
+    request: ONE,
+    outcome: Outcome::Terminated,
+    extent: None,
+};
+
+// The report of a table with one row has 17 bytes.
+const REPORTED: Event = Event::Ended {
+    request: ONE,
+    outcome: Outcome::Normal,
+    extent: Some(Extent {
+        offset: 0,
+        length: 17,
+    }),
+};
 
 fn same<Rt: Abort, T: PartialEq + Debug + Copy>(rt: &Rt, found: T, want: T) {
     assert_eq!(rt; found, want);
@@ -205,44 +220,219 @@ fn go_here<Rt: Abort>(
 
 // ---- trials
 
-// Whether the start of the request met a failure of the journal's call with this number. The claim then stands.
-fn start_fails<Rt: Abort>(
+// What is tried.
+#[derive(Clone, Copy, Debug, PartialEq, Eq)]
+enum Trial {
+    // A start, which meets a failure of the journal's disk.
+    FailedStart,
+    // The request is terminated before its report is left.
+    EarlyTerminate,
+    // It is terminated after that.
+    LateTerminate,
+    // It is held while it is claimed.
+    Hold,
+    // Its place is closed while it is claimed.
+    Close,
+    // It is served to its end.
+    Service,
+}
+
+// What was kept of the request, if the trial came so far.
+type Seen = Option<Result<Option<Event>, KeepFail>>;
+
+// None where the journal's disk did not fail at the start. Where it did, the claim stands.
+fn try_failed_start<Rt: Abort>(
+    rt: &Rt,
+    board: &Board,
+    plan: &Plan,
+    desk: &mut Desk<'_>,
+    disks: &mut Disks,
+    hand: &mut Hand,
+) -> Seen
+    requires plan { plan.now ≡ board_plan board.now }
+    requires driven { IsDriven (record { number = 1 }) board.now desk.old disks.old }
+    requires room { 16 ≤ room_at desk.old }
+    requires free { IsFree board.now (record { index = 0 }) hand.old }
+{
+    if !let_out_one(rt, board, desk, disks) {
+        return None;
+    }
+    same(rt, claim_at(rt, board, plan, hand, HERE).request(), ONE);
+    if start(rt, board, desk, disks, ONE) {
+        return None;
+    }
+    same(rt, see_claim(rt, board, desk, disks, ONE), HERE);
+    Some(Ok(None))
+}
+
+// The request is terminated, before or after what it comes to is left.
+fn try_terminate<Rt: Abort>(
     rt: &Rt,
     alloc: Global,
+    board: &Board,
     plan: &Plan,
-    readings: &Readings,
-    call: u64,
-) -> Result<bool, NoMemory>
-    requires one { count_of_requests plan.now ≡ 1 }
-    requires two { count_of_places plan.now ≡ 2 }
+    desk: &mut Desk<'_>,
+    disks: &mut Disks,
+    hand: &mut Hand,
+    late: bool,
+) -> Result<Seen, NoMemory>
+    requires plan { plan.now ≡ board_plan board.now }
+    requires driven { IsDriven (record { number = 1 }) board.now desk.old disks.old }
+    requires room { 16 ≤ room_at desk.old }
+    requires free { IsFree board.now (record { index = 0 }) hand.old }
 {
-    let mut disks = disks_of(alloc, &[call], &[])?;
-    let Some(work) = begin(rt, alloc, plan, readings, &mut disks) else {
-        return Ok(false);
+    let permit = go_here(rt, board, plan, desk, disks, hand);
+    if late {
+        serve(rt, alloc, board, plan, hand, permit)?;
+        second_command(rt, board, desk, disks);
+    } else {
+        second_command(rt, board, desk, disks);
+        serve(rt, alloc, board, plan, hand, permit)?;
+    }
+    Ok(Some(end(rt, board, desk, disks, ONE)))
+}
+
+// The request is held while it is claimed, and taken back.
+fn try_hold<Rt: Abort>(
+    rt: &Rt,
+    board: &Board,
+    plan: &Plan,
+    desk: &mut Desk<'_>,
+    disks: &mut Disks,
+    hand: &mut Hand,
+)
+    requires plan { plan.now ≡ board_plan board.now }
+    requires driven { IsDriven (record { number = 1 }) board.now desk.old disks.old }
+    requires room { 16 ≤ room_at desk.old }
+    requires free { IsFree board.now (record { index = 0 }) hand.old }
+{
+    assert!(rt; let_out_one(rt, board, desk, disks));
+    let claim = claim_at(rt, board, plan, hand, HERE);
+    second_command(rt, board, desk, disks);
+    sees_it_taken_back(rt, board, hand, claim);
+    same(
+        rt,
+        desk.machine().status(ONE),
+        Some((Phase::Inactive, Status::OnHold)),
+    );
+}
+
+// The place is closed while the request is claimed for it. The claim stands until it is taken back.
+fn try_close<Rt: Abort>(
+    rt: &Rt,
+    board: &Board,
+    plan: &Plan,
+    desk: &mut Desk<'_>,
+    disks: &mut Disks,
+    hand: &mut Hand,
+)
+    requires plan { plan.now ≡ board_plan board.now }
+    requires two { count_of_places plan.now ≡ 2 }
+    requires driven { IsDriven (record { number = 1 }) board.now desk.old disks.old }
+    requires room { 16 ≤ room_at desk.old }
+    requires free { IsFree board.now (record { index = 0 }) hand.old }
+{
+    assert!(rt; let_out_one(rt, board, desk, disks));
+    let claim = claim_at(rt, board, plan, hand, HERE);
+    desk.close_place(board, HERE);
+    same(rt, see_claim(rt, board, desk, disks, ONE), HERE);
+    withdraw(rt, board, desk, disks, ONE);
+    sees_it_taken_back(rt, board, hand, claim);
+    release(rt, board, desk, disks, ONE);
+    assert!(rt; board.claim(hand, HERE, plan, None).is_none());
+}
+
+// The request is served: nothing is kept before, and its end after.
+fn try_service<Rt: Abort>(
+    rt: &Rt,
+    alloc: Global,
+    board: &Board,
+    plan: &Plan,
+    desk: &mut Desk<'_>,
+    disks: &mut Disks,
+    hand: &mut Hand,
+) -> Result<Seen, NoMemory>
+    requires plan { plan.now ≡ board_plan board.now }
+    requires driven { IsDriven (record { number = 1 }) board.now desk.old disks.old }
+    requires room { 16 ≤ room_at desk.old }
+    requires free { IsFree board.now (record { index = 0 }) hand.old }
+{
+    let permit = go_here(rt, board, plan, desk, disks, hand);
+    assert!(rt; matches!(end(rt, board, desk, disks, ONE), Ok(None)));
+    serve(rt, alloc, board, plan, hand, permit)?;
+    Ok(Some(end(rt, board, desk, disks, ONE)))
+}
+
+fn carry_out<Rt: Abort>(
+    rt: &Rt,
+    alloc: Global,
+    board: &Board,
+    plan: &Plan,
+    desk: &mut Desk<'_>,
+    disks: &mut Disks,
+    hand: &mut Hand,
+    trial: Trial,
+) -> Result<Seen, NoMemory>
+    requires plan { plan.now ≡ board_plan board.now }
+    requires two { count_of_places plan.now ≡ 2 }
+    requires driven { IsDriven (record { number = 1 }) board.now desk.old disks.old }
+    requires room { 16 ≤ room_at desk.old }
+    requires free { IsFree board.now (record { index = 0 }) hand.old }
+{
+    match trial {
+        Trial::FailedStart => Ok(try_failed_start(rt, board, plan, desk, disks, hand)),
+        Trial::EarlyTerminate => try_terminate(rt, alloc, board, plan, desk, disks, hand, false),
+        Trial::LateTerminate => try_terminate(rt, alloc, board, plan, desk, disks, hand, true),
+        Trial::Hold => {
+            try_hold(rt, board, plan, desk, disks, hand);
+            Ok(None)
+        }
+        Trial::Close => {
+            try_close(rt, board, plan, desk, disks, hand);
+            Ok(None)
+        }
+        Trial::Service => try_service(rt, alloc, board, plan, desk, disks, hand),
+    }
+}
+
+// Carries out a trial on a desk of its own, over disks of which these calls fail.
+fn attempt<Rt: Abort>(
+    rt: &Rt,
+    alloc: Global,
+    script: &[u8],
+    trial: Trial,
+    journal_fails: &[u64],
+    spool_fails: &[u64],
+) -> Result<Seen, Fail> {
+    let plan = plan_of(rt, alloc, script)?;
+    let readings = read_clock(alloc, CLOCK)?;
+    let mut disks = disks_of(alloc, journal_fails, spool_fails)?;
+    let Some(work) = begin(rt, alloc, &plan, &readings, &mut disks) else {
+        return Ok(None);
     };
-    let (board, mut lead) = Board::new(alloc, plan)?;
+    let (board, mut lead) = Board::new(alloc, &plan)?;
     let mut hand = one_hand(&board, &mut lead);
-    let mut desk = Desk::new(plan, lead, work);
+    let mut desk = Desk::new(&plan, lead, work);
     desk.open_place(&board, HERE);
-    if !let_out_one(rt, &board, &mut desk, &mut disks) {
-        return Ok(false);
-    }
-    let claim = claim_at(rt, &board, plan, &mut hand, HERE);
-    same(rt, claim.request(), ONE);
-    if start(rt, &board, &mut desk, &mut disks, ONE) {
-        return Ok(false);
-    }
-    same(rt, see_claim(rt, &board, &mut desk, &mut disks, ONE), HERE);
-    Ok(true)
+    let seen = carry_out(
+        rt, alloc, &board, &plan, &mut desk, &mut disks, &mut hand, trial,
+    );
+    Ok(seen?)
 }
 
 #[test]
 fn a_start_that_is_not_durable_gives_no_go(rt: HostRuntime) -> Result<(), Fail> {
-    let plan = plan_of(&rt, rt.alloc(), TERMINATES)?;
-    let readings = read_clock(rt.alloc(), CLOCK)?;
     let mut failed = 0;
     for call in 0..32 {
-        if start_fails(&rt, rt.alloc(), &plan, &readings, call)? {
+        let seen = attempt(
+            &rt,
+            rt.alloc(),
+            TERMINATES,
+            Trial::FailedStart,
+            &[call],
+            &[],
+        )?;
+        if seen.is_some() {
             failed += 1;
         }
     }
@@ -251,153 +441,38 @@ fn a_start_that_is_not_durable_gives_no_go(rt: HostRuntime) -> Result<(), Fail> 
     Ok(())
 }
 
-const TERMINATED: Event = Event::Ended {
-    request: ONE,
-    outcome: Outcome::Terminated,
-    extent: None,
-};
-
-// The request is terminated before its report is left, or after it. It ends as terminated, and the spool has nothing.
-fn is_terminated<Rt: Abort>(
-    rt: &Rt,
-    alloc: Global,
-    plan: &Plan,
-    readings: &Readings,
-    served_first: bool,
-) -> Result<(), NoMemory>
-    requires one { count_of_requests plan.now ≡ 1 }
-    requires two { count_of_places plan.now ≡ 2 }
-{
-    let mut disks = disks_of(alloc, &[], &[])?;
-    let work = begin(rt, alloc, plan, readings, &mut disks).expect(rt, "a run");
-    let (board, mut lead) = Board::new(alloc, plan)?;
-    let mut hand = one_hand(&board, &mut lead);
-    let mut desk = Desk::new(plan, lead, work);
-    desk.open_place(&board, HERE);
-    let permit = go_here(rt, &board, plan, &mut desk, &mut disks, &mut hand);
-    if served_first {
-        serve(rt, alloc, &board, plan, &mut hand, permit)?;
-        second_command(rt, &board, &mut desk, &mut disks);
-    } else {
-        second_command(rt, &board, &mut desk, &mut disks);
-        serve(rt, alloc, &board, plan, &mut hand, permit)?;
-    }
-    let ended = end(rt, &board, &mut desk, &mut disks, ONE);
-    assert!(rt; matches!(ended, Ok(Some(TERMINATED))));
-    same(rt, disks.spool.len().ok(), Some(0));
-    Ok(())
-}
-
 #[test]
 fn a_terminate_wins_over_what_was_left(rt: HostRuntime) -> Result<(), Fail> {
-    let plan = plan_of(&rt, rt.alloc(), TERMINATES)?;
-    let readings = read_clock(rt.alloc(), CLOCK)?;
-    is_terminated(&rt, rt.alloc(), &plan, &readings, false)?;
-    is_terminated(&rt, rt.alloc(), &plan, &readings, true)?;
+    // The opening syncs the spool and asks its length; no other call is made, or it would fail.
+    let early = attempt(
+        &rt,
+        rt.alloc(),
+        TERMINATES,
+        Trial::EarlyTerminate,
+        &[],
+        &[2],
+    )?;
+    assert!(rt; early == Some(Ok(Some(TERMINATED))));
+    let late = attempt(&rt, rt.alloc(), TERMINATES, Trial::LateTerminate, &[], &[2])?;
+    assert!(rt; late == Some(Ok(Some(TERMINATED))));
     Ok(())
 }
 
 #[test]
-fn a_hold_takes_a_claimed_request_back(rt: HostRuntime) -> Result<(), Fail> {
-    let plan = plan_of(&rt, rt.alloc(), HOLDS)?;
-    let readings = read_clock(rt.alloc(), CLOCK)?;
-    let mut disks = disks_of(rt.alloc(), &[], &[])?;
-    let work = begin(&rt, rt.alloc(), &plan, &readings, &mut disks).expect(&rt, "a run");
-    let (board, mut lead) = Board::new(rt.alloc(), &plan)?;
-    let mut hand = one_hand(&board, &mut lead);
-    let mut desk = Desk::new(&plan, lead, work);
-    desk.open_place(&board, HERE);
-    assert!(rt; let_out_one(&rt, &board, &mut desk, &mut disks));
-    let claim = claim_at(&rt, &board, &plan, &mut hand, HERE);
-    second_command(&rt, &board, &mut desk, &mut disks);
-    sees_it_taken_back(&rt, &board, &mut hand, claim);
-    same(
-        &rt,
-        desk.machine().status(ONE),
-        Some((Phase::Inactive, Status::OnHold)),
-    );
+fn a_claim_is_taken_back_after_a_hold_and_at_a_closed_place(rt: HostRuntime) -> Result<(), Fail> {
+    attempt(&rt, rt.alloc(), HOLDS, Trial::Hold, &[], &[])?;
+    attempt(&rt, rt.alloc(), HOLDS, Trial::Close, &[], &[])?;
     Ok(())
-}
-
-#[test]
-fn a_claim_of_a_closed_place_stands_until_it_is_taken_back(rt: HostRuntime) -> Result<(), Fail> {
-    let plan = plan_of(&rt, rt.alloc(), HOLDS)?;
-    let readings = read_clock(rt.alloc(), CLOCK)?;
-    let mut disks = disks_of(rt.alloc(), &[], &[])?;
-    let work = begin(&rt, rt.alloc(), &plan, &readings, &mut disks).expect(&rt, "a run");
-    let (board, mut lead) = Board::new(rt.alloc(), &plan)?;
-    let mut hand = one_hand(&board, &mut lead);
-    let mut desk = Desk::new(&plan, lead, work);
-    desk.open_place(&board, HERE);
-    assert!(rt; let_out_one(&rt, &board, &mut desk, &mut disks));
-    let claim = claim_at(&rt, &board, &plan, &mut hand, HERE);
-    desk.close_place(&board, HERE);
-    same(
-        &rt,
-        see_claim(&rt, &board, &mut desk, &mut disks, ONE),
-        HERE,
-    );
-    withdraw(&rt, &board, &mut desk, &mut disks, ONE);
-    sees_it_taken_back(&rt, &board, &mut hand, claim);
-    release(&rt, &board, &mut desk, &mut disks, ONE);
-    assert!(rt; board.claim(&mut hand, HERE, &plan, None).is_none());
-    Ok(())
-}
-
-// What comes of a request that is served, where these calls of the spool's disk fail: what was kept before and after.
-fn is_served<Rt: Abort>(
-    rt: &Rt,
-    alloc: Global,
-    plan: &Plan,
-    readings: &Readings,
-    spool_fails: &[u64],
-) -> Result<Result<Option<Event>, KeepFail>, NoMemory>
-    requires one { count_of_requests plan.now ≡ 1 }
-    requires two { count_of_places plan.now ≡ 2 }
-{
-    let mut disks = disks_of(alloc, &[], spool_fails)?;
-    let work = begin(rt, alloc, plan, readings, &mut disks).expect(rt, "a run");
-    let (board, mut lead) = Board::new(alloc, plan)?;
-    let mut hand = one_hand(&board, &mut lead);
-    let mut desk = Desk::new(plan, lead, work);
-    desk.open_place(&board, HERE);
-    let permit = go_here(rt, &board, plan, &mut desk, &mut disks, &mut hand);
-    assert!(rt; matches!(end(rt, &board, &mut desk, &mut disks, ONE), Ok(None)));
-    serve(rt, alloc, &board, plan, &mut hand, permit)?;
-    Ok(end(rt, &board, &mut desk, &mut disks, ONE))
 }
 
 #[test]
 fn an_end_is_kept_once_its_text_is_stored(rt: HostRuntime) -> Result<(), Fail> {
-    let plan = plan_of(&rt, rt.alloc(), TERMINATES)?;
-    let readings = read_clock(rt.alloc(), CLOCK)?;
-    let ended = is_served(&rt, rt.alloc(), &plan, &readings, &[])?;
-    let text = Extent {
-        offset: 0,
-        length: 17,
-    };
-    match ended {
-        Ok(
-            Some(
-                Event::Ended {
-                    request,
-                    outcome,
-                    extent,
-                },
-            ),
-        ) => {
-            same(
-                &rt,
-                (request, outcome, extent),
-                (ONE, Outcome::Normal, Some(text)),
-            );
-        }
-        _ => panic!(rt; "no end"),
+    let ended = attempt(&rt, rt.alloc(), TERMINATES, Trial::Service, &[], &[])?;
+    assert!(rt; ended == Some(Ok(Some(REPORTED))));
+    // An append to the spool writes and syncs.
+    for call in 2..4 {
+        let failed = attempt(&rt, rt.alloc(), TERMINATES, Trial::Service, &[], &[call])?;
+        assert!(rt; failed == Some(Err(KeepFail::SpoolFault)));
     }
-    // The opening syncs and asks the length; an append writes and syncs.
-    let unwritten = is_served(&rt, rt.alloc(), &plan, &readings, &[2])?;
-    assert!(rt; matches!(unwritten, Err(KeepFail::SpoolFault)));
-    let unsynced = is_served(&rt, rt.alloc(), &plan, &readings, &[3])?;
-    assert!(rt; matches!(unsynced, Err(KeepFail::SpoolFault)));
     Ok(())
 }
