@@ -4,17 +4,19 @@ use Rattle.conc_board_seats.specs.declared.views.Doing.{Doing}
 use Rattle.conc_board_seats.specs.declared.views.View.{View}
 use Rattle.conc_board_seats.specs.Doings.{IsWithin}
 use Rattle.conc_board_seats.specs.Steps.{noted, with_doing}
+use Rattle.conc_board.specs.Admission.{IsAdmitted}
 use Rattle.conc_board.specs.declared.board.Board.{Board}
 use Rattle.conc_board.specs.declared.hand.Hand.{Hand}
 use Rattle.conc_board.specs.Seats.{IsHandOf, Stays, plan_of}
 
 -- it does this then, which is for a request and a place of the plan
 pub stays_doing : (board : Board) (old new : Hand) (doing : Doing) (i n : ℕ) → IsHandOf board old → new.seat.table_id ≡ old.seat.table_id →
-    new.seat.me.0 ≡ with_doing old.seat.me.0 doing i n → IsWithin (plan_of board) doing → Stays board old new
-stays_doing board old new doing i n hand seat is within = record {
+    new.seat.me.0 ≡ with_doing old.seat.me.0 doing i n → IsWithin (plan_of board) doing → IsAdmitted (plan_of board) doing → Stays board old new
+stays_doing board old new doing i n hand seat is within admitted = record {
   hand = record {
     seat = seat ∙ hand.seat;
     within = subst (λ (v : View). IsWithin (plan_of board) v.doing) (sym is) within;
+    admitted = subst (λ (v : View). IsAdmitted (plan_of board) v.doing) (sym is) admitted;
   };
   places = ap (λ (v : View). v.places) is;
 }
@@ -25,6 +27,7 @@ stays_noted board old new i n hand seat is = record {
   hand = record {
     seat = seat ∙ hand.seat;
     within = subst (λ (v : View). IsWithin (plan_of board) v.doing) (sym is) hand.within;
+    admitted = subst (λ (v : View). IsAdmitted (plan_of board) v.doing) (sym is) hand.admitted;
   };
   places = ap (λ (v : View). v.places) is;
 }

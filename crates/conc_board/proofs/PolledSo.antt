@@ -15,6 +15,7 @@ use Rattle.conc_board.specs.declared.hand.Claim.{Claim}
 use Rattle.conc_board.specs.declared.hand.Hand.{Hand}
 use Rattle.conc_board.specs.declared.hand.Polled.{Polled}
 use Rattle.conc_board.specs.declared.hand.Polled.TheVariants as answer
+use Rattle.conc_board.specs.Admission.{IsAdmitted}
 use Rattle.conc_board.specs.Answers.{PolledBy}
 use Rattle.conc_board.specs.Claims.{HasClaim, Polls}
 
@@ -30,7 +31,20 @@ warned_within plan Idle n within = tt
 warned_within plan (Waits r p) n within = within
 warned_within plan (Serves r p stop) n within = warned_cases plan (IsWithin plan) r p n stop (λ _. within) (λ _. within)
 
--- a request and a place of the plan
+-- ---- what is done is for a request that the place admits
+
+pub polled_admitted : (plan : Plan) (doing : Doing) (n : ℕ) → IsAdmitted plan doing → IsAdmitted plan (polled doing n)
+polled_admitted plan Idle n admitted = tt
+polled_admitted plan (Waits r p) n admitted = polled_cases plan (IsAdmitted plan) r p n (λ _. admitted) (λ _. admitted) (λ _. admitted) (λ _ _ _. tt)
+polled_admitted plan (Serves r p stop) n admitted = admitted
+
+pub warned_admitted : (plan : Plan) (doing : Doing) (n : ℕ) → IsAdmitted plan doing → IsAdmitted plan (warned doing n)
+warned_admitted plan Idle n admitted = tt
+warned_admitted plan (Waits r p) n admitted = admitted
+warned_admitted plan (Serves r p stop) n admitted = warned_cases plan (IsAdmitted plan) r p n stop (λ _. admitted) (λ _. admitted)
+
+-- ---- a request and a place of the plan
+
 pub waits_within : (plan : Plan) (doing : Doing) (r : RequestId) (p : PlaceId) → doing ≡ Waits r p → IsWithin plan doing → IsRequest plan r × IsPlace plan p
 waits_within plan doing r p is within = subst (IsWithin plan) is within
 

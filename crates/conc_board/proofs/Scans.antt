@@ -20,7 +20,8 @@ use Rattle.conc_board.specs.declared.board.Board.{Board}
 use Rattle.conc_board.specs.declared.hand.Claim.{Claim}
 use Rattle.conc_board.specs.declared.hand.Hand.{Hand}
 use Rattle.conc_board.specs.Owners.{manager_at}
-use Rattle.conc_board.specs.Claims.{AreMissed, ClaimsAt, ClaimsNone, ClaimsOne, FindsNone, FollowsHint, IsMissed, LooksNextAt, LooksNextAtHint, MissesAll, MissesOne, admits_at, admits_request, claim_request}
+use Rattle.conc_board.specs.Admission.{admits_at, admits_request}
+use Rattle.conc_board.specs.Claims.{AreMissed, ClaimsAt, ClaimsNone, ClaimsOne, FindsNone, FollowsHint, IsMissed, LooksNextAt, LooksNextAtHint, MissesAll, MissesOne, claim_request}
 use Rattle.conc_board.specs.Seats.{AddsOne, IsHandOf, Stays, doing_of, found_by_hand, plan_of}
 use Rattle.conc_board.proofs.Hands.{stays_after}
 

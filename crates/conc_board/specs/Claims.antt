@@ -2,13 +2,9 @@
 use Rattle.std.specs.Prelude.{◌≡◌, ◌≢◌, ◌⊎◌, ℕ, ◌≤◌, ◌==◌, ◌||◌, Bool, List, [], ◌∷◌, ◌++◌, Option, IsTrue, IfSome}
 use Rattle.conc_types.specs.declared.event.PlaceId.{PlaceId}
 use Rattle.conc_types.specs.declared.event.RequestId.{RequestId}
-use Rattle.conc_types.specs.declared.manager.Manager.{Manager}
 use Rattle.conc_types.specs.declared.plan.Plan.{Plan}
-use Rattle.conc_types.specs.Plans.{request}
-use Rattle.conc_types.specs.Words.{some_and}
-use Rattle.conc_law.specs.Managers.{admits}
 use Rattle.conc_law.specs.Words.{Has}
-use Rattle.conc_board.specs.Owners.{manager_at}
+use Rattle.conc_board.specs.Admission.{admits_at}
 use Rattle.conc_board_seats.specs.declared.posted.Posted.{Posted}
 use Rattle.conc_board_seats.specs.declared.views.Doing.TheVariants.{Idle, Waits, Serves}
 use Rattle.conc_board_seats.specs.Reports.{MayLeave}
@@ -51,16 +47,6 @@ HasPermit hand permit = (stop : Bool) × HasPermitWith stop hand permit
 abbrev pub MayPost : Plan → Hand → Permit → Posted → Type 0
 MayPost plan hand permit posted =
     (stop : Bool) × HasPermitWith stop hand permit × MayLeave plan (permit_request permit) stop posted
-
--- ---- which requests a place serves
-
--- the manager admits the request with this number
-abbrev pub admits_request : Plan → RequestId → Manager → Bool
-admits_request plan r manager = some_and (admits manager) (request plan r)
-
--- the manager of the place admits the request
-abbrev pub admits_at : Plan → PlaceId → RequestId → Bool
-admits_at plan place r = some_and (admits_request plan r) (manager_at plan place)
 
 -- ---- a claim is made
 

@@ -8,3 +8,4 @@ pub mod Permits
 pub mod Points
 pub mod Counts
 pub mod Owners
+pub mod Admission

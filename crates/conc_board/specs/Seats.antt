@@ -13,6 +13,7 @@ use Rattle.conc_board_seats.specs.Reports.{MayLeave}
 use Rattle.conc_board_seats.specs.Rule.{Runs, exclude}
 use Rattle.conc_board_seats.specs.Stages.{IsLetOrGone, IsSettled, WordFits, is_marked, stage_in}
 use Rattle.conc_board_seats.specs.Words.{IsPlace, count_of_requests, place_word, request_word}
+use Rattle.conc_board.specs.Admission.{IsAdmitted}
 use Rattle.conc_board.specs.declared.board.Board.{Board}
 use Rattle.conc_board.specs.declared.hand.Hand.{Hand}
 use Rattle.conc_board.specs.declared.lead.Lead.{Lead}
@@ -123,10 +124,12 @@ FindsOpen board place answer old new = HandFinds (place_word (plan_of board) pla
 abbrev pub slots_of : Hand → List (ℕ × Option Posted)
 slots_of hand = hand.seat.me.1
 
--- the hand is one of this board, and what it does is for a request and a place of the board's plan
+-- The hand is one of this board, and what it does is for a request and a place of the board's plan: for a request that
+-- the manager of the place admits.
 pub record IsHandOf (board : Board) (hand : Hand) : Type 0 where
   pub seat : hand.seat.table_id ≡ board.table.shared.table_id
   pub within : IsWithin (plan_of board) (doing_of hand)
+  pub admitted : IsAdmitted (plan_of board) (doing_of hand)
 
 -- it is one still, and has the places that it had
 pub record Stays (board : Board) (old new : Hand) : Type 0 where

@@ -3,9 +3,10 @@ ghost use Rattle.std.specs.Option.{option_copied};
 ghost use Rattle.conc_board_seats.specs.Places.{has};
 ghost use Rattle.conc_board_seats.specs.Words.{count_of_requests, IsPlace, IsRequest};
 ghost use Rattle.conc_board_seats.specs.declared.views.Doing.TheVariants as does;
-ghost use Rattle.conc_board.specs.Claims as spec;
+ghost use Rattle.conc_board.specs.Admission as spec;
+ghost use Rattle.conc_board.specs.Admission.{admits_at};
 ghost use Rattle.conc_board.specs.Owners as owners_spec;
-ghost use Rattle.conc_board.specs.Claims.{admits_at, ClaimsAt, ClaimsOne, FindsNone, FollowsHint, LooksNextAtHint, MissesAll, MissesOne, MissesSome};
+ghost use Rattle.conc_board.specs.Claims.{ClaimsAt, ClaimsOne, FindsNone, FollowsHint, LooksNextAtHint, MissesAll, MissesOne, MissesSome};
 ghost use Rattle.conc_board.specs.Seats.{doing_of, IsHandOf, places_of_hand, plan_of};
 
 use crate::numbers::{RELEASED, claimed, request_word};
@@ -147,6 +148,7 @@ impl Board {
     fn claim_one(&self, hand: &mut Hand, r: RequestId, place: PlaceId) -> Option<Claim>
         requires hand { IsHandOf self.now hand.old }
         requires request { IsRequest (plan_of self.now) r }
+        requires admitted { IsTrue (admits_at (plan_of self.now) place r) }
         requires idle { doing_of hand.old ≡ does.Idle }
         requires place { IsPlace (plan_of self.now) place }
         requires own { IsTrue (has (places_of_hand hand.old) place) }

@@ -21,7 +21,7 @@ use Rattle.conc_board.specs.declared.lead.Lead.{Lead}
 use Rattle.conc_board.specs.declared.lead.Looked.{Looked}
 use Rattle.conc_board.specs.declared.lead.Looked.TheVariants.{Free, Claimed, Running, Ended}
 use Rattle.conc_board.specs.Looks.{Looks}
-use Rattle.conc_board.specs.Seats.{Changes}
+use Rattle.conc_board.specs.Seats.{Changes, KeepsStages}
 use Rattle.conc_test_board.specs.Rounds.{IsSeen, OnlyOne}
 
 -- ---- exclusion
@@ -84,6 +84,9 @@ gone_still plan (Ended p) old new l is = l.1.2
 
 pub only_one : (board : Board) (r : RequestId) (old new : Lead) → Changes board r old new → OnlyOne board r old new
 only_one board r old new c = record { lead = c.lead; others = c.others }
+
+pub only_one_kept : (board : Board) (r : RequestId) (old new : Lead) → KeepsStages board old new → OnlyOne board r old new
+only_one_kept board r old new k = record { lead = k.lead; others = λ q other. k.stages.each q }
 
 pub only_one_after : (board : Board) (r : RequestId) (old mid new : Lead) → OnlyOne board r old mid → OnlyOne board r mid new → OnlyOne board r old new
 only_one_after board r old mid new first second = record { lead = second.lead; others = λ q other. second.others q other ∙ first.others q other }

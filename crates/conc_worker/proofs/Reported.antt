@@ -35,7 +35,12 @@ use Rattle.conc_law.proofs.LawfulSoFar.{all-get}
 use Rattle.conc_law.proofs.Numbering.{found}
 use Rattle.conc_law.proofs.Options.{some_and-some}
 use Rattle.conc_board_seats.specs.Reports.{report_for}
-use Rattle.conc_board.specs.Claims.{admits_at, admits_request}
+use Rattle.conc_board.specs.declared.board.Board.{Board}
+use Rattle.conc_board.specs.declared.hand.Hand.{Hand}
+use Rattle.conc_board.specs.declared.hand.Permit.{Permit}
+use Rattle.conc_board.specs.Admission.{IsAdmitted, admits_at, admits_request}
+use Rattle.conc_board.specs.Claims.{HasPermit, permit_place, permit_request}
+use Rattle.conc_board.specs.Seats.{IsHandOf, plan_of}
 use Rattle.conc_board.specs.Owners.{manager_at}
 
 -- ---- each request of a plan is of a program or a set of the setup
@@ -166,3 +171,11 @@ admitted_has_report plan place r h =
     let req = some_and-some (admits manager.0) (request plan r) manager.2 in
     let made = report_there plan req.0 (found plan r req.0 req.1).1 (admitted_no_set manager.0 req.0 req.2) in
     some_there (report_for plan r) made.0 (ap (option_and_then (report_of plan)) req.1 ∙ made.1)
+
+-- ---- so has what a hand serves
+
+pub served_has_report : (board : Board) (plan : Plan) (hand : Hand) (permit : Permit) → plan ≡ plan_of board → IsHandOf board hand → HasPermit hand permit → IsSome (report_for plan (permit_request permit))
+served_has_report board plan hand permit is own has =
+    subst (λ (p : Plan). IsSome (report_for p (permit_request permit))) (sym is)
+    (admitted_has_report (plan_of board) (permit_place permit) (permit_request permit)
+    (subst (IsAdmitted (plan_of board)) has.1 own.admitted))

@@ -4,7 +4,7 @@ ghost use Rattle.conc_types.specs.declared.event.PlaceId.{PlaceId};
 ghost use Rattle.conc_types.specs.declared.event.RequestId.{RequestId};
 ghost use Rattle.conc_types.specs.declared.plan.Plan.{Plan};
 ghost use Rattle.conc_board_seats.specs.Reports.{report_for};
-ghost use Rattle.conc_board.specs.Claims.{admits_at};
+ghost use Rattle.conc_board.specs.Admission.{admits_at};
 
 /// A request that the manager of a place admits has a report: its program is in the setup, and the
 /// program's table in the plan.

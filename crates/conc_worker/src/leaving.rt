@@ -1,4 +1,4 @@
-ghost use Rattle.std.specs.Prelude.{◌≡◌, IfOk};
+ghost use Rattle.std.specs.Prelude.{◌≡◌, IfOk, IsSome};
 ghost use Rattle.std.specs.Option.{option_map};
 ghost use Rattle.conc_reports.specs.Reports.{as_report};
 ghost use Rattle.conc_board_seats.specs.Reports as reports_spec;
@@ -36,6 +36,7 @@ fn report_for(alloc: Global, plan: &Plan, r: RequestId) -> Result<Option<Made>, 
 /// What a worker leaves for a request: that it stopped, where it was told to; else its report, or
 /// that there was no memory for one.
 pub(crate) fn left_for(alloc: Global, plan: &Plan, r: RequestId, told: bool) -> Posted
+    requires { IsSome (reports_spec.report_for plan.now r) }
     ensures { Leaves plan.now r told result }
 {
     if told {
@@ -43,6 +44,7 @@ pub(crate) fn left_for(alloc: Global, plan: &Plan, r: RequestId, told: bool) -> 
     }
     match report_for(alloc, plan, r) {
         Ok(Some(made)) => Posted::Text(made),
-        Ok(None) | Err(_) => Posted::NoMemory,
+        Ok(None) => unreachable!(),
+        Err(_) => Posted::NoMemory,
     }
 }

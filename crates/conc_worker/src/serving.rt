@@ -59,6 +59,7 @@ fn prepare_post(
     hand: &mut Hand,
     permit: &Permit,
 ) -> Posted
+    requires plan { plan.now ≡ plan_of board.now }
     requires hand { IsHandOf board.now hand.old }
     requires permit { HasPermit hand.old permit.now }
     ensures hand { Stays board.now hand.old hand.new }

@@ -2,7 +2,8 @@ use Rattle.std.proofs.Common.{◌≡◌, ◌∙◌, ◌∷◌, ◌++◌, [], ℕ
 use Rattle.conc_types.specs.declared.event.RequestId.{RequestId}
 use Rattle.conc_board_seats.specs.Words.{request_of, request_word}
 use Rattle.conc_board.specs.declared.hand.Hand.{Hand}
-use Rattle.conc_board.specs.Claims.{ClaimsNone, admits_at}
+use Rattle.conc_board.specs.Admission.{admits_at}
+use Rattle.conc_board.specs.Claims.{ClaimsNone}
 use Rattle.conc_board.proofs.Scans.{admitted_at, are_missed_more, are_missed_same, missed_one, none_after}
 use Rattle.conc_board.proofs.board.Board.claim_any.Goals as goal
 use Rattle.conc_board.proofs.board.Board.claim_any.Goals.{then-admits_request+in-None, else-admits_request}

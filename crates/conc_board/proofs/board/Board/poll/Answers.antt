@@ -6,7 +6,7 @@ use Rattle.conc_board_seats.proofs.HandSteps.{polls}
 use Rattle.conc_board.specs.Seats.{doing_of, plan_of}
 use Rattle.conc_board.proofs.Hands.{stays_doing}
 use Rattle.conc_board.proofs.Leads.{request_there}
-use Rattle.conc_board.proofs.PolledSo.{polled_within, polls_so, waits_within}
+use Rattle.conc_board.proofs.PolledSo.{polled_admitted, polled_within, polls_so, waits_within}
 use Rattle.conc_board.proofs.board.Board.poll.Goals as goal
 
 pub request_word-requires : goal.request_word-requires
@@ -26,6 +26,7 @@ load-word-requires c =
 pub returns-clause-hand : goal.returns-clause-hand
 returns-clause-hand c = stays_doing _ _ _ (polled (doing_of c.args.hand.now) c.load-word.result) c.request_word.result c.load-word.result c.requires.hand c.load-word.ensures.0 c.load-word.ensures.2.0
     (polled_within (plan_of c.args.self.now) (doing_of c.args.hand.now) c.load-word.result c.requires.hand.within)
+    (polled_admitted (plan_of c.args.self.now) (doing_of c.args.hand.now) c.load-word.result c.requires.hand.admitted)
 
 pub returns-clause-polled : goal.returns-clause-polled
 returns-clause-polled c = polls_so (plan_of c.args.self.now) c.args.claim c.args.hand.now _ c.request_word.result c.load-word.result c.requires.claim c.load-word.ensures.2.0 c.request_word.ensures

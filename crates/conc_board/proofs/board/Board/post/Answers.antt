@@ -44,7 +44,7 @@ swap-requires c =
 
 pub returns-clause-hand : goal.returns-clause-hand
 returns-clause-hand c = stays_doing _ _ _ Idle c.request_word-word.result c.swap.result c.requires.hand (c.swap.ensures.0 ∙ c.exchange.ensures.0)
-    (c.swap.ensures.2.0 ∙ ap (λ m. with_doing m.0 Idle c.request_word-word.result c.swap.result) c.exchange.ensures.3) tt
+    (c.swap.ensures.2.0 ∙ ap (λ m. with_doing m.0 Idle c.request_word-word.result c.swap.result) c.exchange.ensures.3) tt tt
 
 pub returns-clause-found : goal.returns-clause-found
 returns-clause-found c = let permit = c.args.permit in let n = c.swap.result in let stop = c.requires.permit.0 in

@@ -9,7 +9,7 @@ use Rattle.conc_board_seats.proofs.HandSteps.{warns}
 use Rattle.conc_board.specs.Seats.{doing_of, plan_of}
 use Rattle.conc_board.proofs.Hands.{stays_doing}
 use Rattle.conc_board.proofs.Leads.{request_there}
-use Rattle.conc_board.proofs.PolledSo.{serves_within, warned-serves, warned_within}
+use Rattle.conc_board.proofs.PolledSo.{serves_within, warned-serves, warned_admitted, warned_within}
 use Rattle.conc_board.proofs.board.Board.wants_stop.Goals as goal
 
 pub request_word-requires : goal.request_word-requires
@@ -29,6 +29,7 @@ load-word-requires c =
 pub returns-clause-hand : goal.returns-clause-hand
 returns-clause-hand c = stays_doing _ _ _ (warned (doing_of c.args.hand.now) c.load-word.result) c.request_word.result c.load-word.result c.requires.hand c.load-word.ensures.0 c.load-word.ensures.2.0
     (warned_within (plan_of c.args.self.now) (doing_of c.args.hand.now) c.load-word.result c.requires.hand.within)
+    (warned_admitted (plan_of c.args.self.now) (doing_of c.args.hand.now) c.load-word.result c.requires.hand.admitted)
 
 pub returns-clause-warned : goal.returns-clause-warned
 returns-clause-warned c =
