@@ -1,3 +1,0 @@
-mod desk;
-mod driving;
-mod hands;
