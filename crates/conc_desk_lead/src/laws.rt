@@ -9,6 +9,7 @@ ghost use Rattle.conc_types.specs.declared.script.Reading.{Reading};
 ghost use Rattle.conc_law.specs.Facts.{facts_of};
 ghost use Rattle.conc_law.specs.Kinds.{ends, is_resume};
 ghost use Rattle.conc_law.specs.Law.{LawfulSoFar, may_follow};
+ghost use Rattle.conc_law.specs.State.{is_live};
 ghost use Rattle.conc_law.specs.Words.{Has};
 ghost use Rattle.conc_board.specs.declared.lead.Lead.{Lead};
 ghost use Rattle.conc_board.specs.Seats.{stage_of};
@@ -35,4 +36,12 @@ pub fn on_the_board_none_excludes_what_waits()
         LawfulSoFar plan history → StagesGoWith plan (reverse history) lead → Has plan.requests r →
         WaitsToStart (facts_of plan (reverse history) r) → IsLetOrGone (stage_of lead q) →
         IsFalse (exclude plan r.number q) }
+{}
+
+/// A request that the lead has on the board, let out or with the go, is live in a lawful list, where what it knows
+/// goes with the list.
+pub fn what_is_on_the_board_is_live()
+    ensures { (plan : Plan) (history : List Event) (lead : Lead) (r : Req) →
+        LawfulSoFar plan history → StagesGoWith plan (reverse history) lead → Has plan.requests r →
+        IsLetOrGone (stage_of lead r.number) → IsTrue (is_live (facts_of plan (reverse history) r)) }
 {}

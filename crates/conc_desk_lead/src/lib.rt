@@ -6,4 +6,6 @@ mod following;
 mod laws;
 
 pub use following::follow;
-pub use laws::{on_the_board_none_excludes_what_waits, stages_go_with_the_list};
+pub use laws::{
+    on_the_board_none_excludes_what_waits, stages_go_with_the_list, what_is_on_the_board_is_live,
+};
