@@ -142,7 +142,7 @@ may_end-report s r made offset run going used good =
     ∙ and_from _ _ good.outcome (and_from _ _ (ap (some_and (λ n. offset == n)) used ∙ eqb-refl offset) fits))
 
 -- the end of a request that runs is allowed
-end_allowed : (plan : Plan) (s : State) (next : Option (Option Reading)) (r : Req) (e : Event) → Has plan.requests r → is_running (facts_at s r) ≡ true
+pub end_allowed : (plan : Plan) (s : State) (next : Option (Option Reading)) (r : Req) (e : Event) → Has plan.requests r → is_running (facts_at s r) ≡ true
     → (stop : Bool) → is_stopping (facts_at s r) ≡ stop
     → (if stop then Some (event.Ended r.number outcome.Terminated None) else option_and_then (λ made. option_map (end_with r made) s.used) (report_of plan r)) ≡ Some e
     → is_allowed plan s next e ≡ true

@@ -13,7 +13,7 @@ use Rattle.conc_types.specs.Stages.{has_bit, has_stage, with_stage}
 use Rattle.conc_types.specs.Words.{is_between}
 use Rattle.conc_law.specs.Facts.{stages_begun}
 use Rattle.conc_law.specs.Kinds.{begins_stage, stage_begun_by}
-use Rattle.conc_law.specs.Before.{stands}
+use Rattle.conc_law.specs.Before.{occurs}
 use Rattle.conc_law.specs.Words.{id_eq}
 
 -- ---- bits
@@ -97,10 +97,10 @@ has_stage-event bits set stage (event.Stage s k) h = has_stage-then bits k stage
 has_stage-event bits set stage _ h = refl
 
 -- the stages of a set that have begun are those whose event stands
-pub stages_begun-stand : (past : List Event) (set : RequestId) (stage : ℕ) → is_between 1 64 stage ≡ true
-    → has_stage (stages_begun past set) stage ≡ stands (begins_stage set stage) past
+pub stages_begun-occur : (past : List Event) (set : RequestId) (stage : ℕ) → is_between 1 64 stage ≡ true
+    → has_stage (stages_begun past set) stage ≡ occurs (begins_stage set stage) past
 unfolding stages_begun
-stages_begun-stand [] set stage h = has_stage-zero stage
-stages_begun-stand (e ∷ past) set stage h =
+stages_begun-occur [] set stage h = has_stage-zero stage
+stages_begun-occur (e ∷ past) set stage h =
     has_stage-event (stages_begun past set) set stage e h
-    ∙ ap (λ b. begins_stage set stage e || b) (stages_begun-stand past set stage h)
+    ∙ ap (λ b. begins_stage set stage e || b) (stages_begun-occur past set stage h)

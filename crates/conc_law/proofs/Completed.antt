@@ -16,14 +16,14 @@ use Rattle.conc_types.specs.Plans.{request}
 use Rattle.conc_types.specs.Stages.{has_stage}
 use Rattle.conc_types.specs.Words.{is_between, some_and}
 use Rattle.conc_law.specs.Facts.{cancels, completes, completion, holds, is_idle, is_let, is_open, stages_begun, unlets, waits_for_stage, was_completed}
-use Rattle.conc_law.specs.Kinds.{begins_stage, closes, opens, stops}
+use Rattle.conc_law.specs.Kinds.{begins_stage, closes, opens, ends_run}
 use Rattle.conc_law.specs.Law.{is_lawful_so_far, may_follow}
 use Rattle.conc_law.specs.Next.{may_let}
-use Rattle.conc_law.specs.Before.{stands, stands_since}
+use Rattle.conc_law.specs.Before.{occurs, occurs_since}
 use Rattle.conc_law.specs.Plans.{parent}
 use Rattle.conc_law.specs.State.{state}
 use Rattle.conc_law.specs.Words.{Has, id_eq, is_set}
-use Rattle.conc_law.proofs.BegunStages.{stages_begun-stand}
+use Rattle.conc_law.proofs.BegunStages.{stages_begun-occur}
 use Rattle.conc_law.proofs.Comes.{close_comes, Opened, same_request, stage_comes}
 use Rattle.conc_law.proofs.EqualEvents.{id_same}
 use Rattle.conc_law.proofs.FactsAt.{is_completed-state, is_waiting-state, opened-state}
@@ -77,7 +77,7 @@ closed_set plan past set _ h = cc
 still_open : (past : List Event) (set : Req) (e : Event) → is_open past set ≡ true → closes set.number e ≡ false → is_open (e ∷ past) set ≡ true
 unfolding is_open
 still_open past set e h k =
-    let p : (is_set set.item ≡ true) × (stands_since (λ _ d. opens set.number d) (λ _ d. closes set.number d) past ≡ true) = and_parts _ _ h in
+    let p : (is_set set.item ≡ true) × (occurs_since (λ _ d. opens set.number d) (λ _ d. closes set.number d) past ≡ true) = and_parts _ _ h in
     and_from _ _ p.0 (or_right _ _ (and_from _ _ (not_from_false _ k) p.1))
 
 -- a request of the plan that is opened by its number is open
@@ -97,7 +97,7 @@ stage_open plan past set k _ hs h b = cc
 
 -- a set of which a stage began is open or completed
 begun_set : (plan : Plan) (past : List Event) (set : Req) (k : ℕ) → Has plan.requests set → is_lawful_so_far plan past ≡ true
-    → stands (begins_stage set.number k) past ≡ true → (is_open past set ≡ true) ⊎ (was_completed plan past set ≡ true)
+    → occurs (begins_stage set.number k) past ≡ true → (is_open past set ≡ true) ⊎ (was_completed plan past set ≡ true)
 unfolding is_lawful_so_far
 begun_set plan [] set k hs lawful h = cc
 begun_set plan (e ∷ past) set k hs lawful h =
@@ -121,14 +121,14 @@ unfolding has_stage
 has_stage-between bits k h = (and_parts (is_between 1 64 k) _ h).0
 
 -- the event of a stage that has begun stands
-begun-stands : (past : List Event) (set : RequestId) (k : ℕ) → has_stage (stages_begun past set) k ≡ true → stands (begins_stage set k) past ≡ true
-begun-stands past set k h = sym (stages_begun-stand past set k (has_stage-between (stages_begun past set) k h)) ∙ h
+begun-occurs : (past : List Event) (set : RequestId) (k : ℕ) → has_stage (stages_begun past set) k ≡ true → occurs (begins_stage set k) past ≡ true
+begun-occurs past set k h = sym (stages_begun-occur past set k (has_stage-between (stages_begun past set) k h)) ∙ h
 
 -- a stage that has begun stays so
 begun-more : (past : List Event) (set : RequestId) (k : ℕ) (e : Event) → has_stage (stages_begun past set) k ≡ true
     → has_stage (stages_begun (e ∷ past) set) k ≡ true
 begun-more past set k e h =
-    stages_begun-stand (e ∷ past) set k (has_stage-between (stages_begun past set) k h) ∙ or_right _ _ (begun-stands past set k h)
+    stages_begun-occur (e ∷ past) set k (has_stage-between (stages_begun past set) k h) ∙ or_right _ _ (begun-occurs past set k h)
 
 -- a member that does not wait for its stage waits no more
 pub waits-more : (plan : Plan) (past : List Event) (r : Req) (e : Event) → waits_for_stage plan past r ≡ false → waits_for_stage plan (e ∷ past) r ≡ false
@@ -205,14 +205,14 @@ pub parent_cancel : (plan : Plan) (past : List Event) (r : Req) (e : Event) → 
 parent_cancel plan past r e lawful w None is = refl
 parent_cancel plan past r e lawful w (Some set) is =
     let p : Has plan.requests set × (has_stage (stages_begun past set.number) r.stage ≡ true) = parent_begun plan past r set is w in
-    cancels_not plan past set e (idle_not plan past set (begun_set plan past set r.stage p.0 lawful (begun-stands past set.number r.stage p.1)))
+    cancels_not plan past set e (idle_not plan past set (begun_set plan past set r.stage p.0 lawful (begun-occurs past set.number r.stage p.1)))
 
--- an event after which a request is let neither stops nor cancels it
+-- an event after which a request is let neither ends its run nor cancels it
 unlets-parts : (plan : Plan) (past : List Event) (r : Req) (e : Event) → unlets plan r past e ≡ false
-    → (stops r.number e ≡ false) × (cancels plan past (completion plan past) r e ≡ false)
+    → (ends_run r.number e ≡ false) × (cancels plan past (completion plan past) r e ≡ false)
 unfolding unlets
 unlets-parts plan past r e h =
-    let p : (stops r.number e ≡ false) × ((holds plan r past e || cancels plan past (completion plan past) r e) ≡ false) = or_parts _ _ h in
+    let p : (ends_run r.number e ≡ false) × ((holds plan r past e || cancels plan past (completion plan past) r e) ≡ false) = or_parts _ _ h in
     (p.0, (or_parts (holds plan r past e) _ p.1).1)
 
 -- an event after which a let request is let does not complete it

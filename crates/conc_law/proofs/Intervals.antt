@@ -9,10 +9,10 @@ use Rattle.conc_types.specs.declared.plan.Plan.{Plan}
 use Rattle.conc_types.specs.declared.plan.Req.{Req}
 use Rattle.conc_types.specs.Words.{some_and}
 use Rattle.conc_law.specs.Facts.{facts_of, is_open}
-use Rattle.conc_law.specs.Kinds.{closes, opens, starts, stops}
+use Rattle.conc_law.specs.Kinds.{closes, opens, starts, ends_run}
 use Rattle.conc_law.specs.Law.{is_lawful_so_far}
 use Rattle.conc_law.specs.Overlap.{begins_interval, ends_interval, HasAt, IsInterval}
-use Rattle.conc_law.specs.Before.{stands_since}
+use Rattle.conc_law.specs.Before.{occurs_since}
 use Rattle.conc_law.specs.Plans.{are_exclusive}
 use Rattle.conc_law.specs.State.{is_live}
 use Rattle.conc_law.specs.Words.{Has, is_set}
@@ -20,7 +20,7 @@ use Rattle.conc_law.proofs.EqualEvents.{id_same}
 use Rattle.conc_law.proofs.LiveApart.{are_exclusive_comm, live_apart, not_itself}
 use Rattle.conc_law.proofs.Positions.{reverse-push, slice_get-some, take-suc_at}
 use Rattle.conc_law.proofs.Prefixes.{is_lawful_so_far-prefix}
-use Rattle.conc_law.proofs.Running.{runs-stands}
+use Rattle.conc_law.proofs.Running.{runs-occurs}
 use Rattle.conc_law.proofs.RunningIsLet.{runs_let}
 
 -- ---- the events before a position
@@ -53,7 +53,7 @@ inside kind (x ∷ xs) (suc m) h = let k : m < length xs = inside kind xs m h in
 -- from its beginning up to its end an interval stands
 since_from : (kind other : Event → Bool) (history : List Event) (i : ℕ) → HasAt kind history i → (m : ℕ) → i < m → m ≤ length history
     → ((k : ℕ) → i < k → k < m → HasAt other history k → ⊥)
-    → stands_since (λ _ e. kind e) (λ _ e. other e) (reverse (take m history)) ≡ true
+    → occurs_since (λ _ e. kind e) (λ _ e. other e) (reverse (take m history)) ≡ true
 since_from kind other history i begins zero after fits lasts = absurd (omega arith)
 since_from kind other history i begins (suc m) after fits lasts =
     let ev : (e : Event) × (slice_get history m ≡ Some e) = slice_get-some history m (omega arith) in
@@ -71,15 +71,15 @@ since_from kind other history i begins (suc m) after fits lasts =
 
 -- a set that is opened and not closed since, or a program that was started and not stopped since, is live
 live_by : (plan : Plan) (past : List Event) (r : Req) → Has plan.requests r → is_lawful_so_far plan past ≡ true → (b : Bool) → is_set r.item ≡ b
-    → stands_since (λ _ e. if b then opens r.number e else starts r.number e) (λ _ e. if b then closes r.number e else stops r.number e) past ≡ true
+    → occurs_since (λ _ e. if b then opens r.number e else starts r.number e) (λ _ e. if b then closes r.number e else ends_run r.number e) past ≡ true
     → is_live (facts_of plan past r) ≡ true
 unfolding facts_of is_open
 live_by plan past r hr lawful true is h = or_right _ _ (and_from _ _ is h)
-live_by plan past r hr lawful false is h = or_left _ _ (runs_let plan past r hr lawful (runs-stands past r.number ∙ h))
+live_by plan past r hr lawful false is h = or_left _ _ (runs_let plan past r hr lawful (runs-occurs past r.number ∙ h))
 
 -- the same, by the words for intervals
 live_within : (plan : Plan) (past : List Event) (r : Req) → Has plan.requests r → is_lawful_so_far plan past ≡ true
-    → stands_since (λ _ e. begins_interval r e) (λ _ e. ends_interval r e) past ≡ true → is_live (facts_of plan past r) ≡ true
+    → occurs_since (λ _ e. begins_interval r e) (λ _ e. ends_interval r e) past ≡ true → is_live (facts_of plan past r) ≡ true
 live_within plan past r hr lawful h = live_by plan past r hr lawful (is_set r.item) refl h
 
 -- ---- two intervals
@@ -97,7 +97,7 @@ begins_by x y _ true false g h = cc
 begins_by x y _ false true g h = cc
 
 -- no event ends one interval and begins another
-apart_by : (x y : Req) (e : Event) (a b : Bool) → (if a then closes x.number e else stops x.number e) ≡ true
+apart_by : (x y : Req) (e : Event) (a b : Bool) → (if a then closes x.number e else ends_run x.number e) ≡ true
     → (if b then opens y.number e else starts y.number e) ≡ true → ⊥
 apart_by x y (event.OpenSet q) true b g h = cc
 apart_by x y (event.OpenSet q) false b g h = cc

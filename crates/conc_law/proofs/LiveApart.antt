@@ -14,7 +14,7 @@ use Rattle.conc_law.specs.Facts.{facts_of, is_let, is_open, unlets}
 use Rattle.conc_law.specs.Kinds.{closes, lets, opens}
 use Rattle.conc_law.specs.Law.{is_lawful_so_far, may_follow}
 use Rattle.conc_law.specs.Next.{blocks, can_run, is_free, is_ready, may_let}
-use Rattle.conc_law.specs.Before.{stands_since}
+use Rattle.conc_law.specs.Before.{occurs_since}
 use Rattle.conc_law.specs.Plans.{are_exclusive, parent_item}
 use Rattle.conc_law.specs.State.{facts_at, has_come, is_completed, is_live, is_waiting, state}
 use Rattle.conc_law.specs.Words.{Has, is_set}
@@ -66,7 +66,7 @@ pub is_open-more : (past : List Event) (r : Req) (e : Event) → is_open (e ∷ 
     → (e ≡ event.OpenSet r.number) ⊎ ((closes r.number e ≡ false) × (is_open past r ≡ true))
 unfolding is_open
 is_open-more past r e h =
-    let since : Bool = stands_since (λ _ e. opens r.number e) (λ _ e. closes r.number e) past in
+    let since : Bool = occurs_since (λ _ e. opens r.number e) (λ _ e. closes r.number e) past in
     let p : (is_set r.item ≡ true) × ((opens r.number e || (not (closes r.number e) && since)) ≡ true) = and_parts _ _ h in
     elim (or_cases (opens r.number e) _ p.1) [
       | inl o ↦ inl (opens-event r.number e o)

@@ -11,10 +11,10 @@ use Rattle.conc_types.specs.declared.plan.Plan.{Plan}
 use Rattle.conc_types.specs.declared.plan.Req.{Req}
 use Rattle.conc_types.specs.Words.{some_and}
 use Rattle.conc_law.specs.Facts.{running_place, runs}
-use Rattle.conc_law.specs.Kinds.{start_place, starts_at, stops}
+use Rattle.conc_law.specs.Kinds.{start_place, starts_at, ends_run}
 use Rattle.conc_law.specs.Law.{is_lawful_so_far, may_follow}
 use Rattle.conc_law.specs.Next.{is_vacant, runs_at}
-use Rattle.conc_law.specs.Before.{stands_since}
+use Rattle.conc_law.specs.Before.{occurs_since}
 use Rattle.conc_law.specs.State.{facts_at, state}
 use Rattle.conc_law.specs.Words.{Has, id_eq}
 use Rattle.conc_law.proofs.Comes.{may_start-parts, start_comes}
@@ -88,20 +88,20 @@ or-false true = refl
 or-false false = refl
 
 -- an event that starts r nowhere
-kept-stands : (r : RequestId) (place : PlaceId) (e : Event) (o : Option PlaceId) (before : Bool) → start_place r e ≡ None
+kept-occurs : (r : RequestId) (place : PlaceId) (e : Event) (o : Option PlaceId) (before : Bool) → start_place r e ≡ None
     → some_and (λ p. p.index == place.index) o ≡ before
-    → some_and (λ p. p.index == place.index) (option_or (start_place r e) (if stops r e then None else o))
-    ≡ (starts_at r place e || (not (stops r e) && before))
-kept-stands r place e o before none earlier =
-    ap (λ x. some_and (λ p. p.index == place.index) (option_or x (if stops r e then None else o))) none
-    ∙ passes-if (λ p. p.index == place.index) (stops r e) o
-    ∙ ap (λ t. not (stops r e) && t) earlier
-    ∙ sym (ap (λ t. t || (not (stops r e) && before)) (no_start-at r place e none))
+    → some_and (λ p. p.index == place.index) (option_or (start_place r e) (if ends_run r e then None else o))
+    ≡ (starts_at r place e || (not (ends_run r e) && before))
+kept-occurs r place e o before none earlier =
+    ap (λ x. some_and (λ p. p.index == place.index) (option_or x (if ends_run r e then None else o))) none
+    ∙ passes-if (λ p. p.index == place.index) (ends_run r e) o
+    ∙ ap (λ t. not (ends_run r e) && t) earlier
+    ∙ sym (ap (λ t. t || (not (ends_run r e) && before)) (no_start-at r place e none))
 
 -- a start of r, which did not run
-started-stands : (r : RequestId) (place p : PlaceId) (o : Option PlaceId) (before : Bool) → o ≡ None → some_and (λ p. p.index == place.index) o ≡ before
+started-occurs : (r : RequestId) (place p : PlaceId) (o : Option PlaceId) (before : Bool) → o ≡ None → some_and (λ p. p.index == place.index) o ≡ before
     → some_and (λ p. p.index == place.index) (option_or (start_place r (event.Started r p)) o) ≡ (starts_at r place (event.Started r p) || before)
-started-stands r place p o before none earlier =
+started-occurs r place p o before none earlier =
     let same : id_eq r r ≡ true = eqb-refl r.number in
     let not_before : before ≡ false = sym earlier ∙ ap (some_and (λ p. p.index == place.index)) none in
     ap (λ b. some_and (λ p. p.index == place.index) (option_or (then_some b p) o)) same
@@ -110,23 +110,23 @@ started-stands r place p o before none earlier =
     ∙ sym (ap (λ b. (b && p.index == place.index) || before) same)
 
 -- the place at which a request runs is the one at which a start of it stands with no end or interrupt after it
-pub place-stands : (plan : Plan) (past : List Event) (r : Req) (place : PlaceId) → Has plan.requests r → is_lawful_so_far plan past ≡ true
+pub place-occurs : (plan : Plan) (past : List Event) (r : Req) (place : PlaceId) → Has plan.requests r → is_lawful_so_far plan past ≡ true
     → some_and (λ p. p.index == place.index) (running_place past r.number)
-    ≡ stands_since (λ _ e. starts_at r.number place e) (λ _ e. stops r.number e) past
+    ≡ occurs_since (λ _ e. starts_at r.number place e) (λ _ e. ends_run r.number e) past
 unfolding is_lawful_so_far running_place
-place-stands plan [] r place hr lawful = refl
-place-stands plan (e ∷ past) r place hr lawful =
+place-occurs plan [] r place hr lawful = refl
+place-occurs plan (e ∷ past) r place hr lawful =
     let l : (is_lawful_so_far plan past ≡ true) × (may_follow plan None past e ≡ true) = and_parts _ _ lawful in
-    by (place-stands plan past r place hr l.0) l.1 (start_place r.number e) refl where
+    by (place-occurs plan past r place hr l.0) l.1 (start_place r.number e) refl where
       since : List Event → Bool
-      since events = stands_since (λ _ d. starts_at r.number place d) (λ _ d. stops r.number d) events
+      since events = occurs_since (λ _ d. starts_at r.number place d) (λ _ d. ends_run r.number d) events
 
       by : some_and (λ p. p.index == place.index) (running_place past r.number) ≡ since past → may_follow plan None past e ≡ true
           → (o : Option PlaceId) → start_place r.number e ≡ o
           → some_and (λ p. p.index == place.index) (running_place (e ∷ past) r.number) ≡ since (e ∷ past)
-      by earlier h None none = kept-stands r.number place e (running_place past r.number) (since past) none earlier
+      by earlier h None none = kept-occurs r.number place e (running_place past r.number) (since past) none earlier
       by earlier h (Some p) is =
           let start : e ≡ event.Started r.number p = start_place-some r.number e p is in
           let idle : running_place past r.number ≡ None = starts_idle plan past r p hr (subst (λ d. may_follow plan None past d ≡ true) start h) in
           subst (λ d. some_and (λ p. p.index == place.index) (running_place (d ∷ past) r.number) ≡ since (d ∷ past)) (sym start)
-          (started-stands r.number place p (running_place past r.number) (since past) idle earlier)
+          (started-occurs r.number place p (running_place past r.number) (since past) idle earlier)

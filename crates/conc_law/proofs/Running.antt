@@ -6,8 +6,8 @@ use Rattle.conc_types.specs.declared.event.Event.{Event}
 use Rattle.conc_types.specs.declared.event.Event.TheVariants as event
 use Rattle.conc_types.specs.declared.event.RequestId.{RequestId}
 use Rattle.conc_law.specs.Facts.{running_place, runs}
-use Rattle.conc_law.specs.Kinds.{start_place, starts, stops}
-use Rattle.conc_law.specs.Before.{latest_since, stands_since}
+use Rattle.conc_law.specs.Kinds.{start_place, starts, ends_run}
+use Rattle.conc_law.specs.Before.{latest_since, occurs_since}
 use Rattle.conc_law.specs.Words.{id_eq}
 
 -- a test gives something where it passes
@@ -27,10 +27,10 @@ is_some-or None true c = refl
 is_some-or None false c = refl
 
 -- a request runs where a start of it stands with no end or interrupt after it
-pub runs-stands : (past : List Event) (r : RequestId) → runs past r ≡ stands_since (λ _ e. starts r e) (λ _ e. stops r e) past
+pub runs-occurs : (past : List Event) (r : RequestId) → runs past r ≡ occurs_since (λ _ e. starts r e) (λ _ e. ends_run r e) past
 unfolding runs running_place
-runs-stands [] r = refl
-runs-stands (e ∷ past) r =
-    is_some-or (start_place r e) (stops r e) (latest_since (start_place r) (stops r) past)
-    ∙ ap (λ b. b || (not (stops r e) && is_some (latest_since (start_place r) (stops r) past))) (is_some-start_place r e)
-    ∙ ap (λ b. starts r e || (not (stops r e) && b)) (runs-stands past r)
+runs-occurs [] r = refl
+runs-occurs (e ∷ past) r =
+    is_some-or (start_place r e) (ends_run r e) (latest_since (start_place r) (ends_run r) past)
+    ∙ ap (λ b. b || (not (ends_run r e) && is_some (latest_since (start_place r) (ends_run r) past))) (is_some-start_place r e)
+    ∙ ap (λ b. starts r e || (not (ends_run r e) && b)) (runs-occurs past r)

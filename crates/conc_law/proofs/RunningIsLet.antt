@@ -9,7 +9,7 @@ use Rattle.conc_types.specs.declared.plan.Plan.{Plan}
 use Rattle.conc_types.specs.declared.plan.Req.{Req}
 use Rattle.conc_types.specs.declared.script.Reading.{Reading}
 use Rattle.conc_law.specs.Facts.{cancels, completion, holds, is_idle, is_let, running_place, runs, unlets}
-use Rattle.conc_law.specs.Kinds.{act_of, stops}
+use Rattle.conc_law.specs.Kinds.{act_of, ends_run}
 use Rattle.conc_law.specs.Law.{is_lawful_so_far, may_follow}
 use Rattle.conc_law.specs.State.{state}
 use Rattle.conc_law.specs.Words.{Has}
@@ -29,7 +29,7 @@ unfolding is_idle
 running_not_idle past c r run = and_right _ _ (and_left _ _ (not_from_true _ run))
 
 -- an event that does not stop a running request leaves it let
-running_not_unlet : (plan : Plan) (past : List Event) (r : Req) (e : Event) → runs past r.number ≡ true → stops r.number e ≡ false
+running_not_unlet : (plan : Plan) (past : List Event) (r : Req) (e : Event) → runs past r.number ≡ true → ends_run r.number e ≡ false
     → unlets plan r past e ≡ false
 unfolding unlets holds cancels
 running_not_unlet plan past r e run goes_on =

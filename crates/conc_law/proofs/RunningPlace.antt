@@ -6,7 +6,7 @@ use Rattle.conc_types.specs.declared.event.Event.TheVariants as event
 use Rattle.conc_types.specs.declared.event.PlaceId.{PlaceId}
 use Rattle.conc_types.specs.declared.event.RequestId.{RequestId}
 use Rattle.conc_law.specs.Facts.{running_place, runs}
-use Rattle.conc_law.specs.Kinds.{start_place, stops}
+use Rattle.conc_law.specs.Kinds.{start_place, ends_run}
 use Rattle.conc_law.specs.Before.{latest_since}
 use Rattle.conc_law.specs.Words.{id_eq}
 use Rattle.conc_law.proofs.EqualEvents.{id_same}
@@ -34,11 +34,11 @@ start_place-some r _ p h = cc
 
 -- a request that runs starts with this event, or ran before it and is not stopped by it
 pub running_place-more : (past : List Event) (e : Event) (r : RequestId) (p : PlaceId) → running_place (e ∷ past) r ≡ Some p
-    → (e ≡ event.Started r p) ⊎ ((stops r e ≡ false) × (running_place past r ≡ Some p))
+    → (e ≡ event.Started r p) ⊎ ((ends_run r e ≡ false) × (running_place past r ≡ Some p))
 unfolding running_place
 running_place-more past e r p h = elim (or-some (start_place r e) _ p h) [
   | inl a ↦ inl (start_place-some r e p a)
-  | inr b ↦ inr (by (stops r e) (latest_since (start_place r) (stops r) past) b)
+  | inr b ↦ inr (by (ends_run r e) (latest_since (start_place r) (ends_run r) past) b)
 ] where
   by : (t : Bool) (o : Option PlaceId) → (if t then None else o) ≡ Some p → (t ≡ false) × (o ≡ Some p)
   by true o k = cc

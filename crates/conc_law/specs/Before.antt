@@ -1,18 +1,18 @@
--- What stands in the events before a position. They are given as a list with the latest first.
+-- What occurs in the events before a position. They are given as a list with the latest first.
 use Rattle.std.specs.Prelude.{Bool, false, not, ◌&&◌, ◌||◌, List, [], ◌∷◌, Option, None, if◌then◌else◌}
 use Rattle.std.specs.List.{list_any}
 use Rattle.std.specs.Option.{option_or}
 use Rattle.conc_types.specs.declared.event.Event.{Event}
 use Rattle.conc_law.specs.Kinds.{is_resume}
 
--- an event of the kind stands
-abbrev pub stands : (Event → Bool) → List Event → Bool
-stands kind past = list_any kind past
+-- an event of the kind occurs
+abbrev pub occurs : (Event → Bool) → List Event → Bool
+occurs kind past = list_any kind past
 
--- an event of the kind stands, with none of the other kind after it. A kind may look at the events before the event
-abbrev pub stands_since : (List Event → Event → Bool) → (List Event → Event → Bool) → List Event → Bool
-stands_since kind other [] = false
-stands_since kind other (e ∷ past) = kind past e || (not (other past e) && stands_since kind other past)
+-- an event of the kind occurs, with none of the other kind after it. A kind may look at the events before the event
+abbrev pub occurs_since : (List Event → Event → Bool) → (List Event → Event → Bool) → List Event → Bool
+occurs_since kind other [] = false
+occurs_since kind other (e ∷ past) = kind past e || (not (other past e) && occurs_since kind other past)
 
 -- what the latest event says that says something
 abbrev pub latest : {T : Type 0} → (Event → Option T) → List Event → Option T

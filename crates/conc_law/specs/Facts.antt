@@ -13,18 +13,18 @@ use Rattle.conc_types.specs.declared.plan.Plan.{Plan}
 use Rattle.conc_types.specs.declared.plan.Req.{Req}
 use Rattle.conc_types.specs.Stages.{has_stage, with_stage}
 use Rattle.conc_types.specs.Words.{some_and}
-use Rattle.conc_law.specs.Kinds.{act_of, closes, is_cancel, is_command, is_hold, is_terminate, is_unhold, lets, opens, stage_begun_by, start_place, starts, stops}
-use Rattle.conc_law.specs.Before.{last_life, latest, latest_since, stands, stands_since}
+use Rattle.conc_law.specs.Kinds.{act_of, closes, is_cancel, is_command, is_hold, is_terminate, is_unhold, lets, opens, stage_begun_by, start_place, starts, ends_run}
+use Rattle.conc_law.specs.Before.{last_life, latest, latest_since, occurs, occurs_since}
 use Rattle.conc_law.specs.Plans.{has_restart, parent}
 use Rattle.conc_law.specs.Words.{id_eq, is_set}
 
 -- r was entered
 unfoldable pub is_entered : List Event → Req → Bool
-is_entered past r = stands (is_command r.command) past
+is_entered past r = occurs (is_command r.command) past
 
 -- r is a set that was opened, and not closed since
 unfoldable pub is_open : List Event → Req → Bool
-is_open past r = is_set r.item && stands_since (λ _ e. opens r.number e) (λ _ e. closes r.number e) past
+is_open past r = is_set r.item && occurs_since (λ _ e. opens r.number e) (λ _ e. closes r.number e) past
 
 -- the stage of the set that began last
 unfoldable pub current_stage : List Event → RequestId → Option ℕ
@@ -38,14 +38,14 @@ stages_begun (e ∷ past) set =
 
 -- the place at which r runs: that of its last start, with no end or interrupt after it
 unfoldable pub running_place : List Event → RequestId → Option PlaceId
-running_place past r = latest_since (start_place r) (stops r) past
+running_place past r = latest_since (start_place r) (ends_run r) past
 
 unfoldable pub runs : List Event → RequestId → Bool
 runs past r = is_some (running_place past r)
 
 -- r was started in the last life
 unfoldable pub was_started : List Event → RequestId → Bool
-was_started past r = stands (starts r) (last_life past)
+was_started past r = occurs (starts r) (last_life past)
 
 -- the stage of r in its set has not begun
 unfoldable pub waits_for_stage : Plan → List Event → Req → Bool
@@ -99,19 +99,19 @@ terminates plan r past e = some_and (is_terminate r.number) (act_of plan e) && r
 
 -- a hold of r took effect, and no unhold since
 unfoldable pub is_held : Plan → List Event → Req → Bool
-is_held plan past r = stands_since (holds plan r) (unholds plan r) past
+is_held plan past r = occurs_since (holds plan r) (unholds plan r) past
 
 -- an event after which r is no longer let: its end or interrupt, or a hold or cancel that takes effect
 unfoldable pub unlets : Plan → Req → List Event → Event → Bool
-unlets plan r past e = stops r.number e || (holds plan r past e || cancels plan past (completion plan past) r e)
+unlets plan r past e = ends_run r.number e || (holds plan r past e || cancels plan past (completion plan past) r e)
 
--- r was let out, and none of these stands since
+-- r was let out, and none of these occurs since
 unfoldable pub is_let : Plan → List Event → Req → Bool
-is_let plan past r = stands_since (λ _ e. lets r.number e) (unlets plan r) past
+is_let plan past r = occurs_since (λ _ e. lets r.number e) (unlets plan r) past
 
 -- r was terminated, and not started since
 unfoldable pub was_terminated : Plan → List Event → Req → Bool
-was_terminated plan past r = stands_since (terminates plan r) (λ _ e. starts r.number e) past
+was_terminated plan past r = occurs_since (terminates plan r) (λ _ e. starts r.number e) past
 
 -- ---- all of them
 

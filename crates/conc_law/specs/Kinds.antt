@@ -60,8 +60,8 @@ interrupts r (event.Interrupt q) = id_eq q r
 interrupts r _ = false
 
 -- an end or an interrupt, after which a request runs no more
-abbrev pub stops : RequestId → Event → Bool
-stops r e = ends r e || interrupts r e
+abbrev pub ends_run : RequestId → Event → Bool
+ends_run r e = ends r e || interrupts r e
 
 abbrev pub begins_stage : RequestId → ℕ → Event → Bool
 begins_stage set stage (event.Stage s k) = id_eq s set && k == stage

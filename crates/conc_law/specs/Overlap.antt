@@ -6,14 +6,14 @@ use Rattle.conc_types.specs.declared.plan.Req.{Req}
 use Rattle.conc_types.specs.Words.{some_and}
 use Rattle.conc_law.specs.Words.{Has, is_set}
 use Rattle.conc_law.specs.Plans.{are_exclusive}
-use Rattle.conc_law.specs.Kinds.{closes, opens, starts, stops}
+use Rattle.conc_law.specs.Kinds.{closes, opens, starts, ends_run}
 
 -- the event begins or ends a running interval of r: of a set from open to close, else from a start to an end or interrupt
 abbrev pub begins_interval : Req → Event → Bool
 begins_interval r e = if is_set r.item then opens r.number e else starts r.number e
 
 abbrev pub ends_interval : Req → Event → Bool
-ends_interval r e = if is_set r.item then closes r.number e else stops r.number e
+ends_interval r e = if is_set r.item then closes r.number e else ends_run r.number e
 
 -- the history has such an event at the position
 abbrev pub HasAt : (Event → Bool) → List Event → ℕ → Type 0

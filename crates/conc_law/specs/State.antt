@@ -13,7 +13,7 @@ use Rattle.conc_types.specs.Stages.{has_stage}
 use Rattle.conc_types.specs.Words.{is_empty, none_or, numbered, some_and}
 use Rattle.conc_law.specs.Facts.{facts_of}
 use Rattle.conc_law.specs.Kinds.{extent_length, is_command, tick_of}
-use Rattle.conc_law.specs.Before.{latest, stands}
+use Rattle.conc_law.specs.Before.{latest, occurs}
 use Rattle.conc_law.specs.Plans.{parent}
 
 -- the moment of the last tick
@@ -26,7 +26,7 @@ used past = sum_by extent_length past
 
 -- the command, which is given with its number, is done
 unfoldable pub is_done : List Event → ℕ × Order → Bool
-is_done past order = stands (is_command order.0) past
+is_done past order = occurs (is_command order.0) past
 
 abbrev pub fitting : ℕ → Option ℕ
 fitting n = then_some (nat_lt n (2 ^ 64)) n

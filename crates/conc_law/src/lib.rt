@@ -21,10 +21,10 @@ ghost use Rattle.conc_law.specs.Alone.{Alone, next_alone, opening};
 ghost use Rattle.conc_law.specs.Ends.{AreReported};
 ghost use Rattle.conc_law.specs.Exclusion.{excludes};
 ghost use Rattle.conc_law.specs.Facts.{is_let, running_place, runs, stages_begun, was_completed};
-ghost use Rattle.conc_law.specs.Kinds.{begins_stage, is_resume, starts, starts_at, stops, tick_of};
+ghost use Rattle.conc_law.specs.Kinds.{begins_stage, is_resume, starts, starts_at, ends_run, tick_of};
 ghost use Rattle.conc_law.specs.Law.{Finished, Lawful, may_follow, LawfulSoFar};
 ghost use Rattle.conc_law.specs.Overlap.{NoOverlap};
-ghost use Rattle.conc_law.specs.Before.{stands, stands_since};
+ghost use Rattle.conc_law.specs.Before.{occurs, occurs_since};
 ghost use Rattle.conc_law.specs.Remaining.{remaining};
 ghost use Rattle.conc_law.specs.Report.{report};
 ghost use Rattle.conc_types.specs.declared.limits.TheConstants.{MOST_REPORT_BYTES};
@@ -57,7 +57,7 @@ pub fn no_overlap()
         → NoOverlap plan history }
 {}
 
-/// No start of a request stands after its completion.
+/// No start of a request occurs after its completion.
 pub fn no_start_after_completion()
     ensures { (plan : Plan) (before : List Event) (r : Req) (place : PlaceId) →
         Has plan.requests r → LawfulSoFar plan (before ++ Event.Started r.number place ∷ []) →
@@ -142,24 +142,24 @@ pub fn alone_is_unique()
 
 // ---- what is kept of a request, against the events
 
-/// The stages of a set that have begun are those whose event stands.
-pub fn begun_stages_stand()
+/// The stages of a set that have begun are those whose event occurs.
+pub fn begun_stages_occur()
     ensures { (past : List Event) (set : RequestId) (stage : ℕ) → IsTrue (is_between 1 64 stage) →
-        has_stage (stages_begun past set) stage ≡ stands (begins_stage set stage) past }
+        has_stage (stages_begun past set) stage ≡ occurs (begins_stage set stage) past }
 {}
 
-/// A request runs where a start of it stands with no end or interrupt after it.
-pub fn running_stands()
+/// A request runs where a start of it occurs with no end or interrupt after it.
+pub fn running_has_its_start()
     ensures { (past : List Event) (r : RequestId) →
-        runs past r ≡ stands_since (λ _ e. starts r e) (λ _ e. stops r e) past }
+        runs past r ≡ occurs_since (λ _ e. starts r e) (λ _ e. ends_run r e) past }
 {}
 
-/// In a lawful history a request runs at the place at which a start of it stands with no end or
+/// In a lawful history a request runs at the place at which a start of it occurs with no end or
 /// interrupt after it.
-pub fn running_place_stands()
+pub fn running_place_has_its_start()
     ensures { (plan : Plan) (history : List Event) (r : Req) (place : PlaceId) → Has plan.requests r
         → LawfulSoFar plan history →
         some_and (λ p. p.index == place.index) (running_place (reverse history) r.number)
-        ≡ stands_since (λ _ e. starts_at r.number place e) (λ _ e. stops r.number e)
+        ≡ occurs_since (λ _ e. starts_at r.number place e) (λ _ e. ends_run r.number e)
         (reverse history) }
 {}

@@ -39,7 +39,7 @@ fn start_of(plan: &Plan, state: &State, r: &Req) -> Option<Event>
     }
 }
 
-fn stands_before(plan: &Plan, state: &State, r: &Req, q: &Req) -> bool
+fn starts_before(plan: &Plan, state: &State, r: &Req, q: &Req) -> bool
     ensures { result ≡ (next_spec.may_start_somewhere plan.now state.now q.now
         && plans_spec.precedes q.now r.now) }
 {
@@ -53,7 +53,7 @@ fn is_behind(plan: &Plan, state: &State, r: &Req) -> bool
     plan.requests
         .as_slice()
         .iter()
-        .any(|q| stands_before(plan, state, r, q))
+        .any(|q| starts_before(plan, state, r, q))
 }
 
 fn is_first(plan: &Plan, state: &State, r: &Req) -> bool

@@ -167,7 +167,7 @@ fn may_let(plan: &Plan, state: &State, r: &Req) -> bool
     is_ready(plan, state, r) && is_free(plan, state, r)
 }
 
-fn stands_before(plan: &Plan, state: &State, r: &Req, q: &Req) -> bool
+fn is_let_before(plan: &Plan, state: &State, r: &Req, q: &Req) -> bool
     ensures { result ≡ (next_spec.may_let plan.now state.now q.now
         && plans_spec.precedes q.now r.now) }
 {
@@ -181,7 +181,7 @@ fn is_behind(plan: &Plan, state: &State, r: &Req) -> bool
     plan.requests
         .as_slice()
         .iter()
-        .any(|q| stands_before(plan, state, r, q))
+        .any(|q| is_let_before(plan, state, r, q))
 }
 
 fn is_first(plan: &Plan, state: &State, r: &Req) -> bool

@@ -17,7 +17,7 @@ use Rattle.conc_types.specs.Stages.{has_stage}
 use Rattle.conc_types.specs.Words.{some_and}
 use Rattle.conc_law.specs.Facts.{cancels, completes, completion, current_stage, facts_of, holds, is_entered, is_held, is_idle, is_let, is_open, running_place, runs, stages_begun, terminates, unholds, unlets, waits_for_stage, was_completed, was_started, was_terminated}
 use Rattle.conc_law.specs.Kinds.{act_of, closes, is_cancel, is_resume, opens, starts}
-use Rattle.conc_law.specs.Before.{last_life, stands}
+use Rattle.conc_law.specs.Before.{last_life, occurs}
 use Rattle.conc_law.specs.Plans.{parent}
 use Rattle.conc_law.specs.Words.{Has, id_eq, is_set}
 use Rattle.conc_law.proofs.Numbering.{found}
@@ -88,7 +88,7 @@ outcome-step plan past named _ r h = refl
 
 -- a request is started in the last life if the event starts it, or it was, and the event is no resume
 started-step : (e : Event) (past : List Event) (r : RequestId)
-    → stands (starts r) (last_life (e ∷ past)) ≡ (not (is_resume e) && (starts r e || stands (starts r) (last_life past)))
+    → occurs (starts r) (last_life (e ∷ past)) ≡ (not (is_resume e) && (starts r e || occurs (starts r) (last_life past)))
 unfolding last_life
 started-step e past r = elim (cases_Bool (is_resume e)) [ inl h ↦ rw h refl | inr h ↦ rw h refl ]
 

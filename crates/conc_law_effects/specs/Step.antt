@@ -12,7 +12,7 @@ use Rattle.conc_types.specs.declared.plan.Plan.{Plan}
 use Rattle.conc_types.specs.declared.plan.Req.{Req}
 use Rattle.conc_types.specs.Stages.{has_stage, with_stage}
 use Rattle.conc_types.specs.Words.{some_and}
-use Rattle.conc_law.specs.Kinds.{act_of, closes, is_cancel, is_command, is_hold, is_resume, is_terminate, is_unhold, lets, opens, stage_begun_by, start_place, starts, stops}
+use Rattle.conc_law.specs.Kinds.{act_of, closes, is_cancel, is_command, is_hold, is_resume, is_terminate, is_unhold, lets, opens, stage_begun_by, start_place, starts, ends_run}
 use Rattle.conc_law.specs.Plans.{has_restart, parent}
 use Rattle.conc_law.specs.State.{is_completed, is_running}
 use Rattle.conc_law.specs.Words.{id_eq, is_set}
@@ -70,13 +70,13 @@ begun_after r e own =
     option_map_or (λ stage. with_stage own.begun.bits stage) (stage_begun_by r.number e) own.begun.bits
 
 unfoldable pub unlet_by : Plan → Req → Event → Facts → Bool
-unlet_by plan r e own = stops r.number e || (held_by plan r e own || cancelled_by plan r e own)
+unlet_by plan r e own = ends_run r.number e || (held_by plan r e own || cancelled_by plan r e own)
 
 unfoldable pub let_after : Plan → Req → Event → Facts → Bool
 let_after plan r e own = lets r.number e || (not (unlet_by plan r e own) && own.let_out)
 
 unfoldable pub place_after : Req → Event → Facts → Option PlaceId
-place_after r e own = option_or (start_place r.number e) (if stops r.number e then None else own.place)
+place_after r e own = option_or (start_place r.number e) (if ends_run r.number e then None else own.place)
 
 unfoldable pub started_after : Req → Event → Facts → Bool
 started_after r e own = not (is_resume e) && (starts r.number e || own.started)

@@ -76,8 +76,8 @@ pub(crate) fn start_place(r: RequestId, e: Event) -> Option<PlaceId>
     }
 }
 
-pub(crate) fn stops(r: RequestId, e: Event) -> bool
-    ensures { result ≡ spec.stops r e }
+pub(crate) fn ends_run(r: RequestId, e: Event) -> bool
+    ensures { result ≡ spec.ends_run r e }
 {
     match e {
         Event::Ended { request, .. } | Event::Interrupt { request } => request.number == r.number,

@@ -4,8 +4,8 @@ ghost use Rattle.conc_law.specs.Words.{id_eq};
 ghost use Rattle.conc_law_effects.specs.Step as spec;
 
 use crate::kinds::{
-    closes, is_cancel_of, is_command, is_hold_of, is_resume, is_terminate_of, is_unhold_of, lets,
-    opens, stage_begun_by, start_place, starts, stops,
+    closes, ends_run, is_cancel_of, is_command, is_hold_of, is_resume, is_terminate_of,
+    is_unhold_of, lets, opens, stage_begun_by, start_place, starts,
 };
 use conc_rules::{has_restart, is_set, parent};
 use conc_types::{Event, Facts, Outcome, PlaceId, Plan, Req, RequestId, StageSet};
@@ -139,7 +139,7 @@ fn begun_after(r: &Req, e: Event, own: Facts) -> StageSet
 fn is_unlet_by(plan: &Plan, r: &Req, e: Event, own: Facts) -> bool
     ensures { result ≡ spec.unlet_by plan.now r.now e own }
 {
-    stops(r.number, e) || is_held_by(plan, r, e, own) || is_cancelled_by(plan, r, e, own)
+    ends_run(r.number, e) || is_held_by(plan, r, e, own) || is_cancelled_by(plan, r, e, own)
 }
 
 #[tactic(auto, unfolding(crate::specs::Step::let_after))]
@@ -153,7 +153,11 @@ fn let_after(plan: &Plan, r: &Req, e: Event, own: Facts) -> bool
 fn place_after(r: &Req, e: Event, own: Facts) -> Option<PlaceId>
     ensures { result ≡ spec.place_after r.now e own }
 {
-    let kept = if stops(r.number, e) { None } else { own.place };
+    let kept = if ends_run(r.number, e) {
+        None
+    } else {
+        own.place
+    };
     start_place(r.number, e).or(kept)
 }
 

@@ -4,8 +4,8 @@ use Rattle.std.specs.Prelude.{◌==◌, if◌then◌else◌, nat_lt, None, Some}
 use Rattle.std.proofs.lemmas.Bool.{ne_eqb}
 use Rattle.conc_types.specs.declared.kind.RefusalKind.TheVariants as refused
 use Rattle.conc_types.specs.declared.refusal.FileKind.{FileKind}
-use Rattle.conc_types.specs.declared.refusal.ReadFail.{ReadFail}
-use Rattle.conc_types.specs.declared.refusal.ReadFail.TheVariants as fail
+use Rattle.conc_types.specs.declared.error.ReadFail.{ReadFail}
+use Rattle.conc_types.specs.declared.error.ReadFail.TheVariants as fail
 use Rattle.conc_types.specs.declared.script.Reading.{Reading}
 use Rattle.conc_types.specs.Faults.{Fault, first_fault, IsFailure}
 use Rattle.conc_types.specs.Words.{is_empty}

@@ -237,7 +237,7 @@ fn program_of(alloc: Global, table: &Table) -> Result<Judged<Program>, NoMemory>
 
 /// A program: a table of the array `program`, with the table that its requests report on. Without
 /// the keys for them, its type is the empty text, it is enabled, it does not run alone, and its
-/// requests do not run again after a stop.
+/// requests do not run again after a crash.
 pub struct ProgramForm;
 
 impl Form for ProgramForm {

@@ -1,6 +1,8 @@
 ghost use Rattle.std.specs.Prelude.{◌≡◌, ⊤};
-ghost use Rattle.conc_types.specs.declared.error.CheckFail.TheVariants.{NoMemory as out_of_memory};
+ghost use Rattle.conc_types.specs.declared.error.CheckFail.TheVariants as check_fail;
+ghost use Rattle.conc_types.specs.declared.error.ReadFail.TheVariants as read_fail;
 
+use crate::{FileKind, Refusal, RefusalKind};
 use std::alloc::{AllocError, AllocFailed};
 use thiserror::Error;
 
@@ -36,9 +38,51 @@ pub enum CheckFail {
 }
 
 impl From<NoMemory> for CheckFail {
-    ghost from_gives = { λ _ e. e ≡ out_of_memory };
+    ghost from_gives = { λ _ e. e ≡ check_fail.NoMemory };
 
     fn from(_: NoMemory) -> Self {
         CheckFail::NoMemory
+    }
+}
+
+/// Why a file gives no value.
+#[derive(Clone, Copy, Debug, PartialEq, Eq, Error)]
+pub enum ReadFail {
+    #[error("the file is refused")]
+    Refused(Refusal),
+    #[error("no memory")]
+    NoMemory,
+}
+
+impl ReadFail {
+    /// The refusal of a file at a line that breaks a rule of this kind.
+    pub fn refused(file: FileKind, line: u64, kind: RefusalKind) -> Self
+        ensures { result ≡ read_fail.Refused (record { file = file; line = line; kind = kind }) }
+    {
+        ReadFail::Refused(Refusal { file, line, kind })
+    }
+}
+
+impl From<NoMemory> for ReadFail {
+    ghost from_gives = { λ _ e. e ≡ read_fail.NoMemory };
+
+    fn from(_: NoMemory) -> Self {
+        ReadFail::NoMemory
+    }
+}
+
+impl From<AllocError> for ReadFail {
+    ghost from_gives = { λ _ e. e ≡ read_fail.NoMemory };
+
+    fn from(_: AllocError) -> Self {
+        ReadFail::NoMemory
+    }
+}
+
+impl<T: Drop> From<AllocFailed<T>> for ReadFail {
+    ghost from_gives = { λ _ e. e ≡ read_fail.NoMemory };
+
+    fn from(_: AllocFailed<T>) -> Self {
+        ReadFail::NoMemory
     }
 }

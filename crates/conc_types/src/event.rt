@@ -105,9 +105,9 @@ pub enum Event {
         outcome: Outcome,
         extent: Option<Extent>,
     },
-    /// The system starts again after a stop.
+    /// The system starts again after a crash.
     Resume,
-    /// A request that ran at the stop is given up.
+    /// A request that ran at the crash is given up.
     Interrupt {
         request: RequestId,
     },

@@ -25,7 +25,7 @@ mod text;
 
 pub use cells::Cells;
 pub use decimal::{put_decimal, read_decimal};
-pub use error::{CheckFail, NoMemory};
+pub use error::{CheckFail, NoMemory, ReadFail};
 pub use event::{Event, Extent, Moment, Outcome, Phase, PlaceId, RequestId, Status};
 pub use facts::{Facts, State};
 pub use item::{Entry, Item, Reach, Scope};
@@ -35,7 +35,7 @@ pub use manager::{Manager, Rule, Shift};
 pub use name::{Name, is_name};
 pub use plan::{Plan, Req};
 pub use program::{Filter, Job, Program, Test};
-pub use refusal::{FileKind, ReadFail, Refusal};
+pub use refusal::{FileKind, Refusal};
 pub use script::{Act, Order, Reading, Readings, Script};
 pub use seq::{Seq, numbered};
 pub use set::SetDef;

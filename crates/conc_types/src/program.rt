@@ -34,7 +34,7 @@ pub struct Job {
     ghost few: { length filters ≤ 16 },
 }
 
-/// A program. A request of a program with the mark `restart` runs again after a stop.
+/// A program. A request of a program with the mark `restart` runs again after a crash.
 #[derive(Drop)]
 pub struct Program {
     pub name: Name,

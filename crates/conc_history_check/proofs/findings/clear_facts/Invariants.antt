@@ -4,4 +4,5 @@ use Rattle.conc_law.specs.State.{no_facts}
 use Rattle.conc_history_check.proofs.findings.clear_facts.Given as goal
 
 abbrev pub invariant-loop-i : goal.invariant-loop-i
-invariant-loop-i l = l.facts ≡ map (λ (own : Facts). no_facts) (take l.i l.fn.facts) ++ drop l.i l.fn.facts
+invariant-loop-i l = l.facts
+    ≡ map (λ (own : Facts). no_facts) (take l.i l.fn.facts) ++ drop l.i l.fn.facts

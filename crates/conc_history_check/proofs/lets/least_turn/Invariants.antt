@@ -6,5 +6,6 @@ use Rattle.conc_history_check.proofs.lets.least_turn.Given as goal
 
 -- the least turn is the best one so far, or a lesser one of those that follow
 abbrev pub invariant-loop-r : goal.invariant-loop-r
-invariant-loop-r l = lesser l.best (least (turns_of (may_let l.plan l.state) (drop l.r-index l.plan.requests)))
+invariant-loop-r l =
+    lesser l.best (least (turns_of (may_let l.plan l.state) (drop l.r-index l.plan.requests)))
     ≡ least (turns_of (may_let l.plan l.state) l.plan.requests)

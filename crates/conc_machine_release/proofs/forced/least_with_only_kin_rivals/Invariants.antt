@@ -5,5 +5,8 @@ use Rattle.conc_machine_release.specs.Forced.{has_only_kin_rivals}
 use Rattle.conc_machine_release.proofs.forced.least_with_only_kin_rivals.Given as goal
 
 abbrev pub invariant-loop-r : goal.invariant-loop-r
-invariant-loop-r l = lesser l.best (least (turns_of (has_only_kin_rivals l.plan l.classes l.state l.class l.rivals) (drop l.r-index l.plan.requests)))
-    ≡ least (turns_of (has_only_kin_rivals l.plan l.classes l.state l.class l.rivals) l.plan.requests)
+invariant-loop-r l =
+    lesser l.best (least (turns_of (has_only_kin_rivals l.plan l.classes l.state l.class l.rivals)
+    (drop l.r-index l.plan.requests)))
+    ≡ least (turns_of (has_only_kin_rivals l.plan l.classes l.state l.class l.rivals)
+    l.plan.requests)

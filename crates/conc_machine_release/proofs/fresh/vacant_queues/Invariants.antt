@@ -5,4 +5,5 @@ use Rattle.conc_machine_queue.specs.Least.{vacant}
 use Rattle.conc_machine_release.proofs.fresh.vacant_queues.Given as goal
 
 abbrev pub invariant-loop-class : goal.invariant-loop-class
-invariant-loop-class l = l.queues.items ≡ map (λ c. vacant (slice_index l.classes.sizes c)) (range_with_len 0 l.class)
+invariant-loop-class l = l.queues.items
+    ≡ map (λ c. vacant (slice_index l.classes.sizes c)) (range_with_len 0 l.class)

@@ -3,4 +3,5 @@ use Rattle.csv.specs.Records.{fields_of}
 use Rattle.conc_tables.proofs.reading.push_fields.Given as goal
 
 abbrev pub invariant-loop-field : goal.invariant-loop-field
-invariant-loop-field l = (l.field-iterator.row.now ≡ l.row) × (l.cells ≡ l.initial.cells ++ take l.field-iterator.at (fields_of l.row))
+invariant-loop-field l = (l.field-iterator.row.now ≡ l.row)
+    × (l.cells ≡ l.initial.cells ++ take l.field-iterator.at (fields_of l.row))
