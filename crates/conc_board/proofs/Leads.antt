@@ -4,12 +4,13 @@ use mathlib.Core.Logic.{dite}
 use native.Mathlib.Decide.{ℕ_discrete}
 use Rattle.conc_types.specs.declared.event.RequestId.{RequestId}
 use Rattle.conc_types.specs.declared.plan.Plan.{Plan}
+use Rattle.conc_board_seats.specs.declared.posted.Posted.{Posted}
 use Rattle.conc_board_seats.specs.declared.views.Stage.{Stage}
 use Rattle.conc_board_seats.specs.declared.views.Stage.TheVariants.{NotLet, Let, Seen, Gone, Got, Done}
 use Rattle.conc_board_seats.specs.declared.views.View.{View}
 use Rattle.conc_board_seats.specs.Courses.{GoesOn}
 use Rattle.conc_board_seats.specs.Stages.{IsLetOrGone, IsLive, IsSettled, stage_at, stage_in}
-use Rattle.conc_board_seats.specs.Steps.{noted, with_stage}
+use Rattle.conc_board_seats.specs.Steps.{noted, with_post, with_stage}
 use Rattle.conc_board_seats.specs.Words.{IsRequest, count_of_requests, request_of, request_word}
 use Rattle.conc_board_seats.proofs.Facts.{request_eq}
 use Rattle.conc_board.specs.declared.board.Board.{Board}
@@ -120,10 +121,10 @@ changes_after board r old mid new first same second = record {
   places = second.places ∙ first.places;
 }
 
--- its view changed twice at one request
-pub changes_twice : (board : Board) (r : RequestId) (old new : Lead) (mid : View) (i : ℕ) (one two : Stage) (n k : ℕ) → IsLeadOf board old → IsRequest (plan_of board) r → i ≡ request_word r →
-    new.seat.table_id ≡ old.seat.table_id → mid ≡ with_stage old.seat.me.0 i one n → new.seat.me.0 ≡ with_stage mid i two k → GoesOn (stage_of old r) two → IsSettled two → Changes board r old new
-changes_twice board r old new mid i one two n k lead of_plan word seat is next goes_on calm =
+-- its view changed twice at one request, and it took this in between
+pub changes_twice : (board : Board) (r : RequestId) (old new : Lead) (mid : View) (i : ℕ) (one two : Stage) (n k : ℕ) (x : Posted) → IsLeadOf board old → IsRequest (plan_of board) r → i ≡ request_word r →
+    new.seat.table_id ≡ old.seat.table_id → mid ≡ with_post (with_stage old.seat.me.0 i one n) i x → new.seat.me.0 ≡ with_stage mid i two k → GoesOn (stage_of old r) two → IsSettled two → Changes board r old new
+changes_twice board r old new mid i one two n k x lead of_plan word seat is next goes_on calm =
     let all : length mid.stages ≡ count_of_requests (plan_of board) = ap (λ (v : View). length v.stages) is ∙ (length-set old.seat.me.0.stages i one ∙ lead.stages) in record {
       lead = record {
         seat = seat ∙ lead.seat;

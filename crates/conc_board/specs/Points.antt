@@ -1,10 +1,11 @@
 -- The rule of the board, point by point: what holds of every state that it allows, and of every step.
-use Rattle.std.specs.Prelude.{◌≡◌, ◌≢◌, ◌⊎◌, ℕ, ◌<◌, ◌≤◌, Bool, true, false, List, [], ◌∷◌, ◌++◌, slice_index, None, IsTrue}
+use Rattle.std.specs.Prelude.{◌≡◌, ◌≢◌, ◌⊎◌, ℕ, ◌<◌, ◌≤◌, Bool, true, false, List, [], ◌∷◌, ◌++◌, slice_index, None, Some, IsTrue}
 use mathlib.Core.Option.{none, some}
 use Rattle.atomic_table.specs.Table.{Me, Step}
 use Rattle.conc_types.specs.declared.event.PlaceId.{PlaceId}
 use Rattle.conc_types.specs.declared.event.RequestId.{RequestId}
 use Rattle.conc_types.specs.declared.plan.Plan.{Plan}
+use Rattle.conc_board_seats.specs.declared.posted.Posted.{Posted}
 use Rattle.conc_board_seats.specs.declared.views.Doing.TheVariants.{Idle, Waits, Serves}
 use Rattle.conc_board_seats.specs.declared.views.Stage.{Stage}
 use Rattle.conc_board_seats.specs.declared.views.Stage.TheVariants.{Gone, Got}
@@ -122,11 +123,39 @@ pub record StepsAreRecorded : Type 0 where
   pub join : (v w : View) → (joined v w).found ≡ v.found
   pub left : nobody.found ≡ []
 
--- ---- what was found is not read
+-- the step leaves what its seat took and left as it was
+abbrev pub KeepsPosts : Tells → Type 0
+KeepsPosts tells = (st : Step Slot) (before : Me Slot View) (n : ℕ) (after : Me Slot View) → tells st before n after → after.0.posts ≡ before.0.posts
+
+-- Two kinds of step add to it: the lead's load that takes a slot, what was in the slot; a hand's post, what it leaves
+-- there. No other kind does.
+pub record PostsAreRecorded : Type 0 where
+  pub get : (st : Step Slot) (before : Me Slot View) (n : ℕ) (after : Me Slot View) → got_tells st before n after
+      → (after.0.posts ≡ before.0.posts)
+      ⊎ ((x : Posted) × (after.1 ≡ (st.word, Some x) ∷ before.1) × (after.0.posts ≡ before.0.posts ++ (st.word, x) ∷ []))
+  pub post : (st : Step Slot) (before : Me Slot View) (n : ℕ) (after : Me Slot View) (x : Posted) (slots : List (ℕ × Slot)) → post_tells st before n after
+      → before.1 ≡ (st.word, Some x) ∷ slots → after.0.posts ≡ before.0.posts ++ (st.word, x) ∷ []
+  pub let_out : KeepsPosts let_out_tells
+  pub look : KeepsPosts look_tells
+  pub go : KeepsPosts go_tells
+  pub back : KeepsPosts back_tells
+  pub stop : KeepsPosts stop_tells
+  pub clear : KeepsPosts clear_tells
+  pub switch : KeepsPosts switch_tells
+  pub claim : KeepsPosts claim_tells
+  pub poll : KeepsPosts poll_tells
+  pub see_stop : KeepsPosts warn_tells
+  pub first : (plan : Plan) → (first_view plan).posts ≡ []
+  pub new_hand : (ps : List PlaceId) (v : View) → (given ps v).posts ≡ []
+  pub split : (ps : List PlaceId) (v : View) → (kept ps v).posts ≡ v.posts
+  pub join : (v w : View) → (joined v w).posts ≡ v.posts
+  pub left : nobody.posts ≡ []
+
+-- ---- what was found, taken and left is not read
 
 abbrev pub without_finds : View → View
-without_finds v = record v { found = [] }
+without_finds v = record v { found = []; posts = [] }
 
--- the views of the second list are those of the first, but for what was found
+-- the views of the second list are those of the first, but for what was found, taken and left
 abbrev pub DifferInFinds : List View → List View → Type 0
 DifferInFinds views others = (j : ℕ) → without_finds (view_at others j) ≡ without_finds (view_at views j)

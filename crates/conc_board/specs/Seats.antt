@@ -48,6 +48,10 @@ places_of_lead lead = lead.seat.me.0.places
 abbrev pub found_by_lead : Lead → List (ℕ × ℕ)
 found_by_lead lead = lead.seat.me.0.found
 
+-- what it took out of slots, in order: the number of the request's word, and what was posted
+abbrev pub posts_of_lead : Lead → List (ℕ × Posted)
+posts_of_lead lead = lead.seat.me.0.posts
+
 -- one step of the lead's found this in the word
 abbrev pub LeadFinds : ℕ → (ℕ → Type 0) → Lead → Lead → Type 0
 LeadFinds word IsSo old new = AddsOne word IsSo (found_by_lead old) (found_by_lead new)
@@ -107,6 +111,18 @@ places_of_hand hand = hand.seat.me.0.places
 -- what its steps found, in order
 abbrev pub found_by_hand : Hand → List (ℕ × ℕ)
 found_by_hand hand = hand.seat.me.0.found
+
+-- what it left in slots, in order: the number of the request's word, and what was posted
+abbrev pub posts_of_hand : Hand → List (ℕ × Posted)
+posts_of_hand hand = hand.seat.me.0.posts
+
+-- it left nothing
+abbrev pub PostsNothing : Hand → Hand → Type 0
+PostsNothing old new = posts_of_hand new ≡ posts_of_hand old
+
+-- it left this for the request, and nothing else
+abbrev pub PostsOne : RequestId → Posted → Hand → Hand → Type 0
+PostsOne r posted old new = posts_of_hand new ≡ posts_of_hand old ++ (request_word r, posted) ∷ []
 
 -- one step of the hand's found this in the word
 abbrev pub HandFinds : ℕ → (ℕ → Type 0) → Hand → Hand → Type 0

@@ -2,12 +2,13 @@
 use Rattle.std.specs.Prelude.{◌≡◌, ℕ, ◌==◌, ◌||◌, Bool, false, [], ◌∷◌, ◌++◌}
 use Rattle.conc_types.specs.declared.event.PlaceId.{PlaceId}
 use Rattle.conc_types.specs.declared.event.RequestId.{RequestId}
+use Rattle.conc_board_seats.specs.declared.posted.Posted.{Posted}
 use Rattle.conc_board_seats.specs.declared.views.Stage.TheVariants.{Gone, Done}
 use Rattle.conc_board_seats.specs.Rule.{Runs}
 use Rattle.conc_board_seats.specs.Stages.{WordFits}
 use Rattle.conc_board_seats.specs.Words.{ended, request_word, running}
 use Rattle.conc_board.specs.declared.lead.Lead.{Lead}
-use Rattle.conc_board.specs.Seats.{AddsOne, found_by_lead, stage_of}
+use Rattle.conc_board.specs.Seats.{AddsOne, found_by_lead, posts_of_lead, stage_of}
 
 -- the answer of an exchange that found n in the word of a request with the go at a place
 pub record StopsAt (place : PlaceId) (answer : Bool) (r : RequestId) (old new : Lead) : Type 0 where
@@ -42,10 +43,15 @@ pub record Collects (r : RequestId) (old new : Lead) : Type 0 where
   pub found :
       found_by_lead new ≡ found_by_lead old ++ (request_word r, ended place) ∷ (request_word r, ended place) ∷ []
 
+-- the lead took this for the request, and nothing else
+abbrev pub TakesPost : RequestId → Posted → Lead → Lead → Type 0
+TakesPost r posted old new = posts_of_lead new ≡ posts_of_lead old ++ (request_word r, posted) ∷ []
+
 -- nothing was taken: the word was found Running or Stopping
 pub record FindsRunning (r : RequestId) (old new : Lead) : Type 0 where
   pub place : PlaceId
   pub marked : Bool
   pub was : stage_of old r ≡ Gone place marked
   pub same : stage_of new r ≡ stage_of old r
+  pub none_taken : posts_of_lead new ≡ posts_of_lead old
   pub found : AddsOne (request_word r) (Runs false place) (found_by_lead old) (found_by_lead new)

@@ -9,13 +9,14 @@ ghost use Rattle.conc_board_seats.specs.declared.views.Stage.TheVariants as stag
 
 use crate::bells::Bells;
 use crate::hand::Hand;
+use crate::last_claims::LastClaims;
 use crate::lead::Lead;
 use crate::owners::owners_of;
 use crate::plays::{Keeping, Passing, SplitsOff, TakesIn};
 use atomic_table::Table;
 use conc_board_seats::{Posted, View};
 use conc_time::place_count;
-use conc_types::{NoMemory, PlaceId, Plan};
+use conc_types::{NoMemory, PlaceId, Plan, RequestId};
 use crossbeam_utils::sync::EventCount;
 use std::alloc::Global;
 use std::marker::Brand;
@@ -30,6 +31,7 @@ pub struct Board {
     // For each place its manager, by its place in the setup.
     pub(crate) owners: Vec<u32>,
     pub(crate) bells: Bells,
+    pub(crate) last_claims: LastClaims,
     ghost words: { table.shared.table_id.words ≡ count_of_words table.shared.key },
     ghost slots: { table.shared.table_id.slots ≡ count_of_requests table.shared.key },
     ghost request_count: { requests ≡ count_of_requests table.shared.key },
@@ -52,6 +54,7 @@ impl Board {
         let requests = plan.requests.len();
         let places = place_count(plan) as usize;
         let owners = owners_of(alloc, plan)?;
+        let last_claims = LastClaims::new(alloc, places)?;
         let words = vec![in alloc; 0u64; requests + places + 1]?;
         let (table, seat) = Table::vacant(alloc, words.as_slice(), requests, plan)?;
         let board = Board {
@@ -60,6 +63,7 @@ impl Board {
             places,
             owners,
             bells: Bells::new(),
+            last_claims,
         };
         Ok((board, Lead { seat }))
     }
@@ -125,5 +129,11 @@ impl Board {
     /// The bell at which the lead may sleep. It is rung after a claim that won and after `post`.
     pub fn lead_bell(&self) -> &EventCount {
         &self.bells.lead
+    }
+
+    /// The request that was claimed last for a place, where the lead looks first. It may be any request of the plan, or
+    /// none: only a look at the request tells.
+    pub fn last_claim(&self, place: PlaceId) -> Option<RequestId> {
+        self.last_claims.get(place)
     }
 }

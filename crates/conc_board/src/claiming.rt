@@ -163,6 +163,7 @@ impl Board {
         if word != RELEASED {
             return None;
         }
+        self.last_claims.set(place, r);
         self.bells.lead.notify_all();
         Some(Claim { request: r, place })
     }

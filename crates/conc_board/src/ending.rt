@@ -73,6 +73,7 @@ impl Board {
             places: _,
             owners: _,
             bells: _,
+            last_claims: _,
         } = self;
         let Lead { seat } = lead;
         let mut closed = table.close_with(seat);

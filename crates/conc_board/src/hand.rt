@@ -85,7 +85,7 @@ impl Board {
     ghost use Rattle.conc_board_seats.specs.Words.{end_word, IsPlace};
     ghost use Rattle.conc_board_seats.specs.declared.views.Doing.TheVariants as does;
     ghost use Rattle.conc_board.specs.Claims.{HasClaim, HasPermit, MayPost, permit_place, permit_request, Polls as PollsAs, Warned};
-    ghost use Rattle.conc_board.specs.Seats.{doing_of, FindsOpen, FindsRunningAt, HandFinds, IsFlagSeen, IsHandOf, plan_of, Stays};
+    ghost use Rattle.conc_board.specs.Seats.{doing_of, FindsOpen, FindsRunningAt, HandFinds, IsFlagSeen, IsHandOf, plan_of, PostsNothing, PostsOne, Stays};
 
     /// Looks for the answer to a claim. After `Withdrawn` the hand does nothing.
     pub fn poll(&self, hand: &mut Hand, claim: Claim) -> Polled
@@ -93,6 +93,7 @@ impl Board {
         requires claim { HasClaim hand.old claim }
         ensures hand { Stays self.now hand.old hand.new }
         ensures polled { PollsAs result claim hand.old hand.new }
+        ensures posts { PostsNothing hand.old hand.new }
     {
         let word = self
             .table
@@ -108,6 +109,7 @@ impl Board {
         requires permit { HasPermit hand.old permit.now }
         ensures hand { Stays self.now hand.old hand.new }
         ensures warned { Warned result permit.now hand.old hand.new }
+        ensures posts { PostsNothing hand.old hand.new }
     {
         let word = self
             .table
@@ -123,6 +125,7 @@ impl Board {
         requires permit { MayPost (plan_of self.now) hand.old permit posted }
         ensures hand { Stays self.now hand.old hand.new }
         ensures idle { doing_of hand.new ≡ does.Idle }
+        ensures posted { PostsOne (permit_request permit) posted hand.old hand.new }
         ensures found { FindsRunningAt (permit_request permit) (permit_place permit) hand.old
             hand.new }
     {

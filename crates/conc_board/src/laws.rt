@@ -11,7 +11,7 @@ ghost use Rattle.conc_board_seats.specs.Rule.{BoardState, Keep};
 ghost use Rattle.conc_board_seats.specs.Stages.{is_marked};
 ghost use Rattle.conc_board.specs.Counts.{AreMarked, count_of_goes, count_of_takes};
 ghost use Rattle.conc_board.specs.Permits.{HaveApart};
-ghost use Rattle.conc_board.specs.Points.{DifferInFinds, Points, StepsAreRecorded};
+ghost use Rattle.conc_board.specs.Points.{DifferInFinds, Points, PostsAreRecorded, StepsAreRecorded};
 ghost use Rattle.conc_board.specs.Seats.{doing_of, slots_of};
 
 use crate::Hand;
@@ -30,7 +30,7 @@ pub fn rule_has_points()
     ensures { (plan : Plan) (s : BoardState) → Keep plan s → Points plan s }
 {}
 
-/// The rule does not read what the seats found.
+/// The rule does not read what the seats found, nor what they took and left.
 pub fn rule_reads_no_finds()
     ensures { (plan : Plan) (s : BoardState) (others : List View) → Keep plan s →
         DifferInFinds s.views others → Keep plan
@@ -44,9 +44,11 @@ pub fn permit_has_its_slot(hand: &Hand)
 
 // ---- every step
 
-/// Each step adds what it found to what its seat found.
+/// Each step adds what it found to what its seat found; a post adds what it leaves to what its hand left, and the
+/// load that takes a slot adds what was there to what the lead took.
 pub fn steps_are_recorded()
-    ensures { StepsAreRecorded }
+    ensures found { StepsAreRecorded }
+    ensures posts { PostsAreRecorded }
 {}
 
 // ---- every course of the stages of one request, from one call of the lead's to the next

@@ -58,7 +58,7 @@ impl Board {
     ghost use Rattle.conc_board_seats.specs.declared.views.Stage.TheVariants as stage;
     ghost use Rattle.conc_board.specs.Looks.{HasProgress, LooksOn, SeesStage, Shows};
     ghost use Rattle.conc_board.specs.Seats.{Changes, FindsFitting, IsApart, IsFlag, IsLeadOf, IsLeftFor, KeepsStages, LeadFinds, plan_of, stage_of};
-    ghost use Rattle.conc_board.specs.Stops.{Collects, FindsRunning, Stops as StopsAs, StopsAt};
+    ghost use Rattle.conc_board.specs.Stops.{Collects, FindsRunning, Stops as StopsAs, StopsAt, TakesPost};
 
     /// Lets a request out that is not on the board and excludes none that is.
     pub fn let_out(&self, lead: &mut Lead, r: RequestId)
@@ -196,6 +196,7 @@ impl Board {
         requires stage { IsGone (stage_of lead.old r) }
         ensures lead { Changes self.now r lead.old lead.new }
         ensures posted { IfOk result (IsLeftFor self.now lead.old r) }
+        ensures taken { IfOk result (λ posted. TakesPost r posted lead.old lead.new) }
         ensures collected { OnOk result (Collects r lead.old lead.new) }
         ensures not_yet { OnErr result (FindsRunning r lead.old lead.new) }
     {

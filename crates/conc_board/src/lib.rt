@@ -7,6 +7,7 @@ mod board;
 mod claiming;
 mod ending;
 mod hand;
+mod last_claims;
 mod laws;
 mod lead;
 mod numbers;

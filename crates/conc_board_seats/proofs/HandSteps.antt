@@ -23,7 +23,7 @@ use Rattle.conc_board_seats.specs.Places.{has}
 use Rattle.conc_board_seats.specs.Reports.{MayLeave}
 use Rattle.conc_board_seats.specs.Rule.{Fits, Home, IsAtOwn, IsServed, Keep, Runs, Works, doing_at, view_at}
 use Rattle.conc_board_seats.specs.Stages.{stage_at}
-use Rattle.conc_board_seats.specs.Steps.{ServedFits, Slot, claim_tells, poll_tells, post_tells, warn_tells, with_doing}
+use Rattle.conc_board_seats.specs.Steps.{ServedFits, Slot, claim_tells, poll_tells, post_tells, warn_tells, with_doing, with_left, with_post}
 use Rattle.conc_board_seats.specs.Words.{IsPlace, IsRequest, claimed, count_of_requests, ended, place_in, request_of, run_word, running, stopping}
 use Rattle.conc_board_seats.proofs.Facts.{at_view, fits_on, home_there, no_permit, place_eq}
 use Rattle.conc_board_seats.proofs.Moves.{OnlyOn, St, hand_moves, home, own_doing, word}
@@ -281,7 +281,7 @@ module _ (plan : Plan) where
       MayLeave plan (request_of i) stop x → i < count_of_requests plan →
       Allows Rule slots id me i (λ _. ended p) (post_tells (step slots i (ended p) 0 none) me)
   posts slots id me i p stop x serves carries may inside s k _ at _ =
-      let v : View = me.0 in let n : ℕ = word s i in let w : View = with_doing v Idle i n in let few = k.few_places in
+      let v : View = me.0 in let n : ℕ = word s i in let w : View = with_post (with_doing v Idle i n) i x in let few = k.few_places in
       let held = serving s k id i v p stop at serves in
       let on : OnlyOn i v.doing = subst (OnlyOn i) (sym serves) refl in (
         w,
@@ -293,7 +293,7 @@ module _ (plan : Plan) where
             tt
             (λ a q near other h. absurd (other (ap k.owner (sym (lone_permit stop a p q n few held.2 near held.3 h)) ∙ held.0)))
             (ap (λ (cs : List (ℕ × Slot)). put_back s.homes cs) carries),
-        (refl, refl, subst (λ (z : Doing). ServedFits z n) (sym serves) held.3),
+        (sym (ap (with_left (with_doing v Idle i n)) carries), refl, subst (λ (z : Doing). ServedFits z n) (sym serves) held.3),
       )
 
   -- ---- the stop sign

@@ -17,7 +17,7 @@ use Rattle.conc_board_seats.specs.declared.views.Stage.TheVariants.{NotLet, Let,
 use Rattle.conc_board_seats.specs.declared.views.View.{View}
 use Rattle.conc_board_seats.specs.Rule.{Fits, HasLeft, Home, Keep, Runs, doing_at, exclude}
 use Rattle.conc_board_seats.specs.Stages.{IsLet, IsLive, cleared, gone, got, is_marked, looked, marked, stage_at}
-use Rattle.conc_board_seats.specs.Steps.{EndedFits, IsTold, RunFits, Slot, back_tells, clear_tells, go_tells, got_tells, let_out_tells, look_tells, note_tells, noted, stop_tells, switch_tells, with_stage}
+use Rattle.conc_board_seats.specs.Steps.{EndedFits, IsTold, RunFits, Slot, back_tells, clear_tells, go_tells, got_tells, let_out_tells, look_tells, note_tells, noted, stop_tells, switch_tells, with_post, with_stage}
 use Rattle.conc_board_seats.specs.Words.{IsPlace, claimed, count_of_requests, count_of_words, ended, request_of, run_word, running, stopping}
 use Rattle.conc_board_seats.proofs.Facts.{apart_more, apart_same, home_there, let_free, has_place, look_fits, looked_fits, looked_live, no_permit, word_fits}
 use Rattle.conc_board_seats.proofs.Moves.{St, home, led, lead_moves, plain_moves, word}
@@ -159,7 +159,7 @@ module _ (plan : Plan) where
       let l = led plan s k id v at leads in let full = l.all_stages in let few = k.few_places in
       let fit : Fits plan (doing_at s.views k.owner) (request_of r) (Gone p m) n (home s r) = subst (λ (z : Stage). Fits plan (doing_at s.views k.owner) (request_of r) z n (home s r)) is (l.fits r inside) in
       dite (ℕ_discrete (n / 256) 4)
-      (λ four. let w : View = with_stage v r st n in let e = has_ended (doing_at s.views k.owner) r p m n (home s r) few four fit in let x : Posted = e.1.0 in (
+      (λ four. let e = has_ended (doing_at s.views k.owner) r p m n (home s r) few four fit in let x : Posted = e.1.0 in let w : View = with_post (with_stage v r st n) r x in (
         w,
         takes r (Some x),
         home_there s.homes r (Some x) e.1.1,
@@ -169,7 +169,7 @@ module _ (plan : Plan) where
             (λ q other. get_or-set_other v.stages r q st NotLet other)
             (λ stop q near h. h)
             refl,
-        ((λ _. (refl, subst (λ (z : Stage). EndedFits z n) (sym is) e.0, (x, refl, subst (λ (z : Option Plan × Bool). IsTold z.0 (request_of r) z.1 x) (λ i. (sym l.knows_plan i, ap is_marked (sym is) i)) e.1.2))), (λ not. absurd (not four))),
+        ((λ _. (subst (λ (z : Stage). EndedFits z n) (sym is) e.0, (x, refl, refl, subst (λ (z : Option Plan × Bool). IsTold z.0 (request_of r) z.1 x) (λ i. (sym l.knows_plan i, ap is_marked (sym is) i)) e.1.2))), (λ not. absurd (not four))),
       ))
       (λ not. let w : View = noted v r n in (
         w,

@@ -25,7 +25,7 @@ use Rattle.conc_board_seats.specs.Words.{IsPlace, IsRequest, claimed, count_of_r
 
 -- the view that a seat leaves behind when it is taken in, and that of a number which no seat has
 abbrev pub nobody : View
-nobody = record { leads = false; plan = None; stages = []; places = []; doing = Idle; found = [] }
+nobody = record { leads = false; plan = None; stages = []; places = []; doing = Idle; found = []; posts = [] }
 
 -- the lead's view of a new board
 abbrev pub first_view : Plan → View
@@ -36,6 +36,7 @@ first_view plan = record {
   places = below (count_of_places plan);
   doing = Idle;
   found = [];
+  posts = [];
 }
 
 -- the view of the seat with this number

@@ -31,12 +31,21 @@ with_stage v i stage n = record v { stages = slice_set v.stages i stage; found =
 abbrev pub with_doing : View → Doing → ℕ → ℕ → View
 with_doing v doing i n = record v { doing = doing; found = v.found ++ (i, n) ∷ [] }
 
+-- of a seat that took this out of the slot i, or left it there
+abbrev pub with_post : View → ℕ → Posted → View
+with_post v i x = record v { posts = v.posts ++ (i, x) ∷ [] }
+
+-- of one that leaves what is in the slot that it took last
+abbrev pub with_left : View → List (ℕ × Option Posted) → View
+with_left v ((i, Some x) ∷ slots) = with_post v i x
+with_left v slots = v
+
 -- of the lead, which passes places on, and of the hand that gets them
 abbrev pub kept : List PlaceId → View → View
 kept ps v = record v { places = without v.places ps }
 
 abbrev pub given : List PlaceId → View → View
-given ps v = record { leads = false; plan = None; stages = []; places = ps; doing = Idle; found = [] }
+given ps v = record { leads = false; plan = None; stages = []; places = ps; doing = Idle; found = []; posts = [] }
 
 -- of the lead, which takes in a hand with the view w
 abbrev pub joined : View → View → View
@@ -104,9 +113,9 @@ RunFits stage n = Unit {0}
 abbrev pub got_tells : Tells
 got_tells st m n m' =
     (n / 256 ≡ 4 →
-    (m'.0 ≡ with_stage m.0 st.word (got (stage_at m.0.stages st.word)) n)
-    × EndedFits (stage_at m.0.stages st.word) n
-    × ((x : Posted) × (m'.1 ≡ (st.word, Some x) ∷ m.1)
+    EndedFits (stage_at m.0.stages st.word) n
+    × ((x : Posted) × (m'.0 ≡ with_post (with_stage m.0 st.word (got (stage_at m.0.stages st.word)) n) st.word x)
+    × (m'.1 ≡ (st.word, Some x) ∷ m.1)
     × IsTold m.0.plan (request_of st.word) (is_marked (stage_at m.0.stages st.word)) x))
     × (n / 256 ≢ 4 → (m'.0 ≡ noted m.0 st.word n) × (m'.1 ≡ m.1) × RunFits (stage_at m.0.stages st.word) n)
 
@@ -143,4 +152,4 @@ warn_tells st m n m' =
 
 abbrev pub post_tells : Tells
 post_tells st m n m' =
-    (m'.0 ≡ with_doing m.0 Idle st.word n) × (m'.1 ≡ rest m.1) × ServedFits m.0.doing n
+    (m'.0 ≡ with_left (with_doing m.0 Idle st.word n) m.1) × (m'.1 ≡ rest m.1) × ServedFits m.0.doing n

@@ -1,3 +1,4 @@
+use crate::Posted;
 use conc_types::{PlaceId, Plan, RequestId};
 use std::collections::LinkedList;
 
@@ -41,4 +42,7 @@ pub struct View {
     pub doing: Doing,
     /// What its steps found, in order: the number of the word, and what stood there.
     pub found: LinkedList<(u64, u64)>,
+    /// What it left in slots, as a hand, or took out of them, as the lead, in order: the number of the request's word,
+    /// and what was posted.
+    pub posts: LinkedList<(u64, Posted)>,
 }

@@ -9,6 +9,7 @@ use Rattle.conc_board_seats.specs.Reports.{report_for}
 use Rattle.conc_board.specs.declared.hand.Hand.{Hand}
 use Rattle.conc_board.specs.declared.hand.Permit.{Permit}
 use Rattle.conc_board.specs.Claims.{Warned, permit_request}
+use Rattle.conc_board.specs.Seats.{PostsNothing}
 
 -- That it stopped, exactly where it was told to; else its own report, or that there was no memory for one.
 abbrev pub Leaves : Plan → RequestId → Bool → Posted → Type 0
@@ -22,3 +23,4 @@ pub record Prepares (plan : Plan) (permit : Permit) (posted : Posted) (old new :
   pub told : Bool
   pub warned : Warned told permit old new
   pub leaves : Leaves plan (permit_request permit) told posted
+  pub nothing_yet : PostsNothing old new

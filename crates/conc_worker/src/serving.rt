@@ -37,7 +37,7 @@ pub fn serve_once<G: Gate>(
     requires hand { IsHandOf board.now hand.old }
     requires claim { HasClaim hand.old claim }
     ensures hand { Stays board.now hand.old hand.new }
-    ensures served { Serves result claim hand.old hand.new }
+    ensures served { Serves plan.now result claim hand.old hand.new }
 {
     let permit = match board.poll(hand, claim) {
         Polled::Go(permit) => permit,

@@ -1,3 +1,4 @@
+use Rattle.std.proofs.lemmas.Option.{same_Some}
 use Rattle.std.proofs.Common.{◌≡◌, ◌∙◌, ℕ, Bool, List, length, sym, refl, ap, inr, subst, ◌∷◌, ◌++◌, [], Some, None, Option, get_or-set_same, length-set, arith}
 use Rattle.atomic_table.specs.Table.{rest}
 use Rattle.conc_types.specs.declared.event.PlaceId.{PlaceId}
@@ -9,7 +10,7 @@ use Rattle.conc_board_seats.specs.declared.views.Stage.TheVariants.{Done, Gone, 
 use Rattle.conc_board_seats.specs.declared.views.View.{View}
 use Rattle.conc_board_seats.specs.Courses.{GoesOn}
 use Rattle.conc_board_seats.specs.Stages.{WordFits, cleared, got, stage_at, stage_in}
-use Rattle.conc_board_seats.specs.Steps.{EndedFits, with_stage}
+use Rattle.conc_board_seats.specs.Steps.{EndedFits, with_post, with_stage}
 use Rattle.conc_board_seats.specs.Words.{IsRequest, count_of_requests, ended, request_word}
 use Rattle.conc_board_seats.proofs.LeadSteps.{clears, collects}
 use Rattle.conc_board.specs.Seats.{stage_of}
@@ -18,8 +19,8 @@ use Rattle.conc_board.proofs.StoppedSo.{gone_place}
 use Rattle.conc_board.proofs.board.Board.collect.Goals as goal
 
 -- where the word was found Ended, the request was then got, and then done
-module _ (plan : Plan) (r : RequestId) (v mid w : View) (i : ℕ) (p : PlaceId) (m : Bool) (n k : ℕ) (all : length v.stages ≡ count_of_requests plan) (of_plan : IsRequest plan r) (word : i ≡ request_word r)
-    (was : stage_in v.stages r ≡ Gone p m) (one : mid ≡ with_stage v i (got (stage_at v.stages i)) n) (two : w ≡ with_stage mid i (cleared (stage_at mid.stages i)) k) where
+module _ (plan : Plan) (r : RequestId) (v mid w : View) (i : ℕ) (p : PlaceId) (m : Bool) (n k : ℕ) (x : Posted) (all : length v.stages ≡ count_of_requests plan) (of_plan : IsRequest plan r) (word : i ≡ request_word r)
+    (was : stage_in v.stages r ≡ Gone p m) (one : mid ≡ with_post (with_stage v i (got (stage_at v.stages i)) n) i x) (two : w ≡ with_stage mid i (cleared (stage_at mid.stages i)) k) where
   got_then : stage_at mid.stages i ≡ Got p m
   got_then = ap (λ (u : View). stage_at u.stages i) one
       ∙ (get_or-set_same v.stages i (got (stage_at v.stages i)) NotLet (omega (arith, of_plan.from_one, of_plan.within)) ∙ ap got (stage_there v.stages r i word of_plan.from_one ∙ was))
@@ -53,7 +54,7 @@ load-requires c =
 
 pub take_out-requires : goal.take_out-requires
 take_out-requires c =
-    let i = c.request_word-word.result in let t = c.load.ensures.2.0 c.if-load-ne4.false in let x = t.2.0 in let e = t.2.1 in
+    let i = c.request_word-word.result in let t = c.load.ensures.2.0 c.if-load-ne4.false in let x = t.1.0 in let e = t.1.2 in
     (c.load.ensures.0 ∙ c.requires.lead.seat, (Some x, e ∙ ap (λ (cs : List (ℕ × Option Posted)). (i, Some x) ∷ cs) (sym (ap rest e))))
 
 pub swap-requires : goal.swap-requires
@@ -66,9 +67,9 @@ swap-requires c =
     let view = ap (λ m. m.0) e.3 in (
       e.0 ∙ (c.load.ensures.0 ∙ c.requires.lead.seat),
       omega (arith, b.words),
-      clears b.table.shared.key _ _ _ i g.0 g.1 (ap (λ (u : View). u.leads) (view ∙ t.0) ∙ c.args.lead.now.leads) (omega arith)
-          (ap (λ (u : View). stage_at u.stages i) (view ∙ t.0) ∙ (get_or-set_same v.stages i (got (stage_at v.stages i)) NotLet (omega arith) ∙ ap got there))
-          (ap (λ m. m.1) e.3 ∙ ap (λ (cs : List (ℕ × Option Posted)). (i, None) ∷ rest cs) (t.2.1 ∙ ap (λ (cs : List (ℕ × Option Posted)). (i, Some t.2.0) ∷ cs) c.args.lead.now.empty)),
+      clears b.table.shared.key _ _ _ i g.0 g.1 (ap (λ (u : View). u.leads) (view ∙ t.1.1) ∙ c.args.lead.now.leads) (omega arith)
+          (ap (λ (u : View). stage_at u.stages i) (view ∙ t.1.1) ∙ (get_or-set_same v.stages i (got (stage_at v.stages i)) NotLet (omega arith) ∙ ap got there))
+          (ap (λ m. m.1) e.3 ∙ ap (λ (cs : List (ℕ × Option Posted)). (i, None) ∷ rest cs) (t.1.2 ∙ ap (λ (cs : List (ℕ × Option Posted)). (i, Some t.1.0) ∷ cs) c.args.lead.now.empty)),
     )
 
 pub returns-clause-lead : goal.returns-clause-lead
@@ -76,11 +77,11 @@ returns-clause-lead c =
     let v = c.args.lead.now.seat.me.0 in let mid = c.take_out.new.seat.me.0 in let w = c.swap.new.seat.me.0 in
     let g = gone_place (stage_of c.args.lead.now c.args.r) c.requires.stage in
     let t = c.load.ensures.2.0 c.if-load-ne4.false in
-    let one = ap (λ m. m.0) c.take_out.ensures.3 ∙ t.0 in
+    let one = ap (λ m. m.0) c.take_out.ensures.3 ∙ t.1.1 in
     let plan = c.args.self.now.table.shared.key in let i = c.request_word-word.result in
-    changes_twice _ _ _ _ mid i (got (stage_at v.stages i)) (Done g.1) c.load.result c.swap.result c.requires.lead c.requires.request c.request_word-word.ensures
+    changes_twice _ _ _ _ mid i (got (stage_at v.stages i)) (Done g.1) c.load.result c.swap.result t.1.0 c.requires.lead c.requires.request c.request_word-word.ensures
     (c.swap.ensures.0 ∙ (c.take_out.ensures.0 ∙ c.load.ensures.0)) one
-    (done_then plan c.args.r v mid w i g.0 g.1 c.load.result c.swap.result c.requires.lead.stages c.requires.request c.request_word-word.ensures g.2 one c.swap.ensures.2.0)
+    (done_then plan c.args.r v mid w i g.0 g.1 c.load.result c.swap.result t.1.0 c.requires.lead.stages c.requires.request c.request_word-word.ensures g.2 one c.swap.ensures.2.0)
     (subst (λ (z : Stage). GoesOn z (Done g.1)) (sym g.2) (inr (inr refl))) tt
 
 pub returns-clause-collected : goal.returns-clause-collected
@@ -88,12 +89,29 @@ returns-clause-collected c =
     let v = c.args.lead.now.seat.me.0 in let mid = c.take_out.new.seat.me.0 in let w = c.swap.new.seat.me.0 in
     let g = gone_place (stage_of c.args.lead.now c.args.r) c.requires.stage in
     let t = c.load.ensures.2.0 c.if-load-ne4.false in
-    let one = ap (λ m. m.0) c.take_out.ensures.3 ∙ t.0 in
+    let one = ap (λ m. m.0) c.take_out.ensures.3 ∙ t.1.1 in
     let plan = c.args.self.now.table.shared.key in let i = c.request_word-word.result in
     record {
       place = g.0;
       marked = g.1;
       was = g.2;
-      now = ends_done plan c.args.r v mid w i g.0 g.1 c.load.result c.swap.result c.requires.lead.stages c.requires.request c.request_word-word.ensures g.2 one c.swap.ensures.2.0;
-      found = finds_ended plan c.args.r v mid w i g.0 g.1 c.load.result c.swap.result c.requires.lead.stages c.requires.request c.request_word-word.ensures g.2 one c.swap.ensures.2.0 t.1 c.swap.ensures.2.2;
+      now = ends_done plan c.args.r v mid w i g.0 g.1 c.load.result c.swap.result t.1.0 c.requires.lead.stages c.requires.request c.request_word-word.ensures g.2 one c.swap.ensures.2.0;
+      found = finds_ended plan c.args.r v mid w i g.0 g.1 c.load.result c.swap.result t.1.0 c.requires.lead.stages c.requires.request c.request_word-word.ensures g.2 one c.swap.ensures.2.0 t.0 c.swap.ensures.2.2;
     }
+
+-- what was in the slot is what was taken out of it
+first_slot : List (ℕ × Option Posted) → Option Posted
+first_slot [] = None
+first_slot (slot ∷ slots) = slot.1
+
+same_slot : (cs before after : List (ℕ × Option Posted)) (i : ℕ) (x posted : Posted) (r : Option Posted) → cs ≡ (i, Some x) ∷ before → cs ≡ (i, r) ∷ after → r ≡ Some posted → x ≡ posted
+unfolding first_slot
+same_slot cs before after i x posted r held out is = same_Some x posted (ap first_slot (sym held ∙ out) ∙ is)
+
+pub returns-clause-taken : goal.returns-clause-taken
+returns-clause-taken c =
+    let v = c.args.lead.now.seat.me.0 in let w = c.swap.new.seat.me.0 in
+    let i = c.request_word-word.result in let t = c.load.ensures.2.0 c.if-load-ne4.false in
+    let one = ap (λ m. m.0) c.take_out.ensures.3 ∙ t.1.1 in
+    subst (λ (x : Posted). w.posts ≡ v.posts ++ (request_word c.args.r, x) ∷ []) (same_slot _ _ _ i t.1.0 c.in-Some.posted _ t.1.2 c.take_out.ensures.2 c.in-Some.is)
+    (ap (λ (u : View). u.posts) c.swap.ensures.2.0 ∙ ap (λ (u : View). u.posts) one ∙ ap (λ (z : ℕ). v.posts ++ (z, t.1.0) ∷ []) c.request_word-word.ensures)

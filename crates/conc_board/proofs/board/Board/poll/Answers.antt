@@ -1,6 +1,7 @@
 use Rattle.std.proofs.Common.{◌∙◌, arith, ap, sym}
 use Rattle.conc_types.specs.declared.event.RequestId.{RequestId}
 use Rattle.conc_board_seats.specs.declared.views.Doing.TheVariants.{Waits}
+use Rattle.conc_board_seats.specs.declared.views.View.{View}
 use Rattle.conc_board_seats.specs.Doings.{carried_by, polled}
 use Rattle.conc_board_seats.proofs.HandSteps.{polls}
 use Rattle.conc_board.specs.Seats.{doing_of, plan_of}
@@ -31,3 +32,6 @@ returns-clause-hand c = stays_doing _ _ _ (polled (doing_of c.args.hand.now) c.l
 pub returns-clause-polled : goal.returns-clause-polled
 returns-clause-polled c = polls_so (plan_of c.args.self.now) c.args.claim c.args.hand.now _ c.request_word.result c.load-word.result c.requires.claim c.load-word.ensures.2.0 c.request_word.ensures
     c.polled_by.result c.polled_by.ensures
+
+pub returns-clause-posts : goal.returns-clause-posts
+returns-clause-posts c = ap (λ (u : View). u.posts) c.load-word.ensures.2.0

@@ -1,4 +1,4 @@
-use Rattle.std.proofs.Common.{◌∙◌, ℕ, List, ◌∷◌, [], Option, Some, None, arith, ap, false, subst, sym}
+use Rattle.std.proofs.Common.{◌≡◌, ◌∙◌, ℕ, List, ◌∷◌, ◌++◌, [], Option, Some, None, arith, ap, false, subst, sym}
 use Rattle.atomic_table.specs.Table.{rest}
 use Rattle.conc_types.specs.declared.event.RequestId.{RequestId}
 use Rattle.conc_board_seats.specs.declared.posted.Posted.{Posted}
@@ -8,10 +8,10 @@ use Rattle.conc_board_seats.specs.declared.views.View.{View}
 use Rattle.conc_board_seats.specs.Doings.{carried_by}
 use Rattle.conc_board_seats.specs.Reports.{MayLeave}
 use Rattle.conc_board_seats.specs.Rule.{Runs}
-use Rattle.conc_board_seats.specs.Steps.{ServedFits, with_doing}
+use Rattle.conc_board_seats.specs.Steps.{ServedFits, with_doing, with_left, with_post}
 use Rattle.conc_board_seats.proofs.HandSteps.{posts_by}
 use Rattle.conc_board.specs.Seats.{doing_of, plan_of}
-use Rattle.conc_board.proofs.Hands.{stays_doing}
+use Rattle.conc_board.proofs.Hands.{stays_left}
 use Rattle.conc_board.proofs.Leads.{adds_one, request_there}
 use Rattle.conc_board.proofs.PolledSo.{runs_at_all, serves_within}
 use Rattle.conc_board.proofs.board.Board.post.Goals as goal
@@ -42,12 +42,25 @@ swap-requires c =
           (subst (λ (z : RequestId). MayLeave (plan_of b) z stop c.args.posted) (sym there) c.requires.permit.2) (omega arith),
     )
 
+-- the view of the hand that posted: what was in the slot is what it left
+left_then : (old mid : View × List (ℕ × Option Posted)) (w : View) (i n : ℕ) (x : Posted) → mid ≡ (old.0, (i, Some x) ∷ rest old.1) → w ≡ with_left (with_doing mid.0 Idle i n) mid.1
+    → w ≡ with_post (with_doing old.0 Idle i n) i x
+left_then old mid w i n x exchanged left = left ∙ ap (λ (m : View × List (ℕ × Option Posted)). with_left (with_doing m.0 Idle i n) m.1) exchanged
+
 pub returns-clause-hand : goal.returns-clause-hand
-returns-clause-hand c = stays_doing _ _ _ Idle c.request_word-word.result c.swap.result c.requires.hand (c.swap.ensures.0 ∙ c.exchange.ensures.0)
-    (c.swap.ensures.2.0 ∙ ap (λ m. with_doing m.0 Idle c.request_word-word.result c.swap.result) c.exchange.ensures.3) tt tt
+returns-clause-hand c =
+    let i = c.request_word-word.result in let n = c.swap.result in
+    stays_left _ _ _ Idle i n c.args.posted c.requires.hand (c.swap.ensures.0 ∙ c.exchange.ensures.0)
+    (left_then c.args.hand.now.seat.me c.exchange.new.seat.me c.swap.new.seat.me.0 i n c.args.posted c.exchange.ensures.3 c.swap.ensures.2.0) tt tt
+
+pub returns-clause-posted : goal.returns-clause-posted
+returns-clause-posted c =
+    let i = c.request_word-word.result in let n = c.swap.result in let v = c.args.hand.now.seat.me.0 in
+    ap (λ (u : View). u.posts) (left_then c.args.hand.now.seat.me c.exchange.new.seat.me c.swap.new.seat.me.0 i n c.args.posted c.exchange.ensures.3 c.swap.ensures.2.0)
+    ∙ ap (λ (z : ℕ). v.posts ++ (z, c.args.posted) ∷ []) c.request_word-word.ensures
 
 pub returns-clause-found : goal.returns-clause-found
-returns-clause-found c = let permit = c.args.permit in let n = c.swap.result in let stop = c.requires.permit.0 in
-    adds_one (Runs false permit.place) _ c.request_word-word.result n _ _ c.request_word-word.ensures
+returns-clause-found c = let permit = c.args.permit in let i = c.request_word-word.result in let n = c.swap.result in let stop = c.requires.permit.0 in
+    adds_one (Runs false permit.place) _ i n _ _ c.request_word-word.ensures
     (runs_at_all stop permit.place n (subst (λ (d : Doing). ServedFits d n) (ap (λ m. m.0.doing) c.exchange.ensures.3 ∙ c.requires.permit.1) c.swap.ensures.2.2))
-    (ap (λ (u : View). u.found) (c.swap.ensures.2.0 ∙ ap (λ m. with_doing m.0 Idle c.request_word-word.result n) c.exchange.ensures.3))
+    (ap (λ (u : View). u.found) (left_then c.args.hand.now.seat.me c.exchange.new.seat.me c.swap.new.seat.me.0 i n c.args.posted c.exchange.ensures.3 c.swap.ensures.2.0))

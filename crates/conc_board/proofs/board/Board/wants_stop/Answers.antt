@@ -44,3 +44,6 @@ returns-clause-warned c =
       fits = subst (λ (d : Doing). ServedFits d n) c.requires.permit.1 c.load-word.ensures.2.2;
       found = ap (λ (u : View). u.found) c.load-word.ensures.2.0 ∙ ap (λ (z : ℕ). v.found ++ (z, n) ∷ []) c.request_word.ensures;
     }
+
+pub returns-clause-posts : goal.returns-clause-posts
+returns-clause-posts c = ap (λ (u : View). u.posts) c.load-word.ensures.2.0
