@@ -81,16 +81,16 @@ module _ (receipt : Receipt) where
 
   -- ---- a journal that is opened
 
-  opened-keeps : (image : List ℕ) (opened : Opened) → HasEventOf receipt image → IsFoundIn image opened → state_of opened.journal ≡ state_with opened.digest opened.broken → list_of opened.journal ≡ opened.events.items → HasReceipt opened.journal receipt
-  opened-keeps image opened has found state list =
+  opened-keeps : (image : List ℕ) (opened : Opened) → HasEventOf receipt image → IsFoundIn image opened → state_of opened.journal ≡ state_with opened.digest opened.broken → HasReceipt opened.journal receipt
+  opened-keeps image opened has found state =
       let begun = header-begun image has.header in
       let digest : opened.digest ≡ Some (digest_in image) = found.digest ∙ ap (λ (b : Bool). if b then None else Some (digest_in image)) begun in
       let broken : opened.broken ≡ None = found.broken ∙ ap (λ (b : Bool). if b then None else (found_in image).broken) begun ∙ has.whole in
-      let events : opened.events.items ≡ (found_in image).events = found.events ∙ ap (λ (b : Bool). if b then [] else (found_in image).events) begun in
+      let events : opened.journal.events.items ≡ (found_in image).events = found.events ∙ ap (λ (b : Bool). if b then [] else (found_in image).events) begun in
       let is : state_of opened.journal ≡ Begun (digest_in image) = state ∙ ap (λ (d : Option (List ℕ)). state_with d opened.broken) digest ∙ ap (λ (b : Option ℕ). state_with (Some (digest_in image)) b) broken in
       record {
         takes = ap takes_events is;
-        at_number = ap (λ (l : List Event). event_at l (number_of receipt)) (list ∙ events) ∙ has.at_number;
+        at_number = ap (λ (l : List Event). event_at l (number_of receipt)) events ∙ has.at_number;
       }
 
   module _ (old new : DiskState) (is_left : IfSome old.seen old.may_leave) (each : EachImage (HasEventOf receipt) old) (settled : LeavesWhatWasSeen old new) (stays : Stays old new) where
@@ -102,16 +102,16 @@ module _ (receipt : Receipt) where
         go (Some bytes) all = λ c left. all c (stays.images c left)
 
     -- it has what was acknowledged
-    pub opened-has : (opened : Opened) → IfSome old.seen (λ image. IsFoundIn image opened) → state_of opened.journal ≡ state_with opened.digest opened.broken → list_of opened.journal ≡ opened.events.items
+    pub opened-has : (opened : Opened) → IfSome old.seen (λ image. IsFoundIn image opened) → state_of opened.journal ≡ state_with opened.digest opened.broken
         → IfSome old.seen (λ image. IsAcknowledged receipt opened.journal new)
-    opened-has opened found state list = go old.seen is_left each found
+    opened-has opened found state = go old.seen is_left each found
       where
         go : (seen : Option (List ℕ)) → IfSome seen old.may_leave → IfSome seen (λ bytes. (c : List ℕ) → old.may_leave c → HasEventOf receipt c) → IfSome seen (λ image. IsFoundIn image opened)
             → IfSome seen (λ image. IsAcknowledged receipt opened.journal new)
         go None is all finds = tt
-        go (Some bytes) is all finds = record { in_list = opened-keeps bytes opened (all bytes is) finds state list; images = images-have }
+        go (Some bytes) is all finds = record { in_list = opened-keeps bytes opened (all bytes is) finds state; images = images-have }
 
     pub answer-has : (answer : Result Opened JournalFail) → IfOk answer (λ opened. IfSome old.seen (λ image. IsFoundIn image opened)) → IfOk answer (λ opened. state_of opened.journal ≡ state_with opened.digest opened.broken)
-        → IfOk answer (λ opened. list_of opened.journal ≡ opened.events.items) → IfOk answer (λ opened. IfSome old.seen (λ image. IsAcknowledged receipt opened.journal new))
-    answer-has (Ok opened) found state list = opened-has opened found state list
-    answer-has (Err fail) found state list = tt
+        → IfOk answer (λ opened. IfSome old.seen (λ image. IsAcknowledged receipt opened.journal new))
+    answer-has (Ok opened) found state = opened-has opened found state
+    answer-has (Err fail) found state = tt

@@ -42,8 +42,8 @@ front-found k image opened far found =
     }
 
 -- where no record is broken, the image fits the state
-pub found-fits : (image : List ℕ) (opened : Opened) → IsFoundIn image opened → opened.broken ≡ None → FitsState (state_with opened.digest opened.broken) opened.events.items image
-found-fits image opened found sound = go (is_not_begun image) refl opened.digest opened.broken opened.events.items found.may_open found.digest found.broken found.events sound
+pub found-fits : (image : List ℕ) (opened : Opened) → IsFoundIn image opened → opened.broken ≡ None → FitsState (state_with opened.digest opened.broken) opened.journal.events.items image
+found-fits image opened found sound = go (is_not_begun image) refl opened.digest opened.broken opened.journal.events.items found.may_open found.digest found.broken found.events sound
   where
     go : (b : Bool) → is_not_begun image ≡ b → (digest : Option (List ℕ)) (broken : Option ℕ) (events : List Event) → (b || has_header image) ≡ true
         → digest ≡ (if b then None else Some (digest_in image)) → broken ≡ (if b then None else (found_in image).broken) → events ≡ (if b then [] else (found_in image).events) → broken ≡ None
@@ -59,14 +59,14 @@ found-fits image opened found sound = go (is_not_begun image) refl opened.digest
 
 -- and so do all images after a sync
 pub opened-on : (k : ℕ) (old new : DiskState) (opened : Opened) (bytes : List ℕ) → 33554497 ≤ k → IfSome old.seen (λ seen. bytes ≡ take k seen) → LeavesWhatWasSeen old new → Stays old new → IsFoundIn bytes opened → opened.broken ≡ None
-    → EachImage (FitsState (state_with opened.digest opened.broken) opened.events.items) new
+    → EachImage (FitsState (state_with opened.digest opened.broken) opened.journal.events.items) new
 opened-on k old new opened bytes far is_read settled stays found sound =
-    subst (λ (s : Option (List ℕ)). IfSome s (λ seen. (c : List ℕ) → new.may_leave c → FitsState (state_with opened.digest opened.broken) opened.events.items c)) (sym stays.seen) (go old.seen is_read settled)
+    subst (λ (s : Option (List ℕ)). IfSome s (λ seen. (c : List ℕ) → new.may_leave c → FitsState (state_with opened.digest opened.broken) opened.journal.events.items c)) (sym stays.seen) (go old.seen is_read settled)
   where
-    go : (seen : Option (List ℕ)) → IfSome seen (λ seen. bytes ≡ take k seen) → IfSome seen (λ seen. (c : List ℕ) → new.may_leave c → c ≡ seen) → IfSome seen (λ seen. (c : List ℕ) → new.may_leave c → FitsState (state_with opened.digest opened.broken) opened.events.items c)
+    go : (seen : Option (List ℕ)) → IfSome seen (λ seen. bytes ≡ take k seen) → IfSome seen (λ seen. (c : List ℕ) → new.may_leave c → c ≡ seen) → IfSome seen (λ seen. (c : List ℕ) → new.may_leave c → FitsState (state_with opened.digest opened.broken) opened.journal.events.items c)
     go None is_read settled = tt
     go (Some seen) is_read settled = λ c left.
-        subst (λ (l : List ℕ). FitsState (state_with opened.digest opened.broken) opened.events.items l) (sym (settled c left))
+        subst (λ (l : List ℕ). FitsState (state_with opened.digest opened.broken) opened.journal.events.items l) (sym (settled c left))
         (found-fits seen opened (front-found k seen opened far (subst (λ (l : List ℕ). IsFoundIn l opened) is_read found)) sound)
 
 -- what is found in the bytes that were read is found in what a read gives
@@ -80,7 +80,7 @@ read-refused k None bytes far is_read refused = tt
 read-refused k (Some image) bytes far is_read refused = sym (may_open-front k image far) ∙ ap (λ (l : List ℕ). may_open l) (sym is_read) ∙ refused
 
 -- what is found behind a header
-pub begun-found : (image : List ℕ) (digest : List ℕ) (opened : Opened) → IsTrue (has_header image) → digest_in image ≡ digest → opened.digest ≡ Some digest → opened.events.items ≡ (found_in image).events → opened.broken ≡ (found_in image).broken → IsFoundIn image opened
+pub begun-found : (image : List ℕ) (digest : List ℕ) (opened : Opened) → IsTrue (has_header image) → digest_in image ≡ digest → opened.digest ≡ Some digest → opened.journal.events.items ≡ (found_in image).events → opened.broken ≡ (found_in image).broken → IsFoundIn image opened
 begun-found image digest opened header is digest_is events_are broken_is =
     let begun = header-begun image header in
     record {
@@ -96,16 +96,15 @@ pub if-ok : {T E : Type 0} (r : Result T E) (P Q : T → Type 0) → IfOk r P �
 if-ok (Ok v) P Q p more = more v p
 if-ok (Err e) P Q p more = tt
 
--- a journal that was opened with this state and this list is on
+-- a journal that was opened with this state is on
 pub answer-on : (k : ℕ) (old new : DiskState) (bytes : List ℕ) (r : Result Opened JournalFail) → 33554497 ≤ k → IfSome old.seen (λ seen. bytes ≡ take k seen) → LeavesWhatWasSeen old new → Stays old new
-    → IfOk r (λ opened. IsFoundIn bytes opened) → IfOk r (λ opened. opened.journal.state ≡ state_with opened.digest opened.broken) → IfOk r (λ opened. opened.journal.events.items ≡ opened.events.items)
+    → IfOk r (λ opened. IsFoundIn bytes opened) → IfOk r (λ opened. opened.journal.state ≡ state_with opened.digest opened.broken)
     → IfOk r (λ opened. IsNone opened.broken → IsOn opened.journal new)
-answer-on k old new bytes (Ok opened) far is_read settled stays found state list = λ sound.
+answer-on k old new bytes (Ok opened) far is_read settled stays found state = λ sound.
     let on = opened-on k old new opened bytes far is_read settled stays found (none opened.broken sound) in
-    subst (λ (s : JournalState). EachImage (FitsState s opened.journal.events.items) new) (sym state)
-    (subst (λ (l : List Event). EachImage (FitsState (state_with opened.digest opened.broken) l) new) (sym list) on)
+    subst (λ (s : JournalState). EachImage (FitsState s opened.journal.events.items) new) (sym state) on
   where
     none : (o : Option ℕ) → IsNone o → o ≡ None
     none None is = refl
     none (Some n) is = absurd (cc)
-answer-on k old new bytes (Err e) far is_read settled stays found state list = tt
+answer-on k old new bytes (Err e) far is_read settled stays found state = tt

@@ -74,6 +74,13 @@ impl Journal {
         &self.events
     }
 
+    /// Its events, where the journal is needed no more.
+    pub fn into_events(self) -> Vec<Event>
+        ensures { result.items ≡ list_of self }
+    {
+        self.events
+    }
+
     /// Whether it is begun and no record is broken.
     pub fn takes_events(&self) -> bool
         ensures { result ≡ takes_events (state_of self.now) }

@@ -65,6 +65,13 @@ impl<'p> Machine<'p> {
         })
     }
 
+    /// The plan.
+    pub fn plan(&self) -> &'p Plan
+        ensures { result.now ≡ plan_of self.now }
+    {
+        self.plan
+    }
+
     /// Takes the readings of the life that begins here. From here on a tick is judged by them, where it
     /// was judged as one of an earlier life before. Without memory the machine stays as it was.
     pub fn take_readings(&mut self, alloc: Global, readings: &Readings) -> Result<(), NoMemory>

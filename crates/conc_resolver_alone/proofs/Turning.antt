@@ -22,7 +22,7 @@ use Rattle.conc_run_state.specs.Works.{list_in}
 use Rattle.conc_run_state.specs.declared.work.Work.{Work}
 use Rattle.conc_run_steps.specs.Steps.{any_disk, FitInTurn, IsReady, IsTied, MayLog, plan_in, readings_in, StoresOn, SurvivesFor}
 use Rattle.conc_run_steps.proofs.Fitting.{fit-event, fit-text, get-more}
-use Rattle.conc_resolver_alone.proofs.Stepping.{tied-by}
+use Rattle.conc_run_steps.proofs.Stepping.{tied-by}
 
 abbrev pub OnlyNow : DiskState → Type 0
 OnlyNow disk = (c : List ℕ) → disk.left_since disk.moment c → disk.may_leave c

@@ -1,6 +1,5 @@
 ghost use Rattle.std.specs.Prelude.{◌≡◌, ℕ, ◌<◌, IfErr, IfOk, IfSome, IsErrOf, IsNone, IsSome, List, None, OnErr, OnOk, Some};
 ghost use Rattle.std.specs.Option.{ForSome, option_map};
-ghost use Rattle.conc_types.specs.declared.script.Reading.{Reading};
 ghost use Rattle.conc_law.specs.Law.{Finished};
 ghost use Rattle.conc_resolver_choice.specs.Choices.{event_of, HasItsText};
 ghost use Rattle.conc_outside.specs.Counts.{Rose};
@@ -8,12 +7,13 @@ ghost use Rattle.conc_disk.specs.Left.{EachImage};
 ghost use Rattle.conc_journal.specs.Journals.{state_of};
 ghost use Rattle.conc_journal.specs.declared.journal.JournalState.TheVariants.{Begun};
 ghost use Rattle.conc_journal.specs.Receipts.{IsNextOf};
-ghost use Rattle.conc_machine.specs.StandsFor.{readings_of};
 ghost use Rattle.conc_run_state.specs.Disks.{disks};
-ghost use Rattle.conc_resolver_alone.specs.Runs.{LacksMemory, WentOn};
+ghost use Rattle.conc_resolver_alone.specs.Runs.{LacksMemory};
+ghost use Rattle.conc_run_steps.specs.Going.{WentOn};
 ghost use Rattle.conc_run_steps.specs.Steps.{any_disk, FitInTurn, IsFinished, IsReady, IsTied, left_in, next_in, plan_in, readings_in};
 ghost use Rattle.conc_run_state.specs.Stored.{AreStored};
-ghost use Rattle.conc_run_state.specs.Works.{AreReady, list_in};
+ghost use Rattle.conc_run_state.specs.Lists.{GoesOnAlone};
+ghost use Rattle.conc_run_state.specs.Works.{list_in, longest_in};
 ghost use Rattle.conc_run_state.specs.declared.error.RunFail.TheVariants as RunFail;
 
 use conc_disk::Disk;
@@ -21,12 +21,11 @@ use conc_journal::Receipt;
 use conc_resolver_choice::{Next, next_event};
 use conc_run_state::{RunFail, Work};
 use conc_run_steps::{log_event, store_text};
-use conc_types::{NoMemory, Plan};
+use conc_types::NoMemory;
 use std::alloc::Global;
 
 // The event that comes next, if one does, with its text.
-fn next(alloc: Global, plan: &Plan, work: &Work<'_>) -> Result<Option<Next>, RunFail>
-    requires plan { plan_in work.now ≡ plan.now }
+fn next(alloc: Global, work: &Work<'_>) -> Result<Option<Next>, RunFail>
     requires tied { IsTied None work.now any_disk any_disk }
     ensures event { IfOk result (λ next. option_map event_of next ≡ next_in work.now) }
     ensures text { IfOk result (λ next. ForSome next
@@ -35,27 +34,27 @@ fn next(alloc: Global, plan: &Plan, work: &Work<'_>) -> Result<Option<Next>, Run
     ensures memory { OnErr result (LacksMemory (plan_in work.now) (readings_in work.now)
         (list_in work.now)) }
 {
-    match next_event(alloc, plan, &work.machine) {
+    match next_event(alloc, &work.machine) {
         Ok(next) => Ok(next),
         Err(NoMemory) => Err(RunFail::NoMemory),
     }
 }
 
-// Adds the event that comes next, if one does, and hands out its receipt. Its text is on the spool's disk
-// before it is journaled, and it is journaled before the machine takes it in.
-fn step<D: Disk, E: Disk>(
+/// Adds the event that comes next, if one does, and hands out its receipt. Its text is on the spool's disk
+/// before it is journaled, and it is journaled before the machine takes it in.
+pub(crate) fn step<D: Disk, E: Disk>(
     alloc: Global,
-    plan: &Plan,
     work: &mut Work<'_>,
     journal: &mut D,
     spool: &mut E,
 ) -> Result<Option<Receipt>, RunFail>
-    requires plan { plan_in work.old ≡ plan.now }
     requires ready { IsReady work.old (D.state journal.old) (E.state spool.old) }
 
     ensures went_on { WentOn (plan_in work.old) (readings_in work.old)
         (disks (D.state journal.old) (D.state journal.new) (E.state spool.old) (E.state spool.new))
         work.old work.new }
+    ensures alone { GoesOnAlone (plan_in work.old) (readings_in work.old) (list_in work.old)
+        (longest_in work.new) }
     ensures ready { OnOk result (IsReady work.new (D.state journal.new) (E.state spool.new)) }
     ensures receipt { IfOk result (λ logged. IfSome logged
         (IsNextOf (Some (list_in work.old)) (λ list. list ≡ list_in work.new))) }
@@ -65,6 +64,8 @@ fn step<D: Disk, E: Disk>(
         (D.state journal.new) (E.state spool.old) (E.state spool.new)) }
     ensures less { IfOk result (λ logged. IsSome logged → left_in work.new < left_in work.old) }
     ensures finished { IfOk result (λ logged. IsNone logged → IsFinished work.new) }
+    ensures still { IfOk result (λ logged. IsNone logged
+        → list_in work.new ≡ list_in work.old) }
 
     // Why it adds none.
     ensures journal_fault { IsErrOf result RunFail.JournalFault
@@ -76,7 +77,7 @@ fn step<D: Disk, E: Disk>(
     ensures sound { (IsErrOf result RunFail.JournalFault → ⊥)
         → state_of work.new.journal ≡ state_of work.old.journal }
 {
-    match next(alloc, plan, work)? {
+    match next(alloc, work)? {
         None => Ok(None),
         Some(next) => {
             store_text(work, spool, &next)?;
@@ -93,33 +94,31 @@ fn step<D: Disk, E: Disk>(
 /// the one that comes next.
 pub fn run_alone<D: Disk, E: Disk>(
     alloc: Global,
-    plan: &Plan,
     work: &mut Work<'_>,
     journal: &mut D,
     spool: &mut E,
 ) -> Result<(), RunFail>
-    requires ready { (readings : List Reading)
-        × AreReady plan.now readings work.old (D.state journal.old) (E.state spool.old) }
+    requires ready { IsReady work.old (D.state journal.old) (E.state spool.old) }
 
     // What it makes, however it ends.
-    ensures went_on { (readings : List Reading) → readings_of work.old.machine ≡ Some readings →
-        WentOn plan.now readings (disks (D.state journal.old) (D.state journal.new)
-        (E.state spool.old) (E.state spool.new)) work.old work.new }
-    ensures finished { OnOk result ((readings : List Reading)
-        → readings_of work.old.machine ≡ Some readings
-        → Finished plan.now readings (list_in work.new)) }
+    ensures went_on { WentOn (plan_in work.old) (readings_in work.old)
+        (disks (D.state journal.old) (D.state journal.new) (E.state spool.old) (E.state spool.new))
+        work.old work.new }
+    ensures alone { GoesOnAlone (plan_in work.old) (readings_in work.old) (list_in work.old)
+        (longest_in work.new) }
+    ensures finished { OnOk result (Finished (plan_in work.old) (readings_in work.old)
+        (list_in work.new)) }
 
     // Why it ends before.
     ensures journal_fault { IsErrOf result RunFail.JournalFault
         → Rose (D.state journal.old).faults (D.state journal.new).faults }
     ensures spool_fault { IsErrOf result RunFail.SpoolFault
         → Rose (E.state spool.old).faults (E.state spool.new).faults }
-    ensures memory { IsErrOf result RunFail.NoMemory → (readings : List Reading)
-        → readings_of work.old.machine ≡ Some readings
-        → LacksMemory plan.now readings (list_in work.new) }
+    ensures memory { IsErrOf result RunFail.NoMemory → LacksMemory (plan_in work.old)
+        (readings_in work.old) (list_in work.new) }
     ensures sound { (IsErrOf result RunFail.JournalFault → ⊥)
         → state_of work.new.journal ≡ state_of work.old.journal }
 {
-    while step(alloc, plan, work, journal, spool)?.is_some() {}
+    while step(alloc, work, journal, spool)?.is_some() {}
     Ok(())
 }

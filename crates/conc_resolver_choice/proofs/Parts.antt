@@ -72,13 +72,13 @@ pub found-again : (plan : Plan) (o : Option Req) → ((r : Req) → o ≡ Some r
 found-again plan None has = refl
 found-again plan (Some r) has = numbered_plan plan r (has r refl)
 
--- the end of the request that runs
-pub first_end-is : (plan : Plan) (s : State) (r : Req) (stopping : Bool) (used : Option ℕ) → find (runs_somewhere s) plan.requests ≡ Some r
+-- the end of the request that runs, by the plan that was lent
+pub first_end-is : (lent plan : Plan) (s : State) (r : Req) (stopping : Bool) (used : Option ℕ) → lent ≡ plan → find (runs_somewhere s) plan.requests ≡ Some r
     → stopping ≡ is_stopping (facts_at s r) → used ≡ s.used
-    → (if stopping then Some (event.Ended r.number outcome.Terminated None) else option_and_then (λ made. option_map (end_with r made) used) (report_of plan r))
+    → (if stopping then Some (event.Ended r.number outcome.Terminated None) else option_and_then (λ made. option_map (end_with r made) used) (report_of lent r))
     ≡ first_end plan s
 unfolding first_end
-first_end-is plan s r stopping used found stop all = rw (stop, all, found) refl
+first_end-is lent plan s r stopping used same found stop all = rw (same, stop, all, found) refl
 
 -- none where none runs
 pub first_end-none : (plan : Plan) (s : State) → find (runs_somewhere s) plan.requests ≡ None → None ≡ first_end plan s
@@ -104,10 +104,8 @@ pub reading-of : (machine : Machine) (readings : List Reading) (past : List Even
 reading-of machine readings past o known is = is ∙ ap (option_and_then (λ k. next_reading k past)) known
 
 -- whether it may be taken
-pub may-of : (plan : Plan) (machine : Machine) (readings : List Reading) (past : List Event) (may : Bool) → plan_of machine ≡ plan → readings_of machine ≡ Some readings
+pub may-of : (machine : Machine) (readings : List Reading) (past : List Event) (may : Bool) → readings_of machine ≡ Some readings
     → may ≡ some_and (may_take (plan_of machine) (state (plan_of machine) past)) (option_and_then (λ known. next_reading known past) (readings_of machine))
-    → may ≡ some_and (may_take plan (state plan past)) (next_reading readings past)
-may-of plan machine readings past may same known is =
-    is
-    ∙ ap (λ k. some_and (may_take (plan_of machine) (state (plan_of machine) past)) (option_and_then (λ l. next_reading l past) k)) known
-    ∙ ap (λ p. some_and (may_take p (state p past)) (next_reading readings past)) same
+    → may ≡ some_and (may_take (plan_of machine) (state (plan_of machine) past)) (next_reading readings past)
+may-of machine readings past may known is =
+    is ∙ ap (λ k. some_and (may_take (plan_of machine) (state (plan_of machine) past)) (option_and_then (λ l. next_reading l past) k)) known

@@ -8,7 +8,6 @@ ghost use Rattle.conc_types.specs.declared.limits.TheConstants.{MOST_REPORT_BYTE
 ghost use Rattle.conc_types.specs.declared.script.Reading.{Reading};
 ghost use Rattle.conc_law.specs.Alone as alone_spec;
 ghost use Rattle.conc_law.specs.Alone.{end_with, next_alone};
-ghost use Rattle.conc_law.specs.Next as next_spec;
 ghost use Rattle.conc_law.specs.Next.{runs_somewhere};
 ghost use Rattle.conc_law.specs.Readings as readings_spec;
 ghost use Rattle.conc_law.specs.State.{state};
@@ -116,28 +115,30 @@ fn end_by(
 }
 
 // The request that runs, if one does.
-fn running<'a>(plan: &'a Plan, machine: &Machine) -> Option<&'a Req>
-    requires { plan_of machine.now ≡ plan.now }
-    ensures { (past : List Event) → StandsFor machine.now past
-        → option_copied result ≡ find (runs_somewhere (state plan.now past)) plan.now.requests }
+fn running<'p>(machine: &Machine<'p>) -> Option<&'p Req>
+    ensures { (past : List Event) → StandsFor machine.now past → option_copied result
+        ≡ find (runs_somewhere (state (plan_of machine.now) past))
+        (plan_of machine.now).requests }
 {
     match machine.first_running() {
-        Some(id) => plan.request(id),
+        Some(id) => machine.plan().request(id),
         None => None,
     }
 }
 
 // The end of the request that runs.
-fn first_end(alloc: Global, plan: &Plan, machine: &Machine) -> Result<Option<Next>, NoMemory>
-    requires { plan_of machine.now ≡ plan.now }
+fn first_end(alloc: Global, machine: &Machine<'_>) -> Result<Option<Next>, NoMemory>
     ensures event { IfOk result (λ next. (past : List Event) → StandsFor machine.now past
-        → option_map event_of next ≡ alone_spec.first_end plan.now (state plan.now past)) }
+        → option_map event_of next
+        ≡ alone_spec.first_end (plan_of machine.now) (state (plan_of machine.now) past)) }
     ensures text { IfOk result (λ next. (past : List Event) → StandsFor machine.now past
-        → ForSome next (λ n. HasItsText plan.now n.event n.text)) }
+        → ForSome next (λ n. HasItsText (plan_of machine.now) n.event n.text)) }
     ensures memory { OnErr result ((past : List Event) → StandsFor machine.now past
-        → IsSomeAnd (alone_spec.first_end plan.now (state plan.now past)) IsEndWithReport) }
+        → IsSomeAnd (alone_spec.first_end (plan_of machine.now)
+        (state (plan_of machine.now) past)) IsEndWithReport) }
 {
-    match running(plan, machine) {
+    let plan = machine.plan();
+    match running(machine) {
         Some(r) => {
             let stopping = machine.must_stop(r.number);
             end_by(alloc, plan, r, stopping, machine.used())
@@ -146,21 +147,11 @@ fn first_end(alloc: Global, plan: &Plan, machine: &Machine) -> Result<Option<Nex
     }
 }
 
-// The event that is forced, if one is due.
-fn forced(plan: &Plan, machine: &Machine) -> Option<Event>
-    requires { plan_of machine.now ≡ plan.now }
-    ensures { (past : List Event) → StandsFor machine.now past
-        → result ≡ next_spec.forced plan.now (state plan.now past) }
-{
-    machine.forced()
-}
-
 // The start that comes first, if one may come.
-fn first_start(plan: &Plan, machine: &Machine) -> Option<Event>
-    requires { plan_of machine.now ≡ plan.now }
-    ensures event { (past : List Event) → StandsFor machine.now past
-        → result ≡ alone_spec.first_start plan.now (state plan.now past) }
-    ensures text { ForSome result (λ e. HasItsText plan.now e None) }
+fn first_start(machine: &Machine<'_>) -> Option<Event>
+    ensures event { (past : List Event) → StandsFor machine.now past → result
+        ≡ alone_spec.first_start (plan_of machine.now) (state (plan_of machine.now) past) }
+    ensures text { ForSome result (λ e. HasItsText (plan_of machine.now) e None) }
 {
     match machine.first_start() {
         Some((request, place)) => Some(Event::Started { request, place }),
@@ -169,13 +160,12 @@ fn first_start(plan: &Plan, machine: &Machine) -> Option<Event>
 }
 
 // The tick of the next reading, if one is left and may be taken.
-fn next_tick(plan: &Plan, machine: &Machine) -> Option<Event>
-    requires { plan_of machine.now ≡ plan.now }
+fn next_tick(machine: &Machine<'_>) -> Option<Event>
     ensures event { (readings : List Reading) (past : List Event)
         → readings_of machine.now ≡ Some readings → StandsFor machine.now past →
-        result ≡ alone_spec.next_tick plan.now (state plan.now past)
+        result ≡ alone_spec.next_tick (plan_of machine.now) (state (plan_of machine.now) past)
         (readings_spec.next_reading readings past) }
-    ensures text { ForSome result (λ e. HasItsText plan.now e None) }
+    ensures text { ForSome result (λ e. HasItsText (plan_of machine.now) e None) }
 {
     match machine.next_reading() {
         Some(reading) if machine.may_tick() => Some(Event::Tick {
@@ -186,18 +176,18 @@ fn next_tick(plan: &Plan, machine: &Machine) -> Option<Event>
 }
 
 // The start or the tick that comes next where nothing is forced and nothing runs.
-fn start_or_tick(plan: &Plan, machine: &Machine) -> Option<Event>
-    requires { plan_of machine.now ≡ plan.now }
+fn start_or_tick(machine: &Machine<'_>) -> Option<Event>
     ensures event { (readings : List Reading) (past : List Event)
         → readings_of machine.now ≡ Some readings → StandsFor machine.now past →
-        result ≡ option_or (alone_spec.first_start plan.now (state plan.now past))
-        (alone_spec.next_tick plan.now (state plan.now past)
+        result ≡ option_or
+        (alone_spec.first_start (plan_of machine.now) (state (plan_of machine.now) past))
+        (alone_spec.next_tick (plan_of machine.now) (state (plan_of machine.now) past)
         (readings_spec.next_reading readings past)) }
-    ensures text { ForSome result (λ e. HasItsText plan.now e None) }
+    ensures text { ForSome result (λ e. HasItsText (plan_of machine.now) e None) }
 {
-    match first_start(plan, machine) {
+    match first_start(machine) {
         Some(e) => Some(e),
-        None => next_tick(plan, machine),
+        None => next_tick(machine),
     }
 }
 
@@ -210,27 +200,26 @@ fn without_text(event: Event) -> Next
 }
 
 /// The one event that comes next in a run without workers, if one does: the forced one, else the end
-/// of the request that runs, else the first start, else the next tick. The machine is one for the plan
-/// that took readings, and the answer holds for each list that it stands for. It takes memory for a
-/// report alone, and lacks it only where an end with a report comes next.
+/// of the request that runs, else the first start, else the next tick. The machine took readings, and
+/// the answer holds for each list that it stands for. It takes memory for a report alone, and lacks it
+/// only where an end with a report comes next.
 #[tactic(auto, unfolding(conc_law::specs::Alone::choice, conc_law::specs::Alone::next_alone))]
-pub fn next_event(alloc: Global, plan: &Plan, machine: &Machine) -> Result<Option<Next>, NoMemory>
-    requires { plan_of machine.now ≡ plan.now }
+pub fn next_event(alloc: Global, machine: &Machine<'_>) -> Result<Option<Next>, NoMemory>
     ensures event { IfOk result (λ next. (readings : List Reading) (past : List Event)
         → readings_of machine.now ≡ Some readings → StandsFor machine.now past →
-        option_map event_of next ≡ next_alone plan.now readings past) }
+        option_map event_of next ≡ next_alone (plan_of machine.now) readings past) }
     ensures text { IfOk result (λ next. (past : List Event) → StandsFor machine.now past
-        → ForSome next (λ n. HasItsText plan.now n.event n.text)) }
+        → ForSome next (λ n. HasItsText (plan_of machine.now) n.event n.text)) }
     ensures memory { OnErr result ((readings : List Reading) (past : List Event)
         → readings_of machine.now ≡ Some readings → StandsFor machine.now past
-        → IsSomeAnd (next_alone plan.now readings past) IsEndWithReport) }
+        → IsSomeAnd (next_alone (plan_of machine.now) readings past) IsEndWithReport) }
 {
-    if let Some(e) = forced(plan, machine) {
+    if let Some(e) = machine.forced() {
         return Ok(Some(without_text(e)));
     }
-    match first_end(alloc, plan, machine)? {
+    match first_end(alloc, machine)? {
         Some(next) => Ok(Some(next)),
-        None => match start_or_tick(plan, machine) {
+        None => match start_or_tick(machine) {
             Some(e) => Ok(Some(without_text(e))),
             None => Ok(None),
         },

@@ -19,17 +19,17 @@ use Rattle.conc_run_open.proofs.Counting.{counted-is, end-within}
 
 -- what was found in the journal of this input
 pub record HasFound (h : Handed) (opened : Opened) : Type 0 where
-  pub own : IfSome h.journal_before.seen (IsOwnJournal h.digest)
-  pub found : IfSome h.journal_before.seen (λ image. IsFoundIn image opened)
+  pub own : IfSome h.disks.journal_before.seen (IsOwnJournal h.digest)
+  pub found : IfSome h.disks.journal_before.seen (λ image. IsFoundIn image opened)
 
 -- the events are good
-pub found-good : (h : Handed) (opened : Opened) → HasFound h opened → LawfulSoFar h.plan opened.events.items → opened.broken ≡ None → Reaches h.spool_before (counted opened.events.items) → IsFound h opened.events.items
+pub found-good : (h : Handed) (opened : Opened) → HasFound h opened → LawfulSoFar h.plan opened.journal.events.items → opened.broken ≡ None → Reaches h.disks.spool_before (counted opened.journal.events.items) → IsFound h opened.journal.events.items
 found-good h opened has so_far whole long = record {
   so_far = so_far;
   own = has.own;
-  whole = IfSome_then h.journal_before.seen has.found (λ image is. sym is.broken ∙ whole);
-  events = IfSome_then h.journal_before.seen has.found (λ image is. is.events);
-  within = IfSome_then h.spool_before.seen long (λ texts far. end-within h.plan (length texts) opened.events.items so_far (omega (arith, far, counted-is h.plan opened.events.items so_far)));
+  whole = IfSome_then h.disks.journal_before.seen has.found (λ image is. sym is.broken ∙ whole);
+  events = IfSome_then h.disks.journal_before.seen has.found (λ image is. is.events);
+  within = IfSome_then h.disks.spool_before.seen long (λ texts far. end-within h.plan (length texts) opened.journal.events.items so_far (omega (arith, far, counted-is h.plan opened.journal.events.items so_far)));
 }
 
 -- the spool reaches as far as its length, which it may expose
@@ -41,23 +41,23 @@ long-enough disk n reach = go disk.seen reach
     go (Some bytes) far = (length bytes, refl, far)
 
 -- what is bad of the events found is so of those in the image
-pub bad-in : (plan : Plan) (spool : DiskState) (opened : Opened) (image : List ℕ) (number : ℕ) → IsFoundIn image opened → IsBadFor plan spool opened.events.items opened.broken number
+pub bad-in : (plan : Plan) (spool : DiskState) (opened : Opened) (image : List ℕ) (number : ℕ) → IsFoundIn image opened → IsBadFor plan spool opened.journal.events.items opened.broken number
     → IsBadFor plan spool (events_of image) (broken_of image) number
 bad-in plan spool opened image number is bad = (
   bad.0,
   bad.1,
   subst (λ (l : List Event). IsBadRecord plan bad.0 l (broken_of image) number) is.events
-      (subst (λ (b : Option ℕ). IsBadRecord plan bad.0 opened.events.items b number) is.broken bad.2),
+      (subst (λ (b : Option ℕ). IsBadRecord plan bad.0 opened.journal.events.items b number) is.broken bad.2),
 )
 
 -- the first bad record
-found-bad : (h : Handed) (opened : Opened) (number : ℕ) → HasFound h opened → IsBadFor h.plan h.spool_before opened.events.items opened.broken number → IsUnlawful h number
+found-bad : (h : Handed) (opened : Opened) (number : ℕ) → HasFound h opened → IsBadFor h.plan h.disks.spool_before opened.journal.events.items opened.broken number → IsUnlawful h number
 found-bad h opened number has bad = record {
   own = has.own;
-  bad = IfSome_then h.journal_before.seen has.found (λ image is. bad-in h.plan h.spool_before opened image number is bad);
+  bad = IfSome_then h.disks.journal_before.seen has.found (λ image is. bad-in h.plan h.disks.spool_before opened image number is bad);
 }
 
-found-refused : (h : Handed) (opened : Opened) (len : ℕ) (e : HistoryFail) → HasFound h opened → HasLength h.spool_before len → IsRefused h.plan len opened.events.items opened.broken e → HasCause h e
+found-refused : (h : Handed) (opened : Opened) (len : ℕ) (e : HistoryFail) → HasFound h opened → HasLength h.disks.spool_before len → IsRefused h.plan len opened.journal.events.items opened.broken e → HasCause h e
 found-refused h opened len (history_fail.Unlawful number) has long is = found-bad h opened number has (len, long, is)
 found-refused h opened len history_fail.NoMemory has long is = tt
 found-refused h opened len history_fail.NotJournal has long is = absurd is
@@ -75,9 +75,9 @@ short-unreadable plan events broken old new len (history_fail.JournalFull n need
 short-unreadable plan events broken old new len (history_fail.DiskFault disk) long is = absurd is
 
 -- or it could not be read
-pub found-unreadable : (h : Handed) (opened : Opened) (events : List Event) (e : HistoryFail) → HasFound h opened → events ≡ opened.events.items → IsUnreadable h.plan events opened.broken h.spool_before h.spool_after e → HasCause h e
+pub found-unreadable : (h : Handed) (opened : Opened) (events : List Event) (e : HistoryFail) → HasFound h opened → events ≡ opened.journal.events.items → IsUnreadable h.plan events opened.broken h.disks.spool_before h.disks.spool_after e → HasCause h e
 found-unreadable h opened events (history_fail.Unlawful number) has same is =
-    found-bad h opened number has (subst (λ (l : List Event). IsBadFor h.plan h.spool_before l opened.broken number) same is)
+    found-bad h opened number has (subst (λ (l : List Event). IsBadFor h.plan h.disks.spool_before l opened.broken number) same is)
 found-unreadable h opened events (history_fail.DiskFault disk_name.Spool) has same is = (has.own, is)
 found-unreadable h opened events history_fail.NoMemory has same is = tt
 found-unreadable h opened events history_fail.NotJournal has same is = absurd is
@@ -85,8 +85,8 @@ found-unreadable h opened events (history_fail.OtherInput found) has same is = a
 found-unreadable h opened events (history_fail.JournalFull n needed) has same is = absurd is
 found-unreadable h opened events (history_fail.DiskFault disk_name.Journal) has same is = absurd is
 
-found-lacks_room : (h : Handed) (opened : Opened) (e : HistoryFail) → IsFound h opened.events.items → LacksRoom h.plan h.readings opened.events.items e → HasCause h e
-found-lacks_room h opened (history_fail.JournalFull len needed) found is = record { found = opened.events.items; is_found = found; len_is = is.0; needed_is = is.1; full = is.2 }
+found-lacks_room : (h : Handed) (opened : Opened) (e : HistoryFail) → IsFound h opened.journal.events.items → LacksRoom h.plan h.readings opened.journal.events.items e → HasCause h e
+found-lacks_room h opened (history_fail.JournalFull len needed) found is = record { found = opened.journal.events.items; is_found = found; len_is = is.0; needed_is = is.1; full = is.2 }
 found-lacks_room h opened history_fail.NoMemory found is = tt
 found-lacks_room h opened history_fail.NotJournal found is = absurd is
 found-lacks_room h opened (history_fail.OtherInput digest) found is = absurd is
@@ -94,8 +94,8 @@ found-lacks_room h opened (history_fail.Unlawful number) found is = absurd is
 found-lacks_room h opened (history_fail.DiskFault disk) found is = absurd is
 
 -- a record is bad, or there is no room, where the spool is as long as all extents
-pub found-cannot_begin : (h : Handed) (opened : Opened) (e : HistoryFail) → HasFound h opened → Reaches h.spool_before (counted opened.events.items) → CannotBegin h.plan h.readings opened.events.items opened.broken e → HasCause h e
+pub found-cannot_begin : (h : Handed) (opened : Opened) (e : HistoryFail) → HasFound h opened → Reaches h.disks.spool_before (counted opened.journal.events.items) → CannotBegin h.plan h.readings opened.journal.events.items opened.broken e → HasCause h e
 found-cannot_begin h opened e has long (inl refused) =
-    let far = long-enough h.spool_before (counted opened.events.items) long in
+    let far = long-enough h.disks.spool_before (counted opened.journal.events.items) long in
     found-refused h opened far.0 e has far.1 (refused far.0 far.2)
 found-cannot_begin h opened e has long (inr good) = found-lacks_room h opened e (found-good h opened has good.so_far good.whole long) good.lacks_room

@@ -26,7 +26,7 @@ unopened-listed plan digest old new (history_fail.DiskFault disk_name.Spool) is 
 
 -- an event is bad
 pub unlisted-cause : (plan : Plan) (digest : List ℕ) (old new : DiskState) (opened : Opened) (events : List Event) (e : HistoryFail) → IfSome old.seen (IsOwnJournal digest) → IfSome old.seen (λ image. IsFoundIn image opened)
-    → events ≡ opened.events.items → IsUnlisted plan events opened.broken e → HasListCause plan digest old new e
+    → events ≡ opened.journal.events.items → IsUnlisted plan events opened.broken e → HasListCause plan digest old new e
 unlisted-cause plan digest old new opened events (history_fail.Unlawful number) own found same bad = record {
   own = own;
   bad = IfSome_then old.seen found (λ image is.
@@ -40,7 +40,7 @@ unlisted-cause plan digest old new opened events (history_fail.DiskFault disk) o
 
 -- the events are good
 pub listed : (plan : Plan) (digest : List ℕ) (disk : DiskState) (opened : Opened) → IfSome disk.seen (IsOwnJournal digest) → IfSome disk.seen (λ image. IsFoundIn image opened)
-    → LawfulSoFar plan opened.events.items → opened.broken ≡ None → IsListed plan digest disk opened.events.items
+    → LawfulSoFar plan opened.journal.events.items → opened.broken ≡ None → IsListed plan digest disk opened.journal.events.items
 listed plan digest disk opened own found so_far whole = record {
   so_far = so_far;
   own = own;

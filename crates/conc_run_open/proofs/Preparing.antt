@@ -1,5 +1,5 @@
 -- What a run has in hand, or why no life begins.
-use Rattle.std.proofs.Common.{◌≡◌, inl, inr, ℕ, ◌≤◌, List, Option, None, Result, Ok, Err, IfErr, IfOk, OnOk, sym, ◌∙◌, subst}
+use Rattle.std.proofs.Common.{◌≡◌, inl, inr, ℕ, ◌≤◌, List, Option, None, Result, Ok, Err, IfErr, IfOk, OnOk, sym, subst}
 use Rattle.conc_types.specs.declared.event.Event.{Event}
 use Rattle.conc_types.specs.declared.plan.Plan.{Plan}
 use Rattle.conc_types.specs.declared.script.Reading.{Reading}
@@ -27,35 +27,35 @@ pub cannot_begin-bad : (plan : Plan) (readings : List Reading) (events read : Li
 cannot_begin-bad plan readings events read broken e same refused =
     subst (λ (l : List Event). CannotBegin plan readings l broken e) same (inl refused)
 
--- there is no room, behind the same events
-pub cannot_begin-full : (plan : Plan) (readings : List Reading) (events read list : List Event) (broken : Option ℕ) (e : HistoryFail) → read ≡ events → list ≡ events → LawfulSoFar plan read → broken ≡ None → LacksRoom plan readings list e
+-- there is no room behind the same events
+pub cannot_begin-full : (plan : Plan) (readings : List Reading) (events read : List Event) (broken : Option ℕ) (e : HistoryFail) → read ≡ events → LawfulSoFar plan read → broken ≡ None → LacksRoom plan readings events e
     → CannotBegin plan readings events broken e
-cannot_begin-full plan readings events read list broken e same all so_far whole lacks_room = inr (record {
+cannot_begin-full plan readings events read broken e same so_far whole lacks_room = inr (record {
   so_far = subst (LawfulSoFar plan) same so_far;
   whole = whole;
-  lacks_room = subst (λ (l : List Event). LacksRoom plan readings l e) all lacks_room;
+  lacks_room = lacks_room;
 })
 
 -- why nothing is in hand
-pub prepared-cause : (h : Handed) (opened : Opened) (r : Result Examined HistoryFail) → HasFound h opened → Reaches h.spool_before (counted opened.events.items)
-    → IfErr r (CannotBegin h.plan h.readings opened.events.items opened.broken) → IfErr r (HasCause h)
+pub prepared-cause : (h : Handed) (opened : Opened) (r : Result Examined HistoryFail) → HasFound h opened → Reaches h.disks.spool_before (counted opened.journal.events.items)
+    → IfErr r (CannotBegin h.plan h.readings opened.journal.events.items opened.broken) → IfErr r (HasCause h)
 prepared-cause h opened (Ok examined) has long cannot_begin = tt
 prepared-cause h opened (Err e) has long cannot_begin = found-cannot_begin h opened e has long cannot_begin
 
 -- what is in hand is what was found
-pub prepared : (h : Handed) (opened : Opened) (spool : Spool) (r : Result Examined HistoryFail) → HasFound h opened → Reaches h.spool_before (counted opened.events.items) → list_of opened.journal ≡ opened.events.items
-    → (opened.broken ≡ None → JournalIsOn opened.journal h.journal_after) → (opened.broken ≡ None → MayStart h.digest (state_of opened.journal)) → SpoolIsOn spool h.spool_after
+pub prepared : (h : Handed) (opened : Opened) (spool : Spool) (r : Result Examined HistoryFail) → HasFound h opened → Reaches h.disks.spool_before (counted opened.journal.events.items)
+    → (opened.broken ≡ None → JournalIsOn opened.journal h.disks.journal_after) → (opened.broken ≡ None → MayStart h.digest (state_of opened.journal)) → SpoolIsOn spool h.disks.spool_after
     → IfOk r (IsReady h.plan h.readings) → IfOk r (λ examined. list_of examined.journal ≡ list_of opened.journal) → IfOk r (λ examined. state_of examined.journal ≡ state_of opened.journal)
     → IfOk r (λ examined. examined.spool ≡ spool) → OnOk r (opened.broken ≡ None) → IfOk r (IsExamined h)
-prepared h opened spool (Err e) has long same on state spool_on ready list_is state_is spool_is whole = tt
-prepared h opened spool (Ok examined) has long same on state spool_on ready list_is state_is spool_is whole =
-    let so_far : LawfulSoFar h.plan opened.events.items = subst (LawfulSoFar h.plan) (list_is ∙ same) ready.so_far in
+prepared h opened spool (Err e) has long on state spool_on ready list_is state_is spool_is whole = tt
+prepared h opened spool (Ok examined) has long on state spool_on ready list_is state_is spool_is whole =
+    let so_far : LawfulSoFar h.plan opened.journal.events.items = subst (LawfulSoFar h.plan) list_is ready.so_far in
     record {
-      found = subst (IsFound h) (sym (list_is ∙ same)) (found-good h opened has so_far whole long);
+      found = subst (IsFound h) (sym list_is) (found-good h opened has so_far whole long);
       ready = ready;
       state = subst (MayStart h.digest) (sym state_is) (state whole);
       journal_on =
-          subst (λ (s : JournalState). EachImage (FitsState s (list_of examined.journal)) h.journal_after) (sym state_is)
-          (subst (λ (l : List Event). EachImage (FitsState (state_of opened.journal) l) h.journal_after) (sym list_is) (on whole));
-      spool_on = subst (λ (s : Spool). SpoolIsOn s h.spool_after) (sym spool_is) spool_on;
+          subst (λ (s : JournalState). EachImage (FitsState s (list_of examined.journal)) h.disks.journal_after) (sym state_is)
+          (subst (λ (l : List Event). EachImage (FitsState (state_of opened.journal) l) h.disks.journal_after) (sym list_is) (on whole));
+      spool_on = subst (λ (s : Spool). SpoolIsOn s h.disks.spool_after) (sym spool_is) spool_on;
     }

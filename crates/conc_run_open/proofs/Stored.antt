@@ -40,7 +40,7 @@ unopened-read plan digest d (history_fail.DiskFault disk_name.Spool) is = absurd
 
 -- a record is bad, or the spool could not be read
 pub unreadable-read : (plan : Plan) (digest : List ℕ) (d : Disks) (opened : Opened) (events : List Event) (e : HistoryFail) → IfSome d.journal_before.seen (IsOwnJournal digest)
-    → IfSome d.journal_before.seen (λ image. IsFoundIn image opened) → events ≡ opened.events.items → IsUnreadable plan events opened.broken d.spool_before d.spool_after e → HasReadCause plan digest d e
+    → IfSome d.journal_before.seen (λ image. IsFoundIn image opened) → events ≡ opened.journal.events.items → IsUnreadable plan events opened.broken d.spool_before d.spool_after e → HasReadCause plan digest d e
 unreadable-read plan digest d opened events (history_fail.Unlawful number) own found same bad = record {
   own = own;
   bad = IfSome_then d.journal_before.seen found (λ image is.
@@ -67,10 +67,10 @@ refused-unreadable plan events broken old new (history_fail.DiskFault disk) long
 
 -- the events are good, and the spool has their extents
 pub whole-read : (plan : Plan) (digest : List ℕ) (journal spool : DiskState) (opened : Opened) → IfSome journal.seen (IsOwnJournal digest) → IfSome journal.seen (λ image. IsFoundIn image opened)
-    → Reaches spool (counted opened.events.items) → LawfulSoFar plan opened.events.items → opened.broken ≡ None → AreWhole plan digest journal spool opened.events.items
+    → Reaches spool (counted opened.journal.events.items) → LawfulSoFar plan opened.journal.events.items → opened.broken ≡ None → AreWhole plan digest journal spool opened.journal.events.items
 whole-read plan digest journal spool opened own found long so_far whole = record {
   listed = listed plan digest journal opened own found so_far whole;
-  within = IfSome_then spool.seen long (λ texts far. end-within plan (length texts) opened.events.items so_far (omega (arith, far, counted-is plan opened.events.items so_far)));
+  within = IfSome_then spool.seen long (λ texts far. end-within plan (length texts) opened.journal.events.items so_far (omega (arith, far, counted-is plan opened.journal.events.items so_far)));
 }
 
 -- an end's extent lies within the texts

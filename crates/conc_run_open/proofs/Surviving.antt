@@ -36,10 +36,10 @@ left-wider kind wider old new more left = leaves-wider kind wider old new left (
 -- ---- the whole
 
 -- a life is begun behind what only looked
-pub opening-left : (h : Handed) (found : List Event) (mid : DiskState) → LeavesOnly h.journal_before.may_leave h.journal_before mid → LeavesOnly (HasOpening h found) mid h.journal_after → LeavesOpening h found
+pub opening-left : (h : Handed) (found : List Event) (mid : DiskState) → LeavesOnly h.disks.journal_before.may_leave h.disks.journal_before mid → LeavesOnly (HasOpening h found) mid h.disks.journal_after → LeavesOpening h found
 opening-left h found mid first second =
-    let K : List ℕ → Type 0 = λ image. h.journal_before.may_leave image ⊎ HasOpening h found image in
-    leaves-twice K h.journal_before mid h.journal_after (left-wider h.journal_before.may_leave K h.journal_before mid (λ c is. inl is) first) (left-wider (HasOpening h found) K mid h.journal_after (λ c is. inr is) second)
+    let K : List ℕ → Type 0 = λ image. h.disks.journal_before.may_leave image ⊎ HasOpening h found image in
+    leaves-twice K h.disks.journal_before mid h.disks.journal_after (left-wider h.disks.journal_before.may_leave K h.disks.journal_before mid (λ c is. inl is) first) (left-wider (HasOpening h found) K mid h.disks.journal_after (λ c is. inr is) second)
 
 -- the spool has the bytes of the texts, where it stays as it was
 pub texts-stay : (n : ℕ) (old new : DiskState) → Stays old new → IfSome new.seen (λ bytes. (image : List ℕ) → new.may_leave image → Agrees n bytes image) → EachImage (KeepsBelow n old) new

@@ -35,5 +35,5 @@ pub record IsExamined (h : Handed) (examined : Examined) : Type 0 where
   pub found : IsFound h (list_of examined.journal)
   pub ready : IsReady h.plan h.readings examined
   pub state : MayStart h.digest (state_of examined.journal)
-  pub journal_on : JournalIsOn examined.journal h.journal_after
-  pub spool_on : SpoolIsOn examined.spool h.spool_after
+  pub journal_on : JournalIsOn examined.journal h.disks.journal_after
+  pub spool_on : SpoolIsOn examined.spool h.disks.spool_after

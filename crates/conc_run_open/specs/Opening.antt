@@ -19,18 +19,18 @@ HasOpening h found image = Survives h.digest found (opening found) image
 
 -- a crash at some moment left of the journal what it might have left before, or such a journal
 abbrev pub LeavesOpening : Handed → List Event → Type 0
-LeavesOpening h found = LeavesOnly (λ image. h.journal_before.may_leave image ⊎ HasOpening h found image) h.journal_before h.journal_after
+LeavesOpening h found = LeavesOnly (λ image. h.disks.journal_before.may_leave image ⊎ HasOpening h found image) h.disks.journal_before h.disks.journal_after
 
 -- where the spool held the texts of ends that were found, each image still does
 abbrev pub StillStored : Handed → List Event → Type 0
-StillStored h found = (from : ℕ) → IfSome h.spool_before.seen (AreStored h.plan from found) → EachImage (AreStored h.plan from found) h.spool_after
+StillStored h found = (from : ℕ) → IfSome h.disks.spool_before.seen (AreStored h.plan from found) → EachImage (AreStored h.plan from found) h.disks.spool_after
 
 -- a life is begun: the list has the events found, with a resume behind them if there are any
 pub record IsBegun (h : Handed) (work : Work) : Type 0 where
   pub found : List Event
   pub taken : IsTaken h found
   pub list : list_in work ≡ opening found
-  pub ready : AreReady h.plan h.readings work h.journal_after h.spool_after
+  pub ready : AreReady h.plan h.readings work h.disks.journal_after h.disks.spool_after
   pub state : state_of work.journal ≡ Begun h.digest
   pub left : LeavesOpening h found
   pub stored : StillStored h found
@@ -41,6 +41,6 @@ pub record IsGivenUp (h : Handed) : Type 0 where
   pub found : List Event
   pub taken : IsTaken h found
   pub left : LeavesOpening h found
-  pub journal : EachImage (HasOpening h found) h.journal_after
-  pub spool : EachImage (KeepsBelow (used (reverse found)) h.spool_before) h.spool_after
+  pub journal : EachImage (HasOpening h found) h.disks.journal_after
+  pub spool : EachImage (KeepsBelow (used (reverse found)) h.disks.spool_before) h.disks.spool_after
   pub stored : StillStored h found

@@ -76,26 +76,24 @@ fn prepare<'p>(
     opened: Opened,
     spool: Spool,
 ) -> Result<Examined<'p>, HistoryFail>
-    requires list { list_of opened.journal ≡ opened.events.items }
     requires room { room_of opened.journal ≡ 0 }
-    requires spool { used_of spool ≡ counted opened.events.items }
+    requires spool { used_of spool ≡ counted (list_of opened.journal) }
     ensures ready { IfOk result (IsReady plan.now readings.now.list) }
     ensures list { IfOk result (λ examined. list_of examined.journal ≡ list_of opened.journal) }
     ensures state { IfOk result (λ examined. state_of examined.journal ≡ state_of opened.journal) }
     ensures spool { IfOk result (λ examined. examined.spool ≡ spool) }
     ensures whole { OnOk result (opened.broken ≡ None) }
     ensures cannot_begin { IfErr result
-        (CannotBegin plan.now readings.now.list opened.events.items opened.broken) }
+        (CannotBegin plan.now readings.now.list (list_of opened.journal) opened.broken) }
 {
     let Opened {
         mut journal,
-        events,
         broken,
         ..
     } = opened;
-    let mut machine = resume_whole(alloc, plan, &events, broken)?;
+    let mut machine = resume_whole(alloc, plan, journal.events(), broken)?;
     make_room(plan, readings, &mut journal)?;
-    match begin_life(alloc, &mut machine, readings, &events) {
+    match begin_life(alloc, &mut machine, readings, journal.events()) {
         Ok(()) => Ok(Examined {
             machine,
             journal,
@@ -125,6 +123,6 @@ pub(crate) fn examine<'p, D: Disk, E: Disk>(
         (D.state journal.new) (E.state spool.old) (E.state spool.new)) }
 {
     let opened = open_own(alloc, digest, journal)?;
-    let texts = open_texts(alloc, plan, &opened.events, spool)?;
+    let texts = open_texts(alloc, plan, opened.journal.events(), spool)?;
     prepare(alloc, plan, readings, opened, texts)
 }

@@ -29,6 +29,6 @@ pub fn read_list<D: Disk>(
         (D.state journal.new) }
 {
     let opened = open_own(alloc, digest, journal)?;
-    resume_whole(alloc, plan, &opened.events, opened.broken)?;
-    Ok(opened.events)
+    resume_whole(alloc, plan, opened.journal.events(), opened.broken)?;
+    Ok(opened.journal.into_events())
 }

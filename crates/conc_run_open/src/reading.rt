@@ -33,7 +33,6 @@ pub(crate) fn open_own<D: Disk>(
         → JournalIsOn opened.journal (D.state disk.new)) }
     ensures state { IfOk result (λ opened. opened.broken ≡ None
         → MayStart digest.now (state_of opened.journal)) }
-    ensures list { IfOk result (λ opened. list_of opened.journal ≡ opened.events.items) }
     ensures room { IfOk result (λ opened. room_of opened.journal ≡ 0) }
     ensures cause { IfErr result (IsUnopened digest.now (D.state disk.old) (D.state disk.new)) }
     ensures stays { Stays (D.state disk.old) (D.state disk.new) }

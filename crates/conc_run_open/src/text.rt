@@ -66,9 +66,9 @@ pub fn read_text<D: Disk, E: Disk>(
         (E.state spool.new) }
 {
     let opened = open_own(alloc, digest, journal)?;
-    let texts = open_texts(alloc, plan, &opened.events, spool)?;
-    resume_whole(alloc, plan, &opened.events, opened.broken)?;
-    let Some(extent) = find_report(&opened.events, id) else {
+    let texts = open_texts(alloc, plan, opened.journal.events(), spool)?;
+    resume_whole(alloc, plan, opened.journal.events(), opened.broken)?;
+    let Some(extent) = find_report(opened.journal.events(), id) else {
         return Err(TextFail::NotEnded);
     };
     match texts.read(alloc, spool, extent) {

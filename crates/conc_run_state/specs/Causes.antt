@@ -28,18 +28,18 @@ pub record IsFull (h : Handed) (len needed : ℕ) : Type 0 where
 
 -- the journal is this input's, and, where it exposes its bytes, its record with this number is the first that is bad
 pub record IsUnlawful (h : Handed) (number : ℕ) : Type 0 where
-  pub own : IfSome h.journal_before.seen (IsOwnJournal h.digest)
-  pub bad : IfSome h.journal_before.seen (λ image. IsBadFor h.plan h.spool_before (events_of image) (broken_of image) number)
+  pub own : IfSome h.disks.journal_before.seen (IsOwnJournal h.digest)
+  pub bad : IfSome h.disks.journal_before.seen (λ image. IsBadFor h.plan h.disks.spool_before (events_of image) (broken_of image) number)
 
 -- the count of faults of this disk rose; the spool is not opened before the journal was found to be this input's
 abbrev pub Faulted : Handed → DiskName → Type 0
-Faulted h disk_name.Journal = Rose h.journal_before.faults h.journal_after.faults
-Faulted h disk_name.Spool = IfSome h.journal_before.seen (IsOwnJournal h.digest) × Rose h.spool_before.faults h.spool_after.faults
+Faulted h disk_name.Journal = Rose h.disks.journal_before.faults h.disks.journal_after.faults
+Faulted h disk_name.Spool = IfSome h.disks.journal_before.seen (IsOwnJournal h.digest) × Rose h.disks.spool_before.faults h.disks.spool_after.faults
 
 -- the cause of each answer; want of memory needs none
 abbrev pub HasCause : Handed → HistoryFail → Type 0
-HasCause h history_fail.NotJournal = IfSome h.journal_before.seen (λ image. IsFalse (may_open image))
-HasCause h (history_fail.OtherInput found) = IfSome h.journal_before.seen (IsOther h.digest found)
+HasCause h history_fail.NotJournal = IfSome h.disks.journal_before.seen (λ image. IsFalse (may_open image))
+HasCause h (history_fail.OtherInput found) = IfSome h.disks.journal_before.seen (IsOther h.digest found)
 HasCause h (history_fail.Unlawful number) = IsUnlawful h number
 HasCause h (history_fail.JournalFull len needed) = IsFull h len needed
 HasCause h (history_fail.DiskFault disk) = Faulted h disk

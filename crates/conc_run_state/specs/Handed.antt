@@ -9,7 +9,7 @@ use Rattle.conc_law.specs.Law.{LawfulSoFar}
 use Rattle.conc_journal.specs.Opens.{broken_of, events_of, may_open}
 use Rattle.conc_journal_image.specs.declared.layout.TheConstants.{MOST_RECORDS}
 use Rattle.conc_restart.specs.Need.{need}
-use Rattle.conc_run_state.specs.Disks.{AreUntouched, disks}
+use Rattle.conc_run_state.specs.Disks.{AreUntouched, Disks, disks}
 use Rattle.conc_run_state.specs.Judging.{EndWithin}
 use Rattle.conc_run_state.specs.Survival.{IsOwn}
 
@@ -18,25 +18,19 @@ pub record Handed : Type 1 where
   pub plan : Plan
   pub readings : List Reading
   pub digest : List ℕ
-  pub journal_before : DiskState
-  pub journal_after : DiskState
-  pub spool_before : DiskState
-  pub spool_after : DiskState
+  pub disks : Disks
 
 abbrev pub handed : Plan → Readings → List ℕ → DiskState → DiskState → DiskState → DiskState → Handed
 handed plan readings digest journal journal' spool spool' = record {
   plan = plan;
   readings = readings.list;
   digest = digest;
-  journal_before = journal;
-  journal_after = journal';
-  spool_before = spool;
-  spool_after = spool';
+  disks = disks journal journal' spool spool';
 }
 
 -- nothing was written
 abbrev pub IsUntouched : Handed → Type 0
-IsUntouched h = AreUntouched (disks h.journal_before h.journal_after h.spool_before h.spool_after)
+IsUntouched h = AreUntouched h.disks
 
 -- the image is that of a journal of this input, or of one that is not begun
 pub record IsOwnJournal (digest : List ℕ) (image : List ℕ) : Type 0 where
@@ -47,10 +41,10 @@ pub record IsOwnJournal (digest : List ℕ) (image : List ℕ) : Type 0 where
 -- those of a journal of this input of which no record is broken; and where the spool's does, each extent ends within it.
 pub record IsFound (h : Handed) (found : List Event) : Type 0 where
   pub so_far : LawfulSoFar h.plan found
-  pub own : IfSome h.journal_before.seen (IsOwnJournal h.digest)
-  pub whole : IfSome h.journal_before.seen (λ image. broken_of image ≡ None)
-  pub events : IfSome h.journal_before.seen (λ image. found ≡ events_of image)
-  pub within : IfSome h.spool_before.seen (λ texts. EndWithin (length texts) found)
+  pub own : IfSome h.disks.journal_before.seen (IsOwnJournal h.digest)
+  pub whole : IfSome h.disks.journal_before.seen (λ image. broken_of image ≡ None)
+  pub events : IfSome h.disks.journal_before.seen (λ image. found ≡ events_of image)
+  pub within : IfSome h.disks.spool_before.seen (λ texts. EndWithin (length texts) found)
 
 -- these are the events found, and the journal has room for one more life
 pub record IsTaken (h : Handed) (found : List Event) : Type 0 where

@@ -5,7 +5,9 @@ use Rattle.conc_types.specs.declared.event.Event.{Event}
 use Rattle.conc_types.specs.declared.plan.Plan.{Plan}
 use Rattle.conc_types.specs.declared.script.Reading.{Reading}
 use Rattle.conc_law.specs.Alone.{Follows}
+use Rattle.conc_law.specs.Ends.{AreReported}
 use Rattle.conc_law.specs.Kinds.{is_resume}
+use Rattle.conc_law.specs.Law.{Lawful}
 use Rattle.conc_journal.specs.Journals.{list_of, state_of}
 use Rattle.conc_journal.specs.declared.journal.Journal.{Journal}
 use Rattle.conc_journal.specs.declared.journal.JournalState.{JournalState}
@@ -15,13 +17,18 @@ use Rattle.conc_journal.specs.declared.journal.JournalState.TheVariants.{NotBegu
 abbrev pub IsPrefix : List Event → List Event → Type 0
 IsPrefix first list = (rest : List Event) × (list ≡ first ++ rest)
 
--- the second list goes on from the first as a run without workers does: each event is the one that comes next, and
--- none is a resume
+-- The second list goes on from the first: it is lawful, none of the events that were added is a resume, and each end among
+-- them tells what its request's report says.
 pub record GoesOn (plan : Plan) (readings : List Reading) (first list : List Event) : Type 0 where
   pub added : List Event
   pub all : list ≡ first ++ added
-  pub each : Follows plan readings (length first) list
+  pub lawful : Lawful plan readings list
   pub no_resume : IsFalse (list_any is_resume added)
+  pub reported : AreReported plan (length first) list
+
+-- it goes on as a run without workers does: each event that was added is the one that comes next
+abbrev pub GoesOnAlone : Plan → List Reading → List Event → List Event → Type 0
+GoesOnAlone plan readings first list = Follows plan readings (length first) list
 
 -- the events whose append met a fault: each is the last that the disk may have
 abbrev pub failed_in : JournalState → List Event

@@ -136,7 +136,7 @@ module _ (plan : Plan) (readings : List Reading) (old : Work) (e : Event) (known
   longer : list_in old ++ e ∷ [] ≡ has.earlier ++ (has.life ++ e ∷ [])
   longer = ap (λ l. l ++ e ∷ []) has.lives ∙ append_assoc has.earlier has.life (e ∷ [])
 
-  takes-one : Lawful plan readings (list_in old ++ e ∷ []) → 0 < room_of old.journal
+  pub takes-one : Lawful plan readings (list_in old ++ e ∷ []) → 0 < room_of old.journal
   takes-one lawful =
       let r = taken old.machine readings known in
       let same : is_lawful plan r.0.list (reverse (has.earlier ++ (has.life ++ e ∷ []))) ≡ true =

@@ -4,3 +4,7 @@ pub mod Texts
 pub mod Logs
 pub mod Pending
 pub mod Fitting
+pub mod Going
+pub mod Stepping
+pub mod Underway
+pub mod Telling

@@ -116,6 +116,13 @@ module _ (plan : Plan) where
       go None left on = refl
       go (Some a) left on = agrees-self n a (on a left).no_shorter
 
+    pub stores-still : StoresOn plan n list list disk disk
+    stores-still = record {
+      stored = λ from each. each;
+      left = leaves-none (KeepsBelow n disk) disk;
+      now = unwritten;
+    }
+
     pub stores-without : (e : Event) → HasItsText plan e None → StoresOn plan n list (list ++ e ∷ []) disk disk
     stores-without e stored = record {
       stored = λ from each. IfSome_then disk.seen each (λ bytes here image is_left. stored-more from list e image (here image is_left) (without-stored e image stored));

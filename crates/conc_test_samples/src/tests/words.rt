@@ -1,46 +1,82 @@
 use super::expect::same_at;
-use conc_top_words::read_command;
+use conc_top_words::{Command, read_command};
 use std::alloc::Global;
 use std::process::Abort;
 use std::test::Fail;
 
-// Lines that begin with `run` and whose words, with a blank between two of them, are a command.
-const RUNS: &str = concat!(
-    "run a.toml a.csv a.clock --threads 0\n",
-    "run --threads 0 a.toml a.csv a.clock\n",
-    "run a.toml --threads=0 a.csv --watch=0 a.clock\n",
-    "run a.toml --watch 0 a.csv a.clock --threads 0\n",
-    "run --watch=0 --threads=0 a.toml a.csv a.clock\n",
-    "run --threads 0 --watch 0 a.toml a.csv a.clock\n",
-    "run a.toml a.csv --threads 0 a.clock\n",
-    "run a.toml a.csv a.clock --threads=0 --watch 0",
-);
+// Lines that begin with `run` and whose words, with a blank between two of them, are a command, and how
+// many threads it has.
+static RUNS: [(&str, u32); 20] = [
+    ("run a.toml a.csv a.clock", 4),
+    ("run a.toml a.csv a.clock --watch 0", 4),
+    ("run --watch=0 a.toml a.csv a.clock", 4),
+    ("run a.toml a.csv a.clock --threads 0", 0),
+    ("run --threads 0 a.toml a.csv a.clock", 0),
+    ("run a.toml --threads=0 a.csv --watch=0 a.clock", 0),
+    ("run a.toml --watch 0 a.csv a.clock --threads 0", 0),
+    ("run --watch=0 --threads=0 a.toml a.csv a.clock", 0),
+    ("run --threads 0 --watch 0 a.toml a.csv a.clock", 0),
+    ("run a.toml a.csv --threads 0 a.clock", 0),
+    ("run a.toml a.csv a.clock --threads=0 --watch 0", 0),
+    ("run a.toml a.csv a.clock --threads 1", 1),
+    ("run a.toml a.csv a.clock --threads 4", 4),
+    ("run a.toml --threads 4 a.csv a.clock", 4),
+    ("run --threads=7 a.toml a.csv a.clock", 7),
+    ("run a.toml a.csv --threads=10 a.clock", 10),
+    ("run a.toml a.csv a.clock --threads 31", 31),
+    ("run a.toml a.csv a.clock --threads 32", 32),
+    ("run a.toml a.csv a.clock --threads=32", 32),
+    ("run --threads 32 a.toml a.csv --watch 0 a.clock", 32),
+];
 
 // Such lines that are no command.
 const NO_RUNS: &str = concat!(
-    // A count that is not 0 or no decimal, or none for the threads.
-    "run a.toml a.csv a.clock\n",
-    "run a.toml a.csv a.clock --threads 1\n",
-    "run a.toml a.csv a.clock --threads=4\n",
-    "run a.toml a.csv a.clock --threads=32\n",
+    // A number of threads that is not from 0 to 32, no decimal, or none.
+    "run a.toml a.csv a.clock --threads 33\n",
     "run a.toml a.csv a.clock --threads=33\n",
+    "run --threads 33 a.toml a.csv a.clock\n",
+    "run a.toml --threads=40 a.csv a.clock\n",
+    "run a.toml a.csv a.clock --threads 320\n",
+    "run a.toml a.csv a.clock --threads 4294967296\n",
+    "run a.toml a.csv a.clock --threads 4294967300\n",
+    "run a.toml a.csv a.clock --threads 18446744073709551620\n",
     "run a.toml a.csv a.clock --threads 00\n",
+    "run a.toml a.csv a.clock --threads 04\n",
+    "run a.toml a.csv a.clock --threads 032\n",
+    "run a.toml a.csv a.clock --threads=032\n",
     "run a.toml a.csv a.clock --threads -0\n",
+    "run a.toml a.csv a.clock --threads -4\n",
+    "run a.toml a.csv a.clock --threads=-1\n",
     "run a.toml a.csv a.clock --threads +0\n",
+    "run a.toml a.csv a.clock --threads +4\n",
+    "run a.toml a.csv a.clock --threads=+4\n",
+    "run a.toml a.csv a.clock --threads 4.0\n",
+    "run a.toml a.csv a.clock --threads 4,\n",
     "run a.toml a.csv a.clock --threads=0x0\n",
     "run a.toml a.csv a.clock --threads zero\n",
+    "run a.toml a.csv a.clock --threads==4\n",
     "run a.toml a.csv a.clock --threads\n",
     "run a.toml a.csv a.clock --threads=\n",
     "run a.toml a.csv a.clock --threads \n",
+    "run --threads a.toml a.csv a.clock\n",
+    "run a.toml a.csv --threads a.clock 4\n",
+    "run a.toml a.csv a.clock --threads --watch=0\n",
+    // A number of watchers that is not 0, no decimal, or none.
+    "run a.toml a.csv a.clock --watch 1\n",
     "run a.toml a.csv a.clock --threads 0 --watch 1\n",
     "run a.toml a.csv a.clock --threads 0 --watch=8\n",
     "run a.toml a.csv a.clock --threads 0 --watch=9\n",
+    "run a.toml a.csv a.clock --threads 4 --watch 00\n",
     "run a.toml a.csv a.clock --threads 0 --watch\n",
     "run a.toml a.csv a.clock --threads 0 --watch=\n",
-    "run a.toml a.csv a.clock --watch 0\n",
+    "run a.toml a.csv a.clock --watch --threads=0\n",
     // An option twice.
     "run a.toml a.csv a.clock --threads 0 --threads 0\n",
+    "run a.toml a.csv a.clock --threads 4 --threads 4\n",
+    "run a.toml a.csv a.clock --threads=4 --threads=4\n",
+    "run --threads 4 a.toml a.csv a.clock --threads 32\n",
     "run a.toml a.csv a.clock --threads=0 --threads 0\n",
+    "run a.toml a.csv a.clock --watch 0 --watch 0\n",
     "run a.toml a.csv a.clock --threads 0 --watch 0 --watch 0\n",
     "run a.toml a.csv a.clock --threads 0 --watch=0 --watch=0\n",
     // Other options.
@@ -51,13 +87,19 @@ const NO_RUNS: &str = concat!(
     "run a.toml a.csv a.clock --thread 0\n",
     "run a.toml a.csv a.clock --THREADS 0\n",
     "run a.toml a.csv a.clock --threads0\n",
+    "run a.toml a.csv a.clock --threads4\n",
     "run a.toml a.csv a.clock --watches=0 --threads=0\n",
     // Another number of files, or a word that names none.
+    "run a.toml a.csv\n",
+    "run a.toml a.csv --threads 4\n",
     "run a.toml a.csv --threads 0\n",
     "run a.toml --threads 0\n",
     "run --threads 0\n",
     "run\n",
+    "run a.toml a.csv a.clock t.csv\n",
+    "run a.toml a.csv a.clock 4\n",
     "run a.toml a.csv a.clock t.csv --threads 0\n",
+    "run a.toml a.csv a.clock t.csv --threads 4 --watch 0\n",
     "run a.toml a.csv  --threads 0\n",
     "run  a.csv a.clock --threads 0\n",
     "run a.toml a.csv - --threads 0\n",
@@ -138,9 +180,20 @@ fn are<Rt: Abort>(rt: &Rt, alloc: Global, lines: &str, want: bool) -> Result<(),
     Ok(())
 }
 
+// How many threads the run has that a line gives, if it gives one.
+fn threads_of(alloc: Global, line: &str) -> Result<Option<u32>, Fail> {
+    let words = words_of(alloc, line)?;
+    match read_command(alloc, words.as_slice())? {
+        Some(Command::Run { threads, .. }) => Ok(Some(threads)),
+        _ => Ok(None),
+    }
+}
+
 #[test]
 fn options_of_a_run_stand_anywhere_behind_it(rt: HostRuntime) -> Result<(), Fail> {
-    are(&rt, rt.alloc(), RUNS, true)?;
+    for (line, want) in RUNS {
+        same_at(&rt, threads_of(rt.alloc(), line)?, Some(want), line);
+    }
     are(&rt, rt.alloc(), NO_RUNS, false)
 }
 

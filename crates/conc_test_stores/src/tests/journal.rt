@@ -114,7 +114,7 @@ fn count_left<Rt: Abort>(
     let mut crashed = MemDisk::new(alloc, image, Vec::new(alloc));
     let opened = Journal::open_on(alloc, &mut crashed)?;
     same_at(rt, opened.broken, None, (call, choice));
-    Ok(opened.events.len())
+    Ok(opened.journal.events().len())
 }
 
 #[test]
@@ -159,7 +159,8 @@ fn after_a_fault_nothing_is_added(rt: HostRuntime) -> Result<(), Fail> {
         let again = Journal::open_on(alloc, &mut disk)?;
         // The gate was written before the last call.
         let count = usize::from(call == 14);
-        same_at(&rt, (again.broken, again.events.len()), (None, count), call);
+        let found = (again.broken, again.journal.events().len());
+        same_at(&rt, found, (None, count), call);
     }
     Ok(())
 }
@@ -170,10 +171,11 @@ type Told = Result<(bool, usize, Option<u64>), JournalFail>;
 fn told<Rt: Abort>(rt: &Rt, alloc: Global, bytes: &[u8]) -> Result<Told, Fail> {
     let mut disk = disk_of(alloc, bytes, &[])?;
     Ok(match Journal::open_on(alloc, &mut disk) {
-        Ok(opened) => {
-            same(rt, opened.journal.events(), opened.events.as_slice());
-            Ok((opened.digest.is_some(), opened.events.len(), opened.broken))
-        }
+        Ok(opened) => Ok((
+            opened.digest.is_some(),
+            opened.journal.events().len(),
+            opened.broken,
+        )),
         Err(fail) => Err(fail),
     })
 }
@@ -270,7 +272,7 @@ fn nine_records_have_353_bytes(rt: HostRuntime) -> Result<(), Fail> {
     same(&rt, bytes.len(), 353);
     same(&rt, bytes.as_slice(), NINE_RECORDS.as_slice());
     let opened = Journal::open_on(alloc, &mut disk)?;
-    same(&rt, opened.events.as_slice(), in_turn().as_slice());
+    same(&rt, opened.journal.events(), in_turn().as_slice());
     Ok(())
 }
 

@@ -14,7 +14,7 @@ returns-in_err-texts-clause-cause g c =
     let h = handed c.args.plan.now c.args.readings.now c.args.digest.now (g.D.Disk.state c.args.journal.now) (g.D.Disk.state c.open_own.new.disk) (g.E.Disk.state c.args.spool.now) (g.E.Disk.state c.open_texts.new.disk) in
     let opened = c.in_ok-opened.opened in
     let found = c.in_ok-opened.ensures in
-    rw (p.1, p.2) (found-unreadable h opened c.deref.result.now _ (record { own = found.own; found = found.found }) c.deref.ensures.value (c.in_err-texts.ensures.unreadable opened.broken))
+    rw (p.1, p.2) (found-unreadable h opened c.events.result.now _ (record { own = found.own; found = found.found }) c.events.ensures (c.in_err-texts.ensures.unreadable opened.broken))
 
 pub returns-clause-examined : goal.returns-clause-examined
 returns-clause-examined g c =
@@ -23,8 +23,8 @@ returns-clause-examined g c =
     let found = c.in_ok-opened.ensures in
     let made = c.prepare.ensures in
     prepared h c.in_ok-opened.opened c.in_ok-texts.texts c.prepare.result (record { own = found.own; found = found.found })
-    (subst (λ (l : List Event). Reaches spool (counted l)) c.deref.ensures.value c.in_ok-texts.ensures.long)
-    found.list found.on found.state c.in_ok-texts.ensures.on made.ready made.list made.state made.spool made.whole
+    (subst (λ (l : List Event). Reaches spool (counted l)) c.events.ensures c.in_ok-texts.ensures.long)
+    found.on found.state c.in_ok-texts.ensures.on made.ready made.list made.state made.spool made.whole
 
 pub returns-clause-cause : goal.returns-clause-cause
 returns-clause-cause g c =
@@ -32,4 +32,4 @@ returns-clause-cause g c =
     let h = handed c.args.plan.now c.args.readings.now c.args.digest.now (g.D.Disk.state c.args.journal.now) (g.D.Disk.state c.open_own.new.disk) spool (g.E.Disk.state c.open_texts.new.disk) in
     let found = c.in_ok-opened.ensures in
     prepared-cause h c.in_ok-opened.opened c.prepare.result (record { own = found.own; found = found.found })
-    (subst (λ (l : List Event). Reaches spool (counted l)) c.deref.ensures.value c.in_ok-texts.ensures.long) c.prepare.ensures.cannot_begin
+    (subst (λ (l : List Event). Reaches spool (counted l)) c.events.ensures c.in_ok-texts.ensures.long) c.prepare.ensures.cannot_begin

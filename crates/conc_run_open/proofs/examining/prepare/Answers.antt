@@ -12,25 +12,25 @@ use Rattle.conc_run_open.proofs.examining.prepare.Goals as goal
 pub returns-in_err-machine-clause-cannot_begin : goal.returns-in_err-machine-clause-cannot_begin
 returns-in_err-machine-clause-cannot_begin c =
     let p = err_from_is_err_and c.from_residual.result c.from_residual.ensures.1 in
-    rw (p.1, p.2) (cannot_begin-bad c.args.plan.now c.args.readings.now.list c.args.opened.events.items c.deref.result.now c.args.opened.broken _ c.deref.ensures.value c.in_err-machine.ensures.refused)
+    rw (p.1, p.2) (cannot_begin-bad c.args.plan.now c.args.readings.now.list c.args.opened.journal.events.items c.events.result.now c.args.opened.broken _ c.events.ensures c.in_err-machine.ensures.refused)
 
 pub returns-in_err-make_room-clause-cannot_begin : goal.returns-in_err-make_room-clause-cannot_begin
 returns-in_err-make_room-clause-cannot_begin c =
     let p = err_from_is_err_and c.from_residual-in_err-make_room.result c.from_residual-in_err-make_room.ensures.1 in
     rw (p.1, p.2)
-    (cannot_begin-full c.args.plan.now c.args.readings.now.list c.args.opened.events.items c.deref.result.now c.args.opened.journal.events.items c.args.opened.broken _ c.deref.ensures.value c.requires.list c.in_ok-machine.ensures.lawful_so_far c.in_ok-machine.ensures.whole
+    (cannot_begin-full c.args.plan.now c.args.readings.now.list c.args.opened.journal.events.items c.events.result.now c.args.opened.broken _ c.events.ensures c.in_ok-machine.ensures.lawful_so_far c.in_ok-machine.ensures.whole
     c.in_err-make_room.ensures.lacks_room)
 
 pub returns-in-Ok-clause-ready : goal.returns-in-Ok-clause-ready
 returns-in-Ok-clause-ready c =
     let plan = c.args.plan.now in
-    let events = c.args.opened.events.items in
-    let list : c.make_room.new.journal.events.items ≡ events = c.make_room.ensures.list ∙ c.requires.list in
-    let so_far : LawfulSoFar plan events = subst (LawfulSoFar plan) c.deref.ensures.value c.in_ok-machine.ensures.lawful_so_far in
+    let events = c.args.opened.journal.events.items in
+    let list : c.make_room.new.journal.events.items ≡ events = c.make_room.ensures.list in
+    let so_far : LawfulSoFar plan events = subst (LawfulSoFar plan) c.events.ensures c.in_ok-machine.ensures.lawful_so_far in
     record {
       plan_is = c.begin_life.ensures.plan ∙ c.in_ok-machine.ensures.plan;
       readings_are = c.in-Ok.ensures.readings;
-      stands = subst (λ (l : List Event). StandsFor c.begin_life.new.machine (reverse (opening l))) (c.deref-2.ensures.value ∙ sym list) c.in-Ok.ensures.stands;
+      stands = subst (λ (l : List Event). StandsFor c.begin_life.new.machine (reverse (opening l))) c.events-2.ensures c.in-Ok.ensures.stands;
       so_far = subst (LawfulSoFar plan) (sym list) so_far;
       room = c.in_ok-make_room.ensures.room;
       used_is = c.requires.spool ∙ counted-is plan events so_far ∙ ap (λ (l : List Event). used (reverse l)) (sym list);

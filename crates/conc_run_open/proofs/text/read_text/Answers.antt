@@ -21,7 +21,7 @@ returns-in_err-texts-clause-cause g c =
     let d = disks (g.D.Disk.state c.args.journal.now) (g.D.Disk.state c.open_own.new.disk) (g.E.Disk.state c.args.spool.now) (g.E.Disk.state c.open_texts.new.disk) in
     let opened = c.in_ok-opened.opened in
     let found = c.in_ok-opened.ensures in
-    rw (p.1, p.2) (unreadable-read c.args.plan.now c.args.digest.now d opened c.deref.result.now _ found.own found.found c.deref.ensures.value (c.in_err-texts.ensures.unreadable opened.broken))
+    rw (p.1, p.2) (unreadable-read c.args.plan.now c.args.digest.now d opened c.events.result.now _ found.own found.found c.events.ensures (c.in_err-texts.ensures.unreadable opened.broken))
 
 pub returns-in_err-resume_whole-clause-cause : goal.returns-in_err-resume_whole-clause-cause
 returns-in_err-resume_whole-clause-cause g c =
@@ -32,10 +32,10 @@ returns-in_err-resume_whole-clause-cause g c =
     let d = disks (g.D.Disk.state c.args.journal.now) (g.D.Disk.state c.open_own.new.disk) old mid in
     let opened = c.in_ok-opened.opened in
     let found = c.in_ok-opened.ensures in
-    let events = c.deref-2.result.now in
-    let long = subst (λ (l : List Event). Reaches old (counted l)) (c.deref.ensures.value ∙ sym c.deref-2.ensures.value) c.in_ok-texts.ensures.long in
+    let events = c.events-2.result.now in
+    let long = subst (λ (l : List Event). Reaches old (counted l)) (c.events.ensures ∙ sym c.events-2.ensures) c.in_ok-texts.ensures.long in
     rw (p.1, p.2)
-    (unreadable-read plan c.args.digest.now d opened events _ found.own found.found c.deref-2.ensures.value (refused-unreadable plan events opened.broken old mid _ long c.in_err-resume_whole.ensures.refused))
+    (unreadable-read plan c.args.digest.now d opened events _ found.own found.found c.events-2.ensures (refused-unreadable plan events opened.broken old mid _ long c.in_err-resume_whole.ensures.refused))
 
 pub returns-in_default-clause-cause : goal.returns-in_default-clause-cause
 returns-in_default-clause-cause g c =
@@ -45,21 +45,21 @@ returns-in_default-clause-cause g c =
     let opened = c.in_ok-opened.opened in
     let found = c.in_ok-opened.ensures in
     let good = c.in_ok-resume_whole.ensures in
-    let so_far = subst (LawfulSoFar plan) c.deref-2.ensures.value good.lawful_so_far in
-    let long = subst (λ (l : List Event). Reaches spool (counted l)) c.deref.ensures.value c.in_ok-texts.ensures.long in
+    let so_far = subst (LawfulSoFar plan) c.events-2.ensures good.lawful_so_far in
+    let long = subst (λ (l : List Event). Reaches spool (counted l)) c.events.ensures c.in_ok-texts.ensures.long in
     record {
-      events = opened.events.items;
+      events = opened.journal.events.items;
       whole = whole-read plan c.args.digest.now journal spool opened found.own found.found long so_far good.whole;
-      none = subst (λ (l : List Event). HasNoEnd l c.args.id) c.deref-3.ensures.value c.in_default.ensures;
+      none = subst (λ (l : List Event). HasNoEnd l c.args.id) c.events-3.ensures c.in_default.ensures;
     }
 
 pub read-requires-clause-within : goal.read-requires-clause-within
 read-requires-clause-within g c =
     let plan = c.args.plan.now in
-    let events = c.in_ok-opened.opened.events.items in
-    let so_far = subst (LawfulSoFar plan) c.deref-2.ensures.value c.in_ok-resume_whole.ensures.lawful_so_far in
-    read-within plan events c.args.id c.in-Some.extent c.in_ok-texts.texts.used so_far (c.in_ok-texts.ensures.used ∙ ap counted c.deref.ensures.value)
-    (subst (λ (l : List Event). HasEnd l c.args.id c.in-Some.extent) c.deref-3.ensures.value c.in-Some.ensures)
+    let events = c.in_ok-opened.opened.journal.events.items in
+    let so_far = subst (LawfulSoFar plan) c.events-2.ensures c.in_ok-resume_whole.ensures.lawful_so_far in
+    read-within plan events c.args.id c.in-Some.extent c.in_ok-texts.texts.used so_far (c.in_ok-texts.ensures.used ∙ ap counted c.events.ensures)
+    (subst (λ (l : List Event). HasEnd l c.args.id c.in-Some.extent) c.events-3.ensures c.in-Some.ensures)
 
 pub returns-in-Ok-clause-text : goal.returns-in-Ok-clause-text
 returns-in-Ok-clause-text g c =
@@ -69,13 +69,13 @@ returns-in-Ok-clause-text g c =
     let opened = c.in_ok-opened.opened in
     let found = c.in_ok-opened.ensures in
     let good = c.in_ok-resume_whole.ensures in
-    let so_far = subst (LawfulSoFar plan) c.deref-2.ensures.value good.lawful_so_far in
-    let long = subst (λ (l : List Event). Reaches spool (counted l)) c.deref.ensures.value c.in_ok-texts.ensures.long in
+    let so_far = subst (LawfulSoFar plan) c.events-2.ensures good.lawful_so_far in
+    let long = subst (λ (l : List Event). Reaches spool (counted l)) c.events.ensures c.in_ok-texts.ensures.long in
     record {
-      events = opened.events.items;
+      events = opened.journal.events.items;
       whole = whole-read plan c.args.digest.now journal spool opened found.own found.found long so_far good.whole;
       extent = c.in-Some.extent;
-      ended = subst (λ (l : List Event). HasEnd l c.args.id c.in-Some.extent) c.deref-3.ensures.value c.in-Some.ensures;
+      ended = subst (λ (l : List Event). HasEnd l c.args.id c.in-Some.extent) c.events-3.ensures c.in-Some.ensures;
       long = sym c.in-Ok.text.ok.0 ∙ c.in-Ok.ensures.length;
       text = text-before spool (g.E.Disk.state c.open_texts.new.disk) c.in-Some.extent.offset c.in-Ok.text.items c.open_texts.ensures.stays c.in-Ok.ensures.text;
     }

@@ -2,17 +2,19 @@
 use Rattle.std.proofs.Common.{◌≡◌, ◌⊎◌, inl, inr, ℕ, zero, suc, ◌<◌, ◌≤◌, Bool, false, ◌||◌, List, [], ◌∷◌, ◌++◌, length, reverse, take, Option, None, Some, refl, sym, ◌∙◌, ap, subst, arith, append_assoc, append-nil}
 use Rattle.std.specs.Prelude.{IfSome, IsSomeAnd, MatchOption, slice_get}
 use Rattle.std.proofs.lemmas.Bool.{cases_lt}
-use Rattle.std.proofs.lemmas.List.{take-append-le}
 use Rattle.std.proofs.lemmas.List.Folds.{list_any-append}
-use Rattle.std.proofs.lemmas.Option.{same_Some}
+use Rattle.std.proofs.lemmas.Option.{same_Some, slice_get_within}
 use Rattle.conc_types.specs.declared.event.Event.{Event}
+use Rattle.conc_types.specs.declared.event.Event.TheVariants as event
+use Rattle.conc_types.specs.declared.event.Extent.{Extent}
+use Rattle.conc_types.specs.declared.event.Outcome.{Outcome}
+use Rattle.conc_types.specs.declared.event.RequestId.{RequestId}
 use Rattle.conc_types.specs.declared.plan.Plan.{Plan}
 use Rattle.conc_types.specs.declared.script.Reading.{Reading}
-use Rattle.conc_law.specs.Alone.{Follows, next_alone}
+use Rattle.conc_law.specs.Ends.{IsReported}
 use Rattle.conc_law.specs.Kinds.{is_resume}
 use Rattle.conc_law.specs.Law.{Lawful}
 use Rattle.conc_law.specs.State.{used}
-use Rattle.conc_law.proofs.AloneLawful.{next_alone-follows}
 use Rattle.conc_disk.specs.Disk.{DiskState, SeenFollows}
 use Rattle.conc_disk.specs.Left.{EachImage, LeavesOnly}
 use Rattle.conc_disk.proofs.Leaving.{if_some-any, leaves-none, leaves-twice, leaves-wider}
@@ -20,14 +22,13 @@ use Rattle.conc_journal.specs.Journals.{list_of, state_of}
 use Rattle.conc_journal.specs.JournalStates.{has_faulted, state_digest}
 use Rattle.conc_journal.specs.declared.journal.JournalState.TheVariants.{Begun}
 use Rattle.conc_spool.specs.Spools.{Agrees, KeepsBelow, used_of}
-use Rattle.conc_resolver_choice.proofs.Pushes.{Follows-push}
 use Rattle.conc_run_state.specs.Lists.{GoesOn, IsPrefix, longest_of}
 use Rattle.conc_run_state.specs.Survival.{Survives}
 use Rattle.conc_run_state.specs.Stored.{AreStored}
 use Rattle.conc_run_state.specs.Works.{AreReady, AreTied, list_in, longest_in}
 use Rattle.conc_run_state.specs.declared.work.Work.{Work}
 use Rattle.conc_run_state.specs.Disks.{disks}
-use Rattle.conc_resolver_alone.specs.Runs.{WentOn}
+use Rattle.conc_run_steps.specs.Going.{TellsReport, WentOn}
 use Rattle.conc_run_steps.specs.Steps.{SurvivesFor, StoresOn}
 use Rattle.conc_run_steps.proofs.Extents.{used-more}
 use Rattle.conc_run_state.proofs.Prefixes.{prefix-self}
@@ -38,6 +39,29 @@ use Rattle.conc_run_steps.proofs.Texts.{agrees-on}
 -- where no append met a fault, the disk has at most the list
 pub sound-longest : (work : Work) → has_faulted (state_of work.journal) ≡ false → longest_in work ≡ list_in work
 sound-longest work sound = ap (λ l. list_in work ++ l) (sound-whole (state_of work.journal) sound) ∙ append-nil (list_in work)
+
+-- ---- where an event of a list stands
+
+-- behind the last event there is none
+behind-end : (first list : List Event) → list ≡ first → (i : ℕ) (e : Event) → length first ≤ i → slice_get list i ≡ Some e → ⊥
+behind-end first list same i e from there = let within = slice_get_within list i e there in omega (arith, from, within, ap length same)
+
+pub get-front : (list added : List Event) (i : ℕ) → i < length list → slice_get (list ++ added) i ≡ slice_get list i
+get-front [] added i below = absurd (omega arith)
+get-front (e ∷ list) added zero below = refl
+get-front (e ∷ list) added (suc i) below = get-front list added i (omega arith)
+
+get-last : (list : List Event) (e d : Event) (i : ℕ) → length list ≤ i → slice_get (list ++ e ∷ []) i ≡ Some d → e ≡ d
+get-last [] e d zero from there = same_Some e d there
+get-last [] e d (suc i) from there = cc
+get-last (f ∷ list) e d zero from there = absurd (omega arith)
+get-last (f ∷ list) e d (suc i) from there = get-last list e d i (omega arith) there
+
+last-there : (first list : List Event) (e : Event) → list ≡ first ++ e ∷ [] → (i : ℕ) (d : Event) → length first ≤ i → slice_get list i ≡ Some d → e ≡ d
+last-there first list e same i d from there = get-last first e d i from (ap (λ l. slice_get l i) (sym same) ∙ there)
+
+told-end : (plan : Plan) (id : RequestId) (o : Outcome) (x : Extent) {e : Event} → e ≡ event.Ended id o (Some x) → TellsReport plan e → IsReported plan id o x
+told-end plan id o x is told = subst (TellsReport plan) is told
 
 -- ---- no event
 
@@ -53,10 +77,10 @@ module _ (plan : Plan) (readings : List Reading) (old new : Work) (journal spool
     list = record {
       added = [];
       all = longest ∙ sym (append-nil (list_in old));
-      each = λ i from below. absurd (omega (arith, from, below, ap length longest));
+      lawful = subst (λ (l : List Event). Lawful plan readings l) (sym longest) lawful;
       no_resume = refl;
+      reported = λ i id o x from there. absurd (behind-end (list_in old) (longest_in new) longest i (event.Ended id o (Some x)) from there);
     };
-    lawful = subst (λ (l : List Event). Lawful plan readings l) (sym longest) lawful;
     acknowledged = inl (longest ∙ sym (ap (λ j. list_of j) same));
     stored = λ from. subst (λ (l : List Event). EachImage (AreStored plan from (list_in old)) spool → EachImage (AreStored plan from l) spool') (sym longest) (stores.stored from);
     digest = ap (λ j. state_digest (state_of j)) same;
@@ -67,8 +91,8 @@ module _ (plan : Plan) (readings : List Reading) (old new : Work) (journal spool
 
 -- ---- one event
 
-module _ (plan : Plan) (readings : List Reading) (old new : Work) (e : Event) (pending : Option Event) (journal journal' spool spool' : DiskState) (next : next_alone plan readings (reverse (list_in old)) ≡ Some e)
-    (longest : longest_in new ≡ list_in old ++ e ∷ []) where
+module _ (plan : Plan) (readings : List Reading) (old new : Work) (e : Event) (pending : Option Event) (journal journal' spool spool' : DiskState) (none : is_resume e ≡ false)
+    (longest : longest_in new ≡ list_in old ++ e ∷ []) (told : TellsReport plan e) where
   pub went-one : AreTied plan readings pending new journal' spool' → Lawful plan readings (list_in old ++ e ∷ [])
       → (longest_in new ≡ list_in new) ⊎ ((e : Event) × (longest_in new ≡ list_in new ++ e ∷ []))
       → StoresOn plan (used_of old.spool) (list_in old) (list_in old ++ e ∷ []) spool spool'
@@ -81,11 +105,10 @@ module _ (plan : Plan) (readings : List Reading) (old new : Work) (e : Event) (p
     list = record {
       added = e ∷ [];
       all = longest;
-      each = subst (λ (l : List Event). Follows plan readings (length (list_in old)) l) (sym longest)
-          (Follows-push plan readings (length (list_in old)) (list_in old) e (λ i from below. absurd (omega (arith, from, below))) next);
-      no_resume = ap (λ b. b || false) (next_alone-follows plan readings (reverse (list_in old)) e next).0;
+      lawful = subst (λ (l : List Event). Lawful plan readings l) (sym longest) lawful;
+      no_resume = ap (λ b. b || false) none;
+      reported = λ i id o x from there. told-end plan id o x (last-there (list_in old) (longest_in new) e longest i (event.Ended id o (Some x)) from there) told;
     };
-    lawful = subst (λ (l : List Event). Lawful plan readings l) (sym longest) lawful;
     acknowledged = acknowledged;
     stored = λ from. subst (λ (l : List Event). EachImage (AreStored plan from (list_in old)) spool → EachImage (AreStored plan from l) spool') (sym longest) (stores.stored from);
     digest = digest;
@@ -96,22 +119,16 @@ module _ (plan : Plan) (readings : List Reading) (old new : Work) (e : Event) (p
 
 -- ---- what follows twice
 
-get-front : (list added : List Event) (i : ℕ) → i < length list → slice_get (list ++ added) i ≡ slice_get list i
-get-front [] added i below = absurd (omega arith)
-get-front (e ∷ list) added zero below = refl
-get-front (e ∷ list) added (suc i) below = get-front list added i (omega arith)
-
-goes-twice : (plan : Plan) (readings : List Reading) (a b c : List Event) → GoesOn plan readings a b → GoesOn plan readings b c → GoesOn plan readings a c
+pub goes-twice : (plan : Plan) (readings : List Reading) (a b c : List Event) → GoesOn plan readings a b → GoesOn plan readings b c → GoesOn plan readings a c
 goes-twice plan readings a b c first second = record {
   added = first.added ++ second.added;
   all = second.all ∙ ap (λ l. l ++ second.added) first.all ∙ append_assoc a first.added second.added;
-  each = λ i from below. elim (cases_lt i (length b)) [
-    | inl lt ↦
-        ap (λ l. slice_get l i) second.all ∙ get-front b second.added i lt ∙ first.each i from lt
-        ∙ ap (λ l. next_alone plan readings (reverse l)) (sym (ap (take i) second.all ∙ take-append-le i b second.added (omega arith)))
-    | inr ge ↦ second.each i ge below
-  ];
+  lawful = second.lawful;
   no_resume = list_any-append is_resume first.added second.added ∙ either first.no_resume second.no_resume;
+  reported = λ i id o x from there. elim (cases_lt i (length b)) [
+    | inl lt ↦ first.reported i id o x from (sym (ap (λ l. slice_get l i) second.all ∙ get-front b second.added i lt) ∙ there)
+    | inr ge ↦ second.reported i id o x ge there
+  ];
 }
   where
     either : {p q : Bool} → p ≡ false → q ≡ false → (p || q) ≡ false
@@ -160,7 +177,6 @@ module _ (plan : Plan) (readings : List Reading) (old mid new : Work) (journal j
       pending = second.pending;
       tied = second.tied;
       list = goes-twice plan readings (list_in old) (list_in mid) (longest_in new) goes second.list;
-      lawful = second.lawful;
       acknowledged = second.acknowledged;
       stored = λ from stored. second.stored from (subst (λ (l : List Event). EachImage (AreStored plan from l) spool') whole (first.stored from stored));
       digest = second.digest ∙ first.digest;

@@ -1,19 +1,15 @@
 -- One step of a run: its text is stored, and then its event is logged.
-use Rattle.std.proofs.Common.{◌≡◌, inl, inr, ◌+◌, ◌<◌, false, List, [], ◌∷◌, ◌++◌, reverse, Option, None, Some, refl, sym, ◌∙◌, ap, subst, arith}
+use Rattle.std.proofs.Common.{◌≡◌, inl, inr, ◌+◌, true, false, List, [], ◌∷◌, ◌++◌, reverse, Option, None, Some, refl, sym, ◌∙◌, ap, subst, arith}
 use Rattle.std.specs.Prelude.{unwrap_or}
 use Rattle.conc_types.specs.declared.event.Event.{Event}
 use Rattle.conc_types.specs.declared.plan.Plan.{Plan}
 use Rattle.conc_types.specs.declared.script.Reading.{Reading}
 use Rattle.conc_law.specs.Kinds.{is_resume}
 use Rattle.conc_law.specs.Law.{Lawful}
-use Rattle.conc_law.specs.Remaining.{remaining}
-use Rattle.conc_law.proofs.AloneLawful.{next_alone-follows}
-use Rattle.conc_law.proofs.Positions.{reverse-push}
-use Rattle.conc_law.proofs.Remaining.{remaining_less}
 use Rattle.conc_disk.specs.Disk.{DiskState}
 use Rattle.conc_journal.specs.Journals.{list_of, room_of, state_of}
 use Rattle.conc_journal.specs.Journals.{IsOn as JournalIsOn}
-use Rattle.conc_journal.specs.JournalStates.{after_fault, has_faulted, state_digest}
+use Rattle.conc_journal.specs.JournalStates.{after_fault, has_faulted, state_digest, takes_events}
 use Rattle.conc_journal.specs.declared.journal.Journal.{Journal}
 use Rattle.conc_machine.specs.StandsFor.{plan_of, readings_of}
 use Rattle.conc_machine.specs.declared.machine.Machine.{Machine}
@@ -23,10 +19,10 @@ use Rattle.conc_run_state.specs.Lists.{failed_in}
 use Rattle.conc_run_state.specs.Works.{AreTied, HasPendingText, HasRoom, list_in, longest_in}
 use Rattle.conc_run_state.specs.declared.work.Work.{Work}
 use Rattle.conc_run_state.specs.Disks.{disks}
-use Rattle.conc_resolver_alone.specs.Runs.{WentOn}
-use Rattle.conc_run_steps.specs.Steps.{any_disk, IsReady, IsTied, left_in, MayLog, next_in, plan_in, readings_in, SurvivesFor, StoresOn}
-use Rattle.conc_run_steps.proofs.Coming.{has-room, lawful-past}
-use Rattle.conc_resolver_alone.proofs.Going.{sound-longest, went-none, went-one}
+use Rattle.conc_run_steps.specs.Going.{TellsReport, WentOn}
+use Rattle.conc_run_steps.specs.Steps.{any_disk, IsReady, IsTied, plan_in, readings_in, SurvivesFor, StoresOn}
+use Rattle.conc_run_steps.proofs.Coming.{has-room}
+use Rattle.conc_run_steps.proofs.Going.{sound-longest, went-none, went-one}
 use Rattle.conc_run_steps.proofs.Logs.{faulted-digest, faulted-longest}
 
 -- what is tied by its own plan and readings is tied by those that are the same
@@ -63,7 +59,7 @@ module _ (old mid : Work) (journal spool spool' : DiskState) (ready : IsReady ol
       went-none (plan_in old) (readings_in old) old mid journal spool spool' ready.tied.lawful ready.sound same
       (tied-by (plan_in old) (readings_in old) None mid any_disk journal spool' spool' mid-plan mid-readings mid-on tied.spool_on tt tied) stores
 
-  module _ (new : Work) (e : Event) (journal' : DiskState) (next : next_in old ≡ Some e) (may : MayLog mid e) (keeps : IsTied (Some e) mid any_disk spool')
+  module _ (new : Work) (e : Event) (journal' : DiskState) (none : is_resume e ≡ false) (told : TellsReport (plan_in old) e) (lawful : Lawful (plan_in old) (readings_in old) (list_in old ++ e ∷ [])) (takes : takes_events (state_of mid.journal) ≡ true)
       (stores : StoresOn (plan_in old) (used_of old.spool) (list_in old) (list_in old ++ e ∷ []) spool spool')
       (survives : SurvivesFor mid.journal (list_in mid) (list_in mid ++ e ∷ []) journal journal')
       (plan : plan_in new ≡ plan_in mid) (readings : readings_in new ≡ readings_in mid) where
@@ -76,20 +72,23 @@ module _ (old mid : Work) (journal spool spool' : DiskState) (ready : IsReady ol
     old-survives : SurvivesFor old.journal (list_in old) (list_in old ++ e ∷ []) journal journal'
     old-survives = subst (λ (j : Journal). SurvivesFor j (list_of j) (list_of j ++ e ∷ []) journal journal') same survives
 
-    lawful : Lawful (plan_in old) (readings_in old) (list_in old ++ e ∷ [])
-    lawful =
-        subst (λ (j : Journal). Lawful (plan_in old) (readings_in old) (list_of j ++ e ∷ [])) same
-        (subst (λ (m : Machine). Lawful (plan_of m) (unwrap_or (readings_of m) []) (list_in mid ++ e ∷ [])) machine may.lawful)
+    mid-sound : has_faulted (state_of mid.journal) ≡ false
+    mid-sound = ap (λ (j : Journal). has_faulted (state_of j)) same ∙ ready.sound
 
     -- the journal met a fault
-    pub went-unlogged : IsTied (Some e) new journal' spool' → list_in new ≡ list_in mid → state_of new.journal ≡ after_fault e (state_of mid.journal)
+    pub longest-unlogged : list_in new ≡ list_in mid → state_of new.journal ≡ after_fault e (state_of mid.journal) → longest_in new ≡ list_in old ++ e ∷ []
+    longest-unlogged stays failed =
+        ap (λ l. list_in new ++ l) (ap failed_in failed ∙ faulted-longest e (state_of mid.journal) takes mid-sound)
+        ∙ ap (λ l. l ++ e ∷ []) (stays ∙ ap (λ j. list_of j) same)
+
+    pub went-unlogged : (pending : Option Event) → IsTied pending new journal' spool' → list_in new ≡ list_in mid → state_of new.journal ≡ after_fault e (state_of mid.journal)
         → WentOn (plan_in old) (readings_in old) (disks journal journal' spool spool') old new
-    went-unlogged tied stays failed =
-        let behind : failed_in (state_of new.journal) ≡ e ∷ [] = ap failed_in failed ∙ faulted-longest e (state_of mid.journal) keeps.takes may.sound in
+    went-unlogged pending tied stays failed =
+        let behind : failed_in (state_of new.journal) ≡ e ∷ [] = ap failed_in failed ∙ faulted-longest e (state_of mid.journal) takes mid-sound in
         let longest : longest_in new ≡ list_in new ++ e ∷ [] = ap (λ l. list_in new ++ l) behind in
-        went-one (plan_in old) (readings_in old) old new e (Some e) journal journal' spool spool' next
-        (longest ∙ ap (λ l. l ++ e ∷ []) (stays ∙ ap (λ j. list_of j) same))
-        (tied-by (plan_in old) (readings_in old) (Some e) new journal' journal' spool' spool' new-plan new-readings tied.journal_on tied.spool_on tied.pending_text tied)
+        went-one (plan_in old) (readings_in old) old new e pending journal journal' spool spool' none
+        (longest-unlogged stays failed) told
+        (tied-by (plan_in old) (readings_in old) pending new journal' journal' spool' spool' new-plan new-readings tied.journal_on tied.spool_on tied.pending_text tied)
         lawful (inr (e, longest)) stores
         (ap state_digest failed ∙ faulted-digest e (state_of mid.journal) ∙ ap (λ j. state_digest (state_of j)) same)
         old-survives
@@ -99,19 +98,19 @@ module _ (old mid : Work) (journal spool spool' : DiskState) (ready : IsReady ol
       added-to = added ∙ ap (λ j. list_of j ++ e ∷ []) same
 
       new-sound : has_faulted (state_of new.journal) ≡ false
-      new-sound = ap has_faulted state ∙ may.sound
+      new-sound = ap has_faulted state ∙ mid-sound
+
+      pub longest-logged : longest_in new ≡ list_in old ++ e ∷ []
+      longest-logged = sound-longest new new-sound ∙ added-to
 
       pub went-logged : WentOn (plan_in old) (readings_in old) (disks journal journal' spool spool') old new
       went-logged =
-          went-one (plan_in old) (readings_in old) old new e None journal journal' spool spool' next
-          (sound-longest new new-sound ∙ added-to)
+          went-one (plan_in old) (readings_in old) old new e None journal journal' spool spool' none
+          longest-logged told
           (tied-by (plan_in old) (readings_in old) None new journal' journal' spool' spool' new-plan new-readings tied.journal_on tied.spool_on tt tied)
           lawful (inl (sound-longest new new-sound)) stores
           (ap state_digest state ∙ ap (λ j. state_digest (state_of j)) same)
           old-survives
-
-      none : is_resume e ≡ false
-      none = (next_alone-follows (plan_in old) (readings_in old) (reverse (list_in old)) e next).0
 
       pub ready-logged : room_of new.journal + 1 ≡ room_of mid.journal → IsReady new journal' spool'
       ready-logged room = record {
@@ -122,14 +121,3 @@ module _ (old mid : Work) (journal spool spool' : DiskState) (ready : IsReady ol
             (has-room (plan_in old) (readings_in old) old e ready.tied.readings_are none ready.room new added-to (room ∙ ap (λ j. room_of j) same)));
         sound = new-sound;
       }
-
-      pub less-logged : left_in new < left_in old
-      less-logged =
-          let past = lawful-past (plan_in old) old.machine (readings_in old) (list_in old) ready.tied.readings_are ready.tied.lawful in
-          let less = remaining_less (plan_in old) (readings_in old) (reverse (list_in old)) e past (next_alone-follows (plan_in old) (readings_in old) (reverse (list_in old)) e next).1 none in
-          let same : left_in new ≡ remaining (plan_in old) (readings_in old) (e ∷ reverse (list_in old)) =
-          ap (λ (p : Plan). remaining p (readings_in new) (reverse (list_in new))) new-plan
-          ∙ ap (λ (l : List Reading). remaining (plan_in old) l (reverse (list_in new))) new-readings
-          ∙ ap (λ (l : List Event). remaining (plan_in old) (readings_in old) (reverse l)) added-to
-          ∙ ap (λ (l : List Event). remaining (plan_in old) (readings_in old) l) (reverse-push (list_in old) e) in
-          omega (arith, less, same)
