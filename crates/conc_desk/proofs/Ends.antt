@@ -2,7 +2,7 @@
 use Rattle.std.proofs.Common.{◌≡◌, ℕ, ◌<◌, ◌+◌, ◌++◌, [], ◌∷◌, true, false, Bool, List, length, reverse, Option, None, Some, is_some, if◌then◌else◌, refl, sym, ◌∙◌, ap, subst, arith, inl, inr}
 use Rattle.std.specs.Prelude.{◌==◌, nat_lt}
 use Rattle.std.specs.Option.{option_and_then, option_map}
-use Rattle.std.proofs.lemmas.Bool.{and_from, cond-false, cond-true, lt-ltb}
+use Rattle.std.proofs.lemmas.Bool.{and_from, cond-false}
 use Rattle.std.proofs.lemmas.Option.{slice_get_cases}
 use Rattle.conc_types.specs.declared.event.Event.{Event}
 use Rattle.conc_types.specs.declared.event.Event.TheVariants as event
@@ -22,13 +22,12 @@ use Rattle.conc_law.specs.Alone.{end_of, end_with, report_of}
 use Rattle.conc_law.specs.Facts.{facts_of}
 use Rattle.conc_law.specs.Kinds.{is_resume}
 use Rattle.conc_law.specs.Law.{is_lawful, is_lawful_so_far, Lawful, may_follow}
-use Rattle.conc_law.specs.Next.{forced, is_allowed, is_next_extent, may_come, may_end, obeys}
+use Rattle.conc_law.specs.Next.{forced, may_come, obeys}
 use Rattle.conc_law.specs.Readings.{next_reading}
 use Rattle.conc_law.specs.Report.{Report}
 use Rattle.conc_law.specs.State.{facts_at, is_running, is_stopping, state, used}
 use Rattle.conc_law.specs.Words.{Has}
-use Rattle.conc_law.proofs.AloneLawful.{IsGood}
-use Rattle.conc_law.proofs.EqualEvents.{eqb-refl}
+use Rattle.conc_law.proofs.AloneLawful.{end_allowed, IsGood}
 use Rattle.conc_law.proofs.FactsAt.{facts_at-state}
 use Rattle.conc_law.proofs.Numbering.{found, numbered-at, numbered_plan}
 use Rattle.conc_law.proofs.Options.{and_then-some, map-some, then_some-some}
@@ -79,33 +78,11 @@ left_in board plan past r old new posted is one tied collects left =
 
 -- ---- an end is allowed where nothing is forced
 
-module _ (plan : Plan) (s : State) (next : Option (Option Reading)) (x : Req) (has : Has plan.requests x) (runs : is_running (facts_at s x) ≡ true) where
-  terminated_allowed : is_stopping (facts_at s x) ≡ true → is_allowed plan s next (event.Ended x.number outcome.Terminated None) ≡ true
-  unfolding is_allowed may_end
-  terminated_allowed stop = ap (some_and (λ q. may_end s q outcome.Terminated None)) (numbered_plan plan x has) ∙ and_from _ _ runs (cond-true _ _ _ stop)
-
-  reported_allowed : (made : Report) (offset : ℕ) → is_stopping (facts_at s x) ≡ false → s.used ≡ Some offset → IsGood made → is_allowed plan s next (end_with x made offset) ≡ true
-  unfolding is_allowed may_end is_next_extent
-  reported_allowed made offset goes used good =
-      let short = lt-ltb (length made.text) 4294967296 (omega (arith, good.short)) in
-      ap (some_and (λ q. may_end s q made.outcome (Some (record { offset = offset; length = length made.text })))) (numbered_plan plan x has)
-      ∙ and_from _ _ runs (cond-false _ _ _ goes
-      ∙ and_from _ _ good.outcome (and_from _ _ (ap (some_and (λ n. offset == n)) used ∙ eqb-refl offset) (and_from _ _ (lt-ltb 0 (length made.text) good.some) short)))
-
-  end_allowed : (e : Event) → (stop : Bool) → is_stopping (facts_at s x) ≡ stop
-      → (if stop then Some (event.Ended x.number outcome.Terminated None) else option_and_then (λ made. option_map (end_with x made) s.used) (report_of plan x)) ≡ Some e
-      → is_allowed plan s next e ≡ true
-  end_allowed e true is end = let same : event.Ended x.number outcome.Terminated None ≡ e = cc in subst (λ d. is_allowed plan s next d ≡ true) same (terminated_allowed is)
-  end_allowed e false is end =
-      let made = and_then-some (λ made. option_map (end_with x made) s.used) (report_of plan x) e end in
-      let at = map-some (end_with x made.0) s.used e made.2 in
-      subst (λ d. is_allowed plan s next d ≡ true) at.2 (reported_allowed made.0 at.0 is at.1 (made-good plan x made.0 made.1))
-
 -- the event is an end of the request
 abbrev pub IsEndOf : RequestId → Event → Type 0
 IsEndOf r e = (o : Outcome) × (x : Option Extent) × (event.Ended r o x ≡ e)
 
-ends_it : (s : State) (plan : Plan) (x : Req) (e : Event) → (stop : Bool)
+pub ends_it : (s : State) (plan : Plan) (x : Req) (e : Event) → (stop : Bool)
     → (if stop then Some (event.Ended x.number outcome.Terminated None) else option_and_then (λ made. option_map (end_with x made) s.used) (report_of plan x)) ≡ Some e
     → IsEndOf x.number e
 ends_it s plan x e true end = (outcome.Terminated, None, cc)
@@ -132,7 +109,7 @@ end_lawful plan readings list r posted e lawful calm left end =
     let x = left.req in
     let facts = facts_at-state plan past x left.there in
     let runs : is_running (facts_at s x) ≡ true = ap (λ (f : Facts). is_running f) facts ∙ ap (λ (o : Option PlaceId). is_some o) left.runs.place_is in
-    let may = ap (obeys plan s next e) calm ∙ end_allowed plan s next x left.there runs e (is_stopping (facts_at s x)) refl (end_is plan past r posted e left end) in
+    let may = ap (obeys plan s next e) calm ∙ end_allowed plan s next x e left.there runs (is_stopping (facts_at s x)) refl (end_is plan past r posted e left end) in
     let its = is_its_end plan past r posted e left end in
     let none : is_resume e ≡ false = subst (λ d. is_resume d ≡ false) its.2 refl in
     ap (is_lawful plan readings) (reverse-push list e) ∙ is_lawful-more plan readings past e none lawful (cond-false (is_resume e) _ _ none ∙ may)

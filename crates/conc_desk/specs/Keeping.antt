@@ -18,7 +18,7 @@ use Rattle.conc_outside.specs.Counts.{Rose}
 use Rattle.conc_disk.specs.Disk.{DiskState}
 use Rattle.conc_board.specs.declared.board.Board.{Board}
 use Rattle.conc_board.specs.Seats.{IsLeftFor}
-use Rattle.conc_board.specs.Stops.{Collects, FindsRunning}
+use Rattle.conc_board.specs.Stops.{Collects, FindsRunning, TakesPost}
 use Rattle.conc_board_seats.specs.Reports.{MayLeave}
 use Rattle.conc_board_seats.specs.declared.posted.Posted.{Posted}
 use Rattle.conc_board_seats.specs.declared.posted.Posted.TheVariants.{Text, Stopped, NoMemory}
@@ -86,11 +86,13 @@ AnswersTo false (Text made) answer = IsReadyAnswer answer ⊎ (answer ≡ Err fa
 AnswersTo false NoMemory answer = answer ≡ Err fails.NoMemory
 AnswersTo false Stopped answer = ⊥
 
--- What was left for the request was taken, which is done on the board then, and the answer goes by it.
+-- What was left for the request was taken, as the lead's own note of it says, which is done on the board then; and the
+-- answer goes by it.
 pub record IsTaken (board : Board) (r : RequestId) (answer : Result Kept KeepFail) (old new : Desk) : Type 0 where
   pub posted : Posted
   pub left : IsLeftFor board old.lead r posted
   pub collects : Collects r old.lead new.lead
+  pub taken : TakesPost r posted old.lead new.lead
   pub answers : AnswersTo (must_stop_at old r) posted answer
 
 -- it was taken, or nothing is left yet

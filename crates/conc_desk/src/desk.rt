@@ -49,7 +49,7 @@ impl<'a> Desk<'a> {
     ghost use Rattle.conc_board.specs.Looks.{HasProgress, LooksOn, SeesStage, Shows};
     ghost use Rattle.conc_board.specs.Seats.{FindsFitting, KeepsStages, LeadFinds, IsFlag, plan_of};
     ghost use Rattle.conc_board_seats.specs.Stages.{IsGone, IsLet, IsLetOrGone};
-    ghost use Rattle.conc_board_seats.specs.Words.{IsPlace, IsRequest, place_word, request_word};
+    ghost use Rattle.conc_board_seats.specs.Words.{end_word, IsPlace, IsRequest, place_word, request_word};
     ghost use Rattle.std.specs.Prelude.{◌⊎◌, ◌<◌, ◌∷◌, ◌++◌, [], IfOk, IsFalse, IsTrue, OnErr, OnOk, reverse, Some};
     ghost use Rattle.conc_journal.specs.JournalStates.{has_faulted};
     ghost use Rattle.conc_journal.specs.Journals.{IsOn as JournalIsOn, room_of, state_of};
@@ -181,6 +181,18 @@ impl<'a> Desk<'a> {
         board.close_place(&mut self.lead, place);
     }
 
+    /// Tells all hands that there is no more to come.
+    pub fn finish_all(&mut self, board: &Board)
+        requires at { IsAt board.now self.old }
+        ensures at { IsAt board.now self.new }
+        ensures same { SameWork self.old self.new }
+        ensures lead { KeepsStages board.now self.old.lead self.new.lead }
+        ensures found { LeadFinds (end_word (plan_of board.now)) IsFlag self.old.lead
+            self.new.lead }
+    {
+        board.finish_all(&mut self.lead);
+    }
+
     /// Journals an event and takes it into the machine, and then does what it means for the board: the go
     /// after a start; a request that is held or cancelled is taken back, one that is terminated is told to
     /// stop. After a fault list, machine and board are as they were. It takes no memory.
@@ -200,6 +212,7 @@ impl<'a> Desk<'a> {
         requires turn { IsItsTurn self.old.kept event }
 
         ensures at { IsAt board.now self.new }
+        ensures parts { IsTied self.new.kept self.new.work any_disk any_disk }
         ensures on { JournalIsOn self.new.work.journal (D.state journal.new) }
         ensures logged { OnOk result (IsLogged event self.old self.new) }
         ensures receipt { IfOk result (IsNextOf (Some (list_at self.old))
@@ -234,6 +247,7 @@ impl<'a> Desk<'a> {
         requires nothing_kept { self.old.kept ≡ None }
 
         ensures at { IsAt board.now self.new }
+        ensures parts { IsTied self.new.kept self.new.work any_disk any_disk }
         ensures on { SpoolIsOn self.new.work.spool (E.state spool.new) }
         ensures takes { Takes board.now r result self.old self.new }
         ensures keeps { Keeps r result self.old self.new (E.state spool.old) (E.state spool.new) }
@@ -257,9 +271,10 @@ impl<'a> Desk<'a> {
         }
     }
 
-    /// Gives the seat and the work back.
+    /// Gives the seat and the work back. The lead is in the middle of no call.
     pub fn into_parts(self) -> (Lead, Work<'a>)
-        ensures { result ≡ (self.entry.lead, self.entry.work) }
+        ensures parts { result ≡ (self.entry.lead, self.entry.work) }
+        ensures seated { IsSeated (plan_in result.1) result.0 }
     {
         let Desk { lead, work, .. } = self;
         (lead, work)

@@ -12,7 +12,7 @@ use Rattle.conc_types.specs.declared.script.Act.TheVariants as act
 use Rattle.conc_types.specs.declared.script.Reading.{Reading}
 use Rattle.conc_types.specs.Words.{some_and}
 use Rattle.conc_law.specs.Facts.{cancels, completion, facts_of, holds, is_idle, unlets}
-use Rattle.conc_law.specs.Kinds.{act_of, ends, interrupts, is_cancel, is_hold, is_resume, is_terminate, starts, stops}
+use Rattle.conc_law.specs.Kinds.{act_of, ends, interrupts, is_cancel, is_hold, is_resume, is_terminate, starts, ends_run}
 use Rattle.conc_law.specs.Law.{may_follow}
 use Rattle.conc_law.specs.Words.{Has, id_eq}
 use Rattle.conc_law.proofs.EqualEvents.{id_same}
@@ -37,7 +37,7 @@ module _ (plan : Plan) (readings : Option (List Reading)) (past : List Event) (e
       let no_stop = waits_not_stopped plan readings past r hr e may waits in
       let idle : Bool = is_idle past (completion plan past) r in
       waits_on plan past e r no_start
-      (or_from (stops r.number e) _ no_stop (or_from _ _ (and_left _ idle leaves.0) (and_left _ idle leaves.1))) waits
+      (or_from (ends_run r.number e) _ no_stop (or_from _ _ (and_left _ idle leaves.0) (and_left _ idle leaves.1))) waits
 
   not_interrupted : (d : Event) → may_follow plan readings past d ≡ true → (facts_of plan past r).started ≡ true → interrupts r.number d ≡ false
   not_interrupted (event.Interrupt q) m was = runs_not_interrupted plan readings past r hr q m was

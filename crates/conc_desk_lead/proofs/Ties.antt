@@ -11,8 +11,8 @@ use Rattle.conc_types.specs.declared.plan.Req.{Req}
 use Rattle.conc_types.specs.declared.script.Reading.{Reading}
 use Rattle.conc_types.specs.Words.{some_and}
 use Rattle.conc_law.specs.Facts.{facts_of, is_let, running_place, runs, terminates, unlets, was_started, was_terminated}
-use Rattle.conc_law.specs.Kinds.{act_of, is_resume, is_terminate, start_place, starts, stops}
-use Rattle.conc_law.specs.Before.{last_life, stands}
+use Rattle.conc_law.specs.Kinds.{act_of, is_resume, is_terminate, start_place, starts, ends_run}
+use Rattle.conc_law.specs.Before.{last_life, occurs}
 use Rattle.conc_law.specs.Law.{may_follow}
 use Rattle.conc_law.specs.State.{state}
 use Rattle.conc_law.specs.Words.{Has, id_eq}
@@ -29,7 +29,7 @@ no_place : (r : RequestId) (e : Event) → starts r e ≡ false → start_place 
 no_place r (event.Started q p) other = ap (λ b. then_some b p) other
 no_place r _ other = refl
 
-place_stays : (past : List Event) (r : RequestId) (e : Event) → starts r e ≡ false → stops r e ≡ false → running_place (e ∷ past) r ≡ running_place past r
+place_stays : (past : List Event) (r : RequestId) (e : Event) → starts r e ≡ false → ends_run r e ≡ false → running_place (e ∷ past) r ≡ running_place past r
 unfolding running_place
 place_stays past r e no_start no_stop = rw (no_place r e no_start, no_stop) refl
 
@@ -37,11 +37,11 @@ place_stays past r e no_start no_stop = rw (no_place r e no_start, no_stop) refl
 
 started_on : (past : List Event) (e : Event) (r : RequestId) → is_resume e ≡ false → was_started past r ≡ true → was_started (e ∷ past) r ≡ true
 unfolding was_started last_life
-started_on past e r no_resume was = rw no_resume (or_right (starts r e) (stands (starts r) (last_life past)) was)
+started_on past e r no_resume was = rw no_resume (or_right (starts r e) (occurs (starts r) (last_life past)) was)
 
 started_now : (past : List Event) (r : RequestId) (p : PlaceId) → was_started (event.Started r p ∷ past) r ≡ true
 unfolding was_started last_life
-started_now past r p = or_left (id_eq r r) (stands (starts r) (last_life past)) (eqb-refl r.number)
+started_now past r p = or_left (id_eq r r) (occurs (starts r) (last_life past)) (eqb-refl r.number)
 
 placed_now : (past : List Event) (r : RequestId) (p : PlaceId) → running_place (event.Started r p ∷ past) r ≡ Some p
 unfolding running_place
@@ -55,11 +55,11 @@ module _ (plan : Plan) (past : List Event) (e : Event) (r : Req) where
   unfolding facts_of is_let unlets
   waits_on no_start stays waits = record {
     let_out = or_right _ _ (and_from _ _ (not_from_false _ stays) waits.let_out);
-    place = place_stays past r.number e no_start (or_parts (stops r.number e) _ stays).0 ∙ waits.place;
+    place = place_stays past r.number e no_start (or_parts (ends_run r.number e) _ stays).0 ∙ waits.place;
   }
 
-  -- a request that runs does so still, unless the event starts or stops it
-  pub runs_on : (p : PlaceId) (marked : Bool) → starts r.number e ≡ false → stops r.number e ≡ false → is_resume e ≡ false
+  -- a request that runs does so still, unless the event starts it or ends its run
+  pub runs_on : (p : PlaceId) (marked : Bool) → starts r.number e ≡ false → ends_run r.number e ≡ false → is_resume e ≡ false
       → RunsAt p marked (facts_of plan past r) → RunsAt p marked (facts_of plan (e ∷ past) r)
   unfolding facts_of was_terminated
   runs_on p marked no_start no_stop no_resume runs = record {
@@ -95,14 +95,14 @@ or_nothing true h = h
 or_nothing false h = h
 
 module _ (plan : Plan) (readings : Option (List Reading)) (past : List Event) (r : Req) (hr : Has plan.requests r) where
-  -- no event stops a request that waits to start
-  pub waits_not_stopped : (e : Event) → may_follow plan readings past e ≡ true → WaitsToStart (facts_of plan past r) → stops r.number e ≡ false
+  -- no event ends the run of a request that waits to start
+  pub waits_not_stopped : (e : Event) → may_follow plan readings past e ≡ true → WaitsToStart (facts_of plan past r) → ends_run r.number e ≡ false
   unfolding facts_of runs
-  waits_not_stopped e may waits = by (stops r.number e) refl where
+  waits_not_stopped e may waits = by (ends_run r.number e) refl where
     idle : runs past r.number ≡ false
     idle = ap (λ (o : Option PlaceId). is_some o) waits.place
 
-    never : (d : Event) → may_follow plan readings past d ≡ true → stops r.number d ≡ true → ⊥
+    never : (d : Event) → may_follow plan readings past d ≡ true → ends_run r.number d ≡ true → ⊥
     never (event.Ended q o x) m h =
         let same = id_same q r.number (or_nothing (id_eq q r.number) h) in
         both_ways (runs past r.number) idle (end_runs plan readings past r o x hr (subst (λ z. may_follow plan readings past (event.Ended z o x) ≡ true) same m))
@@ -111,7 +111,7 @@ module _ (plan : Plan) (readings : Option (List Reading)) (past : List Event) (r
         both_ways (runs past r.number) idle (interrupt_runs plan readings past r hr (subst (λ z. may_follow plan readings past (event.Interrupt z) ≡ true) same m))
     never _ m h = cc
 
-    by : (b : Bool) → stops r.number e ≡ b → stops r.number e ≡ false
+    by : (b : Bool) → ends_run r.number e ≡ b → ends_run r.number e ≡ false
     by true h = absurd (never e may h)
     by false h = h
 

@@ -49,6 +49,7 @@ returns-in-Ok-store_text-clause-takes g c =
       posted = c.in-Ok.posted;
       left = c.in-Ok.ensures.posted;
       collects = c.in-Ok.ensures.collected;
+      taken = c.in-Ok.ensures.taken;
       answers = answers-ready (must_stop (plan_in c.self.inside.work) past c.args.r) c.in-Ok.posted c.in-Some.next c.in-Some.next.event makes;
     })
 
@@ -82,5 +83,6 @@ returns-clause-takes g c =
       posted = c.in-Ok.posted;
       left = c.in-Ok.ensures.posted;
       collects = c.in-Ok.ensures.collected;
+      taken = c.in-Ok.ensures.taken;
       answers = answers-fault (must_stop (plan_in c.self.inside.work) past c.args.r) c.in-Ok.posted c.in-Some.next makes (λ none. let never : false ≡ true = (c.in-Err.ensures.without_text none).0 in absurd (cc));
     })
