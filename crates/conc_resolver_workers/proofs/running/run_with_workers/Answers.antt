@@ -1,0 +1,60 @@
+use Rattle.std.proofs.Common.{rules, ◌≡◌, ◌<◌, ◌++◌, ℕ, List, length, get_or, take, drop, sym, ◌∙◌, ap, subst, arith}
+use Rattle.conc_types.specs.declared.plan.Plan.{Plan}
+use Rattle.conc_board.specs.declared.lead.Lead.{Lead}
+use Rattle.conc_board.specs.Seats.{places_of_lead, plan_of}
+use Rattle.conc_journal.specs.Journals.{state_of}
+use Rattle.conc_run_state.specs.Disks.{disks}
+use Rattle.conc_run_state.specs.declared.work.Work.{Work}
+use Rattle.conc_run_steps.specs.Going.{WentOn}
+use Rattle.conc_run_steps.specs.Steps.{plan_in, readings_in}
+use Rattle.conc_run_steps.proofs.Underway.{went-still}
+use Rattle.conc_resolver_workers.specs.Crews.{Covers, IsFreeWorker, SamePlaces}
+use Rattle.conc_resolver_workers.specs.declared.crew.Worker.{Worker}
+use Rattle.conc_resolver_workers.proofs.Advancing.{journal-by, places-by, sound-by, went-by}
+use Rattle.conc_resolver_workers.proofs.Crews.{covers-same, take-front}
+use Rattle.conc_resolver_workers.proofs.running.run_with_workers.Goals as goal
+
+pub returns-in-Err-clause-went_on : goal.returns-in-Err-clause-went_on
+returns-in-Err-clause-went_on g c =
+    went-still c.args.work (g.D.Disk.state c.args.journal.now) (g.E.Disk.state c.args.spool.now) c.requires.ready ((g.met.E.Disk g.world.𝓛 g.world.𝓜 g.world.𝓡 ((λ s x. x), (λ x. x), (λ x. x), λ x. x)).seen_is_left c.args.spool.now)
+
+-- ---- the workers
+
+pub take_in-requires-clause-free : goal.take_in-requires-clause-free
+take_in-requires-clause-free g c =
+    let us = c.run_beside.new.crew in let ws = c.in-Ok.means.crew.items in
+    let same : SamePlaces ws us = search (rules, c.run_beside.ensures.places) in
+    let count : length us ≡ c.in-Ok.means.crew.len = omega (arith, same.long, c.in-Ok.means.crew.ok) in
+    let front : us ≡ take c.in-Ok.means.crew.len (us ++ drop (length us) ws) = sym (take-front us (drop (length us) ws)) ∙ ap (λ (n : ℕ). take n (us ++ drop (length us) ws)) count in
+    subst (λ (l : List Worker). (k : ℕ) (d : Worker) → k < length l → IsFreeWorker c.in-Ok.means.board (get_or l k d)) front c.run_beside.ensures.free
+
+pub take_in-requires-clause-covers : goal.take_in-requires-clause-covers
+take_in-requires-clause-covers g c =
+    let us = c.run_beside.new.crew in let ws = c.in-Ok.means.crew.items in let lead' = c.into_parts-lead.result.0 in
+    let same : SamePlaces ws us = search (rules, c.run_beside.ensures.places) in
+    let count : length us ≡ c.in-Ok.means.crew.len = omega (arith, same.long, c.in-Ok.means.crew.ok) in
+    let front : us ≡ take c.in-Ok.means.crew.len (us ++ drop (length us) ws) = sym (take-front us (drop (length us) ws)) ∙ ap (λ (n : ℕ). take n (us ++ drop (length us) ws)) count in
+    let places = ap (λ z. places_of_lead z.0) c.into_parts-lead.ensures.parts ∙ places-by c.in-Ok.means.board (g.D.Disk.state c.args.journal.now) (g.D.Disk.state c.run_beside.new.journal) (g.E.Disk.state c.args.spool.now) (g.E.Disk.state c.run_beside.new.spool) (g.T.Teller.list c.run_beside.new.teller)
+    (g.T.Teller.takes c.run_beside.new.teller) (g.T.Teller.may_lack c.run_beside.new.teller) c.new-desk.result c.run_beside.new.desk c.run_beside.new.answer c.run_beside.ensures.resolves ∙ ap (λ (l : Lead). places_of_lead l) c.new-desk.ensures.lead in
+    let covers = subst (λ (p : Plan). Covers p c.in-Ok.means.lead ws) (sym c.in-Ok.ensures.board) c.in-Ok.ensures.covers in
+    subst (λ (l : List Worker). Covers (plan_of c.in-Ok.means.board) lead' l) front
+    (covers-same (plan_of c.in-Ok.means.board) c.in-Ok.means.lead lead' ws us places same covers)
+
+-- ---- what the run made
+
+pub returns-clause-went_on : goal.returns-clause-went_on
+returns-clause-went_on g c =
+    let answer = c.run_beside.new.answer in let resolved = c.run_beside.ensures.resolves in let parts = c.into_parts-lead.ensures.parts in
+    let j = g.D.Disk.state c.args.journal.now in let j' = g.D.Disk.state c.run_beside.new.journal in let s = g.E.Disk.state c.args.spool.now in let s' = g.E.Disk.state c.run_beside.new.spool in
+    subst (λ (z : Work × Work). WentOn (plan_in z.0) (readings_in z.0) (disks j j' s s') z.0 z.1) (λ i. (c.new-desk.ensures.work i, sym (ap (λ z. z.1) parts) i)) (went-by c.in-Ok.means.board (g.D.Disk.state c.args.journal.now) (g.D.Disk.state c.run_beside.new.journal) (g.E.Disk.state c.args.spool.now) (g.E.Disk.state c.run_beside.new.spool) (g.T.Teller.list c.run_beside.new.teller)
+    (g.T.Teller.takes c.run_beside.new.teller) (g.T.Teller.may_lack c.run_beside.new.teller) c.new-desk.result c.run_beside.new.desk answer resolved)
+
+pub returns-clause-journal_fault : goal.returns-clause-journal_fault
+returns-clause-journal_fault g c = λ is. journal-by c.in-Ok.means.board (g.D.Disk.state c.args.journal.now) (g.D.Disk.state c.run_beside.new.journal) (g.E.Disk.state c.args.spool.now) (g.E.Disk.state c.run_beside.new.spool) (g.T.Teller.list c.run_beside.new.teller)
+    (g.T.Teller.takes c.run_beside.new.teller) (g.T.Teller.may_lack c.run_beside.new.teller) c.new-desk.result c.run_beside.new.desk c.run_beside.new.answer c.run_beside.ensures.resolves is
+
+pub returns-clause-sound : goal.returns-clause-sound
+returns-clause-sound g c = λ none.
+    let answer = c.run_beside.new.answer in let resolved = c.run_beside.ensures.resolves in let parts = c.into_parts-lead.ensures.parts in
+    ap (λ z. state_of z.1.journal) parts ∙ sound-by c.in-Ok.means.board (g.D.Disk.state c.args.journal.now) (g.D.Disk.state c.run_beside.new.journal) (g.E.Disk.state c.args.spool.now) (g.E.Disk.state c.run_beside.new.spool) (g.T.Teller.list c.run_beside.new.teller)
+    (g.T.Teller.takes c.run_beside.new.teller) (g.T.Teller.may_lack c.run_beside.new.teller) c.new-desk.result c.run_beside.new.desk answer resolved none ∙ ap (λ (w : Work). state_of w.journal) c.new-desk.ensures.work

@@ -1,0 +1,46 @@
+-- The workers of a run, and which places the lead and they have together.
+use Rattle.std.specs.Prelude.{◌≡◌, ◌⊎◌, ◌↔◌, ◌<◌, ◌%◌, ℕ, List, [], length, slice_index_or, Option, None, Some, IsTrue}
+use Rattle.conc_types.specs.declared.event.PlaceId.{PlaceId}
+use Rattle.conc_types.specs.declared.plan.Plan.{Plan}
+use Rattle.conc_law.specs.Places.{count_of_places}
+use Rattle.conc_law.specs.Words.{Has}
+use Rattle.conc_board_seats.specs.declared.views.Doing.TheVariants.{Idle}
+use Rattle.conc_board_seats.specs.Places.{has}
+use Rattle.conc_board_seats.specs.Words.{IsPlace}
+use Rattle.conc_board.specs.declared.board.Board.{Board}
+use Rattle.conc_board.specs.declared.hand.Hand.{Hand}
+use Rattle.conc_board.specs.declared.lead.Lead.{Lead}
+use Rattle.conc_board.specs.Seats.{IsHandOf, doing_of, places_of_hand, places_of_lead, plan_of}
+use Rattle.conc_resolver_workers.specs.declared.crew.Worker.{Worker}
+use Rattle.conc_worker.specs.Places.{AreServed}
+
+-- ---- which places a worker serves
+
+-- the places of the plan whose index leaves this rest, by so many threads
+abbrev pub AreDealt : Plan → ℕ → ℕ → List PlaceId → Type 0
+AreDealt plan threads rest places = (p : PlaceId) → IsTrue (has places p) ↔ ((p.index < count_of_places plan) × (p.index % threads ≡ rest))
+
+-- ---- hands
+
+-- a worker has a hand of this board, which does nothing, and serves these places of its own
+abbrev pub IsFree : Board → List PlaceId → Option Hand → Type 0
+IsFree board places None = ⊥
+IsFree board places (Some hand) = IsHandOf board hand × (doing_of hand ≡ Idle) × AreServed (plan_of board) hand places
+
+abbrev pub IsFreeWorker : Board → Worker → Type 0
+IsFreeWorker board worker = IsFree board worker.places.items worker.hand
+
+-- the places that are its hand's
+abbrev pub places_had : Option Hand → List PlaceId
+places_had None = []
+places_had (Some hand) = places_of_hand hand
+
+-- each hand has the places that it had
+pub record SamePlaces (before after : List Worker) : Type 0 where
+  pub long : length after ≡ length before
+  pub each : (i : ℕ) (d : Worker) → i < length before → places_had (slice_index_or after i d).hand ≡ places_had (slice_index_or before i d).hand
+
+-- each place of the plan is the lead's, or that of a worker's hand
+pub record Covers (plan : Plan) (lead : Lead) (crew : List Worker) : Type 0 where
+  pub each : (p : PlaceId) → IsPlace plan p
+      → IsTrue (has (places_of_lead lead) p) ⊎ ((w : Worker) × Has crew w × IsTrue (has (places_had w.hand) p))

@@ -1,0 +1,3 @@
+pub mod Crews
+pub mod Resolving
+pub mod Runs

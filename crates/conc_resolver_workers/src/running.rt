@@ -1,0 +1,240 @@
+ghost use Rattle.std.specs.Prelude.{◌≡◌, ◌⊎◌, ◌<◌, All, IfOk, IsErrOf, IsTrue, length, OnOk, vec_len};
+ghost use Rattle.conc_types.specs.declared.event.RequestId.{RequestId};
+ghost use Rattle.conc_board_seats.specs.declared.views.Stage.TheVariants as stage;
+ghost use Rattle.std.specs.Thread.{IsSync};
+ghost use Rattle.conc_board.specs.Seats.{IsLeadOf, plan_of, stage_of};
+ghost use Rattle.conc_desk.specs.Desks.{list_at, plan_at};
+ghost use Rattle.conc_journal.specs.Journals.{state_of};
+ghost use Rattle.conc_law.specs.Law.{Finished};
+ghost use Rattle.conc_outside.specs.Counts.{Rose};
+ghost use Rattle.conc_run_state.specs.Disks.{disks};
+ghost use Rattle.conc_run_state.specs.Works.{list_in};
+ghost use Rattle.conc_run_state.specs.declared.error.RunFail.TheVariants as run_fail;
+ghost use Rattle.conc_run_steps.specs.Going.{WentOn};
+ghost use Rattle.conc_run_steps.specs.Steps.{IsReady, plan_in, readings_in};
+ghost use Rattle.conc_resolver_workers.specs.Crews.{Covers, IsFreeWorker, SamePlaces};
+ghost use Rattle.conc_resolver_workers.specs.Resolving.{IsAtWork, Resolves};
+ghost use Rattle.conc_run_steps.specs.Told.{IsTold, IsUntold};
+ghost use Rattle.conc_resolver_workers.specs.Runs.{AwaitsReport};
+
+use crate::boarding::withdraw_all;
+use crate::crew::{Worker, give_hands, hire, serve_all, take_in};
+use crate::resolving::resolve;
+use conc_board::{Board, Lead};
+use conc_desk::Desk;
+use conc_disk::Disk;
+use conc_journal::Teller;
+use conc_outside_gate::Gate;
+use conc_run_state::{RunFail, Work};
+use conc_time::place_count;
+use conc_types::{NoMemory, Plan, RequestId};
+use std::alloc::Global;
+use std::sync::Wait;
+use std::thread::{Threads, join_mut};
+
+/// What a run with workers gives back, however it ended.
+#[derive(Drop)]
+pub struct Ran<'p> {
+    /// The work, whose parts stand for the list that was acknowledged.
+    pub work: Work<'p>,
+    /// Whether the history is finished, or why it is not.
+    pub answer: Result<(), RunFail>,
+}
+
+// Goes on to the end of the history. With every answer it then takes each request back that no hand serves, and tells the hands that
+// there is no more to come.
+fn direct<R: Wait, D: Disk, E: Disk, T: Teller>(
+    rt: &R,
+    board: &Board,
+    desk: &mut Desk<'_>,
+    journal: &mut D,
+    spool: &mut E,
+    teller: &mut T,
+    started: &mut [Option<RequestId>],
+) -> Result<(), RunFail>
+    requires at_work { IsAtWork board.now desk.old (D.state journal.old) (E.state spool.old)
+        (T.list teller.old) (T.takes teller.old) }
+    ensures resolves { Resolves board.now (disks (D.state journal.old) (D.state journal.new)
+        (E.state spool.old) (E.state spool.new)) (T.list teller.new) (T.takes teller.new)
+        (T.may_lack teller.new) result desk.old desk.new }
+    ensures finished { OnOk result (Finished (plan_at desk.new) (readings_in desk.new.work)
+        (list_at desk.new)) }
+{
+    let answer = resolve(rt, board, desk, journal, spool, teller, started);
+    withdraw_all(board, desk);
+    desk.finish_all(board);
+    answer
+}
+
+// The workers beside the resolver, until all is finished.
+fn run_beside<
+    R: Threads + Wait + Sync,
+    D: Disk + Send,
+    E: Disk + Send,
+    T: Teller + Send,
+    G: Gate + Sync,
+>(
+    rt: &R,
+    alloc: Global,
+    board: &Board,
+    plan: &Plan,
+    desk: &mut Desk<'_>,
+    crew: &mut [Worker],
+    journal: &mut D,
+    spool: &mut E,
+    teller: &mut T,
+    gate: &G,
+    started: &mut [Option<RequestId>],
+    answer: &mut Result<(), RunFail>,
+)
+    requires plan { plan.now ≡ plan_of board.now }
+    requires at_work { IsAtWork board.now desk.old (D.state journal.old) (E.state spool.old)
+        (T.list teller.old) (T.takes teller.old) }
+    requires some { 0 < length crew.old }
+    requires free { All (IsFreeWorker board.now) crew.old }
+    ensures resolves { Resolves board.now (disks (D.state journal.old) (D.state journal.new)
+        (E.state spool.old) (E.state spool.new)) (T.list teller.new) (T.takes teller.new)
+        (T.may_lack teller.new) answer.new desk.old desk.new }
+    ensures finished { OnOk answer.new (Finished (plan_at desk.new) (readings_in desk.new.work)
+        (list_at desk.new)) }
+    ensures free { All (IsFreeWorker board.now) crew.new }
+    ensures places { SamePlaces crew.old crew.new }
+{
+    join_mut(
+        rt,
+        &mut ||
+            requires { IsSync R.row × (plan.now ≡ plan_of board.now) × (0 < length crew.now)
+                × All (IsFreeWorker board.now) crew.now }
+            ensures { All (IsFreeWorker board.entry.now) crew.exit.now
+                × SamePlaces crew.entry.now crew.exit.now }
+        { serve_all(rt, alloc, board, plan, crew, gate) },
+        &mut ||
+            requires { IsAtWork board.now desk.now (D.state journal.now) (E.state spool.now)
+                (T.list teller.now) (T.takes teller.now) }
+            ensures { Resolves board.entry.now (disks (D.state journal.entry.now)
+                (D.state journal.exit.now) (E.state spool.entry.now) (E.state spool.exit.now))
+                (T.list teller.exit.now) (T.takes teller.exit.now) (T.may_lack teller.exit.now) answer.exit.now desk.entry.now
+                desk.exit.now
+                × OnOk answer.exit.now (Finished (plan_at desk.exit.now)
+                (readings_in desk.exit.now.work) (list_at desk.exit.now)) }
+        { *answer = direct(rt, board, desk, journal, spool, teller, started) },
+    );
+}
+
+// What a run with workers needs beside its work: a board, its lead, the workers, and for each place the request that was started
+// there last.
+struct Means {
+    board: Board,
+    lead: Lead,
+    crew: Vec<Worker>,
+    started: Vec<Option<RequestId>>,
+}
+
+// Takes all memory that the run needs but for reports.
+fn prepare(alloc: Global, plan: &Plan, threads: u32) -> Result<Means, NoMemory>
+    requires threads { 0 < threads }
+    ensures board { IfOk result (λ means. plan_of means.board ≡ plan.now) }
+    ensures lead { IfOk result (λ means. IsLeadOf means.board means.lead) }
+    ensures stages { IfOk result (λ means. (r : RequestId)
+        → stage_of means.lead r ≡ stage.NotLet) }
+    ensures some { IfOk result (λ means. 0 < vec_len means.crew) }
+    ensures free { IfOk result (λ means. All (IsFreeWorker means.board) means.crew.items) }
+    ensures covers { IfOk result (λ means. Covers plan.now means.lead means.crew.items) }
+{
+    let started = vec![in alloc; None; place_count(plan) as usize]?;
+    let mut crew = hire(alloc, plan, threads)?;
+    let (board, mut lead) = Board::new(alloc, plan)?;
+    give_hands(&board, &mut lead, crew.as_mut_slice());
+    Ok(Means {
+        board,
+        lead,
+        crew,
+        started,
+    })
+}
+
+/// Goes on from the journal's list to the end of the history, with so many workers in threads of their own: the place with
+/// index `i` is served by the worker `i` modulo `threads`. Where no thread can be made they run one after another, and the call may
+/// not return. It takes the memory for the board and the workers before it writes anything; after that a report may find none, which
+/// leaves its request without an end. With every answer the workers are taken in. The text of a report is on the spool's disk
+/// before its end is journaled, and an event is journaled before the machine takes it in, before it means anything to a worker, and
+/// before it is told.
+pub fn run_with_workers<
+    'p,
+    R: Threads + Wait + Sync,
+    D: Disk + Send,
+    E: Disk + Send,
+    T: Teller + Send,
+    G: Gate + Sync,
+>(
+    rt: &R,
+    alloc: Global,
+    work: Work<'p>,
+    journal: &mut D,
+    spool: &mut E,
+    teller: &mut T,
+    gate: &G,
+    threads: u32,
+) -> Ran<'p>
+    requires threads { 0 < threads }
+    requires ready { IsReady work (D.state journal.old) (E.state spool.old) }
+    requires told { IsTold (T.list teller.old) (T.takes teller.old) (plan_in work) (list_in work) }
+
+    // What it makes, however it ends.
+    ensures went_on { WentOn (plan_in work.entry) (readings_in work.entry)
+        (disks (D.state journal.old) (D.state journal.new) (E.state spool.old) (E.state spool.new))
+        work.entry result.work }
+    ensures finished { OnOk result.answer (Finished (plan_in work.entry) (readings_in work.entry)
+        (list_in result.work)) }
+    ensures told { OnOk result.answer (IsTold (T.list teller.new) (T.takes teller.new)
+        (plan_in work.entry) (list_in result.work)) }
+
+    // Why it ends before.
+    ensures journal_fault { IsErrOf result.answer run_fail.JournalFault
+        → Rose (D.state journal.old).faults (D.state journal.new).faults }
+    ensures spool_fault { IsErrOf result.answer run_fail.SpoolFault
+        → Rose (E.state spool.old).faults (E.state spool.new).faults }
+    ensures memory { IsErrOf result.answer run_fail.NoMemory
+        → (list_in result.work ≡ list_in work.entry)
+        ⊎ (AwaitsReport (plan_in work.entry) (list_in result.work)
+        ⊎ (IsTrue (T.may_lack teller.new) × IsUntold (T.list teller.new) (list_in result.work))) }
+    ensures sound { (IsErrOf result.answer run_fail.JournalFault → ⊥)
+        → state_of result.work.journal ≡ state_of work.entry.journal }
+{
+    let plan = work.machine.plan();
+    let means = match prepare(alloc, plan, threads) {
+        Ok(means) => means,
+        Err(NoMemory) => {
+            return Ran {
+                work,
+                answer: Err(RunFail::NoMemory),
+            };
+        }
+    };
+    let Means {
+        board,
+        lead,
+        mut crew,
+        mut started,
+    } = means;
+    let mut desk = Desk::new(plan, lead, work);
+    let mut answer = Ok(());
+    run_beside(
+        rt,
+        alloc,
+        &board,
+        plan,
+        &mut desk,
+        crew.as_mut_slice(),
+        journal,
+        spool,
+        teller,
+        gate,
+        started.as_mut_slice(),
+        &mut answer,
+    );
+    let (mut lead, work) = desk.into_parts();
+    take_in(&board, &mut lead, crew);
+    board.close(lead);
+    Ran { work, answer }
+}
