@@ -12,6 +12,7 @@ use conc_disk_devices::{GrowingDisk, PathDisk, SnapshotDisk};
 use conc_journal_image::MOST_BYTES;
 use conc_outside::{FileShelf, WriterSink};
 use conc_outside_clock::{SystemClock, SystemZone};
+use conc_outside_gate::FreeGate;
 use conc_top::{Exit, conc, exit_text};
 use conc_types::NoMemory;
 use std::env;
@@ -71,7 +72,7 @@ fn tell(rt: &HostRuntime, exit: &Exit) {
 }
 
 // Does what the words ask for over these disks, with the files, the output and the clock of the system.
-fn run_over<Rt: Threads + Wait + Sync, D: Disk, E: Disk>(
+fn run_over<Rt: Threads + Wait + Sync, D: Disk + Send, E: Disk + Send>(
     rt: &Rt,
     host: &HostRuntime,
     words: &[String],
@@ -91,6 +92,7 @@ fn run_over<Rt: Threads + Wait + Sync, D: Disk, E: Disk>(
         journal,
         spool,
         &mut clock,
+        &FreeGate,
     ))
 }
 

@@ -4,8 +4,8 @@ use Rattle.std.specs.Prelude.{IfErr, IfOk}
 use Rattle.std.proofs.lemmas.Result.{IfOk-at_ok}
 use Rattle.conc_types.specs.declared.plan.Plan.{Plan}
 use Rattle.conc_types.specs.declared.refusal.FileKind.{FileKind}
-use Rattle.conc_types.specs.declared.refusal.ReadFail.{ReadFail}
-use Rattle.conc_types.specs.declared.refusal.ReadFail.TheVariants as fail
+use Rattle.conc_types.specs.declared.error.ReadFail.{ReadFail}
+use Rattle.conc_types.specs.declared.error.ReadFail.TheVariants as fail
 use Rattle.conc_types.specs.declared.script.Readings.{Readings}
 use Rattle.conc_types.specs.declared.script.Script.{Script}
 use Rattle.conc_types.specs.declared.setup.Setup.{Setup}

@@ -56,8 +56,8 @@ no-bad plan len n events broken none whole is =
 at-seen : (P : List ℕ → Type 0) (seen : Option (List ℕ)) (bytes : List ℕ) → seen ≡ Some bytes → IfSome seen P → P bytes
 at-seen P seen bytes is p = subst (λ (o : Option (List ℕ)). IfSome o P) is p
 
-pub found-none : (h : Handed) (found : List Event) → h.journal_before.seen ≡ Some [] → IsFound h found → found ≡ []
-found-none h found journal is = at-seen (λ image. found ≡ events_of image) h.journal_before.seen [] journal is.events ∙ no-events
+pub found-none : (h : Handed) (found : List Event) → h.disks.journal_before.seen ≡ Some [] → IsFound h found → found ≡ []
+found-none h found journal is = at-seen (λ image. found ≡ events_of image) h.disks.journal_before.seen [] journal is.events ∙ no-events
 
 -- a life needs less room than a journal has
 pub fits : (plan : Plan) (readings : Readings) → need plan readings.list ≤ 1048576
@@ -65,14 +65,14 @@ fits plan readings =
     let most : length readings.list ≤ 65536 = grind (arith, nat_tests, and_parts (nat_le 1 (length readings.list)) (nat_le (length readings.list) 65536) readings.some) in
     omega (arith, plan.few, plan.script.few, most)
 
-pub not-refused : (h : Handed) (e : HistoryFail) → h.journal_before.seen ≡ Some [] → h.spool_before.seen ≡ Some [] → need h.plan h.readings ≤ 1048576 → HasCause h e → IsFalse (is_refusal e)
+pub not-refused : (h : Handed) (e : HistoryFail) → h.disks.journal_before.seen ≡ Some [] → h.disks.spool_before.seen ≡ Some [] → need h.plan h.readings ≤ 1048576 → HasCause h e → IsFalse (is_refusal e)
 not-refused h history_fail.NotJournal journal spool room cause =
-    let no : may_open [] ≡ Bool.false = at-seen (λ image. IsFalse (may_open image)) h.journal_before.seen [] journal cause in absurd (cc (opens, no))
+    let no : may_open [] ≡ Bool.false = at-seen (λ image. IsFalse (may_open image)) h.disks.journal_before.seen [] journal cause in absurd (cc (opens, no))
 not-refused h (history_fail.OtherInput found) journal spool room cause =
-    let other : IsOther h.digest found [] = at-seen (IsOther h.digest found) h.journal_before.seen [] journal cause in absurd (cc (no-digest, other.found_is))
+    let other : IsOther h.digest found [] = at-seen (IsOther h.digest found) h.disks.journal_before.seen [] journal cause in absurd (cc (no-digest, other.found_is))
 not-refused h (history_fail.Unlawful number) journal spool room cause =
-    let bad = λ (image : List ℕ). IsBadFor h.plan h.spool_before (events_of image) (broken_of image) number in
-    let there : bad [] = at-seen bad h.journal_before.seen [] journal cause.bad in
+    let bad = λ (image : List ℕ). IsBadFor h.plan h.disks.spool_before (events_of image) (broken_of image) number in
+    let there : bad [] = at-seen bad h.disks.journal_before.seen [] journal cause.bad in
     absurd (no-bad h.plan there.0 number (events_of []) (broken_of []) no-events none-broken there.2)
 not-refused h (history_fail.JournalFull len needed) journal spool room cause =
     let none = found-none h cause.found journal cause.is_found in
@@ -80,5 +80,5 @@ not-refused h (history_fail.JournalFull len needed) journal spool room cause =
 not-refused h (history_fail.DiskFault disk) journal spool room cause = refl
 not-refused h history_fail.NoMemory journal spool room cause = refl
 
-pub ends-alone : (h : Handed) (list : List Event) → h.journal_before.seen ≡ Some [] → IsFinished h list → Alone h.plan h.readings [] list
-ends-alone h list journal is = subst (λ (found : List Event). Alone h.plan h.readings found list) (found-none h is.found journal is.taken.is_found) is.alone
+pub ends-alone : (h : Handed) (list : List Event) → h.disks.journal_before.seen ≡ Some [] → IsFinished 0 h list → Alone h.plan h.readings [] list
+ends-alone h list journal is = subst (λ (found : List Event). Alone h.plan h.readings found list) (found-none h is.found journal is.taken.is_found) (is.alone refl)

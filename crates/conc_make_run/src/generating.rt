@@ -1,5 +1,5 @@
 ghost use Rattle.std.specs.Prelude.{◌≡◌, ◌≤◌, ◌∷◌, [], IfErr, IfOk, Ok};
-ghost use Rattle.conc_types.specs.declared.refusal.ReadFail.TheVariants.{NoMemory as out_of_memory};
+ghost use Rattle.conc_types.specs.declared.error.ReadFail.TheVariants.{NoMemory as out_of_memory};
 ghost use Rattle.conc_make_run.specs.Generated.{AreGenerated};
 
 use conc_journal_digest::InputDigest;

@@ -1,8 +1,9 @@
 -- What is left where no life was begun.
 use Rattle.std.proofs.Common.{◌≡◌, ◌⊎◌, inl, inr, ℕ, true, false, List, [], Option, None, Some, IfSome, IsFalse, IsTrue, refl, sym, ◌∙◌, ap, append-nil, arith}
 use Rattle.std.proofs.lemmas.Bool.{cases_Bool}
-use Rattle.std.proofs.lemmas.Option.{IfSome_then}
+use Rattle.std.proofs.lemmas.Option.{IfSome_then, slice_get_within}
 use Rattle.conc_types.specs.declared.event.Event.{Event}
+use Rattle.conc_types.specs.declared.event.Event.TheVariants as event
 use Rattle.conc_disk.specs.Left.{LeavesOnly}
 use Rattle.conc_disk.proofs.Leaving.{if_some-any, leaves-wider}
 use Rattle.conc_journal.specs.Opens.{events_of}
@@ -31,42 +32,45 @@ found-stored None = tt
 found-stored (Some image) = refl
 
 -- nothing was written
-left-untouched : (h : Handed) (found : List Event) → IfSome h.journal_before.seen (λ image. found ≡ events_of image) → IsUntouched h → HasLeft h found found found
-left-untouched h found events is = record {
+left-untouched : (threads : ℕ) (h : Handed) (found : List Event) → IfSome h.disks.journal_before.seen (λ image. found ≡ events_of image) → IsUntouched h → HasLeft threads h found found found
+left-untouched threads h found events is = record {
   events = events;
   begins = prefix-self found;
   goes_on = inl refl;
+  alone = λ _. inl refl;
   acknowledged = inl refl;
-  journal = leaves-wider h.journal_before.may_leave (HasBetween h found found) h.journal_before h.journal_after is.journal_survives (if_some-any h.journal_before.seen (λ bytes image left. inl left));
-  spool = leaves-wider h.spool_before.may_leave (KeepsTexts h found) h.spool_before h.spool_after is.spool_survives (if_some-any h.spool_before.seen (λ bytes image left. inl left));
+  journal = leaves-wider h.disks.journal_before.may_leave (HasBetween h found found) h.disks.journal_before h.disks.journal_after is.journal_survives (if_some-any h.disks.journal_before.seen (λ bytes image left. inl left));
+  spool = leaves-wider h.disks.spool_before.may_leave (KeepsTexts h found) h.disks.spool_before h.disks.spool_after is.spool_survives (if_some-any h.disks.spool_before.seen (λ bytes image left. inl left));
   now = inl is;
 }
 
--- the opening goes on from itself, by no event
-stands-still : (h : Handed) (list : List Event) → GoesOn h.plan h.readings list list
-stands-still h list = record {
+-- a lawful list goes on from itself, by no event
+stands-still : (h : Handed) (list : List Event) → Lawful h.plan h.readings list → GoesOn h.plan h.readings list list
+stands-still h list lawful = record {
   added = [];
   all = sym (append-nil list);
-  each = λ i from below. absurd (omega (arith, from, below));
+  lawful = lawful;
   no_resume = refl;
+  reported = λ i id o x from there. absurd (let within = slice_get_within list i (event.Ended id o (Some x)) there in omega (arith, from, within));
 }
 
 -- the journal may have been written
-left-opening : (h : Handed) (s : IsGivenUp h) → ((list : List Event) → Lawful h.plan h.readings list → LawfulSoFar h.plan list) → LeavesOnly h.spool_before.may_leave h.spool_before h.spool_after
-    → HasLeft h s.found s.found (opening s.found)
-left-opening h s to_so_far survives = record {
+left-opening : (threads : ℕ) (h : Handed) (s : IsGivenUp h) → ((list : List Event) → Lawful h.plan h.readings list → LawfulSoFar h.plan list) → LeavesOnly h.disks.spool_before.may_leave h.disks.spool_before h.disks.spool_after
+    → HasLeft threads h s.found s.found (opening s.found)
+left-opening threads h s to_so_far survives = record {
   events = s.taken.is_found.events;
   begins = prefix-self s.found;
-  goes_on = inr (stands-still h (opening s.found));
+  goes_on = inr (stands-still h (opening s.found) (opening-lawful h.plan h.readings s.found s.taken.is_found.so_far));
+  alone = λ _. inr (λ i from below. absurd (omega (arith, from, below)));
   acknowledged = opening-adds s.found;
   journal = s.left;
-  spool = leaves-wider h.spool_before.may_leave (KeepsTexts h s.found) h.spool_before h.spool_after survives (if_some-any h.spool_before.seen (λ bytes image left. inl left));
+  spool = leaves-wider h.disks.spool_before.may_leave (KeepsTexts h s.found) h.disks.spool_before h.disks.spool_after survives (if_some-any h.disks.spool_before.seen (λ bytes image left. inl left));
   now = inr (record {
     taken = s.taken;
     so_far = to_so_far (opening s.found) (opening-lawful h.plan h.readings s.found s.taken.is_found.so_far);
     journal = s.journal;
     spool = s.spool;
-    stored = λ from stored. IfSome_then h.spool_after.seen (s.stored from stored) (λ bytes each image left. stored-opening h.plan from s.found image (each image left));
+    stored = λ from stored. IfSome_then h.disks.spool_after.seen (s.stored from stored) (λ bytes each image left. stored-opening h.plan from s.found image (each image left));
   });
 }
 
@@ -81,39 +85,39 @@ refused-before (history_fail.DiskFault disk_name.Journal) is = cc is
 refused-before history_fail.NoMemory is = refl
 
 -- where nothing was written
-pub cut-untouched : (h : Handed) (e : HistoryFail) → HasCause h e → IsUntouched h → IsCutShort h e
-cut-untouched h e cause is =
-    let found : List Event = found-in h.journal_before.seen in
+pub cut-untouched : (threads : ℕ) (h : Handed) (e : HistoryFail) → HasCause h e → IsUntouched h → IsCutShort threads h e
+cut-untouched threads h e cause is =
+    let found : List Event = found-in h.disks.journal_before.seen in
     record {
       cause = cause;
       untouched = λ refusal. is;
       found = found;
       kept = found;
       last = found;
-      left = left-untouched h found (found-stored h.journal_before.seen) is;
+      left = left-untouched threads h found (found-stored h.disks.journal_before.seen) is;
       whole = λ same. refl;
       memory = λ lacks. inl is;
     }
 
 -- the journal's disk failed while the life was begun
-cut-given_up : (h : Handed) (e : HistoryFail) → HasCause h e → is_journal_fault e ≡ true → (IsFalse (is_journal_fault e) → IsUntouched h) → IsGivenUp h → ((list : List Event) → Lawful h.plan h.readings list → LawfulSoFar h.plan list)
-    → LeavesOnly h.spool_before.may_leave h.spool_before h.spool_after → IsCutShort h e
-cut-given_up h e cause fault quiet s to_so_far survives = record {
+cut-given_up : (threads : ℕ) (h : Handed) (e : HistoryFail) → HasCause h e → is_journal_fault e ≡ true → (IsFalse (is_journal_fault e) → IsUntouched h) → IsGivenUp h → ((list : List Event) → Lawful h.plan h.readings list → LawfulSoFar h.plan list)
+    → LeavesOnly h.disks.spool_before.may_leave h.disks.spool_before h.disks.spool_after → IsCutShort threads h e
+cut-given_up threads h e cause fault quiet s to_so_far survives = record {
   cause = cause;
   untouched = λ refusal. quiet (refused-before e refusal);
   found = s.found;
   kept = s.found;
   last = opening s.found;
-  left = left-opening h s to_so_far survives;
+  left = left-opening threads h s to_so_far survives;
   whole = λ none. let two : true ≡ false = sym fault ∙ none in absurd (cc);
   memory = λ lacks. let two : true ≡ false = sym fault ∙ ap (λ (s : HistoryFail). is_journal_fault s) lacks in absurd (cc);
 }
 
 -- the beginning of a life was given up
-pub cut-opening : (h : Handed) (e : HistoryFail) → HasCause h e → (IsFalse (is_journal_fault e) → IsUntouched h) → IsUntouched h ⊎ IsGivenUp h → ((list : List Event) → Lawful h.plan h.readings list → LawfulSoFar h.plan list)
-    → LeavesOnly h.spool_before.may_leave h.spool_before h.spool_after → IsCutShort h e
-cut-opening h e cause quiet (inl is) to_so_far survives = cut-untouched h e cause is
-cut-opening h e cause quiet (inr s) to_so_far survives = elim (cases_Bool (is_journal_fault e)) [
-  | inl fault ↦ cut-given_up h e cause fault quiet s to_so_far survives
-  | inr none ↦ cut-untouched h e cause (quiet none)
+pub cut-opening : (threads : ℕ) (h : Handed) (e : HistoryFail) → HasCause h e → (IsFalse (is_journal_fault e) → IsUntouched h) → IsUntouched h ⊎ IsGivenUp h → ((list : List Event) → Lawful h.plan h.readings list → LawfulSoFar h.plan list)
+    → LeavesOnly h.disks.spool_before.may_leave h.disks.spool_before h.disks.spool_after → IsCutShort threads h e
+cut-opening threads h e cause quiet (inl is) to_so_far survives = cut-untouched threads h e cause is
+cut-opening threads h e cause quiet (inr s) to_so_far survives = elim (cases_Bool (is_journal_fault e)) [
+  | inl fault ↦ cut-given_up threads h e cause fault quiet s to_so_far survives
+  | inr none ↦ cut-untouched threads h e cause (quiet none)
 ]

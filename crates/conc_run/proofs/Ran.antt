@@ -13,17 +13,17 @@ use Rattle.conc_law.specs.State.{used}
 use Rattle.conc_run_open.specs.Opening.{IsBegun}
 use Rattle.conc_run_state.specs.Causes.{HasCause, is_journal_fault, is_refusal}
 use Rattle.conc_run_state.specs.Disks.{disks}
-use Rattle.conc_resolver_alone.specs.Runs.{LacksMemory, WentOn}
+use Rattle.conc_run_steps.specs.Going.{WentOn}
 use Rattle.conc_spool.specs.Spools.{Agrees, used_of}
 use Rattle.conc_run_state.specs.Handed.{Handed, IsTaken, IsUntouched}
-use Rattle.conc_run_state.specs.Lists.{GoesOn, IsPrefix}
+use Rattle.conc_run_state.specs.Lists.{GoesOn, GoesOnAlone, IsPrefix}
 use Rattle.conc_run_state.specs.Survival.{Survives}
 use Rattle.conc_run_state.specs.Stored.{AreStored}
 use Rattle.conc_run_state.specs.Works.{list_in, longest_in, with_pending}
 use Rattle.conc_run_state.specs.declared.error.HistoryFail.{HistoryFail}
 use Rattle.conc_run_state.specs.declared.error.HistoryFail.TheVariants as history_fail
 use Rattle.conc_run_state.specs.declared.work.Work.{Work}
-use Rattle.conc_run.specs.Whole.{HasLeft, HasNow, IsCutShort, IsFinished}
+use Rattle.conc_run.specs.Whole.{HasLeft, HasNow, IsCutShort, IsFinished, LacksMemoryThere}
 use Rattle.conc_run_state.proofs.Prefixes.{prefix-twice}
 use Rattle.conc_run.proofs.Lists.{prefix-kept, prefix-with_pending, stored-opening, used-opening, used-prefix}
 use Rattle.conc_run.proofs.Survived.{begun-longest, fits-survives, journal-left}
@@ -31,18 +31,22 @@ use Rattle.conc_run.proofs.Texts.{Keeps, spool-left, spool-now}
 
 -- the same plan, readings, digest and disks before, with the disks as they are when the life is begun
 abbrev pub until : Handed → DiskState → DiskState → Handed
-until h journal spool = record h { journal_after = journal; spool_after = spool }
+until h journal spool = record h { disks = disks h.disks.journal_before journal h.disks.spool_before spool }
 
-module _ (h : Handed) (journal spool : DiskState) (old new : Work) (begun : IsBegun (until h journal spool) old) (went : WentOn h.plan h.readings (disks journal h.journal_after spool h.spool_after) old new) where
+module _ (threads : ℕ) (h : Handed) (journal spool : DiskState) (old new : Work) (begun : IsBegun (until h journal spool) old) (went : WentOn h.plan h.readings (disks journal h.disks.journal_after spool h.disks.spool_after) old new)
+    (alone : threads ≡ 0 → GoesOnAlone h.plan h.readings (list_in old) (longest_in new)) where
   -- the run goes on from the opening
   goes-on : GoesOn h.plan h.readings (opening begun.found) (longest_in new)
   goes-on = subst (λ (l : List Event). GoesOn h.plan h.readings l (longest_in new)) begun.list went.list
+
+  goes-alone : threads ≡ 0 → GoesOnAlone h.plan h.readings (opening begun.found) (longest_in new)
+  goes-alone none = subst (λ (l : List Event). GoesOnAlone h.plan h.readings l (longest_in new)) begun.list (alone none)
 
   begins : IsPrefix (opening begun.found) (longest_in new)
   begins = (goes-on.added, goes-on.all)
 
   -- what is held of the events found is held of the longest list
-  stored-longest : (from : ℕ) → IfSome h.spool_before.seen (AreStored h.plan from begun.found) → EachImage (AreStored h.plan from (longest_in new)) h.spool_after
+  stored-longest : (from : ℕ) → IfSome h.disks.spool_before.seen (AreStored h.plan from begun.found) → EachImage (AreStored h.plan from (longest_in new)) h.disks.spool_after
   stored-longest from stored =
       went.stored from (IfSome_then spool.seen (begun.stored from stored) (λ bytes each image left.
       subst (λ (l : List Event). AreStored h.plan from l image) (sym begun.list) (stored-opening h.plan from begun.found image (each image left))))
@@ -66,25 +70,26 @@ module _ (h : Handed) (journal spool : DiskState) (old new : Work) (begun : IsBe
       let is = begun.taken.is_found in
       record { is_found = record { so_far = is.so_far; own = is.own; whole = is.whole; events = is.events; within = is.within }; room = begun.taken.room }
 
-  has-now : ((list : List Event) → Lawful h.plan h.readings list → LawfulSoFar h.plan list) → Stays h.spool_before spool → HasNow h begun.found (list_in new) (longest_in new)
+  has-now : ((list : List Event) → Lawful h.plan h.readings list → LawfulSoFar h.plan list) → Stays h.disks.spool_before spool → HasNow h begun.found (list_in new) (longest_in new)
   has-now to_so_far stays = record {
     taken = still-taken;
-    so_far = to_so_far (longest_in new) went.lawful;
-    journal = IfSome_then h.journal_after.seen went.tied.journal_on (λ bytes each image left. fits-survives (state_of new.journal) h.digest (list_in new) image went.tied.takes own-digest (each image left));
-    spool = spool-now (used (reverse begun.found)) (used_of new.spool) h.spool_before spool h.spool_after (omega (arith, used-found, used-grows)) stays (subst (λ (n : ℕ). SeenFollows (Agrees n) spool h.spool_after) used-found went.spool_now) went.tied.spool_on;
+    so_far = to_so_far (longest_in new) went.list.lawful;
+    journal = IfSome_then h.disks.journal_after.seen went.tied.journal_on (λ bytes each image left. fits-survives (state_of new.journal) h.digest (list_in new) image went.tied.takes own-digest (each image left));
+    spool = spool-now (used (reverse begun.found)) (used_of new.spool) h.disks.spool_before spool h.disks.spool_after (omega (arith, used-found, used-grows)) stays (subst (λ (n : ℕ). SeenFollows (Agrees n) spool h.disks.spool_after) used-found went.spool_now) went.tied.spool_on;
     stored = stored-longest;
   }
 
-  pub left-run : ((list : List Event) → Lawful h.plan h.readings list → LawfulSoFar h.plan list) → Stays h.spool_before spool → LeavesOnly h.spool_before.may_leave h.spool_before spool
-      → HasLeft h begun.found (list_in new) (longest_in new)
+  pub left-run : ((list : List Event) → Lawful h.plan h.readings list → LawfulSoFar h.plan list) → Stays h.disks.spool_before spool → LeavesOnly h.disks.spool_before.may_leave h.disks.spool_before spool
+      → HasLeft threads h begun.found (list_in new) (longest_in new)
   left-run to_so_far stays survives = record {
     events = begun.taken.is_found.events;
     begins = prefix-kept begun.found (list_in new) (longest_in new) begins went.acknowledged;
     goes_on = inr goes-on;
+    alone = λ none. inr (goes-alone none);
     acknowledged = went.acknowledged;
-    journal = journal-left h.digest begun.found (longest_in new) h.journal_before journal h.journal_after begins begun.left
-        (subst (λ (l : List Event). LeavesOnly (Survives h.digest l (longest_in new)) journal h.journal_after) begun.list (went.journal h.digest begun.state));
-    spool = subst (λ (n : ℕ). LeavesOnly (Keeps h.spool_before n) h.spool_before h.spool_after) used-found (spool-left (used_of old.spool) h.spool_before spool h.spool_after stays survives went.spool);
+    journal = journal-left h.digest begun.found (longest_in new) h.disks.journal_before journal h.disks.journal_after begins begun.left
+        (subst (λ (l : List Event). LeavesOnly (Survives h.digest l (longest_in new)) journal h.disks.journal_after) begun.list (went.journal h.digest begun.state));
+    spool = subst (λ (n : ℕ). LeavesOnly (Keeps h.disks.spool_before n) h.disks.spool_before h.disks.spool_after) used-found (spool-left (used_of old.spool) h.disks.spool_before spool h.disks.spool_after stays survives went.spool);
     now = inr (has-now to_so_far stays);
   }
 
@@ -92,26 +97,34 @@ module _ (h : Handed) (journal spool : DiskState) (old new : Work) (begun : IsBe
   pub longest-kept : state_of new.journal ≡ state_of old.journal → longest_in new ≡ list_in new
   longest-kept same = begun-longest (state_of new.journal) h.digest (list_in new) (same ∙ begun.state)
 
-  alone : state_of new.journal ≡ state_of old.journal → Finished h.plan h.readings (list_in new) → Alone h.plan h.readings begun.found (list_in new)
-  alone same finished =
-      let going = subst (λ (l : List Event). GoesOn h.plan h.readings (opening begun.found) l) (longest-kept same) goes-on in
-      record { begins = (going.added, going.all); each = going.each; finished = finished }
+  goes-kept : state_of new.journal ≡ state_of old.journal → GoesOn h.plan h.readings (opening begun.found) (list_in new)
+  goes-kept same = subst (λ (l : List Event). GoesOn h.plan h.readings (opening begun.found) l) (longest-kept same) goes-on
 
-  pub finished-run : ((list : List Event) → Lawful h.plan h.readings list → LawfulSoFar h.plan list) → Stays h.spool_before spool → LeavesOnly h.spool_before.may_leave h.spool_before spool → state_of new.journal ≡ state_of old.journal
-      → Finished h.plan h.readings (list_in new) → IsFinished h (list_in new)
+  is-alone : state_of new.journal ≡ state_of old.journal → Finished h.plan h.readings (list_in new) → threads ≡ 0 → Alone h.plan h.readings begun.found (list_in new)
+  is-alone same finished none =
+      let going = goes-kept same in record {
+        begins = (going.added, going.all);
+        each = subst (λ (l : List Event). GoesOnAlone h.plan h.readings (opening begun.found) l) (longest-kept same) (goes-alone none);
+        finished = finished;
+      }
+
+  pub finished-run : ((list : List Event) → Lawful h.plan h.readings list → LawfulSoFar h.plan list) → Stays h.disks.spool_before spool → LeavesOnly h.disks.spool_before.may_leave h.disks.spool_before spool → state_of new.journal ≡ state_of old.journal
+      → Finished h.plan h.readings (list_in new) → IsFinished threads h (list_in new)
   finished-run to_so_far stays survives same finished = record {
     found = begun.found;
     taken = still-taken;
-    alone = alone same finished;
-    journal = subst (λ (s : JournalState). EachImage (FitsState s (list_in new)) h.journal_after) (same ∙ begun.state) went.tied.journal_on;
-    stored = λ from stored. subst (λ (l : List Event). EachImage (AreStored h.plan from l) h.spool_after) (longest-kept same) (stored-longest from stored);
-    left = subst (λ (l : List Event). HasLeft h begun.found (list_in new) l) (longest-kept same) (left-run to_so_far stays survives);
+    goes_on = goes-kept same;
+    finished = finished;
+    alone = is-alone same finished;
+    journal = subst (λ (s : JournalState). EachImage (FitsState s (list_in new)) h.disks.journal_after) (same ∙ begun.state) went.tied.journal_on;
+    stored = λ from stored. subst (λ (l : List Event). EachImage (AreStored h.plan from l) h.disks.spool_after) (longest-kept same) (stored-longest from stored);
+    left = subst (λ (l : List Event). HasLeft threads h begun.found (list_in new) l) (longest-kept same) (left-run to_so_far stays survives);
   }
 
   -- the run ended before its history was finished
   pub cut-run : (e : HistoryFail) → HasCause h e → (IsTrue (is_refusal e) → IsUntouched h) → (IsFalse (is_journal_fault e) → state_of new.journal ≡ state_of old.journal)
-      → ((list : List Event) → Lawful h.plan h.readings list → LawfulSoFar h.plan list) → Stays h.spool_before spool → LeavesOnly h.spool_before.may_leave h.spool_before spool
-      → (e ≡ history_fail.NoMemory → LacksMemory h.plan h.readings (list_in new)) → IsCutShort h e
+      → ((list : List Event) → Lawful h.plan h.readings list → LawfulSoFar h.plan list) → Stays h.disks.spool_before spool → LeavesOnly h.disks.spool_before.may_leave h.disks.spool_before spool
+      → (e ≡ history_fail.NoMemory → LacksMemoryThere threads h begun.found (list_in new)) → IsCutShort threads h e
   cut-run e cause untouched sound to_so_far stays survives memory = record {
     cause = cause;
     untouched = untouched;

@@ -1,31 +1,32 @@
 -- What a whole run leaves, and why it ends before its history is finished.
-use Rattle.std.specs.Prelude.{◌≡◌, ◌⊎◌, ℕ, ◌∷◌, [], ◌++◌, List, reverse, IfSome, IsFalse, IsTrue}
+use Rattle.std.specs.Prelude.{◌≡◌, ◌≢◌, ◌⊎◌, ℕ, ◌∷◌, [], ◌++◌, List, reverse, IfSome, IsFalse, IsTrue}
 use Rattle.conc_types.specs.declared.event.Event.{Event}
 use Rattle.conc_law.specs.Alone.{Alone, opening}
-use Rattle.conc_law.specs.Law.{LawfulSoFar}
+use Rattle.conc_law.specs.Law.{Finished, LawfulSoFar}
 use Rattle.conc_law.specs.State.{used}
 use Rattle.conc_disk.specs.Left.{EachImage, LeavesOnly}
 use Rattle.conc_journal_image.specs.Image.{IsJournal}
 use Rattle.conc_journal.specs.Opens.{events_of}
 use Rattle.conc_spool.specs.Spools.{KeepsBelow}
 use Rattle.conc_resolver_alone.specs.Runs.{LacksMemory}
+use Rattle.conc_resolver_workers.specs.Runs.{AwaitsReport}
 use Rattle.conc_run_state.specs.Causes.{HasCause, is_journal_fault, is_refusal}
 use Rattle.conc_run_state.specs.Handed.{Handed, IsTaken, IsUntouched}
-use Rattle.conc_run_state.specs.Lists.{GoesOn, IsPrefix}
+use Rattle.conc_run_state.specs.Lists.{GoesOn, GoesOnAlone, IsPrefix}
 use Rattle.conc_run_state.specs.Survival.{Survives}
 use Rattle.conc_run_state.specs.Stored.{AreStored}
 use Rattle.conc_run_state.specs.declared.error.HistoryFail.{HistoryFail}
 use Rattle.conc_run_state.specs.declared.error.HistoryFail.TheVariants as history_fail
 
--- ---- what is left
+-- ---- what is left, of a run with so many threads
 
 -- an image that a crash might have left before, or one of a journal whose list is between these
 abbrev pub HasBetween : Handed → List Event → List Event → List ℕ → Type 0
-HasBetween h first last image = h.journal_before.may_leave image ⊎ Survives h.digest first last image
+HasBetween h first last image = h.disks.journal_before.may_leave image ⊎ Survives h.digest first last image
 
 -- an image that a crash might have left before, or one with the bytes of the texts of these events' ends
 abbrev pub KeepsTexts : Handed → List Event → List ℕ → Type 0
-KeepsTexts h found image = h.spool_before.may_leave image ⊎ KeepsBelow (used (reverse found)) h.spool_before image
+KeepsTexts h found image = h.disks.spool_before.may_leave image ⊎ KeepsBelow (used (reverse found)) h.disks.spool_before image
 
 -- What was found is taken. Each image now of the journal has the kept list or the last, which is lawful, every life judged as
 -- an earlier one. Each image now of the spool has the bytes of the texts of the ends found, and holds those of the last list
@@ -33,44 +34,54 @@ KeepsTexts h found image = h.spool_before.may_leave image ⊎ KeepsBelow (used (
 pub record HasNow (h : Handed) (found kept last : List Event) : Type 0 where
   pub taken : IsTaken h found
   pub so_far : LawfulSoFar h.plan last
-  pub journal : EachImage (Survives h.digest kept last) h.journal_after
-  pub spool : EachImage (KeepsBelow (used (reverse found)) h.spool_before) h.spool_after
-  pub stored : (from : ℕ) → IfSome h.spool_before.seen (AreStored h.plan from found) → EachImage (AreStored h.plan from last) h.spool_after
+  pub journal : EachImage (Survives h.digest kept last) h.disks.journal_after
+  pub spool : EachImage (KeepsBelow (used (reverse found)) h.disks.spool_before) h.disks.spool_after
+  pub stored : (from : ℕ) → IfSome h.disks.spool_before.seen (AreStored h.plan from found) → EachImage (AreStored h.plan from last) h.disks.spool_after
 
 -- What the run leaves on its disks, however it ended. `found` is the list found, `kept` the one that was acknowledged, and `last`
 -- the longest that the journal's disk may have: `kept`, or `kept` and the event whose append met a fault. At each moment a crash
 -- left a list that begins with the one found and is a beginning of the last one. Now nothing was written, or it leaves the kept
--- one or the last.
-pub record HasLeft (h : Handed) (found kept last : List Event) : Type 0 where
-  pub events : IfSome h.journal_before.seen (λ image. found ≡ events_of image)
+-- one or the last. Without threads each event that was added is the one that comes next.
+pub record HasLeft (threads : ℕ) (h : Handed) (found kept last : List Event) : Type 0 where
+  pub events : IfSome h.disks.journal_before.seen (λ image. found ≡ events_of image)
   pub begins : IsPrefix found kept
   pub goes_on : (last ≡ found) ⊎ GoesOn h.plan h.readings (opening found) last
+  pub alone : threads ≡ 0 → (last ≡ found) ⊎ GoesOnAlone h.plan h.readings (opening found) last
   pub acknowledged : (last ≡ kept) ⊎ ((e : Event) × (last ≡ kept ++ e ∷ []))
-  pub journal : LeavesOnly (HasBetween h found last) h.journal_before h.journal_after
-  pub spool : LeavesOnly (KeepsTexts h found) h.spool_before h.spool_after
+  pub journal : LeavesOnly (HasBetween h found last) h.disks.journal_before h.disks.journal_after
+  pub spool : LeavesOnly (KeepsTexts h found) h.disks.spool_before h.disks.spool_after
   pub now : IsUntouched h ⊎ HasNow h found kept last
 
 -- ---- how a run ends
 
--- The run is finished: its list is the one that the run without workers makes from the list found. Each image now of the
--- journal has it, and each of the spool holds the texts of the ends that were added, and of all ends if it held those found.
-pub record IsFinished (h : Handed) (list : List Event) : Type 0 where
+-- The run is finished: its list goes on from the list found, with one resume where that is not empty, and its history is
+-- finished. Without threads it is the one that the run without workers makes. Each image now of the journal has it, and each
+-- of the spool holds the texts of the ends that were added, and of all ends if it held those found.
+pub record IsFinished (threads : ℕ) (h : Handed) (list : List Event) : Type 0 where
   pub found : List Event
   pub taken : IsTaken h found
-  pub alone : Alone h.plan h.readings found list
-  pub journal : EachImage (IsJournal h.digest list) h.journal_after
-  pub stored : (from : ℕ) → IfSome h.spool_before.seen (AreStored h.plan from found) → EachImage (AreStored h.plan from list) h.spool_after
-  pub left : HasLeft h found list list
+  pub goes_on : GoesOn h.plan h.readings (opening found) list
+  pub finished : Finished h.plan h.readings list
+  pub alone : threads ≡ 0 → Alone h.plan h.readings found list
+  pub journal : EachImage (IsJournal h.digest list) h.disks.journal_after
+  pub stored : (from : ℕ) → IfSome h.disks.spool_before.seen (AreStored h.plan from found) → EachImage (AreStored h.plan from list) h.disks.spool_after
+  pub left : HasLeft threads h found list list
+
+-- Where a run may find no memory once something is written. Without threads it is at the report of the end that comes next;
+-- with threads before any event past the resume, or at the report of a request that runs.
+pub record LacksMemoryThere (threads : ℕ) (h : Handed) (found kept : List Event) : Type 0 where
+  pub alone : threads ≡ 0 → LacksMemory h.plan h.readings kept
+  pub beside : threads ≢ 0 → (kept ≡ opening found) ⊎ AwaitsReport h.plan kept
 
 -- The run did not begin, or ended before its history was finished. Where it was refused nothing was written. Where it found no
 -- memory nothing was written either, or the list that it left is one after which it may find none. But for a fault of the
 -- journal's disk that disk has the list that was acknowledged.
-pub record IsCutShort (h : Handed) (s : HistoryFail) : Type 0 where
+pub record IsCutShort (threads : ℕ) (h : Handed) (s : HistoryFail) : Type 0 where
   pub cause : HasCause h s
   pub untouched : IsTrue (is_refusal s) → IsUntouched h
   pub found : List Event
   pub kept : List Event
   pub last : List Event
-  pub left : HasLeft h found kept last
+  pub left : HasLeft threads h found kept last
   pub whole : IsFalse (is_journal_fault s) → last ≡ kept
-  pub memory : s ≡ history_fail.NoMemory → IsUntouched h ⊎ LacksMemory h.plan h.readings kept
+  pub memory : s ≡ history_fail.NoMemory → IsUntouched h ⊎ LacksMemoryThere threads h found kept

@@ -6,4 +6,4 @@ mod laws;
 mod whole;
 
 pub use laws::{what_a_crash_leaves_is_good, what_is_good_is_not_refused};
-pub use whole::run_plan;
+pub use whole::{run_on_threads, run_plan};

@@ -1,4 +1,4 @@
-ghost use Rattle.std.specs.Prelude.{◌≡◌, IfErr, IfOk};
+ghost use Rattle.std.specs.Prelude.{◌≡◌, ◌<◌, IfErr, IfOk};
 ghost use Rattle.conc_run_state.specs.Handed.{handed};
 ghost use Rattle.conc_run_state.specs.Works.{list_in};
 ghost use Rattle.conc_run.specs.Whole.{IsCutShort, IsFinished};
@@ -7,12 +7,17 @@ ghost use Rattle.conc_run_state.specs.declared.error.HistoryFail.TheVariants as 
 ghost use Rattle.conc_run_state.specs.declared.error.DiskName.TheVariants as disk_name;
 
 use conc_disk::Disk;
+use conc_journal::Silent;
 use conc_law::lawful_is_lawful_so_far;
+use conc_outside_gate::Gate;
 use conc_resolver_alone::run_alone;
+use conc_resolver_workers::{Ran, run_with_workers};
 use conc_run_open::open;
 use conc_run_state::{DiskName, HistoryFail, RunFail, Work};
 use conc_types::{Plan, Readings};
 use std::alloc::Global;
+use std::sync::Wait;
+use std::thread::Threads;
 
 // Why a run ended.
 fn history_fail_of(fail: RunFail) -> HistoryFail
@@ -44,17 +49,51 @@ pub fn run_plan<'p, D: Disk, E: Disk>(
     journal: &mut D,
     spool: &mut E,
 ) -> Result<Work<'p>, HistoryFail>
-    ensures finished { IfOk result (λ work. IsFinished
+    ensures finished { IfOk result (λ work. IsFinished 0
         (handed plan.now readings.now digest.now (D.state journal.old) (D.state journal.new)
         (E.state spool.old) (E.state spool.new)) (list_in work)) }
-    ensures cut_short { IfErr result (IsCutShort
+    ensures cut_short { IfErr result (IsCutShort 0
         (handed plan.now readings.now digest.now (D.state journal.old) (D.state journal.new)
         (E.state spool.old) (E.state spool.new))) }
 {
     lawful_is_lawful_so_far();
     let mut work = open(alloc, plan, readings, digest, journal, spool)?;
-    match run_alone(alloc, plan, &mut work, journal, spool) {
+    match run_alone(alloc, &mut work, journal, spool) {
         Ok(()) => Ok(work),
         Err(fail) => Err(history_fail_of(fail)),
+    }
+}
+
+/// Runs a plan as `run_plan` does, with so many workers in threads of their own. The history is lawful, and may
+/// be any that the rules allow. Want of memory comes before anything is written, before any event past the
+/// resume, or at a report.
+pub fn run_on_threads<'p, R: Threads + Wait + Sync, D: Disk + Send, E: Disk + Send, G: Gate + Sync>(
+    rt: &R,
+    alloc: Global,
+    plan: &'p Plan,
+    readings: &Readings,
+    digest: &[u8; 32],
+    journal: &mut D,
+    spool: &mut E,
+    gate: &G,
+    threads: u32,
+) -> Result<Work<'p>, HistoryFail>
+    requires threads { 0 < threads }
+    ensures finished { IfOk result (λ work. IsFinished threads
+        (handed plan.now readings.now digest.now (D.state journal.old) (D.state journal.new)
+        (E.state spool.old) (E.state spool.new)) (list_in work)) }
+    ensures cut_short { IfErr result (IsCutShort threads
+        (handed plan.now readings.now digest.now (D.state journal.old) (D.state journal.new)
+        (E.state spool.old) (E.state spool.new))) }
+{
+    lawful_is_lawful_so_far();
+    let work = open(alloc, plan, readings, digest, journal, spool)?;
+    let Ran {
+        work: ended,
+        answer,
+    } = run_with_workers(rt, alloc, work, journal, spool, &mut Silent, gate, threads);
+    match answer {
+        Ok(()) => Ok(ended),
+        Err(cause) => Err(history_fail_of(cause)),
     }
 }

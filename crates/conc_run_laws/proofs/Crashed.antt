@@ -11,7 +11,7 @@ use Rattle.conc_types.specs.Scripts.{are_in_order}
 use Rattle.conc_disk.specs.Disk.{DiskState}
 use Rattle.conc_disk.specs.Left.{LeavesOnly}
 use Rattle.conc_journal.specs.Opens.{broken_of, events_of, may_open}
-use Rattle.conc_law.specs.Alone.{Alone, opening}
+use Rattle.conc_law.specs.Alone.{opening}
 use Rattle.conc_law.specs.Facts.{runs}
 use Rattle.conc_law.specs.Law.{LawfulSoFar}
 use Rattle.conc_law.specs.Words.{Has}
@@ -21,7 +21,7 @@ use Rattle.conc_run.proofs.Next.{left-good, not-bad, not-closed, not-other}
 use Rattle.conc_run_state.specs.Causes.{HasCause, IsOther}
 use Rattle.conc_run_state.specs.Handed.{Handed, IsOwnJournal}
 use Rattle.conc_run_state.specs.Judging.{EndWithin, IsBadFor, IsBadRecord}
-use Rattle.conc_run_state.specs.Lists.{IsPrefix}
+use Rattle.conc_run_state.specs.Lists.{GoesOn, IsPrefix}
 use Rattle.conc_run_state.specs.declared.error.HistoryFail.{HistoryFail}
 use Rattle.conc_run_state.specs.declared.error.HistoryFail.TheVariants as history_fail
 use Rattle.conc_run_state.proofs.Prefixes.{prefix-opening, prefix-self}
@@ -39,9 +39,9 @@ at-some {X = X} P o x is holds = subst (λ (s : Option X). IfSome s P) is holds
 abbrev pub OnlyNow : DiskState → Type 0
 OnlyNow disk = (image : List ℕ) → disk.left_since disk.moment image → disk.may_leave image
 
-module _ (h : Handed) (found kept last : List Event) (began : BeganWell h) (only_now : OnlyNow h.journal_before) (left : HasLeft h found kept last) where
+module _ (threads : ℕ) (h : Handed) (found kept last : List Event) (began : BeganWell h) (only_now : OnlyNow h.disks.journal_before) (left : HasLeft threads h found kept last) where
   found-is : found ≡ events_of began.image
-  found-is = at-some (λ (i : List ℕ). found ≡ events_of i) h.journal_before.seen began.image began.journal.seen left.events
+  found-is = at-some (λ (i : List ℕ). found ≡ events_of i) h.disks.journal_before.seen began.image began.journal.seen left.events
 
   -- the image found stands
   same-fit : (image texts : List ℕ) → EndWithin (length texts) (events_of image) → image ≡ began.image → IsFit h.plan h.digest image texts × IsPrefix found (events_of image)
@@ -58,20 +58,20 @@ module _ (h : Handed) (found kept last : List Event) (began : BeganWell h) (only
   )
 
   -- what was left before is the image found
-  earlier-same : (image : List ℕ) → h.journal_before.left_since h.journal_before.moment image → image ≡ began.image
+  earlier-same : (image : List ℕ) → h.disks.journal_before.left_since h.disks.journal_before.moment image → image ≡ began.image
   earlier-same image since = began.journal.settled image (only_now image since)
 
-  since-left : (kind : List ℕ → Type 0) (image : List ℕ) → LeavesOnly kind h.journal_before h.journal_after → h.journal_after.left_since h.journal_before.moment image
-      → h.journal_before.left_since h.journal_before.moment image ⊎ kind image
+  since-left : (kind : List ℕ → Type 0) (image : List ℕ) → LeavesOnly kind h.disks.journal_before h.disks.journal_after → h.disks.journal_after.left_since h.disks.journal_before.moment image
+      → h.disks.journal_before.left_since h.disks.journal_before.moment image ⊎ kind image
   since-left kind image leaves since =
       at-some
-      (λ (bytes : List ℕ). (t : ℕ) (c : List ℕ) → t ≤ h.journal_before.moment → h.journal_after.left_since t c → h.journal_before.left_since t c ⊎ kind c)
-      h.journal_before.seen began.image began.journal.seen leaves.nothing_else h.journal_before.moment image (le_refl h.journal_before.moment) since
+      (λ (bytes : List ℕ). (t : ℕ) (c : List ℕ) → t ≤ h.disks.journal_before.moment → h.disks.journal_after.left_since t c → h.disks.journal_before.left_since t c ⊎ kind c)
+      h.disks.journal_before.seen began.image began.journal.seen leaves.nothing_else h.disks.journal_before.moment image (le_refl h.disks.journal_before.moment) since
 
-  pub left-fit : (image texts : List ℕ) → h.journal_after.left_since h.journal_before.moment image → EndWithin (length texts) (events_of image)
+  pub left-fit : (image texts : List ℕ) → h.disks.journal_after.left_since h.disks.journal_before.moment image → EndWithin (length texts) (events_of image)
       → IsFit h.plan h.digest image texts × IsPrefix found (events_of image)
   left-fit image texts since within = elim left.now [
-    | inl untouched ↦ elim (since-left h.journal_before.may_leave image untouched.journal_survives since) [
+    | inl untouched ↦ elim (since-left h.disks.journal_before.may_leave image untouched.journal_survives since) [
       | inl before ↦ same-fit image texts within (earlier-same image before)
       | inr may ↦ same-fit image texts within (began.journal.settled image may)
     ]
@@ -94,23 +94,23 @@ past-end found last same i e from there = let within = slice_get_within last i e
 opening-long : (found : List Event) → length found ≤ length (opening found)
 opening-long found = let behind = prefix-opening found in omega (arith, ap length behind.1, length-append found behind.0)
 
-module _ (h : Handed) (image texts : List ℕ) (fit : IsFit h.plan h.digest image texts) (journal : h.journal_before.seen ≡ Some image) (spool : h.spool_before.seen ≡ Some texts) where
+module _ (h : Handed) (image texts : List ℕ) (fit : IsFit h.plan h.digest image texts) (journal : h.disks.journal_before.seen ≡ Some image) (spool : h.disks.spool_before.seen ≡ Some texts) where
   pub refuses-for_room : (e : HistoryFail) → HasCause h e → RefusesForRoom h image e
-  refuses-for_room history_fail.NotJournal cause = not-closed h.digest image fit.own (at-some (λ (i : List ℕ). IsFalse (may_open i)) h.journal_before.seen image journal cause)
-  refuses-for_room (history_fail.OtherInput found) cause = not-other h.digest found image fit.own.own (at-some (λ (i : List ℕ). IsOther h.digest found i) h.journal_before.seen image journal cause)
+  refuses-for_room history_fail.NotJournal cause = not-closed h.digest image fit.own (at-some (λ (i : List ℕ). IsFalse (may_open i)) h.disks.journal_before.seen image journal cause)
+  refuses-for_room (history_fail.OtherInput found) cause = not-other h.digest found image fit.own.own (at-some (λ (i : List ℕ). IsOther h.digest found i) h.disks.journal_before.seen image journal cause)
   refuses-for_room (history_fail.Unlawful number) cause =
-      let bad = at-some (λ (i : List ℕ). IsBadFor h.plan h.spool_before (events_of i) (broken_of i) number) h.journal_before.seen image journal cause.bad in
-      let long : bad.0 ≡ length texts = at-some (λ (t : List ℕ). bad.0 ≡ length t) h.spool_before.seen texts spool bad.1 in
+      let bad = at-some (λ (i : List ℕ). IsBadFor h.plan h.disks.spool_before (events_of i) (broken_of i) number) h.disks.journal_before.seen image journal cause.bad in
+      let long : bad.0 ≡ length texts = at-some (λ (t : List ℕ). bad.0 ≡ length t) h.disks.spool_before.seen texts spool bad.1 in
       not-bad h.plan (length texts) (events_of image) (broken_of image) number fit.good
       (subst (λ (len : ℕ). IsBadRecord h.plan len (events_of image) (broken_of image) number) long bad.2)
   refuses-for_room (history_fail.JournalFull len needed) cause =
-      let found = at-some (λ (i : List ℕ). cause.found ≡ events_of i) h.journal_before.seen image journal cause.is_found.events in
+      let found = at-some (λ (i : List ℕ). cause.found ≡ events_of i) h.disks.journal_before.seen image journal cause.is_found.events in
       (cause.len_is ∙ ap length found, cause.needed_is, cause.full)
   refuses-for_room (history_fail.DiskFault disk) cause = tt
   refuses-for_room history_fail.NoMemory cause = tt
 
-  pub finds-events : (found kept last : List Event) → HasLeft h found kept last → found ≡ events_of image
-  finds-events found kept last left = at-some (λ (i : List ℕ). found ≡ events_of i) h.journal_before.seen image journal left.events
+  pub finds-events : (threads : ℕ) (found kept last : List Event) → HasLeft threads h found kept last → found ≡ events_of image
+  finds-events threads found kept last left = at-some (λ (i : List ℕ). found ≡ events_of i) h.disks.journal_before.seen image journal left.events
 
   still-right : (found last : List Event) → last ≡ found → IsRightLife h.plan found last
   still-right found last same = record {
@@ -119,21 +119,21 @@ module _ (h : Handed) (image texts : List ℕ) (fit : IsFit h.plan h.digest imag
     running = λ r has is. inr (λ i e from below there. absurd (past-end found last same i e (omega (arith, from, opening-long found)) there));
   }
 
-  pub goes-right : are_in_order h.readings ≡ true → (found kept last : List Event) → HasLeft h found kept last → IsRightLife h.plan found last
-  goes-right order found kept last left = elim left.goes_on [
+  pub goes-right : are_in_order h.readings ≡ true → (threads : ℕ) (found kept last : List Event) → HasLeft threads h found kept last → IsRightLife h.plan found last
+  goes-right order threads found kept last left = elim left.goes_on [
     | inl same ↦ still-right found last same
-    | inr going ↦ right-life h.plan h.readings found last (subst (λ (l : List Event). LawfulSoFar h.plan l) (sym (finds-events found kept last left)) fit.good.so_far) going order
+    | inr going ↦ right-life h.plan h.readings found last going order
   ]
 
-  pub finishes-interrupts : (list : List Event) → IsFinished h list → (r : Req) → Has h.plan.requests r → IsTrue (runs (reverse (events_of image)) r.number) → IsInterrupted (events_of image) list r.number
-  finishes-interrupts list finished r has is =
-      let same = finds-events finished.found list list finished.left in
-      finished-interrupts h.plan h.readings (events_of image) list r has (subst (λ (l : List Event). Alone h.plan h.readings l list) same finished.alone) is
+  pub finishes-interrupts : (threads : ℕ) (list : List Event) → IsFinished threads h list → (r : Req) → Has h.plan.requests r → IsTrue (runs (reverse (events_of image)) r.number) → IsInterrupted (events_of image) list r.number
+  finishes-interrupts threads list finished r has is =
+      let same = finds-events threads finished.found list list finished.left in
+      finished-interrupts h.plan h.readings (events_of image) list (subst (λ (l : List Event). GoesOn h.plan h.readings (opening l) list) same finished.goes_on) r has finished.finished is
 
-pub next-run : (h next : Handed) (found kept last : List Event) (image texts : List ℕ) → next.plan ≡ h.plan → next.digest ≡ h.digest → are_in_order next.readings ≡ true → OnlyNow h.journal_before
-    → BeganWell h → HasLeft h found kept last → IsNextOver h.journal_before h.journal_after next image texts → IsNextRun next found image
-next-run h next found kept last image texts same_plan same_digest order only_now began left over =
-    let both = left-fit h found kept last began only_now left image texts over.left over.within in
+pub next-run : (threads : ℕ) (h next : Handed) (found kept last : List Event) (image texts : List ℕ) → next.plan ≡ h.plan → next.digest ≡ h.digest → are_in_order next.readings ≡ true → OnlyNow h.disks.journal_before
+    → BeganWell h → HasLeft threads h found kept last → IsNextOver h.disks.journal_before h.disks.journal_after next image texts → IsNextRun next found image
+next-run threads h next found kept last image texts same_plan same_digest order only_now began left over =
+    let both = left-fit threads h found kept last began only_now left image texts over.left over.within in
     let fit = subst (λ (p : Plan). IsFit p next.digest image texts) (sym same_plan) (subst (λ (d : List ℕ). IsFit h.plan d image texts) (sym same_digest) both.0) in
     record {
       refuses = refuses-for_room next image texts fit over.journal over.spool;

@@ -1,24 +1,29 @@
 -- A life interrupts first what an earlier one left running.
-use Rattle.std.proofs.Common.{◌≡◌, ◌⊎◌, inl, inr, ℕ, zero, suc, ◌+◌, ◌<◌, ◌≤◌, true, false, not, List, [], ◌∷◌, length, reverse, take, Some, refl, sym, ◌∙◌, ap, subst, arith}
+use Rattle.std.proofs.Common.{◌≡◌, ◌⊎◌, inl, inr, ℕ, zero, suc, ◌+◌, ◌<◌, ◌≤◌, true, false, not, List, [], ◌∷◌, length, reverse, take, None, Some, refl, sym, ◌∙◌, ap, subst, arith}
 use Rattle.std.specs.Prelude.{slice_get}
 use Rattle.std.proofs.lemmas.Bool.{and_from, cases_Bool, cases_order}
+use Rattle.std.proofs.lemmas.Option.{same_Some}
 use Rattle.conc_types.specs.declared.event.Event.{Event}
 use Rattle.conc_types.specs.declared.event.Event.TheVariants as event
 use Rattle.conc_types.specs.declared.event.RequestId.{RequestId}
 use Rattle.conc_types.specs.declared.plan.Plan.{Plan}
 use Rattle.conc_types.specs.declared.plan.Req.{Req}
 use Rattle.conc_types.specs.declared.script.Reading.{Reading}
-use Rattle.conc_law.specs.Alone.{choice, Follows, next_alone, opening}
+use Rattle.conc_law.specs.Alone.{opening}
 use Rattle.conc_law.specs.Before.{last_life}
 use Rattle.conc_law.specs.Facts.{facts_of, running_place, runs, was_started}
+use Rattle.conc_law.specs.Law.{may_follow}
 use Rattle.conc_law.specs.Next.{forced, forced_interrupt, is_left_running}
+use Rattle.conc_law.specs.Readings.{next_reading}
 use Rattle.conc_law.specs.State.{facts_at, state}
 use Rattle.conc_law.specs.Words.{Has, id_eq}
+use Rattle.conc_law.proofs.Comes.{came}
 use Rattle.conc_law.proofs.EqualEvents.{id_same}
 use Rattle.conc_law.proofs.FactsAt.{facts_at-state, is_running-state}
 use Rattle.conc_law.proofs.FirstBy.{find-found}
-use Rattle.conc_law.proofs.Positions.{reverse-push, take-suc_at}
+use Rattle.conc_law.proofs.Positions.{reverse-push, slice_get-some, take-suc_at}
 use Rattle.conc_run_laws.specs.Lives.{is_interrupt, OnlyInterrupts}
+use Rattle.conc_run_laws.proofs.Added.{ComesAfter, EachComesAfter}
 
 -- ---- one event
 
@@ -33,13 +38,23 @@ left-state plan past r has left =
     let fresh : (facts_at (state plan past) r).started ≡ false = ap (λ f. f.started) (facts_at-state plan past r has) ∙ left.1 in
     and_from _ _ (is_running-state plan past r has ∙ left.0) (ap not fresh)
 
--- then an interrupt comes next
-left-next : (plan : Plan) (readings : List Reading) (past : List Event) (r : Req) → Has plan.requests r → IsLeft past r.number
-    → (q : Req) × (next_alone plan readings past ≡ Some (event.Interrupt q.number))
-unfolding next_alone choice forced forced_interrupt
-left-next plan readings past r has left =
+-- then an interrupt is forced
+left-forced : (plan : Plan) (past : List Event) (r : Req) → Has plan.requests r → IsLeft past r.number → (q : Req) × (forced plan (state plan past) ≡ Some (event.Interrupt q.number))
+unfolding forced forced_interrupt
+left-forced plan past r has left =
     let found = find-found (is_left_running (state plan past)) plan.requests r has (left-state plan past r has left) in
     (found.0, rw (found.1) refl)
+
+-- so what comes is that interrupt
+left-next : (plan : Plan) (readings : List Reading) (past : List Event) (r : Req) (e : Event) → Has plan.requests r → IsLeft past r.number → ComesAfter plan readings past e
+    → (q : Req) × (e ≡ event.Interrupt q.number)
+unfolding may_follow
+left-next plan readings past r e has left comes =
+    let due = left-forced plan past r has left in
+    elim (came plan (state plan past) (Some (next_reading readings past)) e comes.0 comes.1) [
+      | inl is ↦ (due.0, same_Some e (event.Interrupt due.0.number) (sym is ∙ due.1))
+      | inr free ↦ let two : None ≡ Some (event.Interrupt due.0.number) = sym free.0 ∙ due.1 in absurd (cc two)
+    ]
 
 -- the interrupt of another one leaves it so
 left-other : (past : List Event) (id q : RequestId) → id_eq q id ≡ false → IsLeft past id → IsLeft (event.Interrupt q ∷ past) id
@@ -73,7 +88,7 @@ pub record StillRuns (from to : ℕ) (list : List Event) (id : RequestId) : Type
   pub left : IsLeft (reverse (take to list)) id
   pub only : OnlyInterrupts from to list
 
-module _ (plan : Plan) (readings : List Reading) (n : ℕ) (list : List Event) (r : Req) (has : Has plan.requests r) (each : Follows plan readings n list) where
+module _ (plan : Plan) (readings : List Reading) (n : ℕ) (list : List Event) (r : Req) (has : Has plan.requests r) (each : EachComesAfter plan readings n list) where
   only-more : (k : ℕ) (q : RequestId) → OnlyInterrupts n (n + k) list → slice_get list (n + k) ≡ Some (event.Interrupt q) → OnlyInterrupts n (n + suc k) list
   only-more k q only is i e from below there = elim (cases_order i (n + k)) [
     | inl same ↦ let at : slice_get list i ≡ Some (event.Interrupt q) = ap (slice_get list) same ∙ is in let known : e ≡ event.Interrupt q = cc (at, there) in ap is_interrupt known
@@ -84,8 +99,9 @@ module _ (plan : Plan) (readings : List Reading) (n : ℕ) (list : List Event) (
   step : (k : ℕ) → n + suc k ≤ length list → StillRuns n (n + k) list r.number → IsInterruptedIn n (n + suc k) list r.number ⊎ StillRuns n (n + suc k) list r.number
   step k fits still =
       let past : List Event = reverse (take (n + k) list) in
-      let next = left-next plan readings past r has still.left in
-      let at : slice_get list (n + k) ≡ Some (event.Interrupt next.0.number) = each (n + k) (omega arith) (omega (arith, fits)) ∙ next.1 in
+      let here : (e : Event) × (slice_get list (n + k) ≡ Some e) = slice_get-some list (n + k) (omega (arith, fits)) in
+      let next = left-next plan readings past r here.0 has still.left (each (n + k) here.0 (omega arith) here.1) in
+      let at : slice_get list (n + k) ≡ Some (event.Interrupt next.0.number) = here.1 ∙ ap (λ (e : Event). Some e) next.1 in
       let same : n + suc k ≡ suc (n + k) = omega arith in
       let past_is : reverse (take (n + suc k) list) ≡ event.Interrupt next.0.number ∷ past =
       ap (λ (i : ℕ). reverse (take i list)) same ∙ ap reverse (take-suc_at list (n + k) (event.Interrupt next.0.number) at) ∙ reverse-push (take (n + k) list) (event.Interrupt next.0.number) in

@@ -1,3 +1,4 @@
+pub mod Added
 pub mod Interrupts
 pub mod Starts
 pub mod RightLives

@@ -36,8 +36,8 @@ pub record Holds (disk : DiskState) (bytes : List ℕ) : Type 0 where
 pub record BeganWell (h : Handed) : Type 0 where
   pub image : List ℕ
   pub texts : List ℕ
-  pub journal : Holds h.journal_before image
-  pub spool : h.spool_before.seen ≡ Some texts
+  pub journal : Holds h.disks.journal_before image
+  pub spool : h.disks.spool_before.seen ≡ Some texts
   pub fit : IsFit h.plan h.digest image texts
 
 -- ---- the next run
@@ -46,8 +46,8 @@ pub record BeganWell (h : Handed) : Type 0 where
 -- image, and a spool with these texts, which has the extent of each event of the image.
 pub record IsNextOver (before after : DiskState) (next : Handed) (image texts : List ℕ) : Type 0 where
   pub left : after.left_since before.moment image
-  pub journal : next.journal_before.seen ≡ Some image
-  pub spool : next.spool_before.seen ≡ Some texts
+  pub journal : next.disks.journal_before.seen ≡ Some image
+  pub spool : next.disks.spool_before.seen ≡ Some texts
   pub within : EndWithin (length texts) (events_of image)
 
 -- of all refusals only that for want of room may come: the journal has these events, and a life needs more than there is left
@@ -60,24 +60,24 @@ RefusesForRoom h image _ = ⊥
 
 -- The next run refuses nothing but for want of room. The list in the image begins with the events that the first run had found; it is
 -- what the next run finds, and however that ends, its list is a right life behind it. Once it is finished, it has interrupted each
--- request that ran in what it found.
+-- request that ran in what it found. The next run has any number of threads.
 pub record IsNextRun (next : Handed) (found : List Event) (image : List ℕ) : Type 0 where
   pub refuses : (e : HistoryFail) → HasCause next e → RefusesForRoom next image e
   pub begins : IsPrefix found (events_of image)
-  pub finds : (again kept last : List Event) → HasLeft next again kept last → again ≡ events_of image
-  pub goes_on : (again kept last : List Event) → HasLeft next again kept last → IsRightLife next.plan again last
-  pub finishes : (list : List Event) → IsFinished next list → (r : Req) → Has next.plan.requests r
+  pub finds : (threads : ℕ) (again kept last : List Event) → HasLeft threads next again kept last → again ≡ events_of image
+  pub goes_on : (threads : ℕ) (again kept last : List Event) → HasLeft threads next again kept last → IsRightLife next.plan again last
+  pub finishes : (threads : ℕ) (list : List Event) → IsFinished threads next list → (r : Req) → Has next.plan.requests r
       → IsTrue (runs (reverse (events_of image)) r.number) → IsInterrupted (events_of image) list r.number
 
 -- ---- the end of a run
 
 -- a crash at its end leaves these images of its disks, which expose their bytes; and the spool held the texts of the events found
 pub record CrashesAtEnd (h : Handed) (found : List Event) (image texts : List ℕ) : Type 0 where
-  pub journal_exposes : IsTrue (is_some h.journal_after.seen)
-  pub journal : h.journal_after.may_leave image
-  pub spool_exposes : IsTrue (is_some h.spool_after.seen)
-  pub spool : h.spool_after.may_leave texts
-  pub stored : IfSome h.spool_before.seen (AreStored h.plan 0 found)
+  pub journal_exposes : IsTrue (is_some h.disks.journal_after.seen)
+  pub journal : h.disks.journal_after.may_leave image
+  pub spool_exposes : IsTrue (is_some h.disks.spool_after.seen)
+  pub spool : h.disks.spool_after.may_leave texts
+  pub stored : IfSome h.disks.spool_before.seen (AreStored h.plan 0 found)
 
 -- nothing was written; or the images fit together, and the list in the journal begins with the one that was acknowledged
 abbrev pub IsFitEnd : Handed → List Event → List ℕ → List ℕ → Type 0

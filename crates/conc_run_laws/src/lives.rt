@@ -5,9 +5,9 @@ ghost use Rattle.conc_types.specs.declared.plan.Plan.{Plan};
 ghost use Rattle.conc_types.specs.declared.plan.Req.{Req};
 ghost use Rattle.conc_types.specs.declared.script.Reading.{Reading};
 ghost use Rattle.conc_types.specs.declared.script.Readings.{Readings};
-ghost use Rattle.conc_law.specs.Alone.{Alone, opening};
+ghost use Rattle.conc_law.specs.Alone.{opening};
 ghost use Rattle.conc_law.specs.Facts.{runs};
-ghost use Rattle.conc_law.specs.Law.{LawfulSoFar};
+ghost use Rattle.conc_law.specs.Law.{Finished, LawfulSoFar};
 ghost use Rattle.conc_law.specs.Words.{Has};
 ghost use Rattle.conc_run_state.specs.Lists.{GoesOn};
 ghost use Rattle.conc_run_laws.specs.Lives.{IsInterrupted, IsRightLife};
@@ -24,6 +24,7 @@ pub fn a_life_goes_on_rightly()
 /// Once the life is finished, each of these requests was interrupted.
 pub fn a_finished_life_interrupts_what_ran()
     ensures { (plan : Plan) (readings : List Reading) (found list : List Event) (r : Req) →
-        Has plan.requests r → Alone plan readings found list
-        → IsTrue (runs (reverse found) r.number) → IsInterrupted found list r.number }
+        Has plan.requests r → GoesOn plan readings (opening found) list
+        → Finished plan readings list → IsTrue (runs (reverse found) r.number)
+        → IsInterrupted found list r.number }
 {}

@@ -14,14 +14,15 @@ use conc_disk::Disk;
 /// over a spool that has each extent of its events, refuses nothing but for want of room. Its
 /// list begins with the events that the first run found. Behind what it finds it starts no
 /// request that was completed, and interrupts by its number each one that ran, before it does
-/// anything else; once it is finished, each of these was interrupted.
+/// anything else; once it is finished, each of these was interrupted. Each of the two runs has any
+/// number of threads.
 pub fn the_next_run<D: Disk, E: Disk>()
-    ensures { (plan : Plan) (readings again : Readings) (digest : List ℕ)
+    ensures { (threads : ℕ) (plan : Plan) (readings again : Readings) (digest : List ℕ)
         (journal crashed shown after : D) (spool spool_crashed spool_shown spool_after : E)
         (found kept last : List Event) (image texts : List ℕ) →
         BeganWell (handed plan readings digest (D.state journal) (D.state crashed)
         (E.state spool) (E.state spool_crashed))
-        → HasLeft (handed plan readings digest (D.state journal) (D.state crashed)
+        → HasLeft threads (handed plan readings digest (D.state journal) (D.state crashed)
         (E.state spool) (E.state spool_crashed)) found kept last
         → IsNextOver (D.state journal) (D.state crashed) (handed plan again digest (D.state shown)
         (D.state after) (E.state spool_shown) (E.state spool_after)) image texts
@@ -29,13 +30,14 @@ pub fn the_next_run<D: Disk, E: Disk>()
         (E.state spool_shown) (E.state spool_after)) found image }
 {}
 
-/// What a run leaves at its end, if it wrote anything, fits the next run of the same files, where
-/// the spool held the texts of the events found; and the list in it begins with all that was
-/// acknowledged.
+/// What a run with any number of threads leaves at its end, if it wrote anything, fits the next run
+/// of the same files, where the spool held the texts of the events found; and the list in it begins
+/// with all that was acknowledged.
 pub fn the_end_is_fit<D: Disk, E: Disk>()
-    ensures { (plan : Plan) (readings : Readings) (digest : List ℕ) (journal journal_after : D)
-        (spool spool_after : E) (found kept last : List Event) (image texts : List ℕ) →
-        HasLeft (handed plan readings digest (D.state journal) (D.state journal_after)
+    ensures { (threads : ℕ) (plan : Plan) (readings : Readings) (digest : List ℕ)
+        (journal journal_after : D) (spool spool_after : E) (found kept last : List Event)
+        (image texts : List ℕ) →
+        HasLeft threads (handed plan readings digest (D.state journal) (D.state journal_after)
         (E.state spool) (E.state spool_after)) found kept last
         → CrashesAtEnd (handed plan readings digest (D.state journal) (D.state journal_after)
         (E.state spool) (E.state spool_after)) found image texts

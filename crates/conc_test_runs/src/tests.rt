@@ -4,6 +4,7 @@ mod examples;
 mod exits;
 mod files;
 mod journals;
+mod threads;
 mod worked;
 
 use examples::check_examples;
@@ -11,11 +12,30 @@ use exits::EXITS;
 use files::FILES;
 use journals::{AFTER_A_FAULT, JOURNALS};
 use std::test::Fail;
-use worked::{check_histories, check_runs};
+use threads::{THREADS, check_two_at_once};
+use worked::{check_histories, check_runs, check_runs_on_threads};
 
 #[test]
 fn worked_files_print_their_histories(rt: HostRuntime) -> Result<(), Fail> {
     check_runs(&rt, rt.alloc())
+}
+
+#[test]
+fn worked_files_run_on_threads(rt: HostRuntime) -> Result<(), Fail> {
+    check_runs_on_threads(&rt, rt.alloc())
+}
+
+#[test]
+fn workers_may_take_turns_in_any_order(rt: HostRuntime) -> Result<(), Fail> {
+    for _ in 0..ROUNDS {
+        check_examples(&rt, rt.alloc(), THREADS)?;
+    }
+    Ok(())
+}
+
+#[test]
+fn two_reports_are_made_at_once(rt: HostRuntime) -> Result<(), Fail> {
+    check_two_at_once(&rt, rt.alloc())
 }
 
 #[test]
@@ -35,6 +55,9 @@ fn calls_end_as_the_examples_say(rt: HostRuntime) -> Result<(), Fail> {
 fn what_stands_on_disks_is_continued_or_refused(rt: HostRuntime) -> Result<(), Fail> {
     check_examples(&rt, rt.alloc(), JOURNALS)
 }
+
+// So often the runs on threads are done: each may come to another order.
+const ROUNDS: u64 = 8;
 
 // A run of the example calls the journal's disk at least so often.
 const CALLS: u64 = 40;

@@ -1,19 +1,18 @@
 -- How a run ends, from what its parts say.
-use Rattle.std.proofs.Common.{◌≡◌, inl, inr, ℕ, List, length, None, Option, Some, refl, subst}
+use Rattle.std.proofs.Common.{◌≡◌, inl, inr, ℕ, List, None, Option, Some, refl, subst}
 use Rattle.std.specs.Prelude.{IfSome}
 use Rattle.conc_types.specs.declared.event.Event.{Event}
-use Rattle.conc_law.specs.Alone.{opening}
-use Rattle.conc_law.specs.Ends.{AreReported}
-use Rattle.conc_law.specs.Law.{Lawful}
+use Rattle.conc_law.specs.Law.{Lawful, LawfulSoFar}
 use Rattle.conc_law.specs.Overlap.{NoOverlap}
 use Rattle.conc_law.specs.Text.{text_of}
 use Rattle.conc_journal_image.specs.Image.{IsJournal}
+use Rattle.conc_outside.specs.Taken.{Took, TookPrefix}
 use Rattle.conc_run_state.specs.Handed.{Handed}
 use Rattle.conc_run_state.specs.declared.error.HistoryFail.{HistoryFail}
 use Rattle.conc_run_state.specs.declared.error.HistoryFail.TheVariants as history_fail
 use Rattle.conc_top.specs.declared.exit.Exit.{Exit}
 use Rattle.conc_top.specs.declared.exit.Exit.TheVariants as exit
-use Rattle.conc_top.specs.Printing.{Sunk, TookNothing, Wrote}
+use Rattle.conc_top.specs.Printing.{Prints, Sunk, TookNothing}
 use Rattle.conc_run.specs.Whole.{IsCutShort, IsFinished}
 use Rattle.conc_top.specs.Runs.{IsHistory, RunEnds}
 use Rattle.conc_top.specs.Ways.{exit_for}
@@ -25,48 +24,43 @@ read-of kind None may_leave each left = tt
 read-of kind (Some bytes) may_leave each left = each bytes left
 
 -- a run that was cut short, and wrote nothing
-pub cut-ends : (h : Handed) (sink : Sunk) (s : HistoryFail) → IsCutShort h s → TookNothing sink → RunEnds h sink (exit_for h.digest s)
-cut-ends h sink history_fail.NotJournal cut nothing = (cut, nothing)
-cut-ends h sink (history_fail.OtherInput found) cut nothing = (cut, refl, nothing)
-cut-ends h sink (history_fail.Unlawful number) cut nothing = (cut, nothing)
-cut-ends h sink (history_fail.JournalFull len needed) cut nothing = (cut, nothing)
-cut-ends h sink (history_fail.DiskFault disk) cut nothing = (cut, nothing)
-cut-ends h sink history_fail.NoMemory cut nothing = (inl cut, nothing)
-
-written : (h : Handed) (sink : Sunk) (history : List Event) (end : Exit) → IsHistory h history → Wrote (text_of h.plan history) sink end → RunEnds h sink end
-written h sink history exit.Done was took = (history, was, took)
-written h sink history exit.WriteFault was part = (history, was, part.0, part.1)
-written h sink history exit.Usage was none = absurd none
-written h sink history exit.NoMemory was none = absurd none
-written h sink history exit.ClockFault was none = absurd none
-written h sink history (exit.Refused refusal name) was none = absurd none
-written h sink history (exit.Absent name) was none = absurd none
-written h sink history (exit.ReadFault name) was none = absurd none
-written h sink history (exit.DiskFault disk) was none = absurd none
-written h sink history exit.NotJournal was none = absurd none
-written h sink history (exit.OtherInput found given) was none = absurd none
-written h sink history (exit.JournalFull len needed) was none = absurd none
-written h sink history (exit.Unlawful number) was none = absurd none
-written h sink history (exit.NotLawful line) was none = absurd none
-written h sink history (exit.NotEnded number) was none = absurd none
+pub cut-ends : (threads : ℕ) (h : Handed) (sink : Sunk) (s : HistoryFail) → IsCutShort threads h s → TookNothing sink → RunEnds threads h sink (exit_for h.digest s)
+cut-ends threads h sink history_fail.NotJournal cut nothing = (cut, nothing)
+cut-ends threads h sink (history_fail.OtherInput found) cut nothing = (cut, refl, nothing)
+cut-ends threads h sink (history_fail.Unlawful number) cut nothing = (cut, nothing)
+cut-ends threads h sink (history_fail.JournalFull len needed) cut nothing = (cut, nothing)
+cut-ends threads h sink (history_fail.DiskFault disk) cut nothing = (cut, nothing)
+cut-ends threads h sink history_fail.NoMemory cut nothing = (inl cut, nothing)
 
 -- the run is finished, and its journal tells what its images have
-pub history-of : (h : Handed) (history : List Event) (finished : IsFinished h history) → Lawful h.plan h.readings history → NoOverlap h.plan history
-    → AreReported h.plan (length (opening finished.found)) history → IfSome h.journal_after.seen h.journal_after.may_leave → IsHistory h history
-history-of h history finished lawful apart reported left = record {
+pub history-of : (threads : ℕ) (h : Handed) (history : List Event) → IsFinished threads h history → (Lawful h.plan h.readings history → LawfulSoFar h.plan history)
+    → (LawfulSoFar h.plan history → NoOverlap h.plan history) → IfSome h.disks.journal_after.seen h.disks.journal_after.may_leave → IsHistory threads h history
+history-of threads h history finished so_far apart left = record {
   finished = finished;
-  lawful = lawful;
-  complete = finished.alone.finished;
-  apart = apart;
-  reported = reported;
-  read = read-of (IsJournal h.digest history) h.journal_after.seen h.journal_after.may_leave finished.journal left;
+  lawful = finished.goes_on.lawful;
+  complete = finished.finished;
+  apart = apart (so_far finished.goes_on.lawful);
+  reported = finished.goes_on.reported;
+  read = read-of (IsJournal h.digest history) h.disks.journal_after.seen h.disks.journal_after.may_leave finished.journal left;
 }
 
--- a history that was finished, and whose text found no memory
-pub history-unwritten : (h : Handed) (sink : Sunk) (history : List Event) → IsHistory h history → TookNothing sink → RunEnds h sink exit.NoMemory
-history-unwritten h sink history is nothing = (inr (history, is), nothing)
-
--- a history that was finished, and whose text was written
-pub history-ends : (h : Handed) (sink : Sunk) (history : List Event) (text : List ℕ) (end : Exit) → text ≡ text_of h.plan history
-    → IsHistory h history → Wrote text sink end → RunEnds h sink end
-history-ends h sink history text end is was wrote = written h sink history end was (subst (λ t. Wrote t sink end) is wrote)
+-- a history that was finished, and of which these events were printed
+pub history-ends : (threads : ℕ) (h : Handed) (sink : Sunk) (history printed : List Event) (end : Exit) → printed ≡ history → IsHistory threads h history
+    → Prints (λ text. text ≡ text_of h.plan printed) sink end → RunEnds threads h sink end
+history-ends threads h sink history printed end same is prints = ends end (subst (λ (l : List Event). Prints (λ text. text ≡ text_of h.plan l) sink end) same prints) where
+  ends : (end : Exit) → Prints (λ text. text ≡ text_of h.plan history) sink end → RunEnds threads h sink end
+  ends exit.Done wrote = (history, is, subst (λ (t : List ℕ). Took sink.before.taken sink.after.taken t) wrote.1 wrote.2)
+  ends exit.WriteFault wrote = (history, is, subst (λ (t : List ℕ). TookPrefix sink.before.taken sink.after.taken t) wrote.1 wrote.2, wrote.3)
+  ends exit.NoMemory wrote = (inr (history, is), wrote)
+  ends exit.Usage wrote = absurd wrote
+  ends exit.ClockFault wrote = absurd wrote
+  ends (exit.Refused refusal name) wrote = absurd wrote
+  ends (exit.Absent name) wrote = absurd wrote
+  ends (exit.ReadFault name) wrote = absurd wrote
+  ends (exit.DiskFault disk) wrote = absurd wrote
+  ends exit.NotJournal wrote = absurd wrote
+  ends (exit.OtherInput found given) wrote = absurd wrote
+  ends (exit.JournalFull len needed) wrote = absurd wrote
+  ends (exit.Unlawful number) wrote = absurd wrote
+  ends (exit.NotLawful line) wrote = absurd wrote
+  ends (exit.NotEnded number) wrote = absurd wrote

@@ -5,7 +5,7 @@ use Rattle.conc_types.specs.declared.script.Reading.{Reading}
 use Rattle.conc_disk.specs.Disk.{DiskState, Stays}
 use Rattle.conc_disk.specs.Left.{LeavesOnly}
 use Rattle.conc_top_inputs.specs.Fails.{IsThere, IsUnread, FailsWith}
-use Rattle.conc_top_inputs.specs.Given.{Names}
+use Rattle.conc_top_inputs.specs.Given.{named, Names}
 use Rattle.conc_top_inputs.specs.declared.error.InputFail.{InputFail}
 use Rattle.conc_top_inputs.specs.declared.error.InputFail.TheVariants as input
 use Rattle.conc_outside.specs.Counts.{Rose}
@@ -15,9 +15,9 @@ use Rattle.conc_history_verdict.specs.declared.verdict.Verdict.TheVariants as ve
 use Rattle.conc_run_state.specs.Disks.{AreUntouched, Disks, disks}
 use Rattle.conc_top.specs.declared.exit.Exit.{Exit}
 use Rattle.conc_top.specs.declared.exit.Exit.TheVariants as exit
-use Rattle.conc_top.specs.Answers.{Around, IsUnplanned}
+use Rattle.conc_top.specs.Answers.{AnswersRun, Around, IsUnplanned}
 use Rattle.conc_top.specs.Checks.{CheckEnds, IsJudged, IsVerdictText}
-use Rattle.conc_top.specs.Meaning.{Means}
+use Rattle.conc_top.specs.Meaning.{IsPlain, Means, MeansRun}
 use Rattle.conc_top.specs.Printing.{Sunk, TookNothing}
 use Rattle.conc_top.specs.Shows.{IsDiskUntouched}
 use Rattle.conc_top.specs.Ways.{exit_for_input}
@@ -129,7 +129,7 @@ check-earlier plan readings name old mid new sink (exit.NotEnded number) later h
 -- no memory to read the words
 pub no-memory : (asked : Option Command) (a : Around) (d : Disks) → TookNothing a.sink → AreUntouched d → Means asked a d exit.NoMemory
 no-memory None a d nothing left = (nothing, left)
-no-memory (Some (command.Run setup script clock)) a d nothing left = inr (nothing, left)
+no-memory (Some (command.Run setup script clock threads)) a d nothing left = inr (nothing, left)
 no-memory (Some (command.Plan setup script)) a d nothing left = (inr nothing, left)
 no-memory (Some (command.Check setup script clock history)) a d nothing left = (inr nothing, left)
 no-memory (Some (command.Status setup script)) a d nothing left = (inr nothing, left)
@@ -139,3 +139,10 @@ no-memory (Some (command.Make seed size)) a d nothing left = (nothing, left)
 -- the command that was read, by what it was found to be
 pub asked-is : (read : Option Command) (found is : Command) (words : List (List ℕ)) → read ≡ command_of words → read ≡ Some found → found ≡ is → Some is ≡ command_of words
 asked-is read found is words of some same = ap (λ c. Some c) (sym same) ∙ (sym some ∙ of)
+
+-- a run that is asked for without threads
+pub plain-run : (setup script clock : List ℕ) (threads : ℕ) (asked : Option Command) (a : Around) (d : Disks) (end : Exit) → Some (command.Run setup script clock threads) ≡ asked → IsPlain asked
+    → AnswersRun 0 (named setup script (Some clock)) a d end → MeansRun asked a d end
+plain-run setup script clock threads asked a d end is plain answers =
+    let none : threads ≡ 0 = subst IsPlain (sym is) plain in
+    subst (λ o. MeansRun o a d end) is (subst (λ n. AnswersRun n (named setup script (Some clock)) a d end) (sym none) answers)

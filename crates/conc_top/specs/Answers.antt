@@ -12,7 +12,7 @@ use Rattle.conc_top_inputs.specs.Given.{Accepts, digest_of, Names, Sources, sour
 use Rattle.conc_top_inputs.specs.declared.error.InputFail.TheVariants as input
 use Rattle.conc_outside.specs.Files.{ShelfState}
 use Rattle.conc_run_state.specs.Disks.{AreUntouched, Disks}
-use Rattle.conc_run_state.specs.Handed.{handed, Handed}
+use Rattle.conc_run_state.specs.Handed.{Handed}
 use Rattle.conc_top.specs.declared.exit.Exit.{Exit}
 use Rattle.conc_top.specs.declared.exit.Exit.TheVariants as exit
 use Rattle.conc_top.specs.Checks.{CheckEnds, Judging}
@@ -58,8 +58,12 @@ pub record HasRun (a : Around) (names : Names) : Type 0 where
 
 -- what a run of them is handed
 abbrev pub handed_in : (a : Around) (names : Names) → Disks → HasRun a names → Handed
-handed_in a names d run =
-    handed run.plan run.readings (digest_of run.accepted.files) d.journal_before d.journal_after d.spool_before d.spool_after
+handed_in a names d run = record {
+  plan = run.plan;
+  readings = run.readings.list;
+  digest = digest_of run.accepted.files;
+  disks = d;
+}
 
 -- what a check of a history under a name is handed
 abbrev pub judging_in : (a : Around) (names : Names) → List ℕ → HasRun a names → Judging
@@ -73,9 +77,10 @@ judging_in a names history run = record {
 
 -- ---- commands
 
-abbrev pub AnswersRun : Names → Around → Disks → Exit → Type 0
-AnswersRun names a d end =
-    ((run : HasRun a names) × RunEnds (handed_in a names d run) a.sink end) ⊎ (IsUnplanned names a end × AreUntouched d)
+-- with so many threads
+abbrev pub AnswersRun : ℕ → Names → Around → Disks → Exit → Type 0
+AnswersRun threads names a d end =
+    ((run : HasRun a names) × RunEnds threads (handed_in a names d run) a.sink end) ⊎ (IsUnplanned names a end × AreUntouched d)
 
 abbrev pub AnswersPlan : Names → Around → Exit → Type 0
 AnswersPlan names a end = ((p : HasPlan a names) × Prints (λ text. text ≡ listing p.plan) a.sink end) ⊎ IsUnplanned names a end

@@ -1,5 +1,5 @@
 -- How a run ends whose files are accepted.
-use Rattle.std.specs.Prelude.{◌≡◌, ◌⊎◌, List, length, IfSome}
+use Rattle.std.specs.Prelude.{◌≡◌, ◌⊎◌, ℕ, List, length, IfSome}
 use Rattle.conc_types.specs.declared.event.Event.{Event}
 use Rattle.conc_law.specs.Alone.{opening}
 use Rattle.conc_law.specs.Ends.{AreReported}
@@ -16,27 +16,30 @@ use Rattle.conc_top.specs.declared.exit.Exit.{Exit}
 use Rattle.conc_top.specs.declared.exit.Exit.TheVariants as exit
 use Rattle.conc_top.specs.Printing.{Sunk, TookNothing}
 
--- This is the history of the run. From what was found it goes on as the run without workers does. It is lawful and
--- finished, running intervals of requests that exclude each other do not overlap, and each end that was added tells what its
--- report says. The journal has it, as a read and as a crash now would leave it.
-pub record IsHistory (h : Handed) (history : List Event) : Type 0 where
-  pub finished : IsFinished h history
+-- This is the history of the run with so many threads. From what was found it goes on lawfully, and without threads as the run
+-- without workers does. It is lawful and finished, running intervals of requests that exclude each other do not overlap, and each
+-- end that was added tells what its report says. The journal has it, as a read and as a crash now would leave it.
+pub record IsHistory (threads : ℕ) (h : Handed) (history : List Event) : Type 0 where
+  pub finished : IsFinished threads h history
   pub lawful : Lawful h.plan h.readings history
   pub complete : Finished h.plan h.readings history
   pub apart : NoOverlap h.plan history
   pub reported : AreReported h.plan (length (opening finished.found)) history
-  pub read : IfSome h.journal_after.seen (IsJournal h.digest history)
+  pub read : IfSome h.disks.journal_after.seen (IsJournal h.digest history)
 
--- what each exit says of the run and of the output. After a history that was finished its text may find no memory.
-abbrev pub RunEnds : Handed → Sunk → Exit → Type 0
-RunEnds h sink exit.Done = (history : List Event) × IsHistory h history × Took sink.before.taken sink.after.taken (text_of h.plan history)
-RunEnds h sink exit.WriteFault =
-    (history : List Event) × IsHistory h history × TookPrefix sink.before.taken sink.after.taken (text_of h.plan history)
+-- what each exit says of the run with so many threads and of the output. After a history that was finished its text may find no memory.
+abbrev pub RunEnds : ℕ → Handed → Sunk → Exit → Type 0
+RunEnds threads h sink exit.Done =
+    (history : List Event) × IsHistory threads h history × Took sink.before.taken sink.after.taken (text_of h.plan history)
+RunEnds threads h sink exit.WriteFault =
+    (history : List Event) × IsHistory threads h history × TookPrefix sink.before.taken sink.after.taken (text_of h.plan history)
     × Rose sink.before.faults sink.after.faults
-RunEnds h sink exit.NoMemory = (IsCutShort h history_fail.NoMemory ⊎ ((history : List Event) × IsHistory h history)) × TookNothing sink
-RunEnds h sink (exit.DiskFault disk) = IsCutShort h (history_fail.DiskFault disk) × TookNothing sink
-RunEnds h sink exit.NotJournal = IsCutShort h history_fail.NotJournal × TookNothing sink
-RunEnds h sink (exit.OtherInput found given) = IsCutShort h (history_fail.OtherInput found) × (given ≡ h.digest) × TookNothing sink
-RunEnds h sink (exit.JournalFull len needed) = IsCutShort h (history_fail.JournalFull len needed) × TookNothing sink
-RunEnds h sink (exit.Unlawful number) = IsCutShort h (history_fail.Unlawful number) × TookNothing sink
-RunEnds h sink _ = ⊥
+RunEnds threads h sink exit.NoMemory =
+    (IsCutShort threads h history_fail.NoMemory ⊎ ((history : List Event) × IsHistory threads h history)) × TookNothing sink
+RunEnds threads h sink (exit.DiskFault disk) = IsCutShort threads h (history_fail.DiskFault disk) × TookNothing sink
+RunEnds threads h sink exit.NotJournal = IsCutShort threads h history_fail.NotJournal × TookNothing sink
+RunEnds threads h sink (exit.OtherInput found given) =
+    IsCutShort threads h (history_fail.OtherInput found) × (given ≡ h.digest) × TookNothing sink
+RunEnds threads h sink (exit.JournalFull len needed) = IsCutShort threads h (history_fail.JournalFull len needed) × TookNothing sink
+RunEnds threads h sink (exit.Unlawful number) = IsCutShort threads h (history_fail.Unlawful number) × TookNothing sink
+RunEnds threads h sink _ = ⊥

@@ -7,24 +7,36 @@ ghost use Rattle.conc_outside.specs.Files.{IsLater};
 ghost use Rattle.conc_top_words.specs.Words.{command_of};
 ghost use Rattle.conc_run_state.specs.Disks.{AreUntouched, disks};
 ghost use Rattle.conc_top.specs.Answers.{around};
-ghost use Rattle.conc_top.specs.Meaning.{MeansCheck, MeansMake, MeansOutput, MeansPlan, MeansRun, MeansStatus};
+ghost use Rattle.conc_top.specs.Meaning.{IsPlain, MeansCheck, MeansMake, MeansOutput, MeansPlan, MeansRun, MeansStatus};
 ghost use Rattle.conc_top.specs.Printing.{sunk};
 ghost use Rattle.conc_top.specs.Shows.{IsDiskUntouched};
 
 use crate::Exit;
 use crate::checking::check_files;
 use crate::printing::print_summary;
-use crate::running::run_files;
+use crate::running::{run_files, run_files_plain};
 use crate::showing::{list_files, show_report, show_table};
 use conc_disk::Disk;
 use conc_outside::{Shelf, Sink};
 use conc_outside_clock::Clock;
+use conc_outside_gate::Gate;
 use conc_top_words::{Command, read_command};
 use conc_types::NoMemory;
 use std::alloc::Global;
+use std::sync::Wait;
+use std::thread::Threads;
 
-/// Does `run SETUP SCRIPT CLOCK --threads 0`, as `conc` says. It returns.
-pub fn run_plain<F: Shelf, O: Sink, D: Disk, E: Disk, C: Clock>(
+/// Does `run SETUP SCRIPT CLOCK`, as `conc` says.
+pub fn run<
+    Rt: Threads + Wait + Sync,
+    F: Shelf,
+    O: Sink,
+    D: Disk + Send,
+    E: Disk + Send,
+    C: Clock,
+    G: Gate + Sync,
+>(
+    rt: &Rt,
     alloc: Global,
     words: &[String],
     shelf: &mut F,
@@ -32,6 +44,7 @@ pub fn run_plain<F: Shelf, O: Sink, D: Disk, E: Disk, C: Clock>(
     journal: &mut D,
     spool: &mut E,
     clock: &mut C,
+    gate: &G,
 ) -> Exit
     ensures means { MeansRun (command_of (map string_bytes words.now))
         (around (F.state shelf.old) (F.state shelf.new) (C.state clock.old) (C.state clock.new)
@@ -47,9 +60,46 @@ pub fn run_plain<F: Shelf, O: Sink, D: Disk, E: Disk, C: Clock>(
                     setup,
                     script,
                     clock: file,
+                    threads,
                 },
             ),
         ) => run_files(
+            rt, alloc, shelf, out, journal, spool, clock, gate, setup, script, file, threads,
+        ),
+        Ok(_) => Exit::Usage,
+        Err(NoMemory) => Exit::NoMemory,
+    }
+}
+
+/// Does `run SETUP SCRIPT CLOCK --threads 0`, as `conc` says. It takes no handle, and returns.
+pub fn run_plain<F: Shelf, O: Sink, D: Disk, E: Disk, C: Clock>(
+    alloc: Global,
+    words: &[String],
+    shelf: &mut F,
+    out: &mut O,
+    journal: &mut D,
+    spool: &mut E,
+    clock: &mut C,
+) -> Exit
+    requires plain { IsPlain (command_of (map string_bytes words.now)) }
+    ensures means { MeansRun (command_of (map string_bytes words.now))
+        (around (F.state shelf.old) (F.state shelf.new) (C.state clock.old) (C.state clock.new)
+        (sunk (O.state out.old) (O.state out.new)))
+        (disks (D.state journal.old) (D.state journal.new) (E.state spool.old) (E.state spool.new))
+        result }
+    ensures later { IsLater (F.state shelf.old) (F.state shelf.new) }
+{
+    match read_command(alloc, words) {
+        Ok(
+            Some(
+                Command::Run {
+                    setup,
+                    script,
+                    clock: file,
+                    ..
+                },
+            ),
+        ) => run_files_plain(
             alloc, shelf, out, journal, spool, clock, setup, script, file,
         ),
         Ok(_) => Exit::Usage,

@@ -11,7 +11,9 @@ mod running;
 mod showing;
 mod top;
 
-pub use commands::{check_history, make_and_run, run_plain, show_output, show_plan, show_status};
+pub use commands::{
+    check_history, make_and_run, run, run_plain, show_output, show_plan, show_status,
+};
 pub use conc_run_state::DiskName;
 pub use exit::Exit;
 pub use line::exit_text;

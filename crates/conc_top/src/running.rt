@@ -1,25 +1,43 @@
-ghost use Rattle.std.specs.Prelude.{◌≡◌, Some};
+ghost use Rattle.std.specs.Prelude.{◌≡◌, ◌<◌, Some};
+ghost use Rattle.conc_law.specs.Text.{text_of};
 ghost use Rattle.conc_outside.specs.Files.{IsLater};
 ghost use Rattle.conc_top_inputs.specs.Given.{named};
 ghost use Rattle.conc_run_state.specs.Disks.{disks};
 ghost use Rattle.conc_run_state.specs.Handed.{handed};
 ghost use Rattle.conc_top.specs.Answers.{AnswersRun, around};
-ghost use Rattle.conc_top.specs.Printing.{sunk};
+ghost use Rattle.conc_top.specs.Printing.{Prints, sunk};
 ghost use Rattle.conc_top.specs.Runs.{RunEnds};
 
 use crate::Exit;
 use crate::printing::{exit_for, write_text};
 use conc_disk::Disk;
 use conc_history::put_history;
-use conc_law::{alone_is_lawful, alone_reports, lawful_is_lawful_so_far, no_overlap};
+use conc_law::{lawful_is_lawful_so_far, no_overlap};
 use conc_outside::{Shelf, Sink};
 use conc_outside_clock::Clock;
-use conc_run::run_plan;
+use conc_outside_gate::Gate;
+use conc_run::{run_on_threads, run_plan};
 use conc_top_inputs::{Accepted, accept_timed};
-use conc_types::{Name, NoMemory, Plan, Readings};
+use conc_types::{Event, Name, NoMemory, Plan, Readings};
 use std::alloc::Global;
+use std::sync::Wait;
+use std::thread::Threads;
 
-// Runs the plan over its journal and its spool, and prints the whole history once it is finished.
+// ---- a plan
+
+// Prints the whole of a history.
+fn print_history<O: Sink>(alloc: Global, plan: &Plan, history: &[Event], out: &mut O) -> Exit
+    ensures { Prints (λ text. text ≡ text_of plan.now history.now)
+        (sunk (O.state out.old) (O.state out.new)) result }
+{
+    match put_history(alloc, plan, history) {
+        Ok(text) => write_text(&text, out),
+        Err(NoMemory) => Exit::NoMemory,
+    }
+}
+
+// Runs the plan without workers over its journal and its spool, and prints the whole history once it is
+// finished.
 fn run_and_print<O: Sink, D: Disk, E: Disk>(
     alloc: Global,
     plan: &Plan,
@@ -29,27 +47,61 @@ fn run_and_print<O: Sink, D: Disk, E: Disk>(
     journal: &mut D,
     spool: &mut E,
 ) -> Exit
-    ensures { RunEnds (handed plan.now readings.now digest.now (D.state journal.old)
+    ensures { RunEnds 0 (handed plan.now readings.now digest.now (D.state journal.old)
         (D.state journal.new) (E.state spool.old) (E.state spool.new))
         (sunk (O.state out.old) (O.state out.new)) result }
 {
-    alone_is_lawful();
-    alone_reports();
     lawful_is_lawful_so_far();
     no_overlap();
     let work = match run_plan(alloc, plan, readings, digest, journal, spool) {
         Ok(work) => work,
         Err(fail) => return exit_for(fail, digest),
     };
-    match put_history(alloc, plan, work.journal.events()) {
-        Ok(text) => write_text(&text, out),
-        Err(NoMemory) => Exit::NoMemory,
-    }
+    print_history(alloc, plan, work.journal.events(), out)
 }
 
-/// Runs the plan of the files with these names over its journal and its spool, and prints the whole
-/// history once it is finished.
-pub(crate) fn run_files<F: Shelf, O: Sink, D: Disk, E: Disk, C: Clock>(
+// Runs the plan with so many threads over its journal and its spool, and prints the whole history once it
+// is finished.
+fn run_threads_and_print<
+    Rt: Threads + Wait + Sync,
+    O: Sink,
+    D: Disk + Send,
+    E: Disk + Send,
+    G: Gate + Sync,
+>(
+    rt: &Rt,
+    alloc: Global,
+    plan: &Plan,
+    readings: &Readings,
+    digest: &[u8; 32],
+    out: &mut O,
+    journal: &mut D,
+    spool: &mut E,
+    gate: &G,
+    threads: u32,
+) -> Exit
+    requires { 0 < threads }
+    ensures { RunEnds threads (handed plan.now readings.now digest.now (D.state journal.old)
+        (D.state journal.new) (E.state spool.old) (E.state spool.new))
+        (sunk (O.state out.old) (O.state out.new)) result }
+{
+    lawful_is_lawful_so_far();
+    no_overlap();
+    let ran = run_on_threads(
+        rt, alloc, plan, readings, digest, journal, spool, gate, threads,
+    );
+    let work = match ran {
+        Ok(work) => work,
+        Err(fail) => return exit_for(fail, digest),
+    };
+    print_history(alloc, plan, work.journal.events(), out)
+}
+
+// ---- files
+
+/// Runs the plan of the files with these names without workers over its journal and its spool, and prints
+/// the whole history once it is finished.
+pub(crate) fn run_files_plain<F: Shelf, O: Sink, D: Disk, E: Disk, C: Clock>(
     alloc: Global,
     shelf: &mut F,
     out: &mut O,
@@ -60,7 +112,7 @@ pub(crate) fn run_files<F: Shelf, O: Sink, D: Disk, E: Disk, C: Clock>(
     script: Name,
     file: Name,
 ) -> Exit
-    ensures answers { AnswersRun (named setup script (Some file))
+    ensures answers { AnswersRun 0 (named setup script (Some file))
         (around (F.state shelf.old) (F.state shelf.new) (C.state clock.old) (C.state clock.new)
         (sunk (O.state out.old) (O.state out.new)))
         (disks (D.state journal.old) (D.state journal.new) (E.state spool.old) (E.state spool.new))
@@ -73,4 +125,50 @@ pub(crate) fn run_files<F: Shelf, O: Sink, D: Disk, E: Disk, C: Clock>(
     };
     let Accepted { plan, digest } = &accepted;
     run_and_print(alloc, plan, &readings, digest, out, journal, spool)
+}
+
+/// Runs the plan of the files with these names with so many threads over its journal and its spool, and
+/// prints the whole history once it is finished. Without threads it is run without workers.
+pub(crate) fn run_files<
+    Rt: Threads + Wait + Sync,
+    F: Shelf,
+    O: Sink,
+    D: Disk + Send,
+    E: Disk + Send,
+    C: Clock,
+    G: Gate + Sync,
+>(
+    rt: &Rt,
+    alloc: Global,
+    shelf: &mut F,
+    out: &mut O,
+    journal: &mut D,
+    spool: &mut E,
+    clock: &mut C,
+    gate: &G,
+    setup: Name,
+    script: Name,
+    file: Name,
+    threads: u32,
+) -> Exit
+    ensures answers { AnswersRun threads (named setup script (Some file))
+        (around (F.state shelf.old) (F.state shelf.new) (C.state clock.old) (C.state clock.new)
+        (sunk (O.state out.old) (O.state out.new)))
+        (disks (D.state journal.old) (D.state journal.new) (E.state spool.old) (E.state spool.new))
+        result }
+    ensures later { IsLater (F.state shelf.old) (F.state shelf.new) }
+{
+    if threads == 0 {
+        return run_files_plain(
+            alloc, shelf, out, journal, spool, clock, setup, script, file,
+        );
+    }
+    let given = match accept_timed(alloc, shelf, clock, setup, script, file) {
+        Ok(given) => given,
+        Err(fail) => return Exit::from(fail),
+    };
+    let (Accepted { plan, digest }, readings) = &given;
+    run_threads_and_print(
+        rt, alloc, plan, readings, digest, out, journal, spool, gate, threads,
+    )
 }

@@ -11,6 +11,7 @@ use crate::showing::{list_files, show_report, show_table};
 use conc_disk::Disk;
 use conc_outside::{Shelf, Sink};
 use conc_outside_clock::Clock;
+use conc_outside_gate::Gate;
 use conc_top_words::{Command, read_command};
 use conc_types::NoMemory;
 use std::alloc::Global;
@@ -20,10 +21,12 @@ use std::thread::Threads;
 /// Does what the words ask for, which are the command line behind the program's name. Words off these
 /// forms are Usage.
 ///
-/// - `run SETUP SCRIPT CLOCK --threads 0` opens the journal and the spool, goes on from the journal's list
-///   to the end of the history that the files give, without workers, and writes the text of the whole
-///   history into the sink. The options `--threads 0` and `--watch 0`, also written with `=`, may stand
-///   anywhere behind `run`, each at most once; the second may be left out.
+/// - `run SETUP SCRIPT CLOCK` opens the journal and the spool, goes on from the journal's list to the end of
+///   a history that the files give, and writes the text of the whole history into the sink. The options
+///   `--threads N` and `--watch 0`, also written with `=`, may stand anywhere behind `run`, each at most
+///   once, and either may be left out. The workers have N threads, from 0 to 32, and 4 where N is not given;
+///   each goes through `gate` between the permit for a request and its report. With 0 there are no workers,
+///   and the files and the journal's list give one history.
 /// - `plan SETUP SCRIPT` writes the listing of the plan that the files give.
 /// - `check SETUP SCRIPT CLOCK HISTORY` judges the text of a history, its events and its table, by the plan
 ///   and, for its last life, the readings of the files, and writes how many events it has and whether it
@@ -40,7 +43,15 @@ use std::thread::Threads;
 /// moment ends the call. Then the journal is judged, and the spool. Where anything is refused, nothing is
 /// written; and no command but `run` writes to the disks. A text is written once it is whole; where the
 /// sink fails, it has taken a prefix of it, and the journal of a run is finished.
-pub fn conc<Rt: Threads + Wait + Sync, F: Shelf, O: Sink, D: Disk, E: Disk, C: Clock>(
+pub fn conc<
+    Rt: Threads + Wait + Sync,
+    F: Shelf,
+    O: Sink,
+    D: Disk + Send,
+    E: Disk + Send,
+    C: Clock,
+    G: Gate + Sync,
+>(
     rt: &Rt,
     alloc: Global,
     words: &[String],
@@ -49,6 +60,7 @@ pub fn conc<Rt: Threads + Wait + Sync, F: Shelf, O: Sink, D: Disk, E: Disk, C: C
     journal: &mut D,
     spool: &mut E,
     clock: &mut C,
+    gate: &G,
 ) -> Exit
     ensures answered { AreAnswered (map string_bytes words.now) result
         (outside (F.state shelf.old) (C.state clock.old) (O.state out.old)
@@ -57,7 +69,6 @@ pub fn conc<Rt: Threads + Wait + Sync, F: Shelf, O: Sink, D: Disk, E: Disk, C: C
         (D.state journal.new) (E.state spool.new)) }
     ensures later { IsLater (F.state shelf.old) (F.state shelf.new) }
 {
-    let _rt = rt;
     let command = match read_command(alloc, words) {
         Ok(Some(command)) => command,
         Ok(None) => return Exit::Usage,
@@ -68,8 +79,9 @@ pub fn conc<Rt: Threads + Wait + Sync, F: Shelf, O: Sink, D: Disk, E: Disk, C: C
             setup,
             script,
             clock: file,
+            threads,
         } => run_files(
-            alloc, shelf, out, journal, spool, clock, setup, script, file,
+            rt, alloc, shelf, out, journal, spool, clock, gate, setup, script, file, threads,
         ),
         Command::Plan { setup, script } => list_files(alloc, shelf, out, setup, script),
         Command::Check {

@@ -1,7 +1,7 @@
 -- What a file makes of a command.
 use Rattle.std.specs.Prelude.{ℕ, List}
-use Rattle.conc_types.specs.declared.refusal.ReadFail.{ReadFail}
-use Rattle.conc_types.specs.declared.refusal.ReadFail.TheVariants as fail
+use Rattle.conc_types.specs.declared.error.ReadFail.{ReadFail}
+use Rattle.conc_types.specs.declared.error.ReadFail.TheVariants as fail
 use Rattle.conc_top_inputs.specs.declared.error.InputFail.{InputFail}
 use Rattle.conc_top_inputs.specs.declared.error.InputFail.TheVariants as input
 use Rattle.conc_top_inputs.specs.declared.error.FileFail.{FileFail}

@@ -37,9 +37,9 @@ use Rattle.conc_top_laws.proofs.Accepting.{gives-one}
 
 -- ---- a run
 
-module _ (h : Handed) (sink : Sunk) (fits : FitsRun h) (journal_quiet : IsQuiet h.journal_before.faults h.journal_after.faults) (spool_quiet : IsQuiet h.spool_before.faults h.spool_after.faults)
+module _ (threads : ℕ) (h : Handed) (sink : Sunk) (fits : FitsRun h) (journal_quiet : IsQuiet h.disks.journal_before.faults h.disks.journal_after.faults) (spool_quiet : IsQuiet h.disks.spool_before.faults h.disks.spool_after.faults)
     (sink_quiet : IsQuiet sink.before.faults sink.after.faults) where
-  pub run-done : (end : Exit) → RunEnds h sink end → IsDone end
+  pub run-done : (end : Exit) → RunEnds threads h sink end → IsDone end
   run-done exit.Done is = inl refl
   run-done exit.NoMemory is = inr refl
   run-done exit.WriteFault is = absurd (sink_quiet is.3)

@@ -18,8 +18,8 @@ use Rattle.conc_top.specs.Checks.{IsJudged, Judging}
 pub record FitsRun (h : Handed) : Type 0 where
   pub image : List ℕ
   pub texts : List ℕ
-  pub journal : h.journal_before.seen ≡ Some image
-  pub spool : h.spool_before.seen ≡ Some texts
+  pub journal : h.disks.journal_before.seen ≡ Some image
+  pub spool : h.disks.spool_before.seen ≡ Some texts
   pub fit : IsFit h.plan h.digest image texts
   pub room : length (events_of image) + need h.plan h.readings ≤ MOST_RECORDS
 

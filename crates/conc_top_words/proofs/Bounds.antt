@@ -1,5 +1,5 @@
 -- The numbers of a command are within their bounds.
-use Rattle.std.proofs.Common.{◌≡◌, ◌≤◌, ℕ, Bool, true, false, List, [], ◌∷◌, Option, None, Some, refl, rules}
+use Rattle.std.proofs.Common.{◌≡◌, ◌≤◌, ℕ, Bool, true, false, List, [], ◌∷◌, Option, None, Some, refl, arith, rules}
 use Rattle.std.specs.Bool.{then_some}
 use Rattle.std.specs.Option.{option_and_then, option_map}
 use Rattle.std.specs.Prelude.{◌&&◌, if◌then◌else◌, codes, IfSome}
@@ -7,7 +7,7 @@ use Rattle.conc_types.specs.Decimals.{decimal_value}
 use Rattle.conc_types.specs.Words.{is_between}
 use Rattle.conc_top_words.specs.declared.command.Command.{Command}
 use Rattle.conc_top_words.specs.declared.command.Command.TheVariants as command
-use Rattle.conc_top_words.specs.Words.{AreWithin, check_of, command_named, command_of, is, is_file, is_zero_once, is_zero_or_absent, make_of, number_between, output_of, plan_of, run_among, run_said, Said, said, size_of, status_of}
+use Rattle.conc_top_words.specs.Words.{AreWithin, check_of, command_named, command_of, is, is_file, is_zero_or_absent, make_of, number_between, output_of, plan_of, run_among, run_said, Said, said, size_of, status_of, threads_of}
 
 abbrev IsWithin : Option Command → Type 0
 IsWithin command = IfSome command AreWithin
@@ -37,21 +37,6 @@ then-within : (b : Bool) (c : Command) → AreWithin c → IsWithin (then_some b
 then-within true c within = within
 then-within false c within = tt
 
-among-within : (files : List (List ℕ)) → IsWithin (run_among files)
-among-within [] = tt
-among-within (a ∷ []) = tt
-among-within (a ∷ b ∷ []) = tt
-among-within (a ∷ b ∷ c ∷ []) = then-within _ (command.Run a b c) tt
-among-within (a ∷ b ∷ c ∷ d ∷ files) = tt
-
-among-if : (b : Bool) (files : List (List ℕ)) → IsWithin (if b then run_among files else None)
-among-if true files = among-within files
-among-if false files = tt
-
-said-within : (s : Option Said) → IsWithin (option_and_then run_said s)
-said-within None = tt
-said-within (Some s) = among-if (is_zero_once s.threads && is_zero_or_absent s.watch) s.files
-
 plan-within : (words : List (List ℕ)) → IsWithin (plan_of words)
 plan-within [] = tt
 plan-within (a ∷ []) = tt
@@ -73,6 +58,30 @@ status-within (a ∷ b ∷ []) = then-within _ (command.Status a b) tt
 status-within (a ∷ b ∷ c ∷ words) = tt
 
 -- ---- commands with numbers
+
+among-within : (n : ℕ) (files : List (List ℕ)) → n ≤ 32 → IsWithin (run_among n files)
+among-within n [] few = tt
+among-within n (a ∷ []) few = tt
+among-within n (a ∷ b ∷ []) few = tt
+among-within n (a ∷ b ∷ c ∷ []) few = then-within _ (command.Run a b c n) few
+among-within n (a ∷ b ∷ c ∷ d ∷ files) few = tt
+
+threads-within : (threads : List (List ℕ)) → IfSome (threads_of threads) (Between 0 32)
+threads-within [] = (omega arith, omega arith)
+threads-within (v ∷ []) = number-between 0 32 v
+threads-within (v ∷ u ∷ threads) = tt
+
+run-some : (o : Option ℕ) (files : List (List ℕ)) → IfSome o (Between 0 32) → IsWithin (option_and_then (λ n. run_among n files) o)
+run-some None files within = tt
+run-some (Some n) files within = among-within n files within.1
+
+run-if : (b : Bool) (threads files : List (List ℕ)) → IsWithin (if b then option_and_then (λ n. run_among n files) (threads_of threads) else None)
+run-if true threads files = run-some (threads_of threads) files (threads-within threads)
+run-if false threads files = tt
+
+said-within : (s : Option Said) → IsWithin (option_and_then run_said s)
+said-within None = tt
+said-within (Some s) = run-if (is_zero_or_absent s.watch) s.threads s.files
 
 output-some : (setup script : List ℕ) (o : Option ℕ) → IfSome o (Between 1 4294967295)
     → IsWithin (option_map (λ r. command.Output setup script r) (option_map (λ n. record { number = n }) o))

@@ -2,10 +2,10 @@
 use Rattle.std.proofs.Common.{◌≡◌, ◌≤◌, ◌<◌, ◌+◌, ◌*◌, Bool, true, false, refl, sym, subst, map, ap, ◌∙◌, ℕ, zero, suc, List, [], ◌∷◌, length, Option, None, Some, arith}
 use Rattle.std.specs.Option.{option_and_then, option_map}
 use Rattle.std.proofs.lemmas.List.{append-nil, length-map, nil_from_length}
-use Rattle.std.specs.Prelude.{if◌then◌else◌, ◌&&◌, codes}
+use Rattle.std.specs.Prelude.{if◌then◌else◌, codes}
 use Rattle.conc_top_words.specs.declared.command.Command.{Command}
 use Rattle.conc_top_words.specs.Saying.{before}
-use Rattle.conc_top_words.specs.Words.{behind, is, is_positional, is_zero, run_among, run_said, nothing_said, said, Said, said_by, said_by_threads, said_by_watch, takes_next, with_file, with_option, with_threads, with_watch}
+use Rattle.conc_top_words.specs.Words.{behind, is, is_positional, is_zero, run_among, run_said, nothing_said, said, Said, said_by, said_by_threads, said_by_watch, takes_next, threads_of, with_file, with_option, with_threads, with_watch}
 
 -- a word that is no option before its value
 pub said-first : (word : List ℕ) (rest : List (List ℕ)) → takes_next word ≡ false → said (word ∷ rest) ≡ said_by word (said rest)
@@ -181,23 +181,26 @@ none-if : (b : Bool) (o : Option Command) → o ≡ None → (if b then o else N
 none-if true o none = none
 none-if false o none = refl
 
-none-unless : (b : Bool) (o : Option Command) → (if b && false then o else None) ≡ None
-none-unless true o = refl
-none-unless false o = refl
+among-none : (n : ℕ) (files : List (List ℕ)) → 3 < length files → run_among n files ≡ None
+among-none n [] many = refl
+among-none n (x ∷ []) many = refl
+among-none n (x ∷ y ∷ []) many = refl
+among-none n (x ∷ y ∷ z ∷ []) many = absurd (omega (arith, many))
+among-none n (x ∷ y ∷ z ∷ w ∷ files) many = refl
 
-among-none : (files : List (List ℕ)) → 3 < length files → run_among files ≡ None
-among-none [] many = refl
-among-none (x ∷ []) many = refl
-among-none (x ∷ y ∷ []) many = refl
-among-none (x ∷ y ∷ z ∷ []) many = absurd (omega (arith, many))
-among-none (x ∷ y ∷ z ∷ w ∷ files) many = refl
+among-some-none : (o : Option ℕ) (files : List (List ℕ)) → 3 < length files → option_and_then (λ n. run_among n files) o ≡ None
+among-some-none None files many = refl
+among-some-none (Some n) files many = among-none n files many
+
+threads-few : (threads files : List (List ℕ)) → 5 < 2 * length threads + length files → option_and_then (λ n. run_among n files) (threads_of threads) ≡ None
+threads-few [] files many = among-none 4 files (omega (arith, many))
+threads-few (v ∷ []) files many = among-some-none (threads_of (v ∷ [])) files (omega (arith, many))
+threads-few (v ∷ u ∷ threads) files many = refl
 
 run-few : (threads watch files : List (List ℕ)) → 7 < 2 * length threads + 2 * length watch + length files → run_said (record { threads = threads; watch = watch; files = files }) ≡ None
-run-few [] watch files many = refl
-run-few (v ∷ []) [] files many = none-if (is_zero v && true) (run_among files) (among-none files (omega (arith, many)))
-run-few (v ∷ []) (w ∷ []) files many = none-if (is_zero v && is_zero w) (run_among files) (among-none files (omega (arith, many)))
-run-few (v ∷ []) (w ∷ x ∷ watch) files many = none-unless (is_zero v) (run_among files)
-run-few (v ∷ u ∷ threads) watch files many = refl
+run-few threads [] files many = threads-few threads files (omega (arith, many))
+run-few threads (w ∷ []) files many = none-if (is_zero w) _ (threads-few threads files (omega (arith, many)))
+run-few threads (w ∷ x ∷ watch) files many = refl
 
 said-by-many : (words : List (List ℕ)) (o : Option Said) → said words ≡ o → 7 < length words → option_and_then run_said o ≡ None
 said-by-many words None e many = refl

@@ -89,6 +89,15 @@ said (word ∷ next ∷ words) =
 
 -- ---- `run`
 
+-- It alone has options, anywhere behind it, each of the two names at most once: `--threads N` or `--threads=N`, where N is a
+-- decimal from 0 to 32, and 4 where it is not given, and `--watch W` or `--watch=W`, where W is 0: no run has watchers.
+
+-- how many threads a run has: the default where the option is not given, and its value where it is given once
+abbrev pub threads_of : List (List ℕ) → Option ℕ
+threads_of [] = Some 4
+threads_of (value ∷ []) = number_between 0 32 value
+threads_of _ = None
+
 abbrev pub is_zero : List ℕ → Bool
 is_zero word = some_and (λ n. n == 0) (decimal_value word)
 
@@ -102,16 +111,18 @@ abbrev pub is_zero_or_absent : List (List ℕ) → Bool
 is_zero_or_absent [] = true
 is_zero_or_absent values = is_zero_once values
 
--- three files with names
-abbrev pub run_among : List (List ℕ) → Option Command
-run_among (setup ∷ script ∷ clock ∷ []) =
-    then_some (is_name setup && (is_name script && is_name clock)) (command.Run setup script clock)
-run_among _ = None
+-- three files with names, and so many threads
+abbrev pub run_among : ℕ → List (List ℕ) → Option Command
+run_among threads (setup ∷ script ∷ clock ∷ []) =
+    then_some (is_name setup && (is_name script && is_name clock)) (command.Run setup script clock threads)
+run_among threads _ = None
 
 abbrev pub run_said : Said → Option Command
-run_said s = if is_zero_once s.threads && is_zero_or_absent s.watch then run_among s.files else None
+run_said s =
+    if is_zero_or_absent s.watch then option_and_then (λ threads. run_among threads s.files) (threads_of s.threads)
+    else None
 
--- `SETUP SCRIPT CLOCK`, with `--threads 0`, and `--watch 0` or without it, anywhere among them
+-- `SETUP SCRIPT CLOCK`, and anywhere among them `--threads N` and `--watch 0`, each once or not at all
 abbrev pub run_of : List (List ℕ) → Option Command
 run_of words = option_and_then run_said (said words)
 
@@ -162,8 +173,9 @@ unfoldable pub command_of : List (List ℕ) → Option Command
 command_of [] = None
 command_of (name ∷ words) = command_named name words
 
--- a request is numbered from 1, and 1 to 4,000 submissions are made
+-- a run has 0 to 32 threads, a request is numbered from 1, and 1 to 4,000 submissions are made
 abbrev pub AreWithin : Command → Type 0
+AreWithin (command.Run setup script clock threads) = threads ≤ 32
 AreWithin (command.Output setup script request) = 1 ≤ request.number
 AreWithin (command.Make seed size) = (1 ≤ size) × (size ≤ 4000)
 AreWithin _ = ⊤

@@ -6,9 +6,15 @@ ghost use Rattle.conc_top_words.specs.Words as spec;
 ghost use Rattle.conc_top_words.specs.Words.{nothing_said, run_of};
 
 use crate::Command;
-use crate::words::{is, is_positional, own_name};
+use crate::words::{is, is_positional, number_between, own_name};
 use conc_types::{NoMemory, is_name, read_decimal};
 use std::alloc::Global;
+
+/// How many worker threads a run has where it is not said.
+const DEFAULT_THREADS: u32 = 4;
+
+/// How many worker threads a run has at most.
+const MOST_THREADS: u32 = 32;
 
 // How many words stand behind `run` at most.
 const MOST_WORDS: usize = 7;
@@ -136,6 +142,17 @@ fn read_said<'a>(alloc: Global, words: &'a [String]) -> Result<Option<Said<'a>>,
     Ok(Some(said))
 }
 
+// How many threads the option gives: as many as its value says, or the default where it is not given.
+fn threads_of(values: &[&[u8]]) -> Option<u32>
+    ensures { result ≡ spec.threads_of (map (λ w. w.now) values.now) }
+{
+    match values {
+        [] => Some(DEFAULT_THREADS),
+        [value] => number_between(0, MOST_THREADS, value),
+        _ => None,
+    }
+}
+
 fn is_zero(word: &[u8]) -> bool
     ensures { result ≡ spec.is_zero word.now }
 {
@@ -162,9 +179,10 @@ fn is_zero_or_absent(values: &[&[u8]]) -> bool
     values.is_empty() || is_zero_once(values)
 }
 
-// A run, where these files are the names of its setup, its script and its clock.
-fn run_among(alloc: Global, files: &[&[u8]]) -> Result<Option<Command>, NoMemory>
-    ensures { IfOk result (λ command. command ≡ spec.run_among (map (λ w. w.now) files.now)) }
+// A run with so many threads, where these files are the names of its setup, its script and its clock.
+fn run_among(alloc: Global, threads: u32, files: &[&[u8]]) -> Result<Option<Command>, NoMemory>
+    ensures { IfOk result (λ command. command
+        ≡ spec.run_among threads (map (λ w. w.now) files.now)) }
 {
     let [setup, script, clock] = files else {
         return Ok(None);
@@ -176,21 +194,24 @@ fn run_among(alloc: Global, files: &[&[u8]]) -> Result<Option<Command>, NoMemory
         setup: own_name(alloc, setup)?,
         script: own_name(alloc, script)?,
         clock: own_name(alloc, clock)?,
+        threads,
     }))
 }
 
 fn run_said(alloc: Global, said: &Said<'_>) -> Result<Option<Command>, NoMemory>
     ensures { IfOk result (λ command. command ≡ spec.run_said (shown said.now)) }
 {
-    if is_zero_once(said.threads.as_slice()) && is_zero_or_absent(said.watch.as_slice()) {
-        run_among(alloc, said.files.as_slice())
-    } else {
-        Ok(None)
+    if !is_zero_or_absent(said.watch.as_slice()) {
+        return Ok(None);
+    }
+    match threads_of(said.threads.as_slice()) {
+        Some(threads) => run_among(alloc, threads, said.files.as_slice()),
+        None => Ok(None),
     }
 }
 
-/// The run that these words behind `run` ask for: `SETUP SCRIPT CLOCK`, with `--threads 0`, and with
-/// `--watch 0` or without it, anywhere among them.
+/// The run that these words behind `run` ask for: `SETUP SCRIPT CLOCK`, and anywhere among them
+/// `--threads N`, with N from 0 to 32, and `--watch 0`, each of the two once or not at all.
 pub(crate) fn read_run(alloc: Global, words: &[String]) -> Result<Option<Command>, NoMemory>
     ensures { IfOk result (λ command. command ≡ run_of (map string_bytes words.now)) }
 {

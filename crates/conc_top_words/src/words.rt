@@ -36,8 +36,8 @@ pub(crate) fn own_name(alloc: Global, bytes: &[u8]) -> Result<Name, NoMemory>
     Ok(Name::from_vec(Vec::from_slice(alloc, bytes)?))
 }
 
-// The number that a word spells, if it is from one number to another.
-fn number_between(least: u32, most: u32, word: &[u8]) -> Option<u32>
+/// The number that a word spells, if it is from one number to another.
+pub(crate) fn number_between(least: u32, most: u32, word: &[u8]) -> Option<u32>
     ensures { result ≡ words_spec.number_between least most word.now }
 {
     let number = u32::try_from(read_decimal(word)?).ok()?;

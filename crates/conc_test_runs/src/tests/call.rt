@@ -2,6 +2,7 @@ use super::bytes::text_of;
 use conc_disk_devices::MemDisk;
 use conc_outside::MemSink;
 use conc_outside_clock::MemClock;
+use conc_outside_gate::{FreeGate, Gate};
 use conc_test_worked::{file_of, shelf_with};
 use conc_top::{conc, exit_text};
 use conc_types::{Moment, Name, NoMemory};
@@ -101,12 +102,14 @@ fn files_of(alloc: Global, given: Given<'_>) -> Result<Vec<(Name, Vec<u8>)>, Fai
 }
 
 // The one call of the program, over a shelf, a sink, a clock and disks in memory, whose disks read as these bytes.
-pub(crate) fn call<Rt: Threads + Wait + Sync>(
+// Each worker goes through the gate.
+pub(crate) fn call_through<Rt: Threads + Wait + Sync, G: Gate + Sync>(
     rt: &Rt,
     alloc: Global,
     given: Given<'_>,
     journal: &[u8],
     spool: &[u8],
+    gate: &G,
 ) -> Result<Ended, Fail> {
     let words = words_of(alloc, given.words)?;
     let files = files_of(alloc, given)?;
@@ -128,6 +131,7 @@ pub(crate) fn call<Rt: Threads + Wait + Sync>(
         &mut journal,
         &mut spool,
         &mut clock,
+        gate,
     );
     Ok(Ended {
         number: exit.number(),
@@ -136,4 +140,15 @@ pub(crate) fn call<Rt: Threads + Wait + Sync>(
         journal: journal.image(alloc, u64::MAX, 1)?,
         spool: spool.image(alloc, u64::MAX, 1)?,
     })
+}
+
+// The same, where the gate holds no worker.
+pub(crate) fn call<Rt: Threads + Wait + Sync>(
+    rt: &Rt,
+    alloc: Global,
+    given: Given<'_>,
+    journal: &[u8],
+    spool: &[u8],
+) -> Result<Ended, Fail> {
+    call_through(rt, alloc, given, journal, spool, &FreeGate)
 }

@@ -21,7 +21,8 @@
 //!
 //! - `ends NUMBER`: this status and, where the lines are not empty, with the line that tells the exit. A call whose status is not 0
 //!   printed nothing.
-//! - `prints`: the lines are its output. `prints-lines COUNT`: so many lines.
+//! - `prints`: the lines are its output, where a `*` stands for any byte. `prints-lines COUNT`: so many lines.
+//! - `judged`: a check of its output over the same files answers with the lines.
 //! - `journal-length COUNT`: so many bytes in the journal. `journal-at PLACE`: the bytes that the lines make stand there.
 //! - `spool-text`: the lines are what the spool has.
 //! - `disks-stay`: both disks have what the call found.
@@ -114,9 +115,37 @@ fn fail(rt: &impl Abort, fails: &mut Fails, what: &str) {
     }
 }
 
+// Whether this text has these bytes, where a `*` of it stands for any byte.
+fn is_like(text: &str, bytes: &[u8]) -> bool {
+    text.len() == bytes.len()
+        && text
+            .bytes()
+            .zip(bytes)
+            .all(|(wanted, found)| wanted == b'*' || wanted == *found)
+}
+
+// Whether a check of what the last call printed answers with these lines.
+fn is_judged<Rt: Threads + Wait + Sync>(
+    rt: &Rt,
+    alloc: Global,
+    example: &Example<'_>,
+    lines: &str,
+) -> Result<bool, Fail> {
+    let Ok(history) = str::from_utf8(&example.ended.text) else {
+        return Ok(false);
+    };
+    let given = Given {
+        words: "check a.toml a.csv a.clock a.history",
+        history: Some(history),
+        ..example.given
+    };
+    let ended = call(rt, alloc, given, &[], &[])?;
+    Ok(ended.number == 0 && ended.text.as_slice() == lines.as_bytes())
+}
+
 // Whether the last call ended with what a step says; None where it is no such step.
-fn is_met(
-    rt: &impl Abort,
+fn is_met<Rt: Abort + Threads + Wait + Sync>(
+    rt: &Rt,
     alloc: Global,
     example: &Example<'_>,
     step: &str,
@@ -130,7 +159,8 @@ fn is_met(
                 && ended.line.as_slice() == lines.as_bytes()
                 && (ended.number == 0 || ended.text.is_empty())
         }
-        "prints" => ended.text.as_slice() == text_of(alloc, lines)?.as_bytes(),
+        "prints" => is_like(&text_of(alloc, lines)?, &ended.text),
+        "judged" => is_judged(rt, alloc, example, lines)?,
         "prints-lines" => {
             let count = ended.text.iter().filter(|byte| **byte == b'\n').count();
             count as u64 == number_of(rt, rest)

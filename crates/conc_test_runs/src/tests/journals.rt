@@ -512,4 +512,15 @@ pub(crate) const AFTER_A_FAULT: &str =
 disk fault: journal
 == run
 == ends 0
+=====
+call CALL of the journal's disk fails in a run with 4 threads, and the next run goes on with 32
+== script
+2025-03-03T09:00:00,submit,P,ann,,,,
+2025-03-03T09:00:00,submit,P,ann,,,,
+== fails journal CALL
+== call run a.toml a.csv a.clock --threads 4
+== ends 7
+disk fault: journal
+== call run a.toml a.csv a.clock --threads 32
+== ends 0
 "#;

@@ -8,13 +8,9 @@ use std::sync::Wait;
 use std::test::Fail;
 use std::thread::Threads;
 
-// The run over the files of an example prints its history.
-fn check_run<Rt: Abort + Threads + Wait + Sync>(
-    rt: &Rt,
-    alloc: Global,
-    worked: Worked<'_>,
-) -> Result<(), Fail> {
-    let given = Given {
+// What a call is given over the files of an example.
+fn given_of<'a>(worked: Worked<'a>) -> Given<'a> {
+    Given {
         words: RUN,
         setup: worked.setup,
         records: worked.records,
@@ -24,8 +20,16 @@ fn check_run<Rt: Abort + Threads + Wait + Sync>(
         history: None,
         has_moment: false,
         fails: NO_FAILS,
-    };
-    let ended = call(rt, alloc, given, &[], &[])?;
+    }
+}
+
+// The run over the files of an example prints its history.
+fn check_run<Rt: Abort + Threads + Wait + Sync>(
+    rt: &Rt,
+    alloc: Global,
+    worked: Worked<'_>,
+) -> Result<(), Fail> {
+    let ended = call(rt, alloc, given_of(worked), &[], &[])?;
     assert_eq!(rt; ended.number, 0, "{}", worked.shows);
     assert_eq!(rt;
         ended.text.as_slice(),
@@ -49,6 +53,38 @@ pub(crate) fn check_runs<Rt: Abort + Threads + Wait + Sync>(
     Ok(())
 }
 
+// Runs over the files of an example with 4 threads print a history that the check calls finished. It has as many
+// lines as the example's.
+fn check_run_on_threads<Rt: Abort + Threads + Wait + Sync>(
+    rt: &Rt,
+    alloc: Global,
+    worked: Worked<'_>,
+) -> Result<(), Fail> {
+    let given = Given {
+        words: "run a.toml a.csv a.clock --threads 4",
+        ..given_of(worked)
+    };
+    let ended = call(rt, alloc, given, &[], &[])?;
+    assert_eq!(rt; ended.number, 0, "{}", worked.shows);
+    let history = str::from_utf8(&ended.text)?;
+    let (events, _) = history.split_once("--\n").expect(rt, history);
+    let count = events.lines().count();
+    let answer = format!(in alloc; "lawful {count} finished")?;
+    check_answer(rt, alloc, worked, history, &answer)
+}
+
+pub(crate) fn check_runs_on_threads<Rt: Abort + Threads + Wait + Sync>(
+    rt: &Rt,
+    alloc: Global,
+) -> Result<(), Fail> {
+    for examples in [PLAIN, SETS, MANAGERS, MONTH_END] {
+        for example in examples.split("=====\n") {
+            check_run_on_threads(rt, alloc, worked_of(example).expect(rt, example))?;
+        }
+    }
+    Ok(())
+}
+
 // The check of a history over the files of an example prints or tells this answer and LF.
 fn check_answer<Rt: Abort + Threads + Wait + Sync>(
     rt: &Rt,
@@ -59,14 +95,8 @@ fn check_answer<Rt: Abort + Threads + Wait + Sync>(
 ) -> Result<(), Fail> {
     let given = Given {
         words: "check a.toml a.csv a.clock a.history",
-        setup: worked.setup,
-        records: worked.records,
-        clock_file: "a.clock",
-        clock: worked.clock,
-        table: worked.table,
         history: Some(history),
-        has_moment: false,
-        fails: NO_FAILS,
+        ..given_of(worked)
     };
     let mut ended = call(rt, alloc, given, &[], &[])?;
     assert_eq!(rt; ended.number, if ended.text.is_empty() { 14 } else { 0 });

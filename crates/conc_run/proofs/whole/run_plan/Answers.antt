@@ -1,10 +1,17 @@
 use Rattle.std.proofs.Common.{◌≡◌, Result, Ok, Err, refl, sym, ◌∙◌, ap, true, false}
 use Rattle.std.proofs.lemmas.Result.{err_from_is_err_and}
+use Rattle.conc_law.specs.Law.{Finished}
 use Rattle.conc_run_state.specs.Causes.{is_journal_fault}
+use Rattle.conc_run_state.specs.Disks.{disks}
 use Rattle.conc_run_state.specs.Handed.{handed, Handed}
+use Rattle.conc_run_state.specs.Lists.{GoesOnAlone}
+use Rattle.conc_run_state.specs.Works.{list_in, longest_in}
 use Rattle.conc_run_state.specs.declared.error.RunFail.{RunFail}
 use Rattle.conc_run_state.specs.declared.error.RunFail.TheVariants as run_fail
 use Rattle.conc_run_state.specs.declared.error.HistoryFail.{HistoryFail}
+use Rattle.conc_resolver_alone.specs.Runs.{LacksMemory}
+use Rattle.conc_run_steps.specs.Going.{WentOn}
+use Rattle.conc_run_steps.proofs.Underway.{by-same}
 use Rattle.conc_run.proofs.Opened.{cut-opening}
 use Rattle.conc_run.proofs.Ran.{cut-run, finished-run}
 use Rattle.conc_run.proofs.Failing.{rose-since, failure-cause, failure-late, failure-memory}
@@ -22,16 +29,24 @@ returns-in_err-work-clause-cut_short g c =
     let p = err_from_is_err_and c.from_residual.result c.from_residual.ensures.1 in
     let h : Handed = handed c.args.plan.now c.args.readings.now c.args.digest.now (g.D.Disk.state c.args.journal.now) (g.D.Disk.state c.open.new.journal) (g.E.Disk.state c.args.spool.now) (g.E.Disk.state c.open.new.spool) in
     rw (p.1, p.2)
-    (cut-opening h c.in_err-work.field-0.0 c.in_err-work.ensures.cause c.in_err-work.ensures.untouched c.in_err-work.ensures.given_up (c.lawful_is_lawful_so_far.ensures c.args.plan.now c.args.readings.now)
+    (cut-opening 0 h c.in_err-work.field-0.0 c.in_err-work.ensures.cause c.in_err-work.ensures.untouched c.in_err-work.ensures.given_up (c.lawful_is_lawful_so_far.ensures c.args.plan.now c.args.readings.now)
     c.open.ensures.spool_survives)
 
 pub returns-in-Ok-clause-finished : goal.returns-in-Ok-clause-finished
 returns-in-Ok-clause-finished g c =
     let h : Handed = handed c.args.plan.now c.args.readings.now c.args.digest.now (g.D.Disk.state c.args.journal.now) (g.D.Disk.state c.run_alone.new.journal) (g.E.Disk.state c.args.spool.now) (g.E.Disk.state c.run_alone.new.spool) in
+    let begun-on = g.D.Disk.state c.open.new.journal in
+    let spool-begun = g.E.Disk.state c.open.new.spool in
     let begun = c.in_ok-work.ensures.begun in
-    finished-run h (g.D.Disk.state c.open.new.journal) (g.E.Disk.state c.open.new.spool) c.in_ok-work.work c.run_alone.new.work begun
-    (c.run_alone.ensures.went_on c.args.readings.now.list begun.ready.tied.readings_are) (c.lawful_is_lawful_so_far.ensures c.args.plan.now c.args.readings.now) c.open.ensures.spool c.open.ensures.spool_survives
-    (c.in-Ok.ensures.sound (λ is. cc)) (c.in-Ok.ensures.finished c.args.readings.now.list begun.ready.tied.readings_are)
+    let tied = begun.ready.tied in
+    let work = c.in_ok-work.work in
+    let new = c.run_alone.new.work in
+    finished-run 0 h begun-on spool-begun work new begun
+    (by-same h.plan h.readings work tied.plan_is tied.readings_are (λ plan readings. WentOn plan readings (disks begun-on h.disks.journal_after spool-begun h.disks.spool_after) work new) c.run_alone.ensures.went_on)
+    (λ _. by-same h.plan h.readings work tied.plan_is tied.readings_are (λ plan readings. GoesOnAlone plan readings (list_in work) (longest_in new)) c.run_alone.ensures.alone)
+    (c.lawful_is_lawful_so_far.ensures c.args.plan.now c.args.readings.now) c.open.ensures.spool c.open.ensures.spool_survives
+    (c.in-Ok.ensures.sound (λ is. cc))
+    (by-same h.plan h.readings work tied.plan_is tied.readings_are (λ plan readings. Finished plan readings (list_in new)) c.in-Ok.ensures.finished)
 
 pub returns-clause-cut_short : goal.returns-clause-cut_short
 returns-clause-cut_short g c =
@@ -43,8 +58,14 @@ returns-clause-cut_short g c =
     let spool-after = g.E.Disk.state c.run_alone.new.spool in
     let h : Handed = handed c.args.plan.now c.args.readings.now c.args.digest.now before after spool-before spool-after in
     let begun = c.in_ok-work.ensures.begun in
+    let tied = begun.ready.tied in
+    let work = c.in_ok-work.work in
+    let new = c.run_alone.new.work in
     let made = c.history_fail_of.ensures in
-    cut-run h begun-on spool-begun c.in_ok-work.work c.run_alone.new.work begun (c.run_alone.ensures.went_on c.args.readings.now.list begun.ready.tied.readings_are) c.history_fail_of.result
+    cut-run 0 h begun-on spool-begun work new begun
+    (by-same h.plan h.readings work tied.plan_is tied.readings_are (λ plan readings. WentOn plan readings (disks begun-on after spool-begun spool-after) work new) c.run_alone.ensures.went_on)
+    (λ _. by-same h.plan h.readings work tied.plan_is tied.readings_are (λ plan readings. GoesOnAlone plan readings (list_in work) (longest_in new)) c.run_alone.ensures.alone)
+    c.history_fail_of.result
     (failure-cause h c.in-Err.fail c.history_fail_of.result made.journal made.spool made.memory
     (λ is. rose-since before.faults begun-on.faults after.faults begun.left.faults (c.in-Err.ensures.journal_fault (cc)))
     (λ is. (begun.taken.is_found.own, rose-since spool-before.faults spool-begun.faults spool-after.faults c.open.ensures.spool_survives.faults (c.in-Err.ensures.spool_fault (cc)))))
@@ -56,4 +77,7 @@ returns-clause-cut_short g c =
     (c.lawful_is_lawful_so_far.ensures c.args.plan.now c.args.readings.now) c.open.ensures.spool c.open.ensures.spool_survives
     (λ lacks.
     let fail : c.in-Err.fail ≡ run_fail.NoMemory = failure-memory c.in-Err.fail c.history_fail_of.result made.journal made.spool lacks in
-    c.in-Err.ensures.memory (ap (λ (f : RunFail). Err f) fail) c.args.readings.now.list begun.ready.tied.readings_are)
+    record {
+      alone = λ _. by-same h.plan h.readings work tied.plan_is tied.readings_are (λ plan readings. LacksMemory plan readings (list_in new)) (c.in-Err.ensures.memory (ap (λ (f : RunFail). Err f) fail));
+      beside = λ some. absurd (some refl);
+    })
