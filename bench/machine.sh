@@ -79,7 +79,7 @@ fn history(alloc: Global, plan: &Plan, readings: &Readings) -> Option<Vec<Event>
     let mut machine = Machine::new(alloc, plan).ok()?;
     machine.take_readings(alloc, readings).ok()?;
     for _ in 0..u32::MAX {
-        let Some(next) = next_event(alloc, plan, &machine).ok()? else {
+        let Some(next) = next_event(alloc, &machine).ok()? else {
             return Some(events);
         };
         machine.apply(next.event);
@@ -115,15 +115,6 @@ fn main(rt: HostRuntime) -> ExitCode {
     let _written = write!(rt.stdout(), "{events}\n");
     ExitCode::from(0)
 }
-R
-  mkdir -p "$work/copy/crates/bench_machine/proofs/history"
-  cat > "$work/copy/crates/bench_machine/proofs/history/Invariants.antt" <<'R'
-use Rattle.std.proofs.Common.{◌≡◌}
-use Rattle.conc_machine.specs.Stands.{plan_of}
-use Rattle.bench_machine.proofs.history.Given as goal
-
-abbrev pub invariant-loop : goal.invariant-loop
-invariant-loop l = plan_of l.machine ≡ l.plan
 R
   (cd "$work/copy/crates/bench_machine" && rt run > "$work/build.log" 2>&1) || true
 fi

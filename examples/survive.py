@@ -3,7 +3,8 @@
 survive.py judge FOLDER OUT            the journal in FOLDER holds the events that a run printed into the file OUT, and
                                        the spool reaches to the end of their reports
 survive.py stop PROGRAM EXAMPLE ROOM   ends runs of an example at 30 moments, each in a folder of ROOM, and judges what
-                                       they left and what the next run makes of it
+                                       they left and what the next run makes of it: first runs without workers, and
+                                       then runs with 4 threads, each continued with another number of threads
 
 It ends with status 1 at the first difference.
 """
@@ -24,6 +25,9 @@ STOPS = 30
 # In seconds: a shorter run is made longer, so that the moments fall within it, and all runs together take no longer.
 LONG_ENOUGH = 0.5
 AT_MOST = 90.0
+# So many threads has a run that is ended, and one of these has the run that goes on from what it left.
+THREADS = 4
+OTHER_THREADS = (0, 1, 2, 8, 32)
 MOST_SUBMISSIONS = 1200
 LAST_READING = "2025-04-02T10:00:00\n"
 
@@ -161,8 +165,8 @@ def judge(folder, out):
 # ---- runs that are ended
 
 
-def words_of(program):
-    return [program, "run", "a.toml", "a.csv", "a.clock", "--threads", "0"]
+def words_of(program, threads=0):
+    return [program, "run", "a.toml", "a.csv", "a.clock", "--threads", str(threads)]
 
 
 def run(words, folder):
@@ -260,6 +264,14 @@ def judge_left(left, whole):
     demand(left.spool[:used] == whole.kept.spool[:used], "the spool has not the reports of the events")
 
 
+def judge_begin(left, lines):
+    """Demands that behind the events that were left stands one resume, and that what ran is interrupted."""
+    count = len(left.events)
+    begin = ["resume", *(f"interrupt {request}" for request in running_in(left.events))]
+    demand(lines[count : count + len(begin)] == begin, f"behind event {count} does not stand {', '.join(begin)}")
+    demand(lines.count("resume") == 1, "there is more than one resume")
+
+
 def judge_next(left, kept, text, whole):
     """Demands that the next run went on from what was left."""
     lines, count = event_lines(text), len(left.events)
@@ -268,9 +280,7 @@ def judge_next(left, kept, text, whole):
         demand(text == whole.text, "the next run did not begin anew")
         return
     demand(lines[:count] == whole.lines[:count], "the history does not begin with the events that were left")
-    begin = ["resume", *(f"interrupt {request}" for request in running_in(left.events))]
-    demand(lines[count : count + len(begin)] == begin, f"behind event {count} does not stand {', '.join(begin)}")
-    demand(lines.count("resume") == 1, "there is more than one resume")
+    judge_begin(left, lines)
 
 
 def stop_and_go_on(program, folder, delay, whole):
@@ -284,6 +294,45 @@ def stop_and_go_on(program, folder, delay, whole):
     return left, kept, took
 
 
+def check(program, folder, text, count):
+    """Demands that the check of a history calls it lawful and finished, with so many events."""
+    (folder / "a.history").write_text(text)
+    found = run([program, "check", "a.toml", "a.csv", "a.clock", "a.history"], folder)
+    demand(found == f"lawful {count} finished\n", f"the check says {found.rstrip()}")
+
+
+def stop_and_go_on_in_threads(program, folder, delay, whole, others):
+    """The same for a run with threads, whose history may be any lawful one; the next run has so many other threads."""
+    took = stop(words_of(program, THREADS), folder, delay)
+    left = read_kept(folder)
+    demand(left.digest in (None, whole.kept.digest), "the digest is another one")
+    reports_of(left)
+    text = run(words_of(program, others), folder)
+    kept, lines, count = read_kept(folder), event_lines(text), len(left.events)
+    judge_lines(kept, lines, whole.places)
+    demand(kept.events[:count] == left.events, "the history does not begin with the events that were left")
+    if count > 0:
+        judge_begin(left, lines)
+    check(program, folder, text, len(lines))
+    return left, kept, took
+
+
+def stop_often(example, room, changed, duration, stop_one):
+    """Ends runs at moments of this duration, each in a fresh folder, and judges what the next run keeps. Gives how often
+    and where the stops fell."""
+    stops = max(1, min(STOPS, int(AT_MOST / duration)))
+    counts, longest = [0, 0, 0], duration
+    for number in range(stops):
+        folder = fresh(example, room / str(number), changed)
+        left, took = stop_one(number, folder, longest * (number + 0.5) / stops)
+        longest = min(longest, took)
+        counts[(len(left.events) > 0) + (took < math.inf)] += 1
+        shutil.rmtree(folder)
+    demand(counts[1] > 0, f"none of the {stops} stops fell between the first event and the last")
+    fell = f"{counts[0]} before the first event, {counts[1]} between, {counts[2]} behind the end"
+    return f"{stops} moments of {duration:.2f} s", fell
+
+
 def stop_all(program, example, room):
     changed = {}
     whole = run_whole(program, fresh(example, room / "short", changed))
@@ -293,19 +342,27 @@ def stop_all(program, example, room):
         whole = run_whole(program, fresh(example, room / "long", changed))
     makers, known = made_by(program, fresh(example, room / "plan", changed)), {}
     judge_reports(whole.kept, makers, known)
-    stops = max(1, min(STOPS, int(AT_MOST / whole.duration)))
-    duration, counts = whole.duration, [0, 0, 0]
-    for number in range(stops):
-        folder = fresh(example, room / str(number), changed)
-        left, kept, took = stop_and_go_on(program, folder, duration * (number + 0.5) / stops, whole)
+
+    def alone(_, folder, delay):
+        left, kept, took = stop_and_go_on(program, folder, delay, whole)
         judge_reports(kept, makers, known)
-        duration = min(duration, took)
-        counts[(len(left.events) > 0) + (len(left.events) == len(whole.lines))] += 1
-        shutil.rmtree(folder)
-    demand(counts[1] > 0, f"none of the {stops} stops fell between the first event and the last")
-    moments = f"{stops} moments of {whole.duration:.2f} s and {len(whole.lines)} events"
-    fell = f"{counts[0]} before the first event, {counts[1]} between, {counts[2]} behind the last"
-    print(f"month_end, ended at {moments}: {fell}; each next run goes on from what was left")
+        return left, took
+
+    def in_threads(number, folder, delay):
+        others = OTHER_THREADS[number % len(OTHER_THREADS)]
+        left, kept, took = stop_and_go_on_in_threads(program, folder, delay, whole, others)
+        judge_reports(kept, makers, known)
+        return left, took
+
+    moments, fell = stop_often(example, room, changed, whole.duration, alone)
+    print(f"month_end, ended at {moments} and {len(whole.lines)} events: {fell}; each next run goes on from what was left")
+    folder = fresh(example, room / "threads", changed)
+    began = time.monotonic()
+    text = run(words_of(program, THREADS), folder)
+    duration = time.monotonic() - began
+    check(program, folder, text, len(event_lines(text)))
+    moments, fell = stop_often(example, room, changed, duration, in_threads)
+    print(f"month_end with {THREADS} threads, ended at {moments}: {fell}; each next run, with another number of threads, goes on")
 
 
 def main(words):
