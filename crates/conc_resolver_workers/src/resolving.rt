@@ -23,7 +23,7 @@ use std::sync::Wait;
 use std::thread;
 
 // How often the resolver looks at the places before it sleeps.
-const LOOKS: u32 = 16;
+const LOOKS: u32 = 64;
 
 // ---- single events
 

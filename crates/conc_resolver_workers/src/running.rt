@@ -130,6 +130,19 @@ struct Means {
     started: Vec<Option<RequestId>>,
 }
 
+// How many workers a run has: no more than places, since one without a place has nothing to do.
+fn crew_size(plan: &Plan, threads: u32) -> u32
+    requires { 0 < threads }
+    ensures { 0 < result }
+{
+    let places = place_count(plan);
+    if 0 < places && places < threads {
+        places
+    } else {
+        threads
+    }
+}
+
 // Takes all memory that the run needs but for reports.
 fn prepare(alloc: Global, plan: &Plan, threads: u32) -> Result<Means, NoMemory>
     requires threads { 0 < threads }
@@ -142,7 +155,7 @@ fn prepare(alloc: Global, plan: &Plan, threads: u32) -> Result<Means, NoMemory>
     ensures covers { IfOk result (λ means. Covers plan.now means.lead means.crew.items) }
 {
     let started = vec![in alloc; None; place_count(plan) as usize]?;
-    let mut crew = hire(alloc, plan, threads)?;
+    let mut crew = hire(alloc, plan, crew_size(plan, threads))?;
     let (board, mut lead) = Board::new(alloc, plan)?;
     give_hands(&board, &mut lead, crew.as_mut_slice());
     Ok(Means {
@@ -153,8 +166,8 @@ fn prepare(alloc: Global, plan: &Plan, threads: u32) -> Result<Means, NoMemory>
     })
 }
 
-/// Goes on from the journal's list to the end of the history, with so many workers in threads of their own: the place with
-/// index `i` is served by the worker `i` modulo `threads`. Where no thread can be made they run one after another, and the call may
+/// Goes on from the journal's list to the end of the history, with so many workers in threads of their own, but no more than
+/// there are places: the place with index `i` is served by the worker `i` modulo `threads`. Where no thread can be made they run one after another, and the call may
 /// not return. It takes the memory for the board and the workers before it writes anything; after that a report may find none, which
 /// leaves its request without an end. With every answer the workers are taken in. The text of a report is on the spool's disk
 /// before its end is journaled, and an event is journaled before the machine takes it in, before it means anything to a worker, and
