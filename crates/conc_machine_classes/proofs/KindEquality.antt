@@ -13,7 +13,7 @@ use Rattle.conc_law.specs.Plans.{parent_item}
 use Rattle.conc_law.specs.Words.{item_eq}
 use Rattle.conc_machine_classes.specs.declared.kinds.Head.{Head}
 use Rattle.conc_machine_classes.specs.Classes.{clash}
-use Rattle.conc_machine_classes.specs.Kinds.{covers_item, domain_at, keeps_out, Kind, kind_at, kind_eq, kind_of, kinds_clash, one_domain, owns, parent_eq, reaches}
+use Rattle.conc_machine_classes.specs.Kinds.{covers_item, domain_at, kind_excludes, Kind, kind_at, kind_eq, kind_of, kinds_clash, one_domain, owns, parent_eq, reaches}
 
 -- ---- equal kinds
 
@@ -57,5 +57,5 @@ kind_at_first plan head r i o d =
 
 -- ---- requests clash where their kinds do
 pub clash_by_kinds : (plan : Plan) (x y : Req) → clash plan x y ≡ kinds_clash plan.setup (kind_of plan x) (kind_of plan y)
-unfolding clash excludes_from entry_excludes covers same_domain kinds_clash keeps_out kind_of owns covers_item reaches one_domain
+unfolding clash excludes_from entry_excludes covers same_domain kinds_clash kind_excludes kind_of owns covers_item reaches one_domain
 clash_by_kinds plan x y = refl

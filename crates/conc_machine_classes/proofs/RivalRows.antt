@@ -13,7 +13,7 @@ use Rattle.conc_law.specs.Exclusion.{runs_alone}
 use Rattle.conc_law.proofs.Positions.{take-suc_at}
 use Rattle.conc_machine_classes.specs.declared.kinds.Head.{Head}
 use Rattle.conc_machine_classes.specs.declared.rivals.Claim.{Claim}
-use Rattle.conc_machine_classes.specs.Kinds.{covers_item, keeps_out, kind_at, kinds_clash, one_domain, owns, reaches}
+use Rattle.conc_machine_classes.specs.Kinds.{covers_item, kind_excludes, kind_at, kinds_clash, one_domain, owns, reaches}
 use Rattle.conc_machine_classes.specs.Places.{places_from}
 use Rattle.conc_machine_classes.specs.Rivals.{claimed_by, claims, either_claims, heads_clash, IsClaim, row_of}
 use Rattle.conc_machine_classes.proofs.Passing.{any_filtered, any_filtered_by, places-push}
@@ -34,7 +34,7 @@ four p q r s = cc
 
 pub clash_by_claim : (plan : Plan) (claim : Claim) (head other : Head) (same : Bool) → IsClaim plan head claim
     → same ≡ one_domain (kind_at plan head) (kind_at plan other) → either_claims plan claim other same ≡ heads_clash plan head other
-unfolding either_claims claims claimed_by heads_clash kinds_clash keeps_out one_domain kind_at
+unfolding either_claims claims claimed_by heads_clash kinds_clash kind_excludes one_domain kind_at
 clash_by_claim plan claim head other same is domain =
     let entries : List Entry = plan.setup.entries in
     let back : same ≡ one_domain (kind_at plan other) (kind_at plan head) = domain ∙ bytes_eq-comm (kind_at plan head).domain (kind_at plan other).domain in

@@ -55,11 +55,11 @@ unfoldable pub reaches : Bool → Entry → Bool
 reaches same entry = is_global entry.reach || same
 
 -- an entry of the first, or its mark to run alone, excludes the second
-unfoldable pub keeps_out : Setup → Kind → Kind → Bool
-keeps_out setup a b =
+unfoldable pub kind_excludes : Setup → Kind → Kind → Bool
+kind_excludes setup a b =
     list_any (λ entry. owns a.item entry && (covers_item b.item b.parent entry && reaches (one_domain a b) entry)) setup.entries
     || (runs_alone setup a.item && one_domain a b)
 
 -- requests of the two kinds exclude each other, unless they are one or kin
 unfoldable pub kinds_clash : Setup → Kind → Kind → Bool
-kinds_clash setup a b = keeps_out setup a b || keeps_out setup b a
+kinds_clash setup a b = kind_excludes setup a b || kind_excludes setup b a
