@@ -62,7 +62,7 @@ impl Lets {
     )
         requires classes { AreClasses plan.now classes.now }
         requires spans { AreSpans plan.now spans.now }
-        requires stands { (before : State) × IsWritten plan.now before after.now i old
+        requires related { (before : State) × IsWritten plan.now before after.now i old
             × AreLets plan.now classes.now before self.old }
         ensures { (before : State) → IsWritten plan.now before after.now i old
             → AreLets plan.now classes.now before self.old
@@ -77,7 +77,7 @@ impl Lets {
     /// comes.
     pub fn tick(&mut self, plan: &Plan, classes: &Classes, after: &State)
         requires classes { AreClasses plan.now classes.now }
-        requires stands { (before : State) × (after.now.facts ≡ before.facts)
+        requires related { (before : State) × (after.now.facts ≡ before.facts)
             × AreLets plan.now classes.now before self.old }
         ensures { (before : State) → after.now.facts ≡ before.facts
             → AreLets plan.now classes.now before self.old
@@ -116,7 +116,7 @@ impl Lets {
     ) -> Option<u64>
         requires classes { AreClasses plan.now classes.now }
         requires spans { AreSpans plan.now spans.now }
-        requires stands { AreLets plan.now classes.now state.now self.now }
+        requires related { AreLets plan.now classes.now state.now self.now }
         requires within { class < length classes.now.sizes }
         requires first { least (turns_of (is_ready plan.now state.now)
             (of_class plan.now classes.now class)) ≡ Some first }
@@ -145,7 +145,7 @@ impl Lets {
     ) -> Option<u64>
         requires classes { AreClasses plan.now classes.now }
         requires spans { AreSpans plan.now spans.now }
-        requires stands { AreLets plan.now classes.now state.now self.now }
+        requires related { AreLets plan.now classes.now state.now self.now }
         ensures { result ≡ least (turns_of (may_let plan.now state.now) plan.now.requests) }
     {
         let mut best = None;
@@ -169,7 +169,7 @@ impl Lets {
     ) -> Option<Event>
         requires classes { AreClasses plan.now classes.now }
         requires spans { AreSpans plan.now spans.now }
-        requires stands { AreLets plan.now classes.now state.now self.now }
+        requires related { AreLets plan.now classes.now state.now self.now }
         ensures { result ≡ next_spec.forced_let plan.now state.now }
     {
         event_at(plan, self.least_turn(plan, classes, spans, state))

@@ -210,7 +210,7 @@ impl Starts {
         from: u32,
         count: u32,
     ) -> Option<PlaceId>
-        requires stands { AreStarts plan.now state.now self.now }
+        requires related { AreStarts plan.now state.now self.now }
         requires few { from + count < 2 ^ 32 }
         ensures { result ≡ find (next_spec.may_start plan.now state.now r.now)
             (map (λ index. record { index = index }) (range_with_len from count)) }

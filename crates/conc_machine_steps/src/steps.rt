@@ -48,7 +48,7 @@ impl Steps {
     /// Takes in that the facts of the request at an index were written, which were these before.
     pub fn write(&mut self, plan: &Plan, spans: &Spans, after: &State, i: usize, _old: Facts)
         requires spans { AreSpans plan.now spans.now }
-        requires stands { (before : State) × IsWritten plan.now before after.now i _old
+        requires related { (before : State) × IsWritten plan.now before after.now i _old
             × AreSteps plan.now before self.old }
         ensures { (before : State) → IsWritten plan.now before after.now i _old
             → AreSteps plan.now before self.old → AreSteps plan.now after.now self.new }
@@ -73,7 +73,7 @@ impl Steps {
     #[tactic(auto, unfolding(conc_law::specs::Next::forced_step))]
     pub fn forced_step(&self, plan: &Plan, spans: &Spans, state: &State) -> Option<Event>
         requires spans { AreSpans plan.now spans.now }
-        requires stands { AreSteps plan.now state.now self.now }
+        requires related { AreSteps plan.now state.now self.now }
         ensures { result ≡ spec.forced_step plan.now state.now }
     {
         match self.first_due(plan, state) {

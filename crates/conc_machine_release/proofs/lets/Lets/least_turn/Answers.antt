@@ -35,7 +35,7 @@ pub loop-class-preserved-in_default : goal.loop-class-preserved-in_default
 loop-class-preserved-in_default c =
     c.loop-class.invariant
     ∙ below-skip c.args.plan.now c.args.classes.now c.args.state.now c.loop-class.class (
-    first-ready c.args.plan.now c.args.classes.now c.args.state.now c.args.self.now c.requires.stands c.deref-queue-items.result.now c.loop-class.class c.queue-item.result None
+    first-ready c.args.plan.now c.args.classes.now c.args.state.now c.args.self.now c.requires.related c.deref-queue-items.result.now c.loop-class.class c.queue-item.result None
     c.deref-queue-items.ensures.value c.loop-class-test.true c.queue-item.is (none c.least.result c.in_default.not-Some ∙ c.least.ensures)
     )
   where
@@ -45,16 +45,16 @@ loop-class-preserved-in_default c =
 
 pub overflow_cast-class : goal.overflow_cast-class
 overflow_cast-class c =
-    let within = known c.args.plan.now c.args.classes.now c.args.state.now c.args.self.now c.requires.stands c.deref-queue-items.result.now c.loop-class.class c.deref-queue-items.ensures.value c.loop-class-test.true in
-    omega (arith, c.requires.stands.few)
+    let within = known c.args.plan.now c.args.classes.now c.args.state.now c.args.self.now c.requires.related c.deref-queue-items.result.now c.loop-class.class c.deref-queue-items.ensures.value c.loop-class-test.true in
+    omega (arith, c.requires.related.few)
 
 pub turn_in_class-turn-requires-clause-within : goal.turn_in_class-turn-requires-clause-within
 turn_in_class-turn-requires-clause-within c =
-    known c.args.plan.now c.args.classes.now c.args.state.now c.args.self.now c.requires.stands c.deref-queue-items.result.now c.loop-class.class c.deref-queue-items.ensures.value c.loop-class-test.true
+    known c.args.plan.now c.args.classes.now c.args.state.now c.args.self.now c.requires.related c.deref-queue-items.result.now c.loop-class.class c.deref-queue-items.ensures.value c.loop-class-test.true
 
 pub turn_in_class-turn-requires-clause-first : goal.turn_in_class-turn-requires-clause-first
 turn_in_class-turn-requires-clause-first c =
-    first-ready c.args.plan.now c.args.classes.now c.args.state.now c.args.self.now c.requires.stands c.deref-queue-items.result.now c.loop-class.class c.queue-item.result (Some c.in-Some.first)
+    first-ready c.args.plan.now c.args.classes.now c.args.state.now c.args.self.now c.requires.related c.deref-queue-items.result.now c.loop-class.class c.queue-item.result (Some c.in-Some.first)
     c.deref-queue-items.ensures.value c.loop-class-test.true c.queue-item.is (sym c.in-Some.is ∙ c.least.ensures)
 
 pub loop-class-preserved : goal.loop-class-preserved
@@ -68,5 +68,5 @@ pub returns : goal.returns
 returns c =
     c.loop-class.invariant
     ∙ below-end c.args.plan.now c.args.classes.now c.args.state.now c.requires.classes c.loop-class.class (
-    omega (arith, c.loop-class-test.false, ap length c.deref-queue-items.ensures.value, ready-count c.args.plan.now c.args.classes.now c.args.state.now c.args.self.now c.requires.stands)
+    omega (arith, c.loop-class-test.false, ap length c.deref-queue-items.ensures.value, ready-count c.args.plan.now c.args.classes.now c.args.state.now c.args.self.now c.requires.related)
     )

@@ -14,8 +14,8 @@ use Rattle.conc_machine_release.proofs.lets.Lets.tick.Goals as goal
 
 pub refresh_span-requires-clause-slots : goal.refresh_span-requires-clause-slots
 refresh_span-requires-clause-slots c =
-    let stands = c.requires.stands in
-    HaveSlots-kept c.args.plan.now c.args.classes.now stands.0 c.args.self.now c.requires.classes stands.2
+    let related = c.requires.related in
+    HaveSlots-kept c.args.plan.now c.args.classes.now related.0 c.args.self.now c.requires.classes related.2
 
 pub returns-then-contains : goal.returns-then-contains
 returns-then-contains c before same are =

@@ -12,19 +12,19 @@ use Rattle.conc_machine_release.proofs.lets.Lets.write.Goals as goal
 
 pub renew-requires-clause-slots : goal.renew-requires-clause-slots
 renew-requires-clause-slots c =
-    let stands = c.requires.stands in
-    HaveSlots-kept c.args.plan.now c.args.classes.now stands.0 c.args.self.now c.requires.classes stands.2
+    let related = c.requires.related in
+    HaveSlots-kept c.args.plan.now c.args.classes.now related.0 c.args.self.now c.requires.classes related.2
 
 pub renew-requires-clause-known : goal.renew-requires-clause-known
 renew-requires-clause-known c =
-    let within = written-within c.args.plan.now c.requires.stands.0 c.args.after.now c.args.i c.args.old c.requires.stands.1 in
+    let within = written-within c.args.plan.now c.requires.related.0 c.args.after.now c.args.i c.args.old c.requires.related.1 in
     let at : slice_get c.args.plan.now.requests c.args.i ≡ Some c.index-as_slice-i.result = slice_get_read c.args.plan.now.requests (length c.args.plan.now.requests) c.args.i c.index-as_slice-i.result refl within (c.index-as_slice-i.is ∙ ap (λ l. get_or l c.args.i c.index-as_slice-i.result) c.as_slice.ensures) in
     (request_at_place c.args.plan.now c.args.i c.index-as_slice-i.result at).1
 
 pub recount-requires : goal.recount-requires
 recount-requires c =
-    let stands = c.requires.stands in
-    rivals-counted c.args.plan.now c.args.classes.now stands.0 c.args.self.now c.requires.classes stands.2 (class_at c.args.classes.now c.index-as_slice-i.result)
+    let related = c.requires.related in
+    rivals-counted c.args.plan.now c.args.classes.now related.0 c.args.self.now c.requires.classes related.2 (class_at c.args.classes.now c.index-as_slice-i.result)
 
 pub returns : goal.returns
 unfolding queues_of

@@ -6,8 +6,8 @@ use Rattle.conc_machine_starts.proofs.starts.Starts.tick.Goals as goal
 
 pub renew-requires : goal.renew-requires
 renew-requires c =
-    let stands = c.requires in
-    ap length stands.2.usable ∙ length-places c.args.plan.now (is_usable_now c.args.plan.now stands.0)
+    let related = c.requires in
+    ap length related.2.usable ∙ length-places c.args.plan.now (is_usable_now c.args.plan.now related.0)
 
 pub returns : goal.returns
 returns c = λ before e are.

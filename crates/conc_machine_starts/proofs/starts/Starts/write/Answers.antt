@@ -8,10 +8,10 @@ use Rattle.conc_machine_starts.proofs.starts.Starts.write.Goals as goal
 
 pub refresh-requires : goal.refresh-requires
 refresh-requires c =
-    let stands = c.requires in
-    let within = slice_get_within stands.0.facts c.args.i c.args.old stands.1.was in
+    let related = c.requires in
+    let within = slice_get_within related.0.facts c.args.i c.args.old related.1.was in
     subst (All (λ queue. c.args.i < length queue)) (sym c.as_mut_slice.ensures.value)
-    (slots-kept c.args.plan.now stands.0 c.args.self.now c.args.i stands.2 (omega (arith, within, stands.1.all)))
+    (slots-kept c.args.plan.now related.0 c.args.self.now c.args.i related.2 (omega (arith, within, related.1.all)))
 
 pub returns : goal.returns
 returns c = λ before w are.

@@ -9,20 +9,20 @@ use Rattle.conc_machine_steps.proofs.steps.Steps.write.Goals as goal
 pub refresh-requires-clause-slot : goal.refresh-requires-clause-slot
 refresh-requires-clause-slot c =
     let plan = c.args.plan.now in
-    let stands = c.requires.stands in
+    let related = c.requires.related in
     let r = c.index-as_slice-i.result in
-    let at = written_read plan stands.0 c.args.after.now c.args.i c.args._old stands.1 c.as_slice.result.now c.as_slice.ensures r c.index-as_slice-i.is in
-    HasSlot-numbers_of plan (has_step plan stands.0) c.args.self.now.due stands.2.due r (request_at_place plan c.args.i r at).1
+    let at = written_read plan related.0 c.args.after.now c.args.i c.args._old related.1 c.as_slice.result.now c.as_slice.ensures r c.index-as_slice-i.is in
+    HasSlot-numbers_of plan (has_step plan related.0) c.args.self.now.due related.2.due r (request_at_place plan c.args.i r at).1
 
 pub refresh-requires-in-Some-clause-slot : goal.refresh-requires-in-Some-clause-slot
 refresh-requires-in-Some-clause-slot c =
     let plan = c.args.plan.now in
-    let stands = c.requires.stands in
+    let related = c.requires.related in
     let r = c.index-as_slice-i.result in
     let set = c.in-Some.set.now in
     subst (λ due. HasSlot due set) (sym c.refresh.ensures)
     (HasSlot-refreshed c.args.self.now.due r (has_step plan c.args.after.now r) set
-    (HasSlot-numbers_of plan (has_step plan stands.0) c.args.self.now.due stands.2.due set (parent_there plan r set (sym c.in-Some.ensures))))
+    (HasSlot-numbers_of plan (has_step plan related.0) c.args.self.now.due related.2.due set (parent_there plan r set (sym c.in-Some.ensures))))
 
 pub returns-in-Some : goal.returns-in-Some
 returns-in-Some c = λ before written are.
