@@ -62,7 +62,7 @@ leaves-none kind disk = record {
   faults = le_refl disk.faults;
   moment = le_refl disk.moment;
   exposes = refl;
-  keeps = λ t c at left. left;
+  earlier_stay = λ t c at left. left;
   nothing_else = if_some-any disk.seen (λ bytes t c at left. inl left);
 }
 
@@ -72,7 +72,7 @@ leaves-step kind old mid new run later exposes each = record {
   faults = omega (arith, run.faults, later.faults);
   moment = omega (arith, run.moment, later.moment);
   exposes = exposes ∙ run.exposes;
-  keeps = λ t c at left. later.keeps t c (omega (arith, at, run.moment)) (run.keeps t c at left);
+  earlier_stay = λ t c at left. later.earlier_stay t c (omega (arith, at, run.moment)) (run.earlier_stay t c at left);
   nothing_else = if_some-both old.seen run.nothing_else (if_some-as _ old.seen new.seen (exposes ∙ run.exposes) each) (λ bytes before here t c at left.
       ⊎_elim (before t c at) (λ now. inr (here c now)) (later.nothing_else t c (omega (arith, at, run.moment)) left));
 }
@@ -87,7 +87,7 @@ leaves-twice kind old mid new first second = record {
   faults = omega (arith, first.faults, second.faults);
   moment = omega (arith, first.moment, second.moment);
   exposes = second.exposes ∙ first.exposes;
-  keeps = λ t c at left. second.keeps t c (omega (arith, at, first.moment)) (first.keeps t c at left);
+  earlier_stay = λ t c at left. second.earlier_stay t c (omega (arith, at, first.moment)) (first.earlier_stay t c at left);
   nothing_else = if_some-both old.seen first.nothing_else (if_some-as _ old.seen mid.seen first.exposes second.nothing_else) (λ bytes before then t c at left.
       ⊎_elim (before t c at) inr (then t c (omega (arith, at, first.moment)) left));
 }
@@ -98,7 +98,7 @@ leaves-wider kind wider old new run wide = record {
   faults = run.faults;
   moment = run.moment;
   exposes = run.exposes;
-  keeps = run.keeps;
+  earlier_stay = run.earlier_stay;
   nothing_else = if_some-both old.seen run.nothing_else wide (λ bytes before is t c at left.
       ⊎_elim inl (λ of_kind. inr (is c of_kind)) (before t c at left));
 }

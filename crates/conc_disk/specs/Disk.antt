@@ -47,7 +47,7 @@ pub record Shortened (n : ℕ) (old new : List ℕ) : Type 0 where
 pub record IsLater (old new : DiskState) : Type 0 where
   pub faults : old.faults ≤ new.faults
   pub moment : old.moment ≤ new.moment
-  pub keeps : (t : ℕ) (c : List ℕ) → t ≤ old.moment → old.left_since t c → new.left_since t c
+  pub earlier_stay : (t : ℕ) (c : List ℕ) → t ≤ old.moment → old.left_since t c → new.left_since t c
   pub nothing_else : (t : ℕ) (c : List ℕ) → t ≤ old.moment → new.left_since t c → old.left_since t c ⊎ new.may_leave c
 
 -- what is read stays, and a crash may leave nothing new

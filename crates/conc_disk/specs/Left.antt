@@ -13,7 +13,7 @@ pub record LeavesOnly (kind : List ℕ → Type 0) (old new : DiskState) : Type 
   pub faults : old.faults ≤ new.faults
   pub moment : old.moment ≤ new.moment
   pub exposes : is_some new.seen ≡ is_some old.seen
-  pub keeps : (t : ℕ) (c : List ℕ) → t ≤ old.moment → old.left_since t c → new.left_since t c
+  pub earlier_stay : (t : ℕ) (c : List ℕ) → t ≤ old.moment → old.left_since t c → new.left_since t c
   pub nothing_else : IfSome old.seen (λ bytes. (t : ℕ) (c : List ℕ) → t ≤ old.moment → new.left_since t c → old.left_since t c ⊎ kind c)
 
 -- ---- one write

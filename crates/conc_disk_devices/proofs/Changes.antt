@@ -34,21 +34,21 @@ pub copy-stays : (first : Option (Vec ℕ Global)) (old new : List ℕ) → IsSo
 copy-stays None old new some = cc
 copy-stays (Some v) old new some = refl
 
-pub kept-push : (xs ys : List Change) (y : Change) (s t old new : List ℕ) → old ≡ after xs s → t ≡ s → ys ≡ xs ++ y ∷ [] → new ≡ after_act y.act old → new ≡ after ys t
-kept-push xs ys y s t old new kept same more is =
-    is ∙ ap (after_act y.act) kept ∙ sym (after-push xs y s) ∙ ap (λ (l : List Change). after l s) (sym more) ∙ ap (after ys) (sym same)
+pub replays-push : (xs ys : List Change) (y : Change) (s t old new : List ℕ) → old ≡ after xs s → t ≡ s → ys ≡ xs ++ y ∷ [] → new ≡ after_act y.act old → new ≡ after ys t
+replays-push xs ys y s t old new replays same more is =
+    is ∙ ap (after_act y.act) replays ∙ sym (after-push xs y s) ∙ ap (λ (l : List Change). after l s) (sym more) ∙ ap (after ys) (sym same)
 
 pub fit-more : (xs ys : List Change) (y : Change) (s t old : List ℕ) → old ≡ after xs s → IsTrue (all_fit xs s) → t ≡ s → ys ≡ xs ++ y ∷ [] → IsTrue (act_fits y.act old) → IsTrue (all_fit ys t)
-fit-more xs ys y s t old kept fit same more fits =
+fit-more xs ys y s t old replays fit same more fits =
     subst (λ (l : List ℕ). IsTrue (all_fit ys l)) (sym same)
     (subst (λ (l : List Change). IsTrue (all_fit l s)) (sym more)
-    (fit-push xs y s fit (subst (λ (l : List ℕ). IsTrue (act_fits y.act l)) kept fits)))
+    (fit-push xs y s fit (subst (λ (l : List ℕ). IsTrue (act_fits y.act l)) replays fits)))
 
 -- the same where the change may not have been taken, and what is read stays
-pub kept-if : (b : Bool) (xs ys : List Change) (y : Change) (s old : List ℕ) → after_act y.act old ≡ old → old ≡ after xs s → ys ≡ (if b then xs ++ y ∷ [] else xs) → old ≡ after ys s
-kept-if true xs ys y s old same kept more = kept-push xs ys y s s old old kept refl more (sym same)
-kept-if false xs ys y s old same kept more = kept ∙ ap (λ (l : List Change). after l s) (sym more)
+pub replays-if : (b : Bool) (xs ys : List Change) (y : Change) (s old : List ℕ) → after_act y.act old ≡ old → old ≡ after xs s → ys ≡ (if b then xs ++ y ∷ [] else xs) → old ≡ after ys s
+replays-if true xs ys y s old same replays more = replays-push xs ys y s s old old replays refl more (sym same)
+replays-if false xs ys y s old same replays more = replays ∙ ap (λ (l : List Change). after l s) (sym more)
 
 pub fit-if : (b : Bool) (xs ys : List Change) (y : Change) (s old : List ℕ) → old ≡ after xs s → IsTrue (all_fit xs s) → ys ≡ (if b then xs ++ y ∷ [] else xs) → IsTrue (act_fits y.act old) → IsTrue (all_fit ys s)
-fit-if true xs ys y s old kept fit more fits = fit-more xs ys y s s old kept fit refl more fits
-fit-if false xs ys y s old kept fit more fits = subst (λ (l : List Change). IsTrue (all_fit l s)) (sym more) fit
+fit-if true xs ys y s old replays fit more fits = fit-more xs ys y s s old replays fit refl more fits
+fit-if false xs ys y s old replays fit more fits = subst (λ (l : List Change). IsTrue (all_fit l s)) (sym more) fit

@@ -13,7 +13,7 @@ pub later-same : (xs : List Change) (start old new : List ℕ) (before now : ℕ
 later-same xs start old new before now le = record {
   faults = le;
   moment = le_refl (length xs);
-  keeps = λ t c at left. left;
+  earlier_stay = λ t c at left. left;
   nothing_else = λ t c at left. inl left;
 }
 
@@ -38,6 +38,6 @@ module _ (xs : List Change) (y : Change) (start : List ℕ) where
   later-push old new before now le = record {
     faults = le;
     moment = omega (arith, longer);
-    keeps = λ t c at left. keeps-push t c left;
+    earlier_stay = λ t c at left. keeps-push t c left;
     nothing_else = λ t c at left. else-push t c left;
   }

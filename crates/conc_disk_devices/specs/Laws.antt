@@ -48,7 +48,7 @@ seen-left (x ∷ xs) s fit =
     )
 
 pub seen-is-left : (xs : List Change) (start bytes : List ℕ) → bytes ≡ after xs start → IsTrue (all_fit xs start) → Leaves xs start start bytes
-seen-is-left xs start bytes kept fit = subst (λ (c : List ℕ). Leaves xs start start c) (sym kept) (seen-left xs start fit)
+seen-is-left xs start bytes replays fit = subst (λ (c : List ℕ). Leaves xs start start c) (sym replays) (seen-left xs start fit)
 
 pub now-counts : (xs : List Change) (start : List ℕ) (t : ℕ) (c : List ℕ) → t ≤ length xs → Leaves xs start start c → LeavesSince xs start t c
 now-counts xs start t c before left =

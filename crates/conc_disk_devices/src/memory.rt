@@ -75,7 +75,8 @@ impl Disk for MemDisk {
     ghost state = { λ d. state_of d };
 
     ghost seen_is_left = { λ d. seen-is-left d.trace.changes.items
-        (start_of d.trace.first d.trace.bytes.items) d.trace.bytes.items d.trace.kept d.trace.fit };
+        (start_of d.trace.first d.trace.bytes.items) d.trace.bytes.items d.trace.replays
+        d.trace.fit };
 
     ghost now_counts = { λ d t c before left. now-counts d.trace.changes.items
         (start_of d.trace.first d.trace.bytes.items) t c before left };

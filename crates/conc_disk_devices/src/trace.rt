@@ -27,7 +27,7 @@ pub(crate) struct Trace {
     first: Option<Vec<u8>>,
     bytes: Vec<u8>,
     changes: Vec<Change>,
-    ghost kept: { bytes.items ≡ after changes.items (start_of first bytes.items) },
+    ghost replays: { bytes.items ≡ after changes.items (start_of first bytes.items) },
     ghost fit: { IsTrue (all_fit changes.items (start_of first bytes.items)) },
 }
 

@@ -51,7 +51,7 @@ left-more P Q old new left more = record {
   faults = left.faults;
   moment = left.moment;
   exposes = left.exposes;
-  keeps = left.keeps;
+  earlier_stay = left.earlier_stay;
   nothing_else =
       exposed-if old.seen old.seen ((t : ℕ) (c : List ℕ) → t ≤ old.moment → new.left_since t c → old.left_since t c ⊎ P c) ((t : ℕ) (c : List ℕ) → t ≤ old.moment → new.left_since t c → old.left_since t c ⊎ Q c) refl left.nothing_else (λ p t c le since. ⊎_elim (λ was. inl was) (λ is. inr (more c is)) (p t c le since));
 }
@@ -62,7 +62,7 @@ left-from P Q R old new each left more = record {
   faults = left.faults;
   moment = left.moment;
   exposes = left.exposes;
-  keeps = left.keeps;
+  earlier_stay = left.earlier_stay;
   nothing_else =
       exposed-both old.seen ((d : List ℕ) → old.may_leave d → R d) ((t : ℕ) (c : List ℕ) → t ≤ old.moment → new.left_since t c → old.left_since t c ⊎ P c) ((t : ℕ) (c : List ℕ) → t ≤ old.moment → new.left_since t c → old.left_since t c ⊎ Q c) each left.nothing_else (λ r p t c le since. ⊎_elim (λ was. inl was) (λ is. inr (more r c is)) (p t c le since));
 }

@@ -35,14 +35,14 @@ leaves-as None disk is = record {
   faults = le_refl disk.faults;
   moment = le_refl disk.moment;
   exposes = refl;
-  keeps = λ t c before left. left;
+  earlier_stay = λ t c before left. left;
   nothing_else = rw is tt;
 }
 leaves-as (Some bytes) disk is = record {
   faults = le_refl disk.faults;
   moment = le_refl disk.moment;
   exposes = refl;
-  keeps = λ t c before left. left;
+  earlier_stay = λ t c before left. left;
   nothing_else = rw is (λ t c before left. inl left);
 }
 

@@ -2,7 +2,7 @@ use Rattle.std.proofs.Common.{◌≡◌, ◌++◌, [], ◌∷◌, refl, rules, �
 use Rattle.conc_disk_devices.specs.declared.trace.Act.TheVariants.{Cut}
 use Rattle.conc_disk_devices.specs.declared.trace.Change.{Change}
 use Rattle.conc_disk_devices.specs.Trace.{after_act, start_of}
-use Rattle.conc_disk_devices.proofs.Changes.{copy-stays, fit-more, kept-push}
+use Rattle.conc_disk_devices.proofs.Changes.{copy-stays, fit-more, replays-push}
 use Rattle.conc_disk_devices.proofs.trace.Trace.cut.Goals as goal
 
 pub invariant_of-self-2 : goal.invariant_of-self-2
@@ -14,6 +14,6 @@ invariant_of-self-2 c =
     let more : c.push.new.self.items ≡ old.changes.items ++ y ∷ [] = search rules in
     let is : c.truncate.new.self.items ≡ after_act y.act old.bytes.items = search rules in
     record {
-      kept = kept-push old.changes.items _ y _ _ old.bytes.items _ old.kept same more is;
-      fit = fit-more old.changes.items _ y _ _ old.bytes.items old.kept old.fit same more refl;
+      replays = replays-push old.changes.items _ y _ _ old.bytes.items _ old.replays same more is;
+      fit = fit-more old.changes.items _ y _ _ old.bytes.items old.replays old.fit same more refl;
     }

@@ -1,7 +1,7 @@
 use Rattle.std.proofs.Common.{refl}
 use Rattle.conc_disk_devices.specs.declared.trace.Act.TheVariants.{Sync}
 use Rattle.conc_disk_devices.specs.declared.trace.Change.{Change}
-use Rattle.conc_disk_devices.proofs.Changes.{fit-if, kept-if}
+use Rattle.conc_disk_devices.proofs.Changes.{fit-if, replays-if}
 use Rattle.conc_disk_devices.proofs.trace.Trace.sync.Goals as goal
 
 pub invariant_of-self : goal.invariant_of-self
@@ -9,6 +9,6 @@ invariant_of-self c =
     let old = c.args.self.now in
     let y : Change = record { number = c.args.number; act = Sync } in
     record {
-      kept = kept-if _ old.changes.items _ y _ old.bytes.items refl old.kept c.push.ensures.items;
-      fit = fit-if _ old.changes.items _ y _ old.bytes.items old.kept old.fit c.push.ensures.items refl;
+      replays = replays-if _ old.changes.items _ y _ old.bytes.items refl old.replays c.push.ensures.items;
+      fit = fit-if _ old.changes.items _ y _ old.bytes.items old.replays old.fit c.push.ensures.items refl;
     }

@@ -2,7 +2,7 @@ use Rattle.std.proofs.Common.{◌≡◌, ◌++◌, [], ◌∷◌, IsTrue, rules,
 use Rattle.conc_disk_devices.specs.declared.trace.Act.TheVariants.{Write}
 use Rattle.conc_disk_devices.specs.declared.trace.Change.{Change}
 use Rattle.conc_disk_devices.specs.Trace.{act_fits, after_act, start_of}
-use Rattle.conc_disk_devices.proofs.Changes.{copy-stays, fit-more, kept-push}
+use Rattle.conc_disk_devices.proofs.Changes.{copy-stays, fit-more, replays-push}
 use Rattle.conc_disk_devices.proofs.trace.Trace.write.Goals as goal
 
 pub invariant_of-self-in-Ok : goal.invariant_of-self-in-Ok
@@ -15,8 +15,8 @@ invariant_of-self-in-Ok c =
     let is : c.put.new.bytes.items ≡ after_act y.act old.bytes.items = search rules in
     let fits : IsTrue (act_fits y.act old.bytes.items) = search (rules, c.requires) in
     record {
-      kept = kept-push old.changes.items _ y _ _ old.bytes.items _ old.kept same more is;
-      fit = fit-more old.changes.items _ y _ _ old.bytes.items old.kept old.fit same more fits;
+      replays = replays-push old.changes.items _ y _ _ old.bytes.items _ old.replays same more is;
+      fit = fit-more old.changes.items _ y _ _ old.bytes.items old.replays old.fit same more fits;
     }
 
 pub returns-in-Ok-clause-written : goal.returns-in-Ok-clause-written
