@@ -16,13 +16,13 @@ use Rattle.conc_types.specs.Plans.{request}
 use Rattle.conc_types.specs.Words.{some_and}
 use Rattle.conc_law.specs.Exclusion.{entry_excludes, excludes, excludes_from, runs_alone}
 use Rattle.conc_law.specs.Plans.{are_exclusive, parent_item}
-use Rattle.conc_board_seats.specs.declared.views.Stage.{Stage}
-use Rattle.conc_board_seats.specs.declared.views.Stage.TheVariants.{NotLet}
+use Rattle.conc_board_seats.specs.declared.views.LeadState.{LeadState}
+use Rattle.conc_board_seats.specs.declared.views.LeadState.TheVariants.{NotLet}
 use Rattle.conc_board_seats.specs.Rule.{exclude}
 use Rattle.conc_board_seats.proofs.Facts.{request_eq}
 use Rattle.conc_board.specs.declared.board.Board.{Board}
 use Rattle.conc_board.specs.declared.lead.Lead.{Lead}
-use Rattle.conc_board.specs.Seats.{IsLeadOf, SameStages, stage_of}
+use Rattle.conc_board.specs.Seats.{IsLeadOf, SameLeadStates, lead_state_of}
 use Rattle.conc_board_seats.specs.Places.{has, without}
 use Rattle.conc_types.specs.declared.event.PlaceId.{PlaceId}
 use Rattle.conc_test_board.proofs.Rules.{has_without}
@@ -80,29 +80,29 @@ none_excluded plan empty none = record {
 
 -- ---- a lead's walk through the requests of a round
 
--- so many of the requests after this number are at such stages, and those of the round that are left at others
-pub record IsWithin (board : Board) (first count : ℕ) (IsSo IsYet : Stage → Type 0) (lead : Lead) : Type 0 where
+-- so many of the requests after this number are in such lead states, and those of the round that are left in others
+pub record IsWithin (board : Board) (first count : ℕ) (IsSo IsYet : LeadState → Type 0) (lead : Lead) : Type 0 where
   pub of_board : IsLeadOf board lead
-  pub so : (r : RequestId) → first < r.number → r.number ≤ first + count → IsSo (stage_of lead r)
-  pub yet : (r : RequestId) → first + count < r.number → r.number ≤ first + 64 → IsYet (stage_of lead r)
-  pub after : (r : RequestId) → first + 64 < r.number → stage_of lead r ≡ NotLet
+  pub so : (r : RequestId) → first < r.number → r.number ≤ first + count → IsSo (lead_state_of lead r)
+  pub yet : (r : RequestId) → first + count < r.number → r.number ≤ first + 64 → IsYet (lead_state_of lead r)
+  pub after : (r : RequestId) → first + 64 < r.number → lead_state_of lead r ≡ NotLet
 
 -- a call on the next request
-pub goes_on : (board : Board) (first count : ℕ) (IsSo IsYet : Stage → Type 0) (r : RequestId) (old new : Lead)
+pub goes_on : (board : Board) (first count : ℕ) (IsSo IsYet : LeadState → Type 0) (r : RequestId) (old new : Lead)
     → r.number ≡ first + count + 1 → count < 64 → IsLeadOf board new
-    → ((q : RequestId) → q ≢ r → stage_of new q ≡ stage_of old q) → IsSo (stage_of new r)
+    → ((q : RequestId) → q ≢ r → lead_state_of new q ≡ lead_state_of old q) → IsSo (lead_state_of new r)
     → IsWithin board first count IsSo IsYet old → IsWithin board first (count + 1) IsSo IsYet new
 goes_on board first count IsSo IsYet r old new is few lead others so w = record {
   of_board = lead;
   so = λ q above upto. dite (ℕ_discrete q.number r.number)
-      (λ e. subst (λ (z : RequestId). IsSo (stage_of new z)) (sym (request_eq q r e)) so)
+      (λ e. subst (λ (z : RequestId). IsSo (lead_state_of new z)) (sym (request_eq q r e)) so)
       (λ e. subst IsSo (sym (others q (λ (same : q ≡ r). e (ap (λ (z : RequestId). z.number) same)))) (w.so q above (omega arith)));
   yet = λ q above upto. subst IsYet (sym (others q (λ (same : q ≡ r). let n : q.number ≡ r.number = ap (λ (z : RequestId). z.number) same in omega arith))) (w.yet q (omega arith) upto);
   after = λ q above. others q (λ (same : q ≡ r). let n : q.number ≡ r.number = ap (λ (z : RequestId). z.number) same in omega arith) ∙ w.after q above;
 }
 
 -- before the walk and after it
-pub begins_fresh : (board : Board) (first : ℕ) (IsSo : Stage → Type 0) (lead : Lead) → IsFresh board first lead → IsWithin board first 0 IsSo (λ st. st ≡ NotLet) lead
+pub begins_fresh : (board : Board) (first : ℕ) (IsSo : LeadState → Type 0) (lead : Lead) → IsFresh board first lead → IsWithin board first 0 IsSo (λ st. st ≡ NotLet) lead
 begins_fresh board first IsSo lead f = record {
   of_board = f.of_board;
   so = λ r above upto. absurd (omega arith);
@@ -110,7 +110,7 @@ begins_fresh board first IsSo lead f = record {
   after = λ r above. f.after r (omega arith);
 }
 
-pub begins : (board : Board) (first : ℕ) (IsSo IsYet : Stage → Type 0) (lead : Lead) → AreSo board first IsYet lead → IsWithin board first 0 IsSo IsYet lead
+pub begins : (board : Board) (first : ℕ) (IsSo IsYet : LeadState → Type 0) (lead : Lead) → AreSo board first IsYet lead → IsWithin board first 0 IsSo IsYet lead
 begins board first IsSo IsYet lead a = record {
   of_board = a.of_board;
   so = λ r above upto. absurd (omega arith);
@@ -118,14 +118,14 @@ begins board first IsSo IsYet lead a = record {
   after = λ r above. a.after r above;
 }
 
-pub ends : (board : Board) (first count : ℕ) (IsSo IsYet : Stage → Type 0) (lead : Lead) → count ≡ 64 → IsWithin board first count IsSo IsYet lead → AreSo board first IsSo lead
+pub ends : (board : Board) (first count : ℕ) (IsSo IsYet : LeadState → Type 0) (lead : Lead) → count ≡ 64 → IsWithin board first count IsSo IsYet lead → AreSo board first IsSo lead
 ends board first count IsSo IsYet lead all w = record {
   of_board = w.of_board;
   so = λ r above upto. w.so r above (omega arith);
   after = λ r above. w.after r above;
 }
 
-pub ends_fresh : (board : Board) (first count : ℕ) (IsSo IsYet : Stage → Type 0) (lead : Lead) → IsWithin board first count IsSo IsYet lead → IsFresh board (first + 64) lead
+pub ends_fresh : (board : Board) (first count : ℕ) (IsSo IsYet : LeadState → Type 0) (lead : Lead) → IsWithin board first count IsSo IsYet lead → IsFresh board (first + 64) lead
 ends_fresh board first count IsSo IsYet lead w = record { of_board = w.of_board; after = λ r above. w.after r above }
 
 -- ---- places of the lead's
@@ -135,6 +135,6 @@ pub stay_own : (old new : List PlaceId) (i : ℕ) → new ≡ without old (recor
 stay_own old new i is own p above few = ap (λ (ps : List PlaceId). has ps p) is
     ∙ has_without old (record { index = i } ∷ []) p (own p (omega arith) few) (ap (λ (b : Bool). b || false) (ne_eqb i p.index (λ e. omega arith)))
 
--- a lead whose stages are the same is as far
-pub fresh_still : (board : Board) (first : ℕ) (old new : Lead) → IsLeadOf board new → SameStages old new → IsFresh board first old → IsFresh board first new
+-- a lead whose lead states are the same is as far
+pub fresh_still : (board : Board) (first : ℕ) (old new : Lead) → IsLeadOf board new → SameLeadStates old new → IsFresh board first old → IsFresh board first new
 fresh_still board first old new lead same f = record { of_board = lead; after = λ r above. same.each r ∙ f.after r above }

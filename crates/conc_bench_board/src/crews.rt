@@ -1,7 +1,7 @@
 ghost use Rattle.std.specs.Prelude.{◌≡◌, ◌∷◌, [], All, IfOk, IsTrue, OnOk};
 ghost use Rattle.conc_board_seats.specs.Places.{has, without};
 ghost use Rattle.conc_board_seats.specs.Words.{IsPlace};
-ghost use Rattle.conc_board.specs.Seats.{HasAllPlaces, IsLeadOf, plan_of, places_of_lead, SameStages};
+ghost use Rattle.conc_board.specs.Seats.{HasAllPlaces, IsLeadOf, plan_of, places_of_lead, SameLeadStates};
 ghost use Rattle.conc_bench_board.specs.Benches.{IsBench};
 ghost use Rattle.conc_bench_board.specs.Crews.{CrewFits, Fits};
 ghost use Rattle.conc_bench_board.specs.Leads.{IsFresh};
@@ -19,7 +19,7 @@ fn worker_at(board: &Board, lead: &mut Lead, place: PlaceId) -> Worker
     requires place { IsPlace (plan_of board.now) place }
     requires own { IsTrue (has (places_of_lead lead.old) place) }
     ensures lead { IsLeadOf board.now lead.new }
-    ensures stages { SameStages lead.old lead.new }
+    ensures lead_states { SameLeadStates lead.old lead.new }
     ensures left { places_of_lead lead.new ≡ without (places_of_lead lead.old) (place ∷ []) }
     ensures worker { Fits board.now result }
 {

@@ -1,7 +1,7 @@
 ghost use Rattle.std.specs.Prelude.{◌≡◌, ◌≤◌, ◌+◌, IsTrue};
-ghost use Rattle.conc_board_seats.specs.Stages.{IsGone, IsLet};
+ghost use Rattle.conc_board_seats.specs.LeadStates.{IsGone, IsLet};
 ghost use Rattle.conc_board_seats.specs.Words.{IsRequest};
-ghost use Rattle.conc_board.specs.Seats.{IsLeadOf, plan_of, stage_of};
+ghost use Rattle.conc_board.specs.Seats.{IsLeadOf, lead_state_of, plan_of};
 ghost use Rattle.conc_test_board.specs.Rounds.{OnlyOne};
 ghost use Rattle.conc_bench_board.specs.Benches.{IsBench};
 ghost use Rattle.conc_bench_board.specs.Leads.{AreSo, IsFresh};
@@ -34,9 +34,9 @@ pub(crate) fn let_out_all(board: &Board, lead: &mut Lead, first: u32)
 fn go_where_claimed(board: &Board, lead: &mut Lead, r: RequestId) -> bool
     requires lead { IsLeadOf board.now lead.old }
     requires request { IsRequest (plan_of board.now) r }
-    requires stage { IsLet (stage_of lead.old r) }
+    requires lead_state { IsLet (lead_state_of lead.old r) }
     ensures lead { IsTrue result → OnlyOne board.now r lead.old lead.new }
-    ensures stage { IsTrue result → IsGone (stage_of lead.new r) }
+    ensures lead_state { IsTrue result → IsGone (lead_state_of lead.new r) }
 {
     match look_let(board, lead, r) {
         Looked::Claimed(place) => {
@@ -69,7 +69,7 @@ pub(crate) fn go_all(board: &Board, lead: &mut Lead, first: u32) -> bool
 fn collect_nothing(board: &Board, lead: &mut Lead, r: RequestId) -> bool
     requires lead { IsLeadOf board.now lead.old }
     requires request { IsRequest (plan_of board.now) r }
-    requires stage { IsGone (stage_of lead.old r) }
+    requires lead_state { IsGone (lead_state_of lead.old r) }
     ensures lead { OnlyOne board.now r lead.old lead.new }
 {
     matches!(board.collect(lead, r), Ok(Posted::NoMemory))

@@ -1,14 +1,14 @@
--- What a look answers, by the stage of the request.
+-- What a look answers, by the lead state of the request.
 use Rattle.std.proofs.Common.{◌≡◌, ℕ, ◌/◌, ◌≤◌, ◌==◌, if◌then◌else◌, Bool, true, false, sym, refl, ap, subst, inl, inr, ⊎_elim, arith, eq-eqb, ne_eqb, Some}
 use mathlib.Core.Logic.{dite}
 use native.Mathlib.Decide.{ℕ_discrete}
 use Rattle.conc_types.specs.declared.event.PlaceId.{PlaceId}
 use Rattle.conc_types.specs.declared.plan.Plan.{Plan}
 use Rattle.conc_law.specs.Places.{count_of_places}
-use Rattle.conc_board_seats.specs.declared.views.Stage.{Stage}
-use Rattle.conc_board_seats.specs.declared.views.Stage.TheVariants.{NotLet, Let, Seen, Gone, Got, Done}
+use Rattle.conc_board_seats.specs.declared.views.LeadState.{LeadState}
+use Rattle.conc_board_seats.specs.declared.views.LeadState.TheVariants.{NotLet, Let, Seen, Gone, Got, Done}
 use Rattle.conc_board_seats.specs.Courses.{GoesOn}
-use Rattle.conc_board_seats.specs.Stages.{IsLet, IsLetOrGone, IsSettled, WordFits, looked}
+use Rattle.conc_board_seats.specs.LeadStates.{IsLet, IsLetOrGone, IsSettled, WordFits, looked}
 use Rattle.conc_board_seats.specs.Steps.{HasPlace, LookFits}
 use Rattle.conc_board_seats.specs.Words.{IsPlace, claimed, place_in, released}
 use Rattle.conc_board_seats.proofs.Facts.{place_eq}
@@ -17,9 +17,9 @@ use Rattle.conc_board.specs.declared.lead.Looked.TheVariants.{Free, Claimed, Run
 use Rattle.conc_board.specs.Answers.{LookedBy}
 use Rattle.conc_board.specs.Looks.{Looks, Shows}
 
--- ---- the stage goes on
+-- ---- the lead state goes on
 
-pub looked_goes_on : (st : Stage) (n : ℕ) → GoesOn st (looked st n)
+pub looked_goes_on : (st : LeadState) (n : ℕ) → GoesOn st (looked st n)
 looked_goes_on NotLet n = inl refl
 looked_goes_on Let n = go (n / 256 == 1)
   where
@@ -31,7 +31,7 @@ looked_goes_on (Gone p m) n = inl refl
 looked_goes_on (Got p m) n = inl refl
 looked_goes_on (Done m) n = inl refl
 
-pub looked_settled : (st : Stage) (n : ℕ) → IsSettled st → IsSettled (looked st n)
+pub looked_settled : (st : LeadState) (n : ℕ) → IsSettled st → IsSettled (looked st n)
 looked_settled NotLet n calm = tt
 looked_settled Let n calm = go (n / 256 == 1)
   where
@@ -43,7 +43,7 @@ looked_settled (Gone p m) n calm = tt
 looked_settled (Got p m) n calm = calm
 looked_settled (Done m) n calm = tt
 
-pub back_goes_on : (st : Stage) → IsLet st → GoesOn st NotLet
+pub back_goes_on : (st : LeadState) → IsLet st → GoesOn st NotLet
 back_goes_on NotLet is = absurd is
 back_goes_on Let is = inr (inl refl)
 back_goes_on (Seen p) is = inr (inl refl)
@@ -61,7 +61,7 @@ module _ (plan : Plan) (few : count_of_places plan ≤ 64) (n : ℕ) where
   free_so (Running p) fits (small, inr e) = absurd (omega arith)
   free_so (Ended p) fits l = let e = l.1 in absurd (omega arith)
 
-  seen_so : (answer : Looked) (st : Stage) (q : PlaceId) → IsLet st → IsPlace plan q → n ≡ claimed q → LookedBy answer n → Looks plan answer st (Seen q) × Shows answer n
+  seen_so : (answer : Looked) (st : LeadState) (q : PlaceId) → IsLet st → IsPlace plan q → n ≡ claimed q → LookedBy answer n → Looks plan answer st (Seen q) × Shows answer n
   seen_so Free st q is near fits (inl l) = absurd (omega arith)
   seen_so Free st q is near fits (inr l) = absurd (omega arith)
   seen_so (Claimed p) st q is near fits (small, e) = let same : q ≡ p = place_eq q p (omega arith) in ((subst (IsPlace plan) same near, is, ap Seen same), e)
@@ -83,7 +83,7 @@ module _ (plan : Plan) (few : count_of_places plan ≤ 64) (n : ℕ) where
   gone_so (Ended p) q m near (inr (inl x)) (small, e) = absurd (omega arith)
   gone_so (Ended p) q m near (inr (inr x)) (small, e) = let same : q ≡ p = place_eq q p (omega arith) in ((subst (IsPlace plan) same near, (m, (λ i. Gone (same i) m), refl)), e)
 
-  pub looked_so : (answer : Looked) (st : Stage) → IsLetOrGone st → HasPlace (Some plan) (looked st n) → LookFits (looked st n) n → LookedBy answer n →
+  pub looked_so : (answer : Looked) (st : LeadState) → IsLetOrGone st → HasPlace (Some plan) (looked st n) → LookFits (looked st n) n → LookedBy answer n →
       Looks plan answer st (looked st n) × Shows answer n
   looked_so answer NotLet is near fits l = absurd (⊎_elim (λ x. x) (λ x. x) is)
   looked_so answer Let is near fits l = dite (ℕ_discrete (n / 256) 1)

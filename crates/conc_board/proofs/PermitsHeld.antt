@@ -6,9 +6,9 @@ use Rattle.conc_types.specs.declared.event.PlaceId.{PlaceId}
 use Rattle.conc_types.specs.declared.event.RequestId.{RequestId}
 use Rattle.conc_types.specs.declared.plan.Plan.{Plan}
 use Rattle.conc_board_seats.specs.declared.views.Doing.TheVariants.{Serves}
-use Rattle.conc_board_seats.specs.declared.views.Stage.TheVariants.{Gone}
+use Rattle.conc_board_seats.specs.declared.views.LeadState.TheVariants.{Gone}
 use Rattle.conc_board_seats.specs.Rule.{BoardState, Keep, Runs, Works, doing_at, exclude, view_at}
-use Rattle.conc_board_seats.specs.Stages.{IsLive, stage_at}
+use Rattle.conc_board_seats.specs.LeadStates.{IsLive, lead_state_at}
 use Rattle.conc_board_seats.specs.Words.{IsPlace, IsRequest, request_of, request_word}
 use Rattle.conc_board_seats.proofs.Facts.{exclude-self}
 use Rattle.conc_board_seats.proofs.HandSteps.{has_permit}
@@ -23,11 +23,11 @@ module _ (plan : Plan) (s : BoardState) (k : Keep plan s) where
 
   -- its request has the go there
   pub gone_there : (j : ℕ) (r : RequestId) (p : PlaceId) (stop : Bool) → (view_at s.views j).doing ≡ Serves r p stop →
-      (m : Bool) × (stage_at (view_at s.views k.lead).stages (request_word r) ≡ Gone p m)
+      (m : Bool) × (lead_state_at (view_at s.views k.lead).lead_states (request_word r) ≡ Gone p m)
   gone_there j r p stop e = let f = works j r p stop e in let i = request_word r in
-      let t = has_permit plan (doing_at s.views k.owner) (request_of i) p stop (stage_at (view_at s.views k.lead).stages i) (word s i) (home s i) k.few_places f.2 f.3 (k.each_request i (omega (arith, f.1.from_one, f.1.within))) in (t.0, t.1)
+      let t = has_permit plan (doing_at s.views k.owner) (request_of i) p stop (lead_state_at (view_at s.views k.lead).lead_states i) (word s i) (home s i) k.few_places f.2 f.3 (k.each_request i (omega (arith, f.1.from_one, f.1.within))) in (t.0, t.1)
 
-  live : (j : ℕ) (r : RequestId) (p : PlaceId) → IsServing s.views j r p → IsLive (stage_at (view_at s.views k.lead).stages (request_word r))
+  live : (j : ℕ) (r : RequestId) (p : PlaceId) → IsServing s.views j r p → IsLive (lead_state_at (view_at s.views k.lead).lead_states (request_word r))
   live j r p e = subst IsLive (sym (gone_there j r p e.0 e.1).1) tt
 
   number : (j : ℕ) (r : RequestId) (p : PlaceId) → IsServing s.views j r p → request_of (request_word r) ≡ r

@@ -1,11 +1,11 @@
--- How far a request has come, by its stage and its word.
+-- How far a request has come, by its lead state and its word.
 use Rattle.std.proofs.Common.{◌≡◌, ℕ, ◌/◌, ◌≤◌, ◌⊎◌, ◌==◌, if◌then◌else◌, Bool, true, false, refl, inl, inr, ⊎_elim, arith, Some}
 use Rattle.conc_types.specs.declared.event.PlaceId.{PlaceId}
 use Rattle.conc_types.specs.declared.plan.Plan.{Plan}
 use Rattle.conc_law.specs.Places.{count_of_places}
-use Rattle.conc_board_seats.specs.declared.views.Stage.{Stage}
-use Rattle.conc_board_seats.specs.declared.views.Stage.TheVariants.{NotLet, Let, Seen, Gone, Got, Done}
-use Rattle.conc_board_seats.specs.Stages.{IsLet, IsSettled, WordFits, looked}
+use Rattle.conc_board_seats.specs.declared.views.LeadState.{LeadState}
+use Rattle.conc_board_seats.specs.declared.views.LeadState.TheVariants.{NotLet, Let, Seen, Gone, Got, Done}
+use Rattle.conc_board_seats.specs.LeadStates.{IsLet, IsSettled, WordFits, looked}
 use Rattle.conc_board_seats.specs.Steps.{HasPlace, LookFits}
 use Rattle.conc_board_seats.specs.Words.{IsPlace, claimed, done, idle, place_in, released}
 use Rattle.conc_board.specs.declared.lead.Progress.{Progress}
@@ -13,8 +13,8 @@ use Rattle.conc_board.specs.declared.lead.Progress.TheVariants as progress
 use Rattle.conc_board.specs.Answers.{ProgressBy}
 use Rattle.conc_board.specs.Looks.{HasProgress, LooksOn}
 
--- what was found fits the stage before the load too
-pub fits_before : (st : Stage) (n : ℕ) → LookFits (looked st n) n → WordFits st n
+-- what was found fits the lead state before the load too
+pub fits_before : (st : LeadState) (n : ℕ) → LookFits (looked st n) n → WordFits st n
 fits_before NotLet n fits = fits
 fits_before Let n fits = go (n / 256 == 1) fits
   where
@@ -26,8 +26,8 @@ fits_before (Gone p m) n fits = fits
 fits_before (Got p m) n fits = fits
 fits_before (Done m) n fits = fits
 
--- the stage stays, or the claim is seen
-pub looks_on : (st : Stage) (n : ℕ) → LooksOn st (looked st n)
+-- the lead state stays, or the claim is seen
+pub looks_on : (st : LeadState) (n : ℕ) → LooksOn st (looked st n)
 looks_on NotLet n = refl
 looks_on Let n = go (n / 256 == 1)
   where
@@ -40,7 +40,7 @@ looks_on (Got p m) n = refl
 looks_on (Done m) n = refl
 
 module _ (plan : Plan) (few : count_of_places plan ≤ 64) (n : ℕ) where
-  let_so : (answer : Progress) (p : PlaceId) → (n ≡ released) ⊎ (IsPlace plan p × (n ≡ claimed p)) → ProgressBy answer n → (st : Stage) → IsLet st → HasProgress answer st
+  let_so : (answer : Progress) (p : PlaceId) → (n ≡ released) ⊎ (IsPlace plan p × (n ≡ claimed p)) → ProgressBy answer n → (st : LeadState) → IsLet st → HasProgress answer st
   let_so progress.NotLet p (inl e) by st is = absurd (omega arith)
   let_so progress.NotLet p (inr (near, e)) by st is = absurd (omega arith)
   let_so progress.Let p fits by st is = is
@@ -77,7 +77,7 @@ module _ (plan : Plan) (few : count_of_places plan ≤ 64) (n : ℕ) where
   let_or_seen false near fits answer by = let_so answer (place_in 256 n) (inl fits) by Let tt
 
   -- the answer tells how far the request had come
-  pub progress_so : (answer : Progress) (st : Stage) → IsSettled st → HasPlace (Some plan) (looked st n) → LookFits (looked st n) n → ProgressBy answer n
+  pub progress_so : (answer : Progress) (st : LeadState) → IsSettled st → HasPlace (Some plan) (looked st n) → LookFits (looked st n) n → ProgressBy answer n
       → HasProgress answer st
   progress_so answer NotLet calm near fits by = idle_so answer fits by
   progress_so answer Let calm near fits by = let_or_seen (n / 256 == 1) near fits answer by

@@ -4,15 +4,15 @@ use mathlib.Core.Logic.{dite}
 use native.Mathlib.Decide.{ℕ_discrete}
 use Rattle.conc_board_seats.specs.declared.posted.Posted.{Posted}
 use Rattle.conc_board_seats.specs.declared.views.Doing.TheVariants.{Idle}
-use Rattle.conc_board_seats.specs.declared.views.Stage.{Stage}
+use Rattle.conc_board_seats.specs.declared.views.LeadState.{LeadState}
 use Rattle.conc_board_seats.specs.declared.views.View.{View}
-use Rattle.conc_board_seats.specs.Stages.{marked, stage_at}
-use Rattle.conc_board_seats.specs.Steps.{noted, with_doing, with_left, with_stage}
+use Rattle.conc_board_seats.specs.LeadStates.{lead_state_at, marked}
+use Rattle.conc_board_seats.specs.Steps.{noted, with_doing, with_lead_state, with_left}
 use Rattle.conc_board.specs.Points.{PostsAreRecorded, StepsAreRecorded}
 
-either_found : (v : View) (i n : ℕ) (stage : Stage) (b : Bool) → (if b then with_stage v i stage n else noted v i n).found ≡ v.found ++ (i, n) ∷ []
-either_found v i n stage true = refl
-either_found v i n stage false = refl
+either_found : (v : View) (i n : ℕ) (lead_state : LeadState) (b : Bool) → (if b then with_lead_state v i lead_state n else noted v i n).found ≡ v.found ++ (i, n) ∷ []
+either_found v i n lead_state true = refl
+either_found v i n lead_state false = refl
 
 left_found : (v : View) (slots : List (ℕ × Option Posted)) (i n : ℕ) → (with_left (with_doing v Idle i n) slots).found ≡ v.found ++ (i, n) ∷ []
 left_found v [] i n = refl
@@ -25,7 +25,7 @@ recorded = record {
   look = λ st m n m' t. ap (λ (v : View). v.found) t.0;
   go = λ st m n m' t. ap (λ (v : View). v.found) t.0;
   back = λ st m n m' t. ap (λ (v : View). v.found) t.0;
-  stop = λ st m n m' t. ap (λ (v : View). v.found) t.0 ∙ either_found m.0 st.word n (marked (stage_at m.0.stages st.word)) (n == st.first);
+  stop = λ st m n m' t. ap (λ (v : View). v.found) t.0 ∙ either_found m.0 st.word n (marked (lead_state_at m.0.lead_states st.word)) (n == st.first);
   get = λ st m n m' t. dite (ℕ_discrete (n / 256) 4) (λ e. ap (λ (v : View). v.found) (t.0 e).1.1) (λ ne. ap (λ (v : View). v.found) (t.1 ne).0);
   clear = λ st m n m' t. ap (λ (v : View). v.found) t.0;
   switch = λ st m n m' t. ap (λ (v : View). v.found) t.0;
@@ -40,9 +40,9 @@ recorded = record {
   left = refl;
 }
 
-either_posts : (v : View) (i n : ℕ) (stage : Stage) (b : Bool) → (if b then with_stage v i stage n else noted v i n).posts ≡ v.posts
-either_posts v i n stage true = refl
-either_posts v i n stage false = refl
+either_posts : (v : View) (i n : ℕ) (lead_state : LeadState) (b : Bool) → (if b then with_lead_state v i lead_state n else noted v i n).posts ≡ v.posts
+either_posts v i n lead_state true = refl
+either_posts v i n lead_state false = refl
 
 pub posts_recorded : PostsAreRecorded
 posts_recorded = record {
@@ -54,7 +54,7 @@ posts_recorded = record {
   look = λ st m n m' t. ap (λ (v : View). v.posts) t.0;
   go = λ st m n m' t. ap (λ (v : View). v.posts) t.0;
   back = λ st m n m' t. ap (λ (v : View). v.posts) t.0;
-  stop = λ st m n m' t. ap (λ (v : View). v.posts) t.0 ∙ either_posts m.0 st.word n (marked (stage_at m.0.stages st.word)) (n == st.first);
+  stop = λ st m n m' t. ap (λ (v : View). v.posts) t.0 ∙ either_posts m.0 st.word n (marked (lead_state_at m.0.lead_states st.word)) (n == st.first);
   clear = λ st m n m' t. ap (λ (v : View). v.posts) t.0;
   switch = λ st m n m' t. ap (λ (v : View). v.posts) t.0;
   claim = λ st m n m' t. ap (λ (v : View). v.posts) t.0;

@@ -7,12 +7,12 @@ use Rattle.conc_types.specs.declared.event.RequestId.{RequestId}
 use Rattle.conc_types.specs.declared.plan.Plan.{Plan}
 use Rattle.conc_board_seats.specs.declared.posted.Posted.{Posted}
 use Rattle.conc_board_seats.specs.declared.views.Doing.TheVariants.{Idle, Waits, Serves}
-use Rattle.conc_board_seats.specs.declared.views.Stage.{Stage}
-use Rattle.conc_board_seats.specs.declared.views.Stage.TheVariants.{Gone, Got}
+use Rattle.conc_board_seats.specs.declared.views.LeadState.{LeadState}
+use Rattle.conc_board_seats.specs.declared.views.LeadState.TheVariants.{Gone, Got}
 use Rattle.conc_board_seats.specs.declared.views.View.{View}
 use Rattle.conc_board_seats.specs.Places.{has}
 use Rattle.conc_board_seats.specs.Rule.{AreApart, BoardState, HasLeft, IsAtOwn, Runs, home_at, nobody, first_view, view_at}
-use Rattle.conc_board_seats.specs.Stages.{WordFits, is_marked, stage_at}
+use Rattle.conc_board_seats.specs.LeadStates.{WordFits, is_marked, lead_state_at}
 use Rattle.conc_board_seats.specs.Steps.{Slot, Tells, back_tells, claim_tells, clear_tells, given, go_tells, got_tells, joined, kept, let_out_tells, look_tells, poll_tells, post_tells, stop_tells, switch_tells, warn_tells}
 use Rattle.conc_board_seats.specs.Words.{IsRequest, claimed, count_of_requests, ended, request_of, request_word, running, stopping}
 
@@ -21,23 +21,24 @@ use Rattle.conc_board_seats.specs.Words.{IsRequest, claimed, count_of_requests, 
 abbrev pub Leads : BoardState → ℕ → Type 0
 Leads s j = (view_at s.views j).leads ≡ true
 
--- the stage that the seat with this number knows
-abbrev pub stage_by : BoardState → ℕ → ℕ → Stage
-stage_by s lead i = stage_at (view_at s.views lead).stages i
+-- the lead state that the seat with this number knows
+abbrev pub lead_state_by : BoardState → ℕ → ℕ → LeadState
+lead_state_by s lead i = lead_state_at (view_at s.views lead).lead_states i
 
 -- the place is one of the seat's
 abbrev pub Owns : BoardState → ℕ → PlaceId → Type 0
 Owns s j p = IsTrue (has (view_at s.views j).places p)
 
 -- one seat leads, and of the requests that are live in its view no two exclude each other
-pub record LeadStagesExclude (plan : Plan) (s : BoardState) : Type 0 where
+pub record LeadStatesExclude (plan : Plan) (s : BoardState) : Type 0 where
   pub some_lead : (lead : ℕ) × Leads s lead
   pub one_lead : (lead other : ℕ) → Leads s lead → Leads s other → lead ≡ other
-  pub apart : (lead : ℕ) → Leads s lead → AreApart plan (view_at s.views lead).stages
+  pub apart : (lead : ℕ) → Leads s lead → AreApart plan (view_at s.views lead).lead_states
 
--- the word of each request fits its stage
-pub record WordsFitStages (plan : Plan) (s : BoardState) : Type 0 where
-  pub each : (lead i : ℕ) → Leads s lead → i < count_of_requests plan → WordFits (stage_by s lead i) (slice_index s.words i)
+-- the word of each request fits its lead state
+pub record WordsFitLeadStates (plan : Plan) (s : BoardState) : Type 0 where
+  pub each : (lead i : ℕ) → Leads s lead → i < count_of_requests plan
+      → WordFits (lead_state_by s lead i) (slice_index s.words i)
 
 -- a place belongs to one seat, and what a hand does is at a place of its own
 pub record PlacesHaveOneOwner (s : BoardState) : Type 0 where
@@ -64,13 +65,14 @@ pub record SlotsAreWhereTheyBelong (plan : Plan) (s : BoardState) : Type 0 where
   pub with_hand : (j : ℕ) (r : RequestId) (p : PlaceId) (stop : Bool) → (view_at s.views j).doing ≡ Serves r p stop →
       home_at s.homes (request_word r) ≡ none
   pub with_lead : (lead i : ℕ) (p : PlaceId) (marked : Bool) → Leads s lead → i < count_of_requests plan →
-      stage_by s lead i ≡ Got p marked → home_at s.homes i ≡ none
+      lead_state_by s lead i ≡ Got p marked → home_at s.homes i ≡ none
   pub left : (lead i : ℕ) (p : PlaceId) (marked : Bool) → Leads s lead → i < count_of_requests plan →
-      stage_by s lead i ≡ Gone p marked → slice_index s.words i ≡ ended p → HasLeft plan (request_of i) marked (home_at s.homes i)
+      lead_state_by s lead i ≡ Gone p marked → slice_index s.words i ≡ ended p
+      → HasLeft plan (request_of i) marked (home_at s.homes i)
   pub empty : (lead i : ℕ) → Leads s lead → i < count_of_requests plan →
       ((j : ℕ) (p : PlaceId) (stop : Bool) → (view_at s.views j).doing ≢ Serves (request_of i) p stop) →
-      ((p : PlaceId) (marked : Bool) → stage_by s lead i ≢ Got p marked) →
-      ((p : PlaceId) (marked : Bool) → stage_by s lead i ≡ Gone p marked → slice_index s.words i ≢ ended p) →
+      ((p : PlaceId) (marked : Bool) → lead_state_by s lead i ≢ Got p marked) →
+      ((p : PlaceId) (marked : Bool) → lead_state_by s lead i ≡ Gone p marked → slice_index s.words i ≢ ended p) →
       home_at s.homes i ≡ some None
 
 -- the words of places and of the end are 0 or 1
@@ -80,13 +82,13 @@ pub record FlagsAreBits (plan : Plan) (s : BoardState) : Type 0 where
 -- no request whose word is Running is marked, and each whose word is Stopping is
 pub record MarksStop (plan : Plan) (s : BoardState) : Type 0 where
   pub running : (lead i : ℕ) (p : PlaceId) → Leads s lead → i < count_of_requests plan → p.index < 64 →
-      slice_index s.words i ≡ running p → is_marked (stage_by s lead i) ≡ false
+      slice_index s.words i ≡ running p → is_marked (lead_state_by s lead i) ≡ false
   pub stopping : (lead i : ℕ) (p : PlaceId) → Leads s lead → i < count_of_requests plan → p.index < 64 →
-      slice_index s.words i ≡ stopping p → is_marked (stage_by s lead i) ≡ true
+      slice_index s.words i ≡ stopping p → is_marked (lead_state_by s lead i) ≡ true
 
 pub record Points (plan : Plan) (s : BoardState) : Type 0 where
-  pub stages : LeadStagesExclude plan s
-  pub words : WordsFitStages plan s
+  pub lead_states : LeadStatesExclude plan s
+  pub words : WordsFitLeadStates plan s
   pub places : PlacesHaveOneOwner s
   pub claims : ClaimsAreWaitedFor plan s
   pub permits : PermitsRun plan s

@@ -5,13 +5,13 @@ use Rattle.conc_types.specs.declared.event.RequestId.{RequestId}
 use Rattle.conc_types.specs.declared.plan.Plan.{Plan}
 use Rattle.conc_board_seats.specs.declared.posted.Posted.{Posted}
 use Rattle.conc_board_seats.specs.declared.views.Doing.{Doing}
-use Rattle.conc_board_seats.specs.declared.views.Stage.{Stage}
+use Rattle.conc_board_seats.specs.declared.views.LeadState.{LeadState}
 use Rattle.conc_board_seats.specs.Courses.{GoesOn}
 use Rattle.conc_board_seats.specs.Doings.{IsWithin}
 use Rattle.conc_board_seats.specs.Places.{has}
 use Rattle.conc_board_seats.specs.Reports.{MayLeave}
 use Rattle.conc_board_seats.specs.Rule.{Runs, exclude}
-use Rattle.conc_board_seats.specs.Stages.{IsLetOrGone, IsSettled, WordFits, is_marked, stage_in}
+use Rattle.conc_board_seats.specs.LeadStates.{IsLetOrGone, IsSettled, WordFits, is_marked, lead_state_in}
 use Rattle.conc_board_seats.specs.Words.{IsPlace, count_of_requests, place_word, request_word}
 use Rattle.conc_board.specs.Admission.{IsAdmitted}
 use Rattle.conc_board.specs.declared.board.Board.{Board}
@@ -36,9 +36,9 @@ IsFlagSeen answer n = (n ≤ 1) × (answer ≡ (n == 1))
 
 -- ---- leads
 
--- the stage of a request in the lead's view
-abbrev pub stage_of : Lead → RequestId → Stage
-stage_of lead r = stage_in lead.seat.me.0.stages r
+-- the lead state of a request in the lead's view
+abbrev pub lead_state_of : Lead → RequestId → LeadState
+lead_state_of lead r = lead_state_in lead.seat.me.0.lead_states r
 
 -- the places that are the lead's
 abbrev pub places_of_lead : Lead → List PlaceId
@@ -56,46 +56,46 @@ posts_of_lead lead = lead.seat.me.0.posts
 abbrev pub LeadFinds : ℕ → (ℕ → Type 0) → Lead → Lead → Type 0
 LeadFinds word IsSo old new = AddsOne word IsSo (found_by_lead old) (found_by_lead new)
 
--- it found the word of the request as its stage has it
+-- it found the word of the request as its lead state has it
 abbrev pub FindsFitting : RequestId → Lead → Lead → Type 0
-FindsFitting r old new = LeadFinds (request_word r) (WordFits (stage_of old r)) old new
+FindsFitting r old new = LeadFinds (request_word r) (WordFits (lead_state_of old r)) old new
 
 -- this may be left for the request, by its mark
 abbrev pub IsLeftFor : Board → Lead → RequestId → Posted → Type 0
-IsLeftFor board lead r posted = MayLeave (plan_of board) r (is_marked (stage_of lead r)) posted
+IsLeftFor board lead r posted = MayLeave (plan_of board) r (is_marked (lead_state_of lead r)) posted
 
 -- the lead is the one of this board, and knows its plan
 pub record IsLeadOf (board : Board) (lead : Lead) : Type 0 where
   pub seat : lead.seat.table_id ≡ board.table.shared.table_id
   pub plan : lead.seat.me.0.plan ≡ Some (plan_of board)
-  pub stages : length lead.seat.me.0.stages ≡ count_of_requests (plan_of board)
-  pub settled : (r : RequestId) → IsSettled (stage_of lead r)
+  pub lead_states : length lead.seat.me.0.lead_states ≡ count_of_requests (plan_of board)
+  pub settled : (r : RequestId) → IsSettled (lead_state_of lead r)
 
 -- the request excludes none that is let out or has the go
 abbrev pub IsApart : Board → RequestId → Lead → Type 0
 IsApart board r lead =
-    (q : RequestId) → IsLetOrGone (stage_of lead q) → IsFalse (exclude (plan_of board) r q)
+    (q : RequestId) → IsLetOrGone (lead_state_of lead q) → IsFalse (exclude (plan_of board) r q)
 
 -- each place of the board is the lead's
 pub record HasAllPlaces (board : Board) (lead : Lead) : Type 0 where
   pub each : (p : PlaceId) → IsPlace (plan_of board) p → IsTrue (has (places_of_lead lead) p)
 
--- each request is at the stage that it was at
-pub record SameStages (old new : Lead) : Type 0 where
-  pub each : (r : RequestId) → stage_of new r ≡ stage_of old r
+-- each request is in the lead state that it was in
+pub record SameLeadStates (old new : Lead) : Type 0 where
+  pub each : (r : RequestId) → lead_state_of new r ≡ lead_state_of old r
 
--- a call on a request: its stage goes on, other requests are at the stages that they were at, and
+-- a call on a request: its lead state goes on, other requests are in the lead states that they were in, and
 -- the lead has the places that it had
 pub record Changes (board : Board) (r : RequestId) (old new : Lead) : Type 0 where
   pub lead : IsLeadOf board new
-  pub goes_on : GoesOn (stage_of old r) (stage_of new r)
-  pub others : (q : RequestId) → q ≢ r → stage_of new q ≡ stage_of old q
+  pub goes_on : GoesOn (lead_state_of old r) (lead_state_of new r)
+  pub others : (q : RequestId) → q ≢ r → lead_state_of new q ≡ lead_state_of old q
   pub places : places_of_lead new ≡ places_of_lead old
 
 -- a call on no request
-pub record KeepsStages (board : Board) (old new : Lead) : Type 0 where
+pub record KeepsLeadStates (board : Board) (old new : Lead) : Type 0 where
   pub lead : IsLeadOf board new
-  pub stages : SameStages old new
+  pub lead_states : SameLeadStates old new
   pub places : places_of_lead new ≡ places_of_lead old
 
 -- ---- hands

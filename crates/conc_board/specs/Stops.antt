@@ -3,19 +3,19 @@ use Rattle.std.specs.Prelude.{◌≡◌, ℕ, ◌==◌, ◌||◌, Bool, false, [
 use Rattle.conc_types.specs.declared.event.PlaceId.{PlaceId}
 use Rattle.conc_types.specs.declared.event.RequestId.{RequestId}
 use Rattle.conc_board_seats.specs.declared.posted.Posted.{Posted}
-use Rattle.conc_board_seats.specs.declared.views.Stage.TheVariants.{Gone, Done}
+use Rattle.conc_board_seats.specs.declared.views.LeadState.TheVariants.{Gone, Done}
 use Rattle.conc_board_seats.specs.Rule.{Runs}
-use Rattle.conc_board_seats.specs.Stages.{WordFits}
+use Rattle.conc_board_seats.specs.LeadStates.{WordFits}
 use Rattle.conc_board_seats.specs.Words.{ended, request_word, running}
 use Rattle.conc_board.specs.declared.lead.Lead.{Lead}
-use Rattle.conc_board.specs.Seats.{AddsOne, found_by_lead, posts_of_lead, stage_of}
+use Rattle.conc_board.specs.Seats.{AddsOne, found_by_lead, lead_state_of, posts_of_lead}
 
 -- the answer of an exchange that found n in the word of a request with the go at a place
 pub record StopsAt (place : PlaceId) (answer : Bool) (r : RequestId) (old new : Lead) : Type 0 where
   pub marked : Bool
   pub exchanged : ℕ
-  pub was : stage_of old r ≡ Gone place marked
-  pub now : stage_of new r ≡ Gone place (answer || marked)
+  pub was : lead_state_of old r ≡ Gone place marked
+  pub now : lead_state_of new r ≡ Gone place (answer || marked)
   pub answers : answer ≡ (exchanged == running place)
   pub fits : WordFits (Gone place marked) exchanged
   pub found : found_by_lead new ≡ found_by_lead old ++ (request_word r, exchanged) ∷ []
@@ -27,8 +27,8 @@ pub record Stops (answer : Bool) (r : RequestId) (old new : Lead) : Type 0 where
   pub marked : Bool
   pub loaded : ℕ
   pub exchanged : ℕ
-  pub was : stage_of old r ≡ Gone place marked
-  pub now : stage_of new r ≡ Gone place (answer || marked)
+  pub was : lead_state_of old r ≡ Gone place marked
+  pub now : lead_state_of new r ≡ Gone place (answer || marked)
   pub answers : answer ≡ (exchanged == running place)
   pub fits : WordFits (Gone place marked) exchanged
   pub found :
@@ -38,8 +38,8 @@ pub record Stops (answer : Bool) (r : RequestId) (old new : Lead) : Type 0 where
 pub record Collects (r : RequestId) (old new : Lead) : Type 0 where
   pub place : PlaceId
   pub marked : Bool
-  pub was : stage_of old r ≡ Gone place marked
-  pub now : stage_of new r ≡ Done marked
+  pub was : lead_state_of old r ≡ Gone place marked
+  pub now : lead_state_of new r ≡ Done marked
   pub found :
       found_by_lead new ≡ found_by_lead old ++ (request_word r, ended place) ∷ (request_word r, ended place) ∷ []
 
@@ -51,7 +51,7 @@ TakesPost r posted old new = posts_of_lead new ≡ posts_of_lead old ++ (request
 pub record FindsRunning (r : RequestId) (old new : Lead) : Type 0 where
   pub place : PlaceId
   pub marked : Bool
-  pub was : stage_of old r ≡ Gone place marked
-  pub same : stage_of new r ≡ stage_of old r
+  pub was : lead_state_of old r ≡ Gone place marked
+  pub same : lead_state_of new r ≡ lead_state_of old r
   pub none_taken : posts_of_lead new ≡ posts_of_lead old
   pub found : AddsOne (request_word r) (Runs false place) (found_by_lead old) (found_by_lead new)

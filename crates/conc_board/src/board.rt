@@ -5,7 +5,7 @@ ghost use Rattle.conc_board_seats.specs.Places.{AreAmong, without};
 ghost use Rattle.conc_board_seats.specs.Words.{count_of_requests, count_of_words};
 ghost use Rattle.conc_board.specs.Owners.{AreOwners};
 ghost use Rattle.conc_board_seats.specs.declared.views.Doing.TheVariants as does;
-ghost use Rattle.conc_board_seats.specs.declared.views.Stage.TheVariants as stage;
+ghost use Rattle.conc_board_seats.specs.declared.views.LeadState.TheVariants as lead_state;
 
 use crate::bells::Bells;
 use crate::hand::Hand;
@@ -41,13 +41,14 @@ pub struct Board {
 }
 
 impl Board {
-    ghost use Rattle.conc_board.specs.Seats.{doing_of, found_by_hand, found_by_lead, HasAllPlaces, IsHandOf, IsLeadOf, plan_of, places_of_hand, places_of_lead, SameStages, stage_of};
+    ghost use Rattle.conc_board.specs.Seats.{doing_of, found_by_hand, found_by_lead, HasAllPlaces, IsHandOf, IsLeadOf, lead_state_of, plan_of, places_of_hand, places_of_lead, SameLeadStates};
 
     /// A board on which nothing is let out. The lead has all places.
     pub fn new(alloc: Global, plan: &Plan) -> Result<(Board, Lead), NoMemory>
         ensures plan { IfOk result (λ made. plan_of made.0 ≡ plan.now) }
         ensures lead { IfOk result (λ made. IsLeadOf made.0 made.1) }
-        ensures stages { IfOk result (λ made. (r : RequestId) → stage_of made.1 r ≡ stage.NotLet) }
+        ensures lead_states { IfOk result
+            (λ made. (r : RequestId) → lead_state_of made.1 r ≡ lead_state.NotLet) }
         ensures places { IfOk result (λ made. HasAllPlaces made.0 made.1) }
         ensures found { IfOk result (λ made. found_by_lead made.1 ≡ []) }
     {
@@ -74,7 +75,7 @@ impl Board {
         requires places { AreAmong places.now (places_of_lead lead.old) }
 
         ensures lead { IsLeadOf self.now lead.new }
-        ensures stages { SameStages lead.old lead.new }
+        ensures lead_states { SameLeadStates lead.old lead.new }
         ensures left { places_of_lead lead.new ≡ without (places_of_lead lead.old) places.now }
         ensures found { found_by_lead lead.new ≡ found_by_lead lead.old }
 
@@ -92,7 +93,7 @@ impl Board {
         requires places { AreAmong places.now (places_of_lead lead.old) }
 
         ensures lead { IsLeadOf self.now lead.new }
-        ensures stages { SameStages lead.old lead.new }
+        ensures lead_states { SameLeadStates lead.old lead.new }
         ensures left { places_of_lead lead.new ≡ without (places_of_lead lead.old) places.now }
         ensures found { found_by_lead lead.new ≡ found_by_lead lead.old }
 
@@ -112,7 +113,7 @@ impl Board {
         requires idle { doing_of hand ≡ does.Idle }
 
         ensures lead { IsLeadOf self.now lead.new }
-        ensures stages { SameStages lead.old lead.new }
+        ensures lead_states { SameLeadStates lead.old lead.new }
         ensures places { places_of_lead lead.new ≡ places_of_hand hand ++ places_of_lead lead.old }
         ensures found { found_by_lead lead.new ≡ found_by_lead lead.old }
     {

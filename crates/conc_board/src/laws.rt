@@ -1,14 +1,14 @@
-// Laws on a board: over every state that its rule allows, every step and every course of stages. Each
+// Laws on a board: over every state that its rule allows, every step and every course of lead states. Each
 // function here has an empty body; its contract is the law.
 ghost use Rattle.std.specs.Prelude.{◌≡◌, ◌≤◌, ℕ, List, IsTrue};
 ghost use Rattle.conc_types.specs.declared.plan.Plan.{Plan};
-ghost use Rattle.conc_board_seats.specs.declared.views.Stage.{Stage};
-ghost use Rattle.conc_board_seats.specs.declared.views.Stage.TheVariants.{NotLet};
+ghost use Rattle.conc_board_seats.specs.declared.views.LeadState.{LeadState};
+ghost use Rattle.conc_board_seats.specs.declared.views.LeadState.TheVariants.{NotLet};
 ghost use Rattle.conc_board_seats.specs.declared.views.View.{View};
 ghost use Rattle.conc_board_seats.specs.Courses.{IsCourse};
 ghost use Rattle.conc_board_seats.specs.Doings.{carried_by};
 ghost use Rattle.conc_board_seats.specs.Rule.{BoardState, Keep};
-ghost use Rattle.conc_board_seats.specs.Stages.{is_marked};
+ghost use Rattle.conc_board_seats.specs.LeadStates.{is_marked};
 ghost use Rattle.conc_board.specs.Counts.{AreMarked, count_of_goes, count_of_takes};
 ghost use Rattle.conc_board.specs.Permits.{HaveApart};
 ghost use Rattle.conc_board.specs.Points.{DifferInFinds, Points, PostsAreRecorded, StepsAreRecorded};
@@ -51,19 +51,19 @@ pub fn steps_are_recorded()
     ensures posts { PostsAreRecorded }
 {}
 
-// ---- every course of the stages of one request, from one call of the lead's to the next
+// ---- every course of the lead states of one request, from one call of the lead's to the next
 
 /// What was left for a request is taken at most once for each go, and at most once in all.
 pub fn reports_come_once()
-    ensures goes { (stages : List Stage) → IsCourse NotLet stages →
-        count_of_takes NotLet stages ≤ count_of_goes NotLet stages }
-    ensures once { (stages : List Stage) → IsCourse NotLet stages
-        → count_of_goes NotLet stages ≤ 1 }
+    ensures goes { (lead_states : List LeadState) → IsCourse NotLet lead_states →
+        count_of_takes NotLet lead_states ≤ count_of_goes NotLet lead_states }
+    ensures once { (lead_states : List LeadState) → IsCourse NotLet lead_states
+        → count_of_goes NotLet lead_states ≤ 1 }
 {}
 
 /// A mark stays.
 pub fn marks_stay()
-    ensures { (stage : Stage) (stages : List Stage) → IsCourse stage stages
-        → IsTrue (is_marked stage) →
-        AreMarked stages }
+    ensures { (lead_state : LeadState) (lead_states : List LeadState)
+        → IsCourse lead_state lead_states → IsTrue (is_marked lead_state)
+        → AreMarked lead_states }
 {}

@@ -52,22 +52,22 @@ pub struct NotYet;
 
 impl Board {
     ghost use Rattle.std.specs.Prelude.{◌<◌, ◌≤◌, ◌+◌, ◌++◌, ℕ, Bool, IfOk, IsFalse, OnErr, OnOk, false};
-    ghost use Rattle.conc_board_seats.specs.Stages.{IsGone, IsLet, IsLetOrGone};
+    ghost use Rattle.conc_board_seats.specs.LeadStates.{IsGone, IsLet, IsLetOrGone};
     ghost use Rattle.conc_board_seats.specs.Words as spec;
     ghost use Rattle.conc_board_seats.specs.Words.{end_word, IsPlace, IsRequest, place_word};
-    ghost use Rattle.conc_board_seats.specs.declared.views.Stage.TheVariants as stage;
-    ghost use Rattle.conc_board.specs.Looks.{HasProgress, LooksOn, SeesStage, Shows};
-    ghost use Rattle.conc_board.specs.Seats.{Changes, FindsFitting, IsApart, IsFlag, IsLeadOf, IsLeftFor, KeepsStages, LeadFinds, plan_of, stage_of};
+    ghost use Rattle.conc_board_seats.specs.declared.views.LeadState.TheVariants as lead_state;
+    ghost use Rattle.conc_board.specs.Looks.{HasProgress, LooksOn, SeesLeadState, Shows};
+    ghost use Rattle.conc_board.specs.Seats.{Changes, FindsFitting, IsApart, IsFlag, IsLeadOf, IsLeftFor, KeepsLeadStates, LeadFinds, lead_state_of, plan_of};
     ghost use Rattle.conc_board.specs.Stops.{Collects, FindsRunning, Stops as StopsAs, StopsAt, TakesPost};
 
     /// Lets a request out that is not on the board and excludes none that is.
     pub fn let_out(&self, lead: &mut Lead, r: RequestId)
         requires lead { IsLeadOf self.now lead.old }
         requires request { IsRequest (plan_of self.now) r }
-        requires stage { stage_of lead.old r ≡ stage.NotLet }
+        requires lead_state { lead_state_of lead.old r ≡ lead_state.NotLet }
         requires apart { IsApart self.now r lead.old }
         ensures lead { Changes self.now r lead.old lead.new }
-        ensures stage { stage_of lead.new r ≡ stage.Let }
+        ensures lead_state { lead_state_of lead.new r ≡ lead_state.Let }
         ensures found { FindsFitting r lead.old lead.new }
     {
         self.table
@@ -81,9 +81,9 @@ impl Board {
     pub fn look(&self, lead: &mut Lead, r: RequestId) -> Looked
         requires lead { IsLeadOf self.now lead.old }
         requires request { IsRequest (plan_of self.now) r }
-        requires stage { IsLetOrGone (stage_of lead.old r) }
+        requires lead_state { IsLetOrGone (lead_state_of lead.old r) }
         ensures lead { Changes self.now r lead.old lead.new }
-        ensures stage { SeesStage self.now r result lead.old lead.new }
+        ensures lead_state { SeesLeadState self.now r result lead.old lead.new }
         ensures found { LeadFinds (spec.request_word r) (Shows result) lead.old lead.new }
     {
         let word = self
@@ -99,8 +99,8 @@ impl Board {
         requires lead { IsLeadOf self.now lead.old }
         requires request { IsRequest (plan_of self.now) r }
         ensures lead { Changes self.now r lead.old lead.new }
-        ensures progress { HasProgress result (stage_of lead.old r) }
-        ensures stage { LooksOn (stage_of lead.old r) (stage_of lead.new r) }
+        ensures progress { HasProgress result (lead_state_of lead.old r) }
+        ensures lead_state { LooksOn (lead_state_of lead.old r) (lead_state_of lead.new r) }
         ensures found { FindsFitting r lead.old lead.new }
     {
         let word = self
@@ -115,9 +115,9 @@ impl Board {
     pub fn go(&self, lead: &mut Lead, r: RequestId, place: PlaceId)
         requires lead { IsLeadOf self.now lead.old }
         requires request { IsRequest (plan_of self.now) r }
-        requires stage { stage_of lead.old r ≡ stage.Seen place }
+        requires lead_state { lead_state_of lead.old r ≡ lead_state.Seen place }
         ensures lead { Changes self.now r lead.old lead.new }
-        ensures stage { stage_of lead.new r ≡ stage.Gone place false }
+        ensures lead_state { lead_state_of lead.new r ≡ lead_state.Gone place false }
         ensures found { FindsFitting r lead.old lead.new }
     {
         self.table
@@ -130,9 +130,9 @@ impl Board {
     pub fn back(&self, lead: &mut Lead, r: RequestId)
         requires lead { IsLeadOf self.now lead.old }
         requires request { IsRequest (plan_of self.now) r }
-        requires stage { IsLet (stage_of lead.old r) }
+        requires lead_state { IsLet (lead_state_of lead.old r) }
         ensures lead { Changes self.now r lead.old lead.new }
-        ensures stage { stage_of lead.new r ≡ stage.NotLet }
+        ensures lead_state { lead_state_of lead.new r ≡ lead_state.NotLet }
         ensures found { FindsFitting r lead.old lead.new }
     {
         self.table
@@ -147,7 +147,7 @@ impl Board {
     pub fn stop(&self, lead: &mut Lead, r: RequestId) -> bool
         requires lead { IsLeadOf self.now lead.old }
         requires request { IsRequest (plan_of self.now) r }
-        requires stage { IsGone (stage_of lead.old r) }
+        requires lead_state { IsGone (lead_state_of lead.old r) }
         ensures lead { Changes self.now r lead.old lead.new }
         ensures stopped { StopsAs result r lead.old lead.new }
     {
@@ -159,10 +159,11 @@ impl Board {
     fn place_of_go(&self, lead: &mut Lead, r: RequestId) -> PlaceId
         requires lead { IsLeadOf self.now lead.old }
         requires request { IsRequest (plan_of self.now) r }
-        requires stage { IsGone (stage_of lead.old r) }
+        requires lead_state { IsGone (lead_state_of lead.old r) }
         ensures lead { Changes self.now r lead.old lead.new }
-        ensures same { stage_of lead.new r ≡ stage_of lead.old r }
-        ensures place { (marked : Bool) × (stage_of lead.old r ≡ stage.Gone result marked) }
+        ensures same { lead_state_of lead.new r ≡ lead_state_of lead.old r }
+        ensures place { (marked : Bool)
+            × (lead_state_of lead.old r ≡ lead_state.Gone result marked) }
         ensures found { FindsFitting r lead.old lead.new }
     {
         let word = self
@@ -176,7 +177,8 @@ impl Board {
     fn stop_at(&self, lead: &mut Lead, r: RequestId, place: PlaceId) -> bool
         requires lead { IsLeadOf self.now lead.old }
         requires request { IsRequest (plan_of self.now) r }
-        requires stage { (marked : Bool) × (stage_of lead.old r ≡ stage.Gone place marked) }
+        requires lead_state { (marked : Bool)
+            × (lead_state_of lead.old r ≡ lead_state.Gone place marked) }
         ensures lead { Changes self.now r lead.old lead.new }
         ensures stopped { StopsAt place result r lead.old lead.new }
     {
@@ -193,7 +195,7 @@ impl Board {
     pub fn collect(&self, lead: &mut Lead, r: RequestId) -> Result<Posted, NotYet>
         requires lead { IsLeadOf self.now lead.old }
         requires request { IsRequest (plan_of self.now) r }
-        requires stage { IsGone (stage_of lead.old r) }
+        requires lead_state { IsGone (lead_state_of lead.old r) }
         ensures lead { Changes self.now r lead.old lead.new }
         ensures posted { IfOk result (IsLeftFor self.now lead.old r) }
         ensures taken { IfOk result (λ posted. TakesPost r posted lead.old lead.new) }
@@ -216,7 +218,7 @@ impl Board {
     pub fn open_place(&self, lead: &mut Lead, place: PlaceId)
         requires lead { IsLeadOf self.now lead.old }
         requires place { IsPlace (plan_of self.now) place }
-        ensures lead { KeepsStages self.now lead.old lead.new }
+        ensures lead { KeepsLeadStates self.now lead.old lead.new }
         ensures found { LeadFinds (place_word (plan_of self.now) place) IsFlag lead.old lead.new }
     {
         self.set_place(lead, place, 1);
@@ -227,7 +229,7 @@ impl Board {
     pub fn close_place(&self, lead: &mut Lead, place: PlaceId)
         requires lead { IsLeadOf self.now lead.old }
         requires place { IsPlace (plan_of self.now) place }
-        ensures lead { KeepsStages self.now lead.old lead.new }
+        ensures lead { KeepsLeadStates self.now lead.old lead.new }
         ensures found { LeadFinds (place_word (plan_of self.now) place) IsFlag lead.old lead.new }
     {
         self.set_place(lead, place, 0);
@@ -237,7 +239,7 @@ impl Board {
         requires lead { IsLeadOf self.now lead.old }
         requires place { IsPlace (plan_of self.now) place }
         requires switch { switch ≤ 1 }
-        ensures lead { KeepsStages self.now lead.old lead.new }
+        ensures lead { KeepsLeadStates self.now lead.old lead.new }
         ensures found { LeadFinds (place_word (plan_of self.now) place) IsFlag lead.old lead.new }
     {
         let word = self.requests + place.index as usize;
@@ -249,7 +251,7 @@ impl Board {
     /// Tells all hands that there is no more to come.
     pub fn finish_all(&self, lead: &mut Lead)
         requires lead { IsLeadOf self.now lead.old }
-        ensures lead { KeepsStages self.now lead.old lead.new }
+        ensures lead { KeepsLeadStates self.now lead.old lead.new }
         ensures found { LeadFinds (end_word (plan_of self.now)) IsFlag lead.old lead.new }
     {
         let word = self.requests + self.places;

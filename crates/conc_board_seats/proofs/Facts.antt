@@ -1,4 +1,4 @@
--- Views looked up, the stages of the lead, and what the facts of one request rest on.
+-- Views looked up, the lead states of the lead, and what the facts of one request rest on.
 use Rattle.std.proofs.Common.{◌≡◌, ℕ, zero, suc, ◌+◌, ◌/◌, ◌<◌, ◌≤◌, ◌≢◌, ◌⊎◌, ◌==◌, ◌&&◌, ◌||◌, not, if◌then◌else◌, Bool, true, false, List, [], ◌∷◌, length, get_or, set, sym, refl, ap, ◌∙◌, subst, inl, inr, ⊎_elim, arith, replicate, get_or-set_other, get_or-set_same, eq-eqb, ne_eqb, Option, Some, None}
 use mathlib.Core.Logic.{dite}
 use mathlib.Core.Option.{some, some-ne-none, some-injective}
@@ -17,11 +17,11 @@ use Rattle.conc_law.proofs.Symmetry.{excludes_comm}
 use Rattle.conc_board_seats.specs.declared.posted.Posted.{Posted}
 use Rattle.conc_board_seats.specs.declared.views.Doing.{Doing}
 use Rattle.conc_board_seats.specs.declared.views.Doing.TheVariants.{Waits, Serves}
-use Rattle.conc_board_seats.specs.declared.views.Stage.{Stage}
-use Rattle.conc_board_seats.specs.declared.views.Stage.TheVariants.{NotLet, Let, Seen, Gone, Got, Done}
+use Rattle.conc_board_seats.specs.declared.views.LeadState.{LeadState}
+use Rattle.conc_board_seats.specs.declared.views.LeadState.TheVariants.{NotLet, Let, Seen, Gone, Got, Done}
 use Rattle.conc_board_seats.specs.declared.views.View.{View}
 use Rattle.conc_board_seats.specs.Rule.{AreApart, Fits, Home, Runs, exclude, home_at, nobody, view_at}
-use Rattle.conc_board_seats.specs.Stages.{IsLet, IsLive, WordFits, looked, stage_at}
+use Rattle.conc_board_seats.specs.LeadStates.{IsLet, IsLive, WordFits, lead_state_at, looked}
 use Rattle.conc_board_seats.specs.Steps.{HasPlace, LookFits}
 use Rattle.conc_board_seats.specs.Words.{IsPlace, claimed, place_in, request_of}
 
@@ -93,11 +93,11 @@ same_part f vs id v w at e j = let here = at_view vs id v at in dite (ℕ_discre
     let b : v ≡ view_at vs j = sym (ap (λ (k : ℕ). view_at vs k) is ∙ here.1) in ap f a ∙ (e ∙ ap f b))
     (λ other. ap f (get_or-set_other vs id j w nobody other))
 
--- ---- stages
+-- ---- lead states
 
 -- one request more is live, which excludes none that is
-pub apart_more : (plan : Plan) (ss : List Stage) (i : ℕ) (st : Stage) → AreApart plan ss →
-    ((j : ℕ) → IsLive (stage_at ss j) → exclude plan (request_of i) (request_of j) ≡ false) → AreApart plan (set ss i st)
+pub apart_more : (plan : Plan) (ss : List LeadState) (i : ℕ) (st : LeadState) → AreApart plan ss →
+    ((j : ℕ) → IsLive (lead_state_at ss j) → exclude plan (request_of i) (request_of j) ≡ false) → AreApart plan (set ss i st)
 apart_more plan ss i st apart alone x y ne lx ly = dite (ℕ_discrete x i)
     (λ (e : x ≡ i). ap (λ (z : ℕ). exclude plan (request_of z) (request_of y)) e ∙ alone y (subst IsLive (get_or-set_other ss i y st NotLet (λ (f : y ≡ i). ne (e ∙ sym f))) ly))
     (λ other. dite (ℕ_discrete y i)
@@ -105,16 +105,16 @@ apart_more plan ss i st apart alone x y ne lx ly = dite (ℕ_discrete x i)
     (λ (f : y ≢ i). apart x y ne (subst IsLive (get_or-set_other ss i x st NotLet other) lx) (subst IsLive (get_or-set_other ss i y st NotLet f) ly)))
 
 -- no request more is live
-pub apart_same : (plan : Plan) (ss : List Stage) (i : ℕ) (st : Stage) → AreApart plan ss → (IsLive st → IsLive (stage_at ss i)) → i < length ss →
+pub apart_same : (plan : Plan) (ss : List LeadState) (i : ℕ) (st : LeadState) → AreApart plan ss → (IsLive st → IsLive (lead_state_at ss i)) → i < length ss →
     AreApart plan (set ss i st)
 apart_same plan ss i st apart live inside x y ne lx ly = apart x y ne (back x lx) (back y ly)
   where
-    back : (q : ℕ) → IsLive (stage_at (set ss i st) q) → IsLive (stage_at ss q)
+    back : (q : ℕ) → IsLive (lead_state_at (set ss i st) q) → IsLive (lead_state_at ss q)
     back q l = dite (ℕ_discrete q i)
-        (λ (e : q ≡ i). subst (λ (z : ℕ). IsLive (stage_at ss z)) (sym e) (live (subst IsLive (ap (λ (z : ℕ). stage_at (set ss i st) z) e ∙ get_or-set_same ss i st NotLet inside) l)))
+        (λ (e : q ≡ i). subst (λ (z : ℕ). IsLive (lead_state_at ss z)) (sym e) (live (subst IsLive (ap (λ (z : ℕ). lead_state_at (set ss i st) z) e ∙ get_or-set_same ss i st NotLet inside) l)))
         (λ other. subst IsLive (get_or-set_other ss i q st NotLet other) l)
 
-pub looked_live : (st : Stage) (n : ℕ) → IsLive (looked st n) → IsLive st
+pub looked_live : (st : LeadState) (n : ℕ) → IsLive (looked st n) → IsLive st
 looked_live NotLet n h = h
 looked_live Let n h = tt
 looked_live (Seen p) n h = h
@@ -128,7 +128,7 @@ module _ (plan : Plan) where
   -- what they ask of the owners of places
   pub fits_on : (at at' : PlaceId → Doing) (r : RequestId) → ((p : PlaceId) → at p ≡ Waits r p → at' p ≡ Waits r p) →
       ((p : PlaceId) (stop : Bool) → at p ≡ Serves r p stop → (stop' : Bool) × (at' p ≡ Serves r p stop')) →
-      (st : Stage) (w : ℕ) (h : Home) → Fits plan at r st w h → Fits plan at' r st w h
+      (st : LeadState) (w : ℕ) (h : Home) → Fits plan at r st w h → Fits plan at' r st w h
   fits_on at at' r waits serves NotLet w h f = f
   fits_on at at' r waits serves Let w h (inl e, home) = (inl e, home)
   fits_on at at' r waits serves Let w h (inr e, home) = (inr (e.0, e.1, e.2, waits e.0 e.3), home)
@@ -145,7 +145,7 @@ module _ (plan : Plan) where
   no_permit w n few out false p near (inl e) = absurd (⊎_elim (λ l. omega arith) (λ l. omega arith) out)
   no_permit w n few out false p near (inr e) = absurd (⊎_elim (λ l. omega arith) (λ l. omega arith) out)
 
-  pub looked_fits : (at : PlaceId → Doing) (r : RequestId) → count_of_places plan ≤ 64 → (st : Stage) (n : ℕ) (h : Home) → Fits plan at r st n h → Fits plan at r (looked st n) n h
+  pub looked_fits : (at : PlaceId → Doing) (r : RequestId) → count_of_places plan ≤ 64 → (st : LeadState) (n : ℕ) (h : Home) → Fits plan at r st n h → Fits plan at r (looked st n) n h
   looked_fits at r few NotLet n h f = f
   looked_fits at r few Let n h (inl e, home) = subst (λ b. Fits plan at r (if b then Seen (place_in 256 n) else Let) n h) (sym (ne_eqb (n / 256) 1 (λ x. omega arith))) (inl e, home)
   looked_fits at r few Let n h (inr t, home) =
@@ -158,7 +158,7 @@ module _ (plan : Plan) where
   looked_fits at r few (Done m) n h f = f
 
   -- a request that is let out and has no go
-  pub let_free : (at : PlaceId → Doing) (r : RequestId) → count_of_places plan ≤ 64 → (st : Stage) (n : ℕ) (h : Home) → IsLet st → Fits plan at r st n h → (h ≡ some None) × (n < 512)
+  pub let_free : (at : PlaceId → Doing) (r : RequestId) → count_of_places plan ≤ 64 → (st : LeadState) (n : ℕ) (h : Home) → IsLet st → Fits plan at r st n h → (h ≡ some None) × (n < 512)
   let_free at r few NotLet n h is f = absurd is
   let_free at r few Let n h is (inl e, home) = (home, omega arith)
   let_free at r few Let n h is (inr t, home) = let near = t.1 in let e = t.2 in (home, omega arith)
@@ -167,8 +167,8 @@ module _ (plan : Plan) where
   let_free at r few (Got p m) n h is f = absurd is
   let_free at r few (Done m) n h is f = absurd is
 
-  -- the word fits the stage
-  pub word_fits : (at : PlaceId → Doing) (r : RequestId) (st : Stage) (n : ℕ) (h : Home) → Fits plan at r st n h → WordFits st n
+  -- the word fits the lead state
+  pub word_fits : (at : PlaceId → Doing) (r : RequestId) (st : LeadState) (n : ℕ) (h : Home) → Fits plan at r st n h → WordFits st n
   word_fits at r NotLet n h f = f.0
   word_fits at r Let n h (inl e, home) = inl e
   word_fits at r Let n h (inr t, home) = inr (t.0, t.2)
@@ -185,7 +185,7 @@ module _ (plan : Plan) where
   look_fits-let at r few n h (inr t, home) = let near = t.1 in let e = t.2 in
       subst (λ b. LookFits (if b then Seen (place_in 256 n) else Let) n) (sym (eq-eqb (n / 256) 1 (omega arith))) (omega arith)
 
-  pub look_fits : (at : PlaceId → Doing) (r : RequestId) → count_of_places plan ≤ 64 → (st : Stage) (n : ℕ) (h : Home) → Fits plan at r st n h → LookFits (looked st n) n
+  pub look_fits : (at : PlaceId → Doing) (r : RequestId) → count_of_places plan ≤ 64 → (st : LeadState) (n : ℕ) (h : Home) → Fits plan at r st n h → LookFits (looked st n) n
   look_fits at r few NotLet n h f = word_fits at r NotLet n h f
   look_fits at r few Let n h f = look_fits-let at r few n h f
   look_fits at r few (Seen p) n h f = word_fits at r (Seen p) n h f
@@ -194,10 +194,10 @@ module _ (plan : Plan) where
   look_fits at r few (Done m) n h f = word_fits at r (Done m) n h f
 
   -- its place is one of the plan
-  pub has_place : (at : PlaceId → Doing) (r : RequestId) (known : Option Plan) (st : Stage) (n : ℕ) (h : Home) → known ≡ Some plan → Fits plan at r st n h → HasPlace known st
+  pub has_place : (at : PlaceId → Doing) (r : RequestId) (known : Option Plan) (st : LeadState) (n : ℕ) (h : Home) → known ≡ Some plan → Fits plan at r st n h → HasPlace known st
   has_place at r known st n h knows f = subst (λ (o : Option Plan). HasPlace o st) (sym knows) (go st f)
     where
-      go : (st : Stage) → Fits plan at r st n h → HasPlace (Some plan) st
+      go : (st : LeadState) → Fits plan at r st n h → HasPlace (Some plan) st
       go NotLet f = tt
       go Let f = tt
       go (Seen p) f = f.0

@@ -15,14 +15,14 @@ use Rattle.conc_board_seats.specs.declared.posted.Posted.{Posted}
 use Rattle.conc_board_seats.specs.declared.posted.Posted.TheVariants.{Text, Stopped, NoMemory}
 use Rattle.conc_board_seats.specs.declared.views.Doing.{Doing}
 use Rattle.conc_board_seats.specs.declared.views.Doing.TheVariants.{Idle, Waits, Serves}
-use Rattle.conc_board_seats.specs.declared.views.Stage.{Stage}
-use Rattle.conc_board_seats.specs.declared.views.Stage.TheVariants.{NotLet, Let, Seen, Gone, Got, Done}
+use Rattle.conc_board_seats.specs.declared.views.LeadState.{LeadState}
+use Rattle.conc_board_seats.specs.declared.views.LeadState.TheVariants.{NotLet, Let, Seen, Gone, Got, Done}
 use Rattle.conc_board_seats.specs.declared.views.View.{View}
 use Rattle.conc_board_seats.specs.Doings.{carried_by, polled, warned}
 use Rattle.conc_board_seats.specs.Places.{has}
 use Rattle.conc_board_seats.specs.Reports.{MayLeave}
 use Rattle.conc_board_seats.specs.Rule.{Fits, Home, IsAtOwn, IsServed, Keep, Runs, Works, doing_at, view_at}
-use Rattle.conc_board_seats.specs.Stages.{stage_at}
+use Rattle.conc_board_seats.specs.LeadStates.{lead_state_at}
 use Rattle.conc_board_seats.specs.Steps.{ServedFits, Slot, claim_tells, poll_tells, post_tells, warn_tells, with_doing, with_left, with_post}
 use Rattle.conc_board_seats.specs.Words.{IsPlace, IsRequest, claimed, count_of_requests, ended, place_in, request_of, run_word, running, stopping}
 use Rattle.conc_board_seats.proofs.Facts.{at_view, fits_on, home_there, no_permit, place_eq}
@@ -34,7 +34,7 @@ module _ (plan : Plan) where
 
   -- ---- a claim
 
-  claim_fits : (at at' : PlaceId → Doing) (r : RequestId) (q : PlaceId) (st : Stage) (n : ℕ) (h : Home) →
+  claim_fits : (at at' : PlaceId → Doing) (r : RequestId) (q : PlaceId) (st : LeadState) (n : ℕ) (h : Home) →
       count_of_places plan ≤ 64 → n ≡ 1 → IsPlace plan q → at' q ≡ Waits r q → Fits plan at r st n h → Fits plan at' r st (claimed q) h
   claim_fits at at' r q NotLet n h few one near mine f = let e = f.0 in absurd (omega arith)
   claim_fits at at' r q Let n h few one near mine f = (inr (q, near, refl, mine), f.1)
@@ -100,7 +100,7 @@ module _ (plan : Plan) where
   neither n p (inr x) near (inr l) = omega arith
 
   -- a request whose word runs at p has the go there
-  pub gone_at : (at : PlaceId → Doing) (r : RequestId) (p : PlaceId) (st : Stage) (n : ℕ) (h : Home) → count_of_places plan ≤ 64 → p.index < 64 →
+  pub gone_at : (at : PlaceId → Doing) (r : RequestId) (p : PlaceId) (st : LeadState) (n : ℕ) (h : Home) → count_of_places plan ≤ 64 → p.index < 64 →
       (n ≡ running p) ⊎ (n ≡ stopping p) → Fits plan at r st n h →
       (m : Bool) × (st ≡ Gone p m) × (n ≡ run_word m p) × IsServed (at p) r p h
   gone_at at r p NotLet n h few near is f = let e = f.0 in absurd (neither n p is near (inl (omega arith)))
@@ -114,20 +114,20 @@ module _ (plan : Plan) where
   gone_at at r p (Done m) n h few near is f = let a = f.0 in absurd (neither n p is near (inl (omega arith)))
 
   -- the hand at its place waits, so its slot is at home
-  runs : (at : PlaceId → Doing) (r : RequestId) (p : PlaceId) (st : Stage) (n : ℕ) (h : Home) → count_of_places plan ≤ 64 → IsPlace plan p →
+  runs : (at : PlaceId → Doing) (r : RequestId) (p : PlaceId) (st : LeadState) (n : ℕ) (h : Home) → count_of_places plan ≤ 64 → IsPlace plan p →
       (n ≡ running p) ⊎ (n ≡ stopping p) → at p ≡ Waits r p → Fits plan at r st n h →
       (m : Bool) × (st ≡ Gone p m) × (n ≡ run_word m p) × (h ≡ some None)
   runs at r p st n h few near is waits f = let t = gone_at at r p st n h few (omega arith) is f in
       (t.0, t.1, t.2, ⊎_elim (λ x. x.1) (λ x. absurd (let a : Serves r p x.0 ≡ Waits r p = sym x.1 ∙ waits in cc)) t.3)
 
   -- the hand takes the permit and the slot
-  permit_fits : (at at' : PlaceId → Doing) (r : RequestId) (p : PlaceId) (stop : Bool) (st : Stage) (n : ℕ) (h : Home) → count_of_places plan ≤ 64 → IsPlace plan p →
+  permit_fits : (at at' : PlaceId → Doing) (r : RequestId) (p : PlaceId) (stop : Bool) (st : LeadState) (n : ℕ) (h : Home) → count_of_places plan ≤ 64 → IsPlace plan p →
       (n ≡ running p) ⊎ (n ≡ stopping p) → at p ≡ Waits r p → at' p ≡ Serves r p stop → Fits plan at r st n h → Fits plan at' r st n none
   permit_fits at at' r p stop st n h few near is waits mine f = let t = runs at r p st n h few near is waits f in
-      subst (λ (z : Stage). Fits plan at' r z n none) (sym t.1) (near, inl (t.2, inr (stop, mine, refl)))
+      subst (λ (z : LeadState). Fits plan at' r z n none) (sym t.1) (near, inl (t.2, inr (stop, mine, refl)))
 
   -- the word names neither a claim nor a permit of the hand's place, so the hand may forget it
-  idle_fits : (at at' : PlaceId → Doing) (r : RequestId) (p : PlaceId) (st : Stage) (n : ℕ) (h : Home) → n ≢ running p → n ≢ stopping p → n ≢ claimed p →
+  idle_fits : (at at' : PlaceId → Doing) (r : RequestId) (p : PlaceId) (st : LeadState) (n : ℕ) (h : Home) → n ≢ running p → n ≢ stopping p → n ≢ claimed p →
       ((q : PlaceId) → (at' q ≡ at q) ⊎ (at q ≡ Waits r p)) → Fits plan at r st n h → Fits plan at' r st n h
   idle_fits at at' r p NotLet n h na nc nd other f = f
   idle_fits at at' r p Let n h na nc nd other (inl e, home) = (inl e, home)
@@ -174,7 +174,7 @@ module _ (plan : Plan) where
     Next d = (a : Act Slot) × Valid s.homes me.1 a × Rule (stepped s i n id me.1 (with_doing v d i n) a) × (carried_after me.1 a ≡ carried_by d)
 
     permitted : (stop : Bool) → Runs stop p n → (n ≡ running p) ⊎ (n ≡ stopping p) → Next (Serves r p stop)
-    permitted stop fits is = let st : Stage = stage_at (view_at s.views k.lead).stages i in
+    permitted stop fits is = let st : LeadState = lead_state_at (view_at s.views k.lead).lead_states i in
         let t = runs (doing_at s.views k.owner) r p st n (home s i) k.few_places held.2 is (waits_there p held.0) (k.each_request i inside) in (
           takes i None,
           home_there s.homes i None t.3,
@@ -253,7 +253,7 @@ module _ (plan : Plan) where
   marks false false p n e x y = absurd (cc)
 
   -- a request that is served at p has the go there, and where it is served with the stop sign it is marked
-  pub has_permit : (at : PlaceId → Doing) (r : RequestId) (p : PlaceId) (stop : Bool) (st : Stage) (n : ℕ) (h : Home) → count_of_places plan ≤ 64 → IsPlace plan p →
+  pub has_permit : (at : PlaceId → Doing) (r : RequestId) (p : PlaceId) (stop : Bool) (st : LeadState) (n : ℕ) (h : Home) → count_of_places plan ≤ 64 → IsPlace plan p →
       Runs stop p n → Fits plan at r st n h → (m : Bool) × (st ≡ Gone p m) × (n ≡ run_word m p) × (stop ≡ true → m ≡ true)
   has_permit at r p stop st n h few near fits f = let t = gone_at at r p st n h few (omega arith) (either_word stop p n fits) f in
       (t.0, t.1, t.2, marks t.0 stop p n t.2 fits)
@@ -289,7 +289,7 @@ module _ (plan : Plan) where
         tt,
         hand_moves plan s k id i (ended p) me.1 v w gives (some (Some x)) at inside refl refl refl refl on tt
             (λ at' mine theirs st f. let t = has_permit (doing_at s.views k.owner) (request_of i) p stop st n (home s i) few held.2 held.3 f in
-            subst (λ (z : Stage). Fits plan at' (request_of i) z (ended p) (some (Some x))) (sym t.1) (held.2, inr (refl, (x, refl, may_leave_more (request_of i) stop t.0 x t.3 may))))
+            subst (λ (z : LeadState). Fits plan at' (request_of i) z (ended p) (some (Some x))) (sym t.1) (held.2, inr (refl, (x, refl, may_leave_more (request_of i) stop t.0 x t.3 may))))
             tt
             (λ a q near other h. absurd (other (ap k.owner (sym (lone_permit stop a p q n few held.2 near held.3 h)) ∙ held.0)))
             (ap (λ (cs : List (ℕ × Slot)). put_back s.homes cs) carries),

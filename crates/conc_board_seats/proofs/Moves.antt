@@ -9,11 +9,11 @@ use Rattle.conc_types.specs.declared.event.PlaceId.{PlaceId}
 use Rattle.conc_types.specs.declared.plan.Plan.{Plan}
 use Rattle.conc_board_seats.specs.declared.views.Doing.{Doing}
 use Rattle.conc_board_seats.specs.declared.views.Doing.TheVariants.{Idle, Waits, Serves}
-use Rattle.conc_board_seats.specs.declared.views.Stage.{Stage}
+use Rattle.conc_board_seats.specs.declared.views.LeadState.{LeadState}
 use Rattle.conc_board_seats.specs.declared.views.View.{View}
 use Rattle.conc_board_seats.specs.Places.{has}
 use Rattle.conc_board_seats.specs.Rule.{AreApart, Fits, Home, IsAtOwn, Keep, Runs, Works, doing_at, home_at, nobody, view_at}
-use Rattle.conc_board_seats.specs.Stages.{stage_at}
+use Rattle.conc_board_seats.specs.LeadStates.{lead_state_at}
 use Rattle.conc_board_seats.specs.Steps.{Slot, noted}
 use Rattle.conc_board_seats.specs.Words.{IsPlace, count_of_requests, count_of_words, request_of, request_word}
 use Rattle.conc_board_seats.proofs.Facts.{at_view, fits_on, request_of-ne, same_part}
@@ -52,10 +52,10 @@ module _ (plan : Plan) where
 
   -- the lead's view in the rule
   pub record Led (s : St) (k : Keep plan s) (id : ℕ) (v : View) : Type 0 where
-    pub all_stages : length v.stages ≡ count_of_requests plan
+    pub all_lead_states : length v.lead_states ≡ count_of_requests plan
     pub fits : (i : ℕ) → i < count_of_requests plan →
-        Fits plan (doing_at s.views k.owner) (request_of i) (stage_at v.stages i) (word s i) (home s i)
-    pub apart : AreApart plan v.stages
+        Fits plan (doing_at s.views k.owner) (request_of i) (lead_state_at v.lead_states i) (word s i) (home s i)
+    pub apart : AreApart plan v.lead_states
     pub knows_plan : v.plan ≡ Some plan
     pub is : id ≡ k.lead
 
@@ -65,9 +65,9 @@ module _ (plan : Plan) where
       let is : id ≡ k.lead = k.one_lead id (ap (λ (u : View). u.leads) here.1 ∙ leads) in
       let was : view_at s.views k.lead ≡ v = ap (view_at s.views) (sym is) ∙ here.1 in
       record {
-        all_stages = ap (λ (u : View). length u.stages) (sym was) ∙ k.all_stages;
-        fits = λ i l. subst (λ (u : View). Fits plan (doing_at s.views k.owner) (request_of i) (stage_at u.stages i) (word s i) (home s i)) was (k.each_request i l);
-        apart = subst (λ (u : View). AreApart plan u.stages) was k.apart;
+        all_lead_states = ap (λ (u : View). length u.lead_states) (sym was) ∙ k.all_lead_states;
+        fits = λ i l. subst (λ (u : View). Fits plan (doing_at s.views k.owner) (request_of i) (lead_state_at u.lead_states i) (word s i) (home s i)) was (k.each_request i l);
+        apart = subst (λ (u : View). AreApart plan u.lead_states) was k.apart;
         knows_plan = ap (λ (u : View). u.plan) (sym was) ∙ k.knows_plan;
         is = is;
       }
@@ -75,10 +75,10 @@ module _ (plan : Plan) where
   -- a step of the lead on the word i, which becomes n
   pub lead_moves : (s : St) (k : Keep plan s) (id i n : ℕ) (cs : List (ℕ × Slot)) (v w : View) (a : Act Slot) (h : Home) →
       get_elem? s.views id ≡ some v → v.leads ≡ true → i < count_of_requests plan →
-      w.leads ≡ v.leads → w.plan ≡ v.plan → w.places ≡ v.places → w.doing ≡ v.doing → length w.stages ≡ length v.stages →
-      AreApart plan w.stages →
-      Fits plan (doing_at s.views k.owner) (request_of i) (stage_at w.stages i) n h →
-      ((j : ℕ) → j ≢ i → stage_at w.stages j ≡ stage_at v.stages j) →
+      w.leads ≡ v.leads → w.plan ≡ v.plan → w.places ≡ v.places → w.doing ≡ v.doing → length w.lead_states ≡ length v.lead_states →
+      AreApart plan w.lead_states →
+      Fits plan (doing_at s.views k.owner) (request_of i) (lead_state_at w.lead_states i) n h →
+      ((j : ℕ) → j ≢ i → lead_state_at w.lead_states j ≡ lead_state_at v.lead_states j) →
       ((stop : Bool) (p : PlaceId) → IsPlace plan p → Runs stop p (word s i) → Runs stop p n) →
       homes_after s.homes cs a ≡ set s.homes i h →
       Keep plan (stepped s i n id cs w a)
@@ -91,7 +91,7 @@ module _ (plan : Plan) where
       let vs : List View = set s.views id w in
       let hs : List Home = homes_after s.homes cs a in
       let now : view_at vs k.lead ≡ w = ap (view_at vs) (sym is) ∙ get_or-set_same s.views id w nobody here.0 in
-      let stages : w.stages ≡ (view_at vs k.lead).stages = ap (λ (u : View). u.stages) (sym now) in
+      let lead_states : w.lead_states ≡ (view_at vs k.lead).lead_states = ap (λ (u : View). u.lead_states) (sym now) in
       let there : n ≡ get_or ws i 0 = sym (get_or-set_same s.words i n 0 (omega arith)) in
       let slot : h ≡ home_at hs i = sym (ap (λ (xs : List Home). home_at xs i) homes ∙ get_or-set_same s.homes i h none (omega arith)) in
       let doings : (j : ℕ) → (view_at s.views j).doing ≡ (view_at vs j).doing = λ j. sym (same_part (λ u. u.doing) s.views id v w at same_doing j) in
@@ -101,26 +101,26 @@ module _ (plan : Plan) where
         few_places = k.few_places;
         all_words = length-set s.words i n ∙ wide;
         all_slots = ap (λ (xs : List Home). length xs) homes ∙ (length-set s.homes i h ∙ deep);
-        all_stages = ap (λ (ss : List Stage). length ss) (sym stages) ∙ (same_length ∙ l.all_stages);
+        all_lead_states = ap (λ (ss : List LeadState). length ss) (sym lead_states) ∙ (same_length ∙ l.all_lead_states);
         leads = same_part (λ u. u.leads) s.views id v w at same_leads k.lead ∙ k.leads;
         one_lead = λ j e. k.one_lead j (sym (same_part (λ u. u.leads) s.views id v w at same_leads j) ∙ e);
         knows_plan = ap (λ (u : View). u.plan) now ∙ (same_plan ∙ l.knows_plan);
         one_owner = λ j p e. k.one_owner j p (sym (ap (λ (ps : List PlaceId). has ps p) (same_part (λ u. u.places) s.views id v w at same_places j)) ∙ e);
         at_own = λ j. subst (λ (z : List PlaceId × Doing). IsAtOwn z.0 z.1) (λ x. (sym (same_part (λ u. u.places) s.views id v w at same_places j) x, doings j x)) (k.at_own j);
-        apart = subst (AreApart plan) stages apart;
+        apart = subst (AreApart plan) lead_states apart;
         each_request = λ j near. dite (ℕ_discrete j i)
-            (λ e. subst (λ (z : ℕ × (PlaceId → Doing) × Stage × ℕ × Home). Fits plan z.1 (request_of z.0) z.2 z.3 z.4)
+            (λ e. subst (λ (z : ℕ × (PlaceId → Doing) × LeadState × ℕ × Home). Fits plan z.1 (request_of z.0) z.2 z.3 z.4)
             (λ x. (
               sym e x,
               (λ p. doings (k.owner p) x),
-              (ap (stage_at w.stages) (sym e) ∙ ap (λ (ss : List Stage). stage_at ss j) stages) x,
+              (ap (lead_state_at w.lead_states) (sym e) ∙ ap (λ (ss : List LeadState). lead_state_at ss j) lead_states) x,
               (there ∙ ap (λ (q : ℕ). get_or ws q 0) (sym e)) x,
               (slot ∙ ap (home_at hs) (sym e)) x,
             )) fits)
-            (λ other. subst (λ (z : (PlaceId → Doing) × Stage × ℕ × Home). Fits plan z.0 (request_of j) z.1 z.2 z.3)
+            (λ other. subst (λ (z : (PlaceId → Doing) × LeadState × ℕ × Home). Fits plan z.0 (request_of j) z.1 z.2 z.3)
             (λ x. (
               (λ p. doings (k.owner p) x),
-              (sym (others j other) ∙ ap (λ (ss : List Stage). stage_at ss j) stages) x,
+              (sym (others j other) ∙ ap (λ (ss : List LeadState). lead_state_at ss j) lead_states) x,
               sym (get_or-set_other s.words i j n 0 other) x,
               sym (ap (λ (xs : List Home). home_at xs j) homes ∙ get_or-set_other s.homes i j h none other) x,
             )) (l.fits j near));
@@ -145,15 +145,15 @@ module _ (plan : Plan) where
   -- a step of a hand on the word i, which becomes n
   pub hand_moves : (s : St) (k : Keep plan s) (id i n : ℕ) (cs : List (ℕ × Slot)) (v w : View) (a : Act Slot) (h : Home) →
       get_elem? s.views id ≡ some v → i < count_of_requests plan →
-      w.leads ≡ v.leads → w.plan ≡ v.plan → w.places ≡ v.places → w.stages ≡ v.stages → OnlyOn i v.doing → IsAtOwn v.places w.doing →
+      w.leads ≡ v.leads → w.plan ≡ v.plan → w.places ≡ v.places → w.lead_states ≡ v.lead_states → OnlyOn i v.doing → IsAtOwn v.places w.doing →
       ((at' : PlaceId → Doing) → ((p : PlaceId) → k.owner p ≡ id → at' p ≡ w.doing) →
-      ((p : PlaceId) → k.owner p ≢ id → at' p ≡ doing_at s.views k.owner p) → (st : Stage) →
+      ((p : PlaceId) → k.owner p ≢ id → at' p ≡ doing_at s.views k.owner p) → (st : LeadState) →
       Fits plan (doing_at s.views k.owner) (request_of i) st (word s i) (home s i) → Fits plan at' (request_of i) st n h) →
       Works plan k.owner (set s.words i n) id w.doing →
       ((stop : Bool) (p : PlaceId) → IsPlace plan p → k.owner p ≢ id → Runs stop p (word s i) → Runs stop p n) →
       homes_after s.homes cs a ≡ set s.homes i h →
       Keep plan (stepped s i n id cs w a)
-  hand_moves s k id i n cs v w a h at inside same_leads same_plan same_places same_stages on at_own fits own stays homes =
+  hand_moves s k id i n cs v w a h at inside same_leads same_plan same_places same_lead_states on at_own fits own stays homes =
       let here = at_view s.views id v at in
       let wide = k.all_words in let deep = k.all_slots in
       let ws : List ℕ = set s.words i n in
@@ -162,7 +162,7 @@ module _ (plan : Plan) where
       let now : view_at vs id ≡ w = get_or-set_same s.views id w nobody here.0 in
       let there : n ≡ get_or ws i 0 = sym (get_or-set_same s.words i n 0 (omega arith)) in
       let slot : h ≡ home_at hs i = sym (ap (λ (xs : List Home). home_at xs i) homes ∙ get_or-set_same s.homes i h none (omega arith)) in
-      let stages : (view_at s.views k.lead).stages ≡ (view_at vs k.lead).stages = sym (same_part (λ u. u.stages) s.views id v w at same_stages k.lead) in
+      let lead_states : (view_at s.views k.lead).lead_states ≡ (view_at vs k.lead).lead_states = sym (same_part (λ u. u.lead_states) s.views id v w at same_lead_states k.lead) in
       let at0 : PlaceId → Doing = doing_at s.views k.owner in
       let at' : PlaceId → Doing = doing_at vs k.owner in
       let mine : (p : PlaceId) → k.owner p ≡ id → at' p ≡ w.doing = λ p e. ap (λ (j : ℕ). (view_at vs j).doing) e ∙ ap (λ (u : View). u.doing) now in
@@ -173,7 +173,7 @@ module _ (plan : Plan) where
         few_places = k.few_places;
         all_words = length-set s.words i n ∙ wide;
         all_slots = ap (λ (xs : List Home). length xs) homes ∙ (length-set s.homes i h ∙ deep);
-        all_stages = ap (λ (ss : List Stage). length ss) (sym stages) ∙ k.all_stages;
+        all_lead_states = ap (λ (ss : List LeadState). length ss) (sym lead_states) ∙ k.all_lead_states;
         leads = same_part (λ u. u.leads) s.views id v w at same_leads k.lead ∙ k.leads;
         one_lead = λ j e. k.one_lead j (sym (same_part (λ u. u.leads) s.views id v w at same_leads j) ∙ e);
         knows_plan = same_part (λ u. u.plan) s.views id v w at same_plan k.lead ∙ k.knows_plan;
@@ -181,14 +181,14 @@ module _ (plan : Plan) where
         at_own = λ j. dite (ℕ_discrete j id)
             (λ e. subst (λ (u : View). IsAtOwn u.places u.doing) (sym (ap (view_at vs) e ∙ now)) (subst (λ (ps : List PlaceId). IsAtOwn ps w.doing) (sym same_places) at_own))
             (λ other. subst (λ (u : View). IsAtOwn u.places u.doing) (sym (get_or-set_other s.views id j w nobody other)) (k.at_own j));
-        apart = subst (AreApart plan) stages k.apart;
-        each_request = λ j near. let st : Stage = stage_at (view_at s.views k.lead).stages j in dite (ℕ_discrete j i)
-            (λ e. subst (λ (z : ℕ × Stage × ℕ × Home). Fits plan at' (request_of z.0) z.1 z.2 z.3)
-            (λ x. (sym e x, ap (λ (ss : List Stage). stage_at ss j) stages x, (there ∙ ap (λ (q : ℕ). get_or ws q 0) (sym e)) x, (slot ∙ ap (home_at hs) (sym e)) x))
+        apart = subst (AreApart plan) lead_states k.apart;
+        each_request = λ j near. let st : LeadState = lead_state_at (view_at s.views k.lead).lead_states j in dite (ℕ_discrete j i)
+            (λ e. subst (λ (z : ℕ × LeadState × ℕ × Home). Fits plan at' (request_of z.0) z.1 z.2 z.3)
+            (λ x. (sym e x, ap (λ (ss : List LeadState). lead_state_at ss j) lead_states x, (there ∙ ap (λ (q : ℕ). get_or ws q 0) (sym e)) x, (slot ∙ ap (home_at hs) (sym e)) x))
             (fits at' mine theirs st (subst (λ (q : ℕ). Fits plan at0 (request_of q) st (word s q) (home s q)) e (k.each_request j near))))
-            (λ other. subst (λ (z : Stage × ℕ × Home). Fits plan at' (request_of j) z.0 z.1 z.2)
+            (λ other. subst (λ (z : LeadState × ℕ × Home). Fits plan at' (request_of j) z.0 z.1 z.2)
             (λ x. (
-              ap (λ (ss : List Stage). stage_at ss j) stages x,
+              ap (λ (ss : List LeadState). lead_state_at ss j) lead_states x,
               sym (get_or-set_other s.words i j n 0 other) x,
               sym (ap (λ (xs : List Home). home_at xs j) homes ∙ get_or-set_other s.homes i j h none other) x,
             ))
@@ -221,7 +221,7 @@ module _ (plan : Plan) where
       let vs : List View = set s.views id w in
       let part : (A : Type 0) (f : View → A) → f w ≡ f v → (j : ℕ) → f (view_at s.views j) ≡ f (view_at vs j) = λ A f e j. sym (same_part f s.views id v w at e j) in
       let there : get_or ws i 0 ≡ n = get_or-set_same s.words i n 0 (omega arith) in
-      let stages = part (List Stage) (λ u. u.stages) refl k.lead in
+      let lead_states = part (List LeadState) (λ u. u.lead_states) refl k.lead in
       let words : (j : ℕ) → j < count_of_requests plan → get_or s.words j 0 ≡ get_or ws j 0 = λ j near. dite (ℕ_discrete j i)
       (λ e. sym (ap (λ (q : ℕ). get_or ws q 0) e ∙ (there ∙ (same (subst (λ (q : ℕ). q < count_of_requests plan) e near) ∙ ap (word s) (sym e)))))
       (λ other. sym (get_or-set_other s.words i j n 0 other)) in
@@ -231,15 +231,15 @@ module _ (plan : Plan) where
         few_places = k.few_places;
         all_words = length-set s.words i n ∙ wide;
         all_slots = k.all_slots;
-        all_stages = ap (λ (ss : List Stage). length ss) (sym stages) ∙ k.all_stages;
+        all_lead_states = ap (λ (ss : List LeadState). length ss) (sym lead_states) ∙ k.all_lead_states;
         leads = sym (part Bool (λ u. u.leads) refl k.lead) ∙ k.leads;
         one_lead = λ j e. k.one_lead j (part Bool (λ u. u.leads) refl j ∙ e);
         knows_plan = sym (part (Option Plan) (λ u. u.plan) refl k.lead) ∙ k.knows_plan;
         one_owner = λ j p e. k.one_owner j p (ap (λ (ps : List PlaceId). has ps p) (part (List PlaceId) (λ u. u.places) refl j) ∙ e);
         at_own = λ j. subst (λ (z : List PlaceId × Doing). IsAtOwn z.0 z.1) (λ x. (part (List PlaceId) (λ u. u.places) refl j x, part Doing (λ u. u.doing) refl j x)) (k.at_own j);
-        apart = subst (AreApart plan) stages k.apart;
-        each_request = λ j near. subst (λ (z : (PlaceId → Doing) × Stage × ℕ). Fits plan z.0 (request_of j) z.1 z.2 (home s j))
-            (λ x. ((λ p. part Doing (λ u. u.doing) refl (k.owner p) x), ap (λ (ss : List Stage). stage_at ss j) stages x, words j near x)) (k.each_request j near);
+        apart = subst (AreApart plan) lead_states k.apart;
+        each_request = λ j near. subst (λ (z : (PlaceId → Doing) × LeadState × ℕ). Fits plan z.0 (request_of j) z.1 z.2 (home s j))
+            (λ x. ((λ p. part Doing (λ u. u.doing) refl (k.owner p) x), ap (λ (ss : List LeadState). lead_state_at ss j) lead_states x, words j near x)) (k.each_request j near);
         each_seat = λ j. subst (Works plan k.owner ws j) (part Doing (λ u. u.doing) refl j) (works_same (view_at s.views j).doing k.owner s.words ws j words (k.each_seat j));
         switches = λ j far. dite (ℕ_discrete j i)
             (λ e. subst (λ (z : ℕ). z ≤ 1) (sym (ap (λ (q : ℕ). get_or ws q 0) e ∙ there)) (small (subst (λ (q : ℕ). count_of_requests plan ≤ q) e far)))

@@ -10,12 +10,12 @@ use Rattle.conc_types.specs.declared.plan.Plan.{Plan}
 use Rattle.conc_law.specs.Places.{count_of_places}
 use Rattle.conc_board_seats.specs.declared.views.Doing.{Doing}
 use Rattle.conc_board_seats.specs.declared.views.Doing.TheVariants.{Idle, Waits, Serves}
-use Rattle.conc_board_seats.specs.declared.views.Stage.{Stage}
-use Rattle.conc_board_seats.specs.declared.views.Stage.TheVariants.{NotLet}
+use Rattle.conc_board_seats.specs.declared.views.LeadState.{LeadState}
+use Rattle.conc_board_seats.specs.declared.views.LeadState.TheVariants.{NotLet}
 use Rattle.conc_board_seats.specs.declared.views.View.{View}
 use Rattle.conc_board_seats.specs.Places.{has, without}
 use Rattle.conc_board_seats.specs.Rule.{AreApart, Fits, IsAtOwn, Keep, Works, doing_at, first_view, home_at, nobody, view_at}
-use Rattle.conc_board_seats.specs.Stages.{IsLive, stage_at}
+use Rattle.conc_board_seats.specs.LeadStates.{IsLive, lead_state_at}
 use Rattle.conc_board_seats.specs.Steps.{Slot, given, joined, kept}
 use Rattle.conc_board_seats.specs.Words.{count_of_requests, count_of_words, request_of}
 use Rattle.conc_board_seats.proofs.Facts.{at_view, place_eq, replicate_at, same_part}
@@ -93,14 +93,14 @@ module _ (plan : Plan) where
     few_places = few;
     all_words = ap (λ (l : List ℕ). length l) zeros ∙ length-replicate (count_of_words plan) 0;
     all_slots = length_homes (count_of_requests plan);
-    all_stages = length-replicate (count_of_requests plan) NotLet;
+    all_lead_states = length-replicate (count_of_requests plan) NotLet;
     leads = refl;
     one_lead = λ j e. dite (ℕ_discrete j 0) (λ z. z) (λ other. absurd (cc (sym (ap (λ (u : View). u.leads) (beyond j other)) ∙ e)));
     knows_plan = refl;
     one_owner = λ j p e. dite (ℕ_discrete j 0) (λ z. sym z) (λ other. absurd (cc (sym (ap (λ (u : View). has u.places p) (beyond j other)) ∙ e)));
     at_own = λ j. subst (IsAtOwn (view_at (first_view plan ∷ []) j).places) (sym (idle j)) tt;
     apart = λ x y ne lx ly. absurd (subst IsLive (replicate_at (count_of_requests plan) x NotLet) lx);
-    each_request = λ r l. subst (λ (z : Stage). Fits plan (doing_at (first_view plan ∷ []) (λ _. 0)) (request_of r) z (get_or ws r 0) (home_at (map some (nones (count_of_requests plan))) r)) (sym (replicate_at (count_of_requests plan) r NotLet)) (zero_word r, homes_at (count_of_requests plan) r l);
+    each_request = λ r l. subst (λ (z : LeadState). Fits plan (doing_at (first_view plan ∷ []) (λ _. 0)) (request_of r) z (get_or ws r 0) (home_at (map some (nones (count_of_requests plan))) r)) (sym (replicate_at (count_of_requests plan) r NotLet)) (zero_word r, homes_at (count_of_requests plan) r l);
     each_seat = λ j. subst (Works plan (λ _. 0) ws j) (sym (idle j)) tt;
     switches = λ i far. let z = zero_word i in omega arith;
   }
@@ -140,14 +140,14 @@ module _ (plan : Plan) where
       let at_same : (p : PlaceId) → doing_at s.views k.owner p ≡ doing_at vs owner' p = λ p. ⊎_elim
       (λ e. let o = owns p e in ap (λ (j : ℕ). (view_at s.views j).doing) o ∙ (ap (λ (u : View). u.doing) here.1 ∙ (idle ∙ sym (ap (λ (j : ℕ). (view_at vs j).doing) (moved_there ps new k.owner p e) ∙ ap (λ (u : View). u.doing) (last_view mid right)))))
       (λ e. sym (ap (λ (j : ℕ). (view_at vs j).doing) (moved_else ps new k.owner p e) ∙ doing_same (k.owner p))) (either_is (has ps p)) in
-      let stages = part (List Stage) (λ u. u.stages) refl refl k.lead in
+      let lead_states = part (List LeadState) (λ u. u.lead_states) refl refl k.lead in
       record {
         lead = k.lead;
         owner = owner';
         few_places = k.few_places;
         all_words = k.all_words;
         all_slots = k.all_slots;
-        all_stages = ap (λ (ss : List Stage). length ss) stages ∙ k.all_stages;
+        all_lead_states = ap (λ (ss : List LeadState). length ss) lead_states ∙ k.all_lead_states;
         leads = part Bool (λ u. u.leads) refl refl k.lead ∙ k.leads;
         one_lead = λ j e. k.one_lead j (sym (part Bool (λ u. u.leads) refl refl j) ∙ e);
         knows_plan = part (Option Plan) (λ u. u.plan) refl refl k.lead ∙ k.knows_plan;
@@ -164,8 +164,8 @@ module _ (plan : Plan) where
             (dite (ℕ_discrete j id)
             (λ e. subst (λ (u : View). IsAtOwn u.places u.doing) (sym (ap (view_at mid) e ∙ get_or-set_same s.views id left nobody here.0)) (subst (IsAtOwn left.places) (sym idle) tt))
             (λ apart. subst (λ (u : View). IsAtOwn u.places u.doing) (sym (get_or-set_other s.views id j left nobody apart)) (k.at_own j))));
-        apart = subst (AreApart plan) (sym stages) k.apart;
-        each_request = λ r l. subst (λ (z : (PlaceId → Doing) × Stage). Fits plan z.0 (request_of r) z.1 (word s r) (home s r)) (λ i. ((λ p. at_same p i), ap (λ (ss : List Stage). stage_at ss r) (sym stages) i)) (k.each_request r l);
+        apart = subst (AreApart plan) (sym lead_states) k.apart;
+        each_request = λ r l. subst (λ (z : (PlaceId → Doing) × LeadState). Fits plan z.0 (request_of r) z.1 (word s r) (home s r)) (λ i. ((λ p. at_same p i), ap (λ (ss : List LeadState). lead_state_at ss r) (sym lead_states) i)) (k.each_request r l);
         each_seat = λ j. subst (Works plan owner' s.words j) (sym (doing_same j)) (works_moved (view_at s.views j).doing k.owner owner' s.words j
             (λ p busy o. ⊎_elim (λ e. absurd (busy (ap (λ (q : ℕ). (view_at s.views q).doing) (sym o ∙ owns p e) ∙ (ap (λ (u : View). u.doing) here.1 ∙ idle)))) (λ e. moved_else ps new k.owner p e ∙ o) (either_is (has ps p))) (k.each_seat j));
         switches = k.switches;
@@ -193,14 +193,14 @@ module _ (plan : Plan) where
       (λ e. ap (λ (j : ℕ). (view_at s.views j).doing) (owns p e) ∙ (ap (λ (u : View). u.doing) was ∙ (idle_too ∙ sym (ap (λ (j : ℕ). (view_at vs j).doing) (moved_there w.places id k.owner p e) ∙ (ap (λ (u : View). u.doing) at_id ∙ idle)))))
       (λ e. sym (ap (λ (j : ℕ). (view_at vs j).doing) (moved_else w.places id k.owner p e) ∙ doing_same (k.owner p))) (either_is (has w.places p)) in
       let now : view_at vs k.lead ≡ both = ap (view_at vs) (sym l.is) ∙ at_id in
-      let stages : (view_at vs k.lead).stages ≡ v.stages = ap (λ (u : View). u.stages) now in
+      let lead_states : (view_at vs k.lead).lead_states ≡ v.lead_states = ap (λ (u : View). u.lead_states) now in
       record {
         lead = k.lead;
         owner = owner';
         few_places = k.few_places;
         all_words = k.all_words;
         all_slots = k.all_slots;
-        all_stages = ap (λ (ss : List Stage). length ss) stages ∙ l.all_stages;
+        all_lead_states = ap (λ (ss : List LeadState). length ss) lead_states ∙ l.all_lead_states;
         leads = ap (λ (u : View). u.leads) now ∙ leads;
         one_lead = λ j e. dite (ℕ_discrete j other)
             (λ is. absurd (cc (sym (ap (λ (q : ℕ). (view_at vs q).leads) is ∙ ap (λ (u : View). u.leads) at_other) ∙ e)))
@@ -218,8 +218,8 @@ module _ (plan : Plan) where
             (λ a. dite (ℕ_discrete j id)
             (λ e. subst (λ (u : View). IsAtOwn u.places u.doing) (sym (ap (view_at vs) e ∙ at_id)) (subst (IsAtOwn both.places) (sym idle) tt))
             (λ b. subst (λ (u : View). IsAtOwn u.places u.doing) (sym (at_else j a b)) (k.at_own j)));
-        apart = subst (AreApart plan) (sym stages) l.apart;
-        each_request = λ r near. subst (λ (z : (PlaceId → Doing) × Stage). Fits plan z.0 (request_of r) z.1 (word s r) (home s r)) (λ i. ((λ p. at_same p i), ap (λ (ss : List Stage). stage_at ss r) (sym stages) i)) (l.fits r near);
+        apart = subst (AreApart plan) (sym lead_states) l.apart;
+        each_request = λ r near. subst (λ (z : (PlaceId → Doing) × LeadState). Fits plan z.0 (request_of r) z.1 (word s r) (home s r)) (λ i. ((λ p. at_same p i), ap (λ (ss : List LeadState). lead_state_at ss r) (sym lead_states) i)) (l.fits r near);
         each_seat = λ j. subst (Works plan owner' s.words j) (sym (doing_same j)) (works_moved (view_at s.views j).doing k.owner owner' s.words j
             (λ p busy o. ⊎_elim (λ e. absurd (busy (ap (λ (q : ℕ). (view_at s.views q).doing) (sym o ∙ owns p e) ∙ (ap (λ (u : View). u.doing) was ∙ idle_too)))) (λ e. moved_else w.places id k.owner p e ∙ o) (either_is (has w.places p))) (k.each_seat j));
         switches = k.switches;

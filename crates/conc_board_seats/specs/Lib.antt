@@ -1,6 +1,6 @@
 pub mod Words
 pub mod Places
-pub mod Stages
+pub mod LeadStates
 pub mod Doings
 pub mod Reports
 pub mod Rule

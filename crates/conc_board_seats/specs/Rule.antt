@@ -13,26 +13,26 @@ use Rattle.conc_law.specs.Plans.{are_exclusive}
 use Rattle.conc_board_seats.specs.declared.posted.Posted.{Posted}
 use Rattle.conc_board_seats.specs.declared.views.Doing.{Doing}
 use Rattle.conc_board_seats.specs.declared.views.Doing.TheVariants.{Idle, Waits, Serves}
-use Rattle.conc_board_seats.specs.declared.views.Stage.{Stage}
-use Rattle.conc_board_seats.specs.declared.views.Stage.TheVariants.{NotLet, Let, Seen, Gone, Got, Done}
+use Rattle.conc_board_seats.specs.declared.views.LeadState.{LeadState}
+use Rattle.conc_board_seats.specs.declared.views.LeadState.TheVariants.{NotLet, Let, Seen, Gone, Got, Done}
 use Rattle.conc_board_seats.specs.declared.views.View.{View}
 use Rattle.conc_board_seats.specs.Places.{has, below}
 use Rattle.conc_board_seats.specs.Reports.{MayLeave}
-use Rattle.conc_board_seats.specs.Stages.{IsLive, stage_at}
+use Rattle.conc_board_seats.specs.LeadStates.{IsLive, lead_state_at}
 use Rattle.conc_board_seats.specs.Words.{IsPlace, IsRequest, claimed, count_of_requests, count_of_words, done, ended, idle, released, request_of, request_word, run_word, running, stopping}
 
 -- ---- views
 
 -- the view that a seat leaves behind when it is taken in, and that of a number which no seat has
 abbrev pub nobody : View
-nobody = record { leads = false; plan = None; stages = []; places = []; doing = Idle; found = []; posts = [] }
+nobody = record { leads = false; plan = None; lead_states = []; places = []; doing = Idle; found = []; posts = [] }
 
 -- the lead's view of a new board
 abbrev pub first_view : Plan → View
 first_view plan = record {
   leads = true;
   plan = Some plan;
-  stages = replicate (count_of_requests plan) NotLet;
+  lead_states = replicate (count_of_requests plan) NotLet;
   places = below (count_of_places plan);
   doing = Idle;
   found = [];
@@ -55,9 +55,9 @@ exclude plan r q =
     some_and (λ x. some_and (λ y. are_exclusive plan x y) (request plan q)) (request plan r)
 
 -- of the requests that are live in the lead's view no two exclude each other
-abbrev pub AreApart : Plan → List Stage → Type 0
-AreApart plan stages =
-    (i j : ℕ) → i ≢ j → IsLive (stage_at stages i) → IsLive (stage_at stages j)
+abbrev pub AreApart : Plan → List LeadState → Type 0
+AreApart plan lead_states =
+    (i j : ℕ) → i ≢ j → IsLive (lead_state_at lead_states i) → IsLive (lead_state_at lead_states j)
     → exclude plan (request_of i) (request_of j) ≡ false
 
 -- ---- slots
@@ -87,8 +87,8 @@ abbrev pub IsClaimed : Plan → (PlaceId → Doing) → RequestId → ℕ → Ty
 IsClaimed plan at r word = (p : PlaceId) × IsPlace plan p × (word ≡ claimed p) × (at p ≡ Waits r p)
 
 module _ (plan : Plan) (at : PlaceId → Doing) (r : RequestId) where
-  -- The stage of a request, its word and its slot fit together; at p: what the owner of p does.
-  abbrev pub Fits : Stage → ℕ → Home → Type 0
+  -- The lead state of a request, its word and its slot fit together; at p: what the owner of p does.
+  abbrev pub Fits : LeadState → ℕ → Home → Type 0
   Fits NotLet word home = (word ≡ idle) × (home ≡ some None)
   Fits Let word home = ((word ≡ released) ⊎ IsClaimed plan at r word) × (home ≡ some None)
   Fits (Seen p) word home = IsPlace plan p × (word ≡ claimed p) × (at p ≡ Waits r p) × (home ≡ some None)
@@ -132,15 +132,15 @@ pub record Keep (plan : Plan) (s : BoardState) : Type 0 where
   pub few_places : count_of_places plan ≤ 64
   pub all_words : length s.words ≡ count_of_words plan
   pub all_slots : length s.homes ≡ count_of_requests plan
-  pub all_stages : length (view_at s.views lead).stages ≡ count_of_requests plan
+  pub all_lead_states : length (view_at s.views lead).lead_states ≡ count_of_requests plan
   pub leads : (view_at s.views lead).leads ≡ true
   pub one_lead : (j : ℕ) → (view_at s.views j).leads ≡ true → j ≡ lead
   pub knows_plan : (view_at s.views lead).plan ≡ Some plan
   pub one_owner : (j : ℕ) (p : PlaceId) → has (view_at s.views j).places p ≡ true → owner p ≡ j
   pub at_own : (j : ℕ) → IsAtOwn (view_at s.views j).places (view_at s.views j).doing
-  pub apart : AreApart plan (view_at s.views lead).stages
+  pub apart : AreApart plan (view_at s.views lead).lead_states
   pub each_request : (i : ℕ) → i < count_of_requests plan →
       Fits plan (doing_at s.views owner) (request_of i)
-      (stage_at (view_at s.views lead).stages i) (slice_index s.words i) (home_at s.homes i)
+      (lead_state_at (view_at s.views lead).lead_states i) (slice_index s.words i) (home_at s.homes i)
   pub each_seat : (j : ℕ) → Works plan owner s.words j (view_at s.views j).doing
   pub switches : (i : ℕ) → count_of_requests plan ≤ i → slice_index s.words i ≤ 1

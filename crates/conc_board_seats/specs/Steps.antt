@@ -7,14 +7,14 @@ use Rattle.conc_types.specs.declared.plan.Plan.{Plan}
 use Rattle.conc_board_seats.specs.declared.posted.Posted.{Posted}
 use Rattle.conc_board_seats.specs.declared.views.Doing.{Doing}
 use Rattle.conc_board_seats.specs.declared.views.Doing.TheVariants.{Idle, Waits, Serves}
-use Rattle.conc_board_seats.specs.declared.views.Stage.{Stage}
-use Rattle.conc_board_seats.specs.declared.views.Stage.TheVariants.{NotLet, Let, Seen, Gone}
+use Rattle.conc_board_seats.specs.declared.views.LeadState.{LeadState}
+use Rattle.conc_board_seats.specs.declared.views.LeadState.TheVariants.{NotLet, Let, Seen, Gone}
 use Rattle.conc_board_seats.specs.declared.views.View.{View}
 use Rattle.conc_board_seats.specs.Doings.{carried_by, polled, warned}
 use Rattle.conc_board_seats.specs.Places.{without}
 use Rattle.conc_board_seats.specs.Reports.{MayLeave}
 use Rattle.conc_board_seats.specs.Rule.{Runs}
-use Rattle.conc_board_seats.specs.Stages.{WordFits, cleared, gone, got, is_marked, looked, marked, stage_at}
+use Rattle.conc_board_seats.specs.LeadStates.{WordFits, cleared, gone, got, is_marked, lead_state_at, looked, marked}
 use Rattle.conc_board_seats.specs.Words.{IsPlace, ended, idle, place_in, released, request_of, running, stopping}
 
 -- ---- the view after a step
@@ -23,9 +23,10 @@ use Rattle.conc_board_seats.specs.Words.{IsPlace, ended, idle, place_in, release
 abbrev pub noted : View → ℕ → ℕ → View
 noted v i n = record v { found = v.found ++ (i, n) ∷ [] }
 
--- of the lead, where the request with this word is then at the stage
-abbrev pub with_stage : View → ℕ → Stage → ℕ → View
-with_stage v i stage n = record v { stages = slice_set v.stages i stage; found = v.found ++ (i, n) ∷ [] }
+-- of the lead, where the request with this word is then in the lead state
+abbrev pub with_lead_state : View → ℕ → LeadState → ℕ → View
+with_lead_state v i lead_state n =
+    record v { lead_states = slice_set v.lead_states i lead_state; found = v.found ++ (i, n) ∷ [] }
 
 -- of a hand, which then does this
 abbrev pub with_doing : View → Doing → ℕ → ℕ → View
@@ -45,7 +46,7 @@ abbrev pub kept : List PlaceId → View → View
 kept ps v = record v { places = without v.places ps }
 
 abbrev pub given : List PlaceId → View → View
-given ps v = record { leads = false; plan = None; stages = []; places = ps; doing = Idle; found = []; posts = [] }
+given ps v = record { leads = false; plan = None; lead_states = []; places = ps; doing = Idle; found = []; posts = [] }
 
 -- of the lead, which takes in a hand with the view w
 abbrev pub joined : View → View → View
@@ -61,39 +62,40 @@ Tells = Step Slot → Me Slot View → ℕ → Me Slot View → Type 0
 
 abbrev pub let_out_tells : Tells
 let_out_tells st m n m' =
-    (m'.0 ≡ with_stage m.0 st.word Let n) × (m'.1 ≡ m.1) × (n ≡ idle)
+    (m'.0 ≡ with_lead_state m.0 st.word Let n) × (m'.1 ≡ m.1) × (n ≡ idle)
 
--- what a word that the lead loaded as n says of the stage that it then knows
-abbrev pub LookFits : Stage → ℕ → Type 0
+-- what a word that the lead loaded as n says of the lead state that it then knows
+abbrev pub LookFits : LeadState → ℕ → Type 0
 LookFits Let n = n ≡ released
-LookFits stage n = WordFits stage n
+LookFits lead_state n = WordFits lead_state n
 
--- the place of the stage is one of the plan that the lead knows
-abbrev pub HasPlace : Option Plan → Stage → Type 0
-HasPlace None stage = ⊥
+-- the place of the lead state is one of the plan that the lead knows
+abbrev pub HasPlace : Option Plan → LeadState → Type 0
+HasPlace None lead_state = ⊥
 HasPlace (Some plan) (Seen p) = IsPlace plan p
 HasPlace (Some plan) (Gone p marked) = IsPlace plan p
-HasPlace (Some plan) stage = Unit {0}
+HasPlace (Some plan) lead_state = Unit {0}
 
 abbrev pub look_tells : Tells
 look_tells st m n m' =
-    (m'.0 ≡ with_stage m.0 st.word (looked (stage_at m.0.stages st.word) n) n) × (m'.1 ≡ m.1)
-    × HasPlace m.0.plan (looked (stage_at m.0.stages st.word) n)
-    × LookFits (looked (stage_at m.0.stages st.word) n) n
+    (m'.0 ≡ with_lead_state m.0 st.word (looked (lead_state_at m.0.lead_states st.word) n) n) × (m'.1 ≡ m.1)
+    × HasPlace m.0.plan (looked (lead_state_at m.0.lead_states st.word) n)
+    × LookFits (looked (lead_state_at m.0.lead_states st.word) n) n
 
 abbrev pub go_tells : Tells
 go_tells st m n m' =
-    (m'.0 ≡ with_stage m.0 st.word (gone (stage_at m.0.stages st.word)) n) × (m'.1 ≡ m.1)
-    × WordFits (stage_at m.0.stages st.word) n
+    (m'.0 ≡ with_lead_state m.0 st.word (gone (lead_state_at m.0.lead_states st.word)) n) × (m'.1 ≡ m.1)
+    × WordFits (lead_state_at m.0.lead_states st.word) n
 
 abbrev pub back_tells : Tells
 back_tells st m n m' =
-    (m'.0 ≡ with_stage m.0 st.word NotLet n) × (m'.1 ≡ m.1) × WordFits (stage_at m.0.stages st.word) n
+    (m'.0 ≡ with_lead_state m.0 st.word NotLet n) × (m'.1 ≡ m.1) × WordFits (lead_state_at m.0.lead_states st.word) n
 
 abbrev pub stop_tells : Tells
 stop_tells st m n m' =
-    (m'.0 ≡ (if n == st.first then with_stage m.0 st.word (marked (stage_at m.0.stages st.word)) n else noted m.0 st.word n))
-    × (m'.1 ≡ m.1) × WordFits (stage_at m.0.stages st.word) n
+    (m'.0 ≡ (if n == st.first then with_lead_state m.0 st.word (marked (lead_state_at m.0.lead_states st.word)) n
+    else noted m.0 st.word n))
+    × (m'.1 ≡ m.1) × WordFits (lead_state_at m.0.lead_states st.word) n
 
 -- what was left may be, by the plan that the lead knows
 abbrev pub IsTold : Option Plan → RequestId → Bool → Posted → Type 0
@@ -101,28 +103,30 @@ IsTold None r marked x = ⊥
 IsTold (Some plan) r marked x = MayLeave plan r marked x
 
 -- the word of a request that has the go, where it ended and where it did not
-abbrev pub EndedFits : Stage → ℕ → Type 0
+abbrev pub EndedFits : LeadState → ℕ → Type 0
 EndedFits (Gone p marked) n = n ≡ ended p
-EndedFits stage n = Unit {0}
+EndedFits lead_state n = Unit {0}
 
-abbrev pub RunFits : Stage → ℕ → Type 0
+abbrev pub RunFits : LeadState → ℕ → Type 0
 RunFits (Gone p marked) n = (n ≡ running p) ⊎ (n ≡ stopping p)
-RunFits stage n = Unit {0}
+RunFits lead_state n = Unit {0}
 
 -- the lead's load that takes the slot where the word is Ended
 abbrev pub got_tells : Tells
 got_tells st m n m' =
     (n / 256 ≡ 4 →
-    EndedFits (stage_at m.0.stages st.word) n
-    × ((x : Posted) × (m'.0 ≡ with_post (with_stage m.0 st.word (got (stage_at m.0.stages st.word)) n) st.word x)
+    EndedFits (lead_state_at m.0.lead_states st.word) n
+    × ((x : Posted)
+    × (m'.0 ≡ with_post (with_lead_state m.0 st.word (got (lead_state_at m.0.lead_states st.word)) n) st.word x)
     × (m'.1 ≡ (st.word, Some x) ∷ m.1)
-    × IsTold m.0.plan (request_of st.word) (is_marked (stage_at m.0.stages st.word)) x))
-    × (n / 256 ≢ 4 → (m'.0 ≡ noted m.0 st.word n) × (m'.1 ≡ m.1) × RunFits (stage_at m.0.stages st.word) n)
+    × IsTold m.0.plan (request_of st.word) (is_marked (lead_state_at m.0.lead_states st.word)) x))
+    × (n / 256 ≢ 4 → (m'.0 ≡ noted m.0 st.word n) × (m'.1 ≡ m.1)
+    × RunFits (lead_state_at m.0.lead_states st.word) n)
 
 abbrev pub clear_tells : Tells
 clear_tells st m n m' =
-    (m'.0 ≡ with_stage m.0 st.word (cleared (stage_at m.0.stages st.word)) n) × (m'.1 ≡ rest m.1)
-    × WordFits (stage_at m.0.stages st.word) n
+    (m'.0 ≡ with_lead_state m.0 st.word (cleared (lead_state_at m.0.lead_states st.word)) n) × (m'.1 ≡ rest m.1)
+    × WordFits (lead_state_at m.0.lead_states st.word) n
 
 -- a step on a word by which a seat learns nothing but what it found
 abbrev pub note_tells : Tells

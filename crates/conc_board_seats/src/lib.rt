@@ -6,4 +6,4 @@ mod posted;
 mod views;
 
 pub use posted::Posted;
-pub use views::{Doing, Stage, View};
+pub use views::{Doing, LeadState, View};

@@ -4,7 +4,7 @@ use std::collections::LinkedList;
 
 /// What the lead knows of a request. From `Gone` on it has the request's mark: whether a stop of it
 /// won.
-pub enum Stage {
+pub enum LeadState {
     /// It is not on the board, or was taken back.
     NotLet,
     /// It is let out.
@@ -34,8 +34,8 @@ pub struct View {
     pub leads: bool,
     /// The plan of the board, which the lead knows.
     pub plan: Option<Plan>,
-    /// The stage of each request, which the lead knows.
-    pub stages: LinkedList<Stage>,
+    /// The lead state of each request, which the lead knows.
+    pub lead_states: LinkedList<LeadState>,
     /// The places of its own.
     pub places: LinkedList<PlaceId>,
     /// What it does, as a hand.

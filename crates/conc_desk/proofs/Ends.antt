@@ -37,18 +37,18 @@ use Rattle.conc_reports.specs.Reports.{as_report}
 use Rattle.conc_reports.specs.declared.making.Made.{Made}
 use Rattle.conc_board.specs.declared.board.Board.{Board}
 use Rattle.conc_board.specs.declared.lead.Lead.{Lead}
-use Rattle.conc_board.specs.Seats.{IsLeftFor, plan_of, stage_of}
+use Rattle.conc_board.specs.Seats.{IsLeftFor, lead_state_of, plan_of}
 use Rattle.conc_board.specs.Stops.{Collects}
 use Rattle.conc_board_seats.specs.Reports.{MayLeave}
-use Rattle.conc_board_seats.specs.Stages.{is_marked}
+use Rattle.conc_board_seats.specs.LeadStates.{is_marked}
 use Rattle.conc_board_seats.specs.Words.{IsRequest, request_word}
 use Rattle.conc_board_seats.specs.declared.posted.Posted.{Posted}
 use Rattle.conc_board_seats.specs.declared.posted.Posted.TheVariants.{Text, Stopped, NoMemory}
-use Rattle.conc_board_seats.specs.declared.views.Stage.{Stage}
+use Rattle.conc_board_seats.specs.declared.views.LeadState.{LeadState}
 use Rattle.conc_resolver_choice.proofs.Pushes.{is_lawful-more}
 use Rattle.conc_run_steps.proofs.Coming.{made-good}
 use Rattle.conc_desk.specs.Keeping.{end_in, IsLeftIn, must_stop}
-use Rattle.conc_desk_lead.specs.Ties.{GoesWith, RunsAt, StagesGoWith}
+use Rattle.conc_desk_lead.specs.Ties.{GoesWith, LeadStatesGoWith, RunsAt}
 
 -- ---- the request that is named
 
@@ -61,7 +61,7 @@ named plan r is = elim (slice_get_cases plan.requests (request_word r)).1 [
 
 -- a request whose posted report was collected ran
 pub left_in : (board : Board) (plan : Plan) (past : List Event) (r : RequestId) (old new : Lead) (posted : Posted) → plan_of board ≡ plan → IsRequest plan r
-    → StagesGoWith plan past old → Collects r old new → IsLeftFor board old r posted → IsLeftIn plan past r posted
+    → LeadStatesGoWith plan past old → Collects r old new → IsLeftFor board old r posted → IsLeftIn plan past r posted
 left_in board plan past r old new posted is one tied collects left =
     let x = named plan r one in
     let has = found plan r x.0 x.1 in
@@ -72,8 +72,8 @@ left_in board plan past r old new posted is one tied collects left =
       number = same;
       place = collects.place;
       marked = collects.marked;
-      runs = subst (λ (z : Stage). GoesWith z (facts_of plan past x.0)) (ap (stage_of old) same ∙ collects.was) (tied.each x.0 has.1);
-      may_leave = subst (λ (p : Plan). MayLeave p r collects.marked posted) is (subst (λ (z : Stage). MayLeave (plan_of board) r (is_marked z) posted) collects.was left);
+      runs = subst (λ (z : LeadState). GoesWith z (facts_of plan past x.0)) (ap (lead_state_of old) same ∙ collects.was) (tied.each x.0 has.1);
+      may_leave = subst (λ (p : Plan). MayLeave p r collects.marked posted) is (subst (λ (z : LeadState). MayLeave (plan_of board) r (is_marked z) posted) collects.was left);
     }
 
 -- ---- an end is allowed where nothing is forced

@@ -17,8 +17,8 @@ use Rattle.conc_law.specs.Words.{id_eq}
 use Rattle.conc_law.proofs.EqualEvents.{id_same}
 use Rattle.conc_law.proofs.Positions.{reverse-push}
 use Rattle.conc_board.specs.declared.lead.Lead.{Lead}
-use Rattle.conc_board.specs.Seats.{stage_of}
-use Rattle.conc_board_seats.specs.Stages.{IsGone}
+use Rattle.conc_board.specs.Seats.{lead_state_of}
+use Rattle.conc_board_seats.specs.LeadStates.{IsGone}
 use Rattle.conc_resolver_choice.specs.Choices.{HasItsText}
 use Rattle.conc_run_state.specs.Works.{AreTied, HasPendingText, list_in}
 use Rattle.conc_run_state.specs.declared.work.Work.{Work}
@@ -128,13 +128,13 @@ may_come_now plan readings list e lawful =
     (ap (is_lawful plan readings) (sym (reverse-push list e)) ∙ lawful)).1
 
 -- no request with the go ends by the event
-pub none_gone_ends : (kept : Option Event) (work : Work) (lead : Lead) (e : Event) → MayBeKept kept work lead → IsItsTurn kept e → (r : RequestId) → IsGone (stage_of lead r) → ends r e ≡ false
+pub none_gone_ends : (kept : Option Event) (work : Work) (lead : Lead) (e : Event) → MayBeKept kept work lead → IsItsTurn kept e → (r : RequestId) → IsGone (lead_state_of lead r) → ends r e ≡ false
 none_gone_ends None work lead e may turn r gone = by e turn where
   by : (d : Event) → IsItsTurn None d → ends r d ≡ false
   by (event.Ended q o x) t = absurd t
   by _ t = refl
 none_gone_ends (Some (event.Ended q o x)) work lead e (lawful, none) turn r gone = ap (ends r) turn ∙ by (id_eq q r) refl where
   by : (b : Bool) → id_eq q r ≡ b → id_eq q r ≡ false
-  by true h = absurd (none (subst (λ (z : RequestId). IsGone (stage_of lead z)) (sym (id_same q r h)) gone))
+  by true h = absurd (none (subst (λ (z : RequestId). IsGone (lead_state_of lead z)) (sym (id_same q r h)) gone))
   by false h = h
 none_gone_ends (Some k) work lead e may turn r gone = absurd may

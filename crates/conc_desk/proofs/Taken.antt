@@ -13,13 +13,13 @@ use Rattle.conc_law.specs.Next.{forced}
 use Rattle.conc_law.specs.State.{state}
 use Rattle.conc_board.specs.declared.board.Board.{Board}
 use Rattle.conc_board.specs.declared.lead.Lead.{Lead}
-use Rattle.conc_board.specs.Seats.{Changes, IsLeftFor, plan_of as board_plan, stage_of}
+use Rattle.conc_board.specs.Seats.{Changes, IsLeftFor, lead_state_of, plan_of as board_plan}
 use Rattle.conc_board.specs.Stops.{Collects}
 use Rattle.conc_board_seats.specs.declared.posted.Posted.{Posted}
 use Rattle.conc_board_seats.specs.declared.posted.Posted.TheVariants.{Text, Stopped, NoMemory}
-use Rattle.conc_board_seats.specs.declared.views.Stage.{Stage}
-use Rattle.conc_board_seats.specs.declared.views.Stage.TheVariants.{Gone, Done}
-use Rattle.conc_board_seats.specs.Stages.{IsGone}
+use Rattle.conc_board_seats.specs.declared.views.LeadState.{LeadState}
+use Rattle.conc_board_seats.specs.declared.views.LeadState.TheVariants.{Gone, Done}
+use Rattle.conc_board_seats.specs.LeadStates.{IsGone}
 use Rattle.conc_board_seats.specs.Words.{IsRequest}
 use Rattle.conc_disk.specs.Disk.{DiskState}
 use Rattle.conc_journal.specs.Journals.{list_of}
@@ -39,7 +39,7 @@ use Rattle.conc_desk.specs.declared.keeping.KeepFail.TheVariants as fails
 use Rattle.conc_desk.specs.declared.keeping.Kept.TheVariants as keeps
 use Rattle.conc_desk.proofs.Ends.{end_lawful, is_its_end, IsEndOf, left_in}
 use Rattle.conc_desk.proofs.Moves.{moved}
-use Rattle.conc_desk_lead.specs.Ties.{GoesWith, RunsAt, StagesGoWith}
+use Rattle.conc_desk_lead.specs.Ties.{GoesWith, LeadStatesGoWith, RunsAt}
 
 -- ---- what is answered, by what was made of it
 
@@ -64,12 +64,12 @@ answers-fault false Stopped next makes some = absurd makes
 -- ---- the desk then
 
 module _ (board : Board) (r : RequestId) (own : Plan) (work : Work) (old new : Lead) (is : board_plan board ≡ plan_in work) (desk : IsDesk own old work None) (changes : Changes board r old new) (collects : Collects r old new) where
-  done_goes : (x : Req) → StagesGoWith (plan_in work) (reverse (list_in work)) old → (facts : Facts) → GoesWith (stage_of old r) facts → GoesWith (stage_of new r) facts
+  done_goes : (x : Req) → LeadStatesGoWith (plan_in work) (reverse (list_in work)) old → (facts : Facts) → GoesWith (lead_state_of old r) facts → GoesWith (lead_state_of new r) facts
   done_goes x tied facts goes =
-      let ran : RunsAt collects.place collects.marked facts = subst (λ (z : Stage). GoesWith z facts) collects.was goes in
-      subst (λ (z : Stage). GoesWith z facts) (sym collects.now) ran.started
+      let ran : RunsAt collects.place collects.marked facts = subst (λ (z : LeadState). GoesWith z facts) collects.was goes in
+      subst (λ (z : LeadState). GoesWith z facts) (sym collects.now) ran.started
 
-  pub not_gone : IsGone (stage_of new r) → ⊥
+  pub not_gone : IsGone (lead_state_of new r) → ⊥
   not_gone now = subst IsGone collects.now now
 
   -- nothing is kept
@@ -77,7 +77,7 @@ module _ (board : Board) (r : RequestId) (own : Plan) (work : Work) (old new : L
   taken =
       moved board r work None old new changes own is desk
       (λ x hx e. done_goes x desk.tied (facts_of (plan_in work) (reverse (list_in work)) x)
-      (subst (λ (z : RequestId). GoesWith (stage_of old z) (facts_of (plan_in work) (reverse (list_in work)) x)) e (desk.tied.each x hx)))
+      (subst (λ (z : RequestId). GoesWith (lead_state_of old z) (facts_of (plan_in work) (reverse (list_in work)) x)) e (desk.tied.each x hx)))
       (λ now. absurd (not_gone now))
 
 -- with another spool, and what is kept
@@ -87,13 +87,13 @@ with_kept own work work' kept lead machine journal desk tied may = record {
   plan_is = desk.plan_is ∙ ap plan_of (sym machine);
   seated = subst (λ (m : Machine). IsSeated (plan_of m) lead) (sym machine) desk.seated;
   parts = tied;
-  tied = subst (λ (z : Machine × Journal). StagesGoWith (plan_of z.0) (reverse (list_of z.1)) lead) (λ i. (sym machine i, sym journal i)) desk.tied;
+  tied = subst (λ (z : Machine × Journal). LeadStatesGoWith (plan_of z.0) (reverse (list_of z.1)) lead) (λ i. (sym machine i, sym journal i)) desk.tied;
   may_be_kept = may;
 }
 
 -- the end of a request that has no go may be kept
 pub may_keep : (work : Work) (lead : Lead) (r : RequestId) (e : Event) → IsEndOf r e → Lawful (plan_in work) (readings_in work) (list_in work ++ e ∷ [])
-    → (IsGone (stage_of lead r) → ⊥) → MayBeKept (Some e) work lead
+    → (IsGone (lead_state_of lead r) → ⊥) → MayBeKept (Some e) work lead
 may_keep work lead r e (o, x, is) lawful none = subst (λ (d : Event). MayBeKept (Some d) work lead) is (subst (λ (d : Event). Lawful (plan_in work) (readings_in work) (list_in work ++ d ∷ [])) (sym is) lawful, none)
 
 -- ---- a call to keep an end

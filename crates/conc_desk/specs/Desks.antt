@@ -15,8 +15,8 @@ use Rattle.conc_types.specs.declared.plan.Req.{Req}
 use Rattle.conc_law.specs.Facts.{facts_of}
 use Rattle.conc_law.specs.Words.{Has}
 use Rattle.conc_board.specs.declared.board.Board.{Board}
-use Rattle.conc_board.specs.Seats.{plan_of, stage_of}
-use Rattle.conc_board_seats.specs.declared.views.Stage.{Stage}
+use Rattle.conc_board.specs.Seats.{lead_state_of, plan_of}
+use Rattle.conc_board_seats.specs.declared.views.LeadState.{LeadState}
 use Rattle.conc_run_steps.specs.Steps.{plan_in}
 use Rattle.conc_run_state.specs.Works.{list_in}
 use Rattle.conc_desk_lead.specs.Following.{SameBut}
@@ -29,9 +29,9 @@ plan_at desk = plan_in desk.work
 abbrev pub list_at : DeskState → List Event
 list_at desk = list_in desk.work
 
--- the stage of a request in the lead's view
-abbrev pub stage_at : DeskState → RequestId → Stage
-stage_at desk r = stage_of desk.lead r
+-- the lead state of a request in the lead's view
+abbrev pub lead_state_at : DeskState → RequestId → LeadState
+lead_state_at desk r = lead_state_of desk.lead r
 
 -- the lead is seated at the board, which was made for the desk's plan
 pub record IsAt (board : Board) (desk : DeskState) : Type 0 where

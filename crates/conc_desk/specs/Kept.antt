@@ -4,8 +4,8 @@ use Rattle.conc_types.specs.declared.event.Event.{Event}
 use Rattle.conc_types.specs.declared.event.Event.TheVariants as event
 use Rattle.conc_law.specs.Law.{Lawful}
 use Rattle.conc_board.specs.declared.lead.Lead.{Lead}
-use Rattle.conc_board.specs.Seats.{stage_of}
-use Rattle.conc_board_seats.specs.Stages.{IsGone}
+use Rattle.conc_board.specs.Seats.{lead_state_of}
+use Rattle.conc_board_seats.specs.LeadStates.{IsGone}
 use Rattle.conc_run_steps.specs.Steps.{plan_in, readings_in}
 use Rattle.conc_run_state.specs.Works.{list_in}
 use Rattle.conc_run_state.specs.declared.work.Work.{Work}
@@ -14,5 +14,6 @@ use Rattle.conc_run_state.specs.declared.work.Work.{Work}
 abbrev pub MayBeKept : Option Event → Work → Lead → Type 0
 MayBeKept None work lead = ⊤
 MayBeKept (Some (event.Ended r o x)) work lead =
-    Lawful (plan_in work) (readings_in work) (list_in work ++ event.Ended r o x ∷ []) × (IsGone (stage_of lead r) → ⊥)
+    Lawful (plan_in work) (readings_in work) (list_in work ++ event.Ended r o x ∷ [])
+    × (IsGone (lead_state_of lead r) → ⊥)
 MayBeKept (Some e) work lead = ⊥

@@ -2,17 +2,17 @@
 use Rattle.std.specs.Prelude.{◌≡◌, ◌+◌, ◌∷◌, ◌++◌, [], Option, None, Some, ⊤}
 use Rattle.conc_types.specs.declared.event.Event.{Event}
 use Rattle.conc_types.specs.declared.event.Event.TheVariants as event
-use Rattle.conc_board_seats.specs.declared.views.Stage.TheVariants.{Seen}
+use Rattle.conc_board_seats.specs.declared.views.LeadState.TheVariants.{Seen}
 use Rattle.conc_journal.specs.Journals.{room_of, state_of}
 use Rattle.conc_journal.specs.JournalStates.{after_fault}
 use Rattle.conc_run_steps.specs.Steps.{readings_in}
 use Rattle.conc_desk_lead.specs.Following.{Follows}
-use Rattle.conc_desk.specs.Desks.{list_at, plan_at, stage_at}
+use Rattle.conc_desk.specs.Desks.{lead_state_at, list_at, plan_at}
 use Rattle.conc_desk.specs.State.{DeskState}
 
 -- a start is of a request that the lead saw claimed by that place
 abbrev pub WasSeen : Event → DeskState → Type 0
-WasSeen (event.Started r p) desk = stage_at desk r ≡ Seen p
+WasSeen (event.Started r p) desk = lead_state_at desk r ≡ Seen p
 WasSeen e desk = ⊤
 
 -- an end is the one that is kept, and while one is kept it is the event

@@ -8,7 +8,7 @@ use Rattle.conc_run_state.specs.Works.{list_in}
 use Rattle.conc_run_state.specs.declared.work.Work.{Work}
 use Rattle.conc_desk.specs.Kept.{MayBeKept}
 use Rattle.conc_desk.specs.Seated.{IsSeated}
-use Rattle.conc_desk_lead.specs.Ties.{StagesGoWith}
+use Rattle.conc_desk_lead.specs.Ties.{LeadStatesGoWith}
 
 -- a desk as contracts see it: its plan, the lead, the work, the end that is kept, and how many events the list had when it was made
 pub record DeskState : Type 0 where
@@ -24,5 +24,5 @@ pub record IsDesk (plan : Plan) (lead : Lead) (work : Work) (kept : Option Event
   pub plan_is : plan ≡ plan_in work
   pub seated : IsSeated (plan_in work) lead
   pub parts : IsTied kept work any_disk any_disk
-  pub tied : StagesGoWith (plan_in work) (reverse (list_in work)) lead
+  pub tied : LeadStatesGoWith (plan_in work) (reverse (list_in work)) lead
   pub may_be_kept : MayBeKept kept work lead

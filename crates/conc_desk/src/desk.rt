@@ -1,7 +1,7 @@
 ghost use Rattle.std.specs.Prelude.{◌≡◌, None, length};
 ghost use Rattle.conc_types.specs.declared.event.RequestId.{RequestId};
-ghost use Rattle.conc_board.specs.Seats.{stage_of};
-ghost use Rattle.conc_board_seats.specs.declared.views.Stage.TheVariants as stage;
+ghost use Rattle.conc_board.specs.Seats.{lead_state_of};
+ghost use Rattle.conc_board_seats.specs.declared.views.LeadState.TheVariants as lead_state;
 ghost use Rattle.conc_desk.specs.Seated.{IsSeated};
 ghost use Rattle.conc_desk.specs.State.{DeskState, IsDesk};
 ghost use Rattle.conc_run_steps.specs.Steps.{any_disk, IsTied, plan_in};
@@ -46,15 +46,15 @@ impl<'a> Model for Desk<'a> {
 }
 
 impl<'a> Desk<'a> {
-    ghost use Rattle.conc_board.specs.Looks.{HasProgress, LooksOn, SeesStage, Shows};
-    ghost use Rattle.conc_board.specs.Seats.{FindsFitting, KeepsStages, LeadFinds, IsFlag, plan_of};
-    ghost use Rattle.conc_board_seats.specs.Stages.{IsGone, IsLet, IsLetOrGone};
+    ghost use Rattle.conc_board.specs.Looks.{HasProgress, LooksOn, SeesLeadState, Shows};
+    ghost use Rattle.conc_board.specs.Seats.{FindsFitting, KeepsLeadStates, LeadFinds, IsFlag, plan_of};
+    ghost use Rattle.conc_board_seats.specs.LeadStates.{IsGone, IsLet, IsLetOrGone};
     ghost use Rattle.conc_board_seats.specs.Words.{end_word, IsPlace, IsRequest, place_word, request_word};
     ghost use Rattle.std.specs.Prelude.{◌⊎◌, ◌<◌, ◌∷◌, ◌++◌, [], IfOk, IsFalse, IsTrue, OnErr, OnOk, reverse, Some};
     ghost use Rattle.conc_journal.specs.JournalStates.{has_faulted};
     ghost use Rattle.conc_journal.specs.Journals.{IsOn as JournalIsOn, room_of, state_of};
     ghost use Rattle.conc_journal.specs.Receipts.{IsNextOf};
-    ghost use Rattle.conc_desk_lead.specs.Ties.{StagesGoWith};
+    ghost use Rattle.conc_desk_lead.specs.Ties.{LeadStatesGoWith};
     ghost use Rattle.conc_machine.specs.StandsFor.{readings_of, StandsFor};
     ghost use Rattle.conc_law.specs.Kinds.{is_resume};
     ghost use Rattle.conc_law.specs.Law.{Lawful};
@@ -64,13 +64,13 @@ impl<'a> Desk<'a> {
     ghost use Rattle.conc_spool.specs.Spools.{IsOn as SpoolIsOn};
     ghost use Rattle.conc_desk.specs.Logging.{IsItsTurn, IsLogged, IsUnlogged, WasSeen};
     ghost use Rattle.conc_run_steps.specs.Steps.{readings_in, SurvivesFor};
-    ghost use Rattle.conc_desk.specs.Desks.{plan_at, IsAt, IsLetIn, list_at, MovesOne, SameWork, stage_at};
+    ghost use Rattle.conc_desk.specs.Desks.{lead_state_at, plan_at, IsAt, IsLetIn, list_at, MovesOne, SameWork};
 
     /// A desk of a lead that let nothing out yet, and of a work whose parts stand for one list.
     pub fn new(plan: &'a Plan, lead: Lead, work: Work<'a>) -> Desk<'a>
         requires plan { plan.now ≡ plan_in work }
         requires seated { IsSeated (plan_in work) lead }
-        requires none_let { (r : RequestId) → stage_of lead r ≡ stage.NotLet }
+        requires none_let { (r : RequestId) → lead_state_of lead r ≡ lead_state.NotLet }
         requires parts { IsTied None work any_disk any_disk }
         ensures plan { result.plan ≡ plan.now }
         ensures lead { result.lead ≡ lead }
@@ -102,7 +102,8 @@ impl<'a> Desk<'a> {
         ensures stands { StandsFor result.now (reverse (list_at self.now)) }
         ensures readings { readings_of result.now ≡ Some (readings_in self.now.work) }
         ensures lawful { Lawful (plan_at self.now) (readings_in self.now.work) (list_at self.now) }
-        ensures tied { StagesGoWith (plan_at self.now) (reverse (list_at self.now)) self.now.lead }
+        ensures tied { LeadStatesGoWith (plan_at self.now)
+            (reverse (list_at self.now)) self.now.lead }
     {
         &self.work.machine
     }
@@ -111,9 +112,9 @@ impl<'a> Desk<'a> {
     pub fn release(&mut self, board: &Board, r: RequestId)
         requires at { IsAt board.now self.old }
         requires let_out { IsLetIn self.old r }
-        requires stage { stage_at self.old r ≡ stage.NotLet }
+        requires lead_state { lead_state_at self.old r ≡ lead_state.NotLet }
         ensures moves { MovesOne board.now r self.old self.new }
-        ensures stage { stage_at self.new r ≡ stage.Let }
+        ensures lead_state { lead_state_at self.new r ≡ lead_state.Let }
         ensures found { FindsFitting r self.old.lead self.new.lead }
     {
         board.let_out(&mut self.lead, r);
@@ -123,21 +124,21 @@ impl<'a> Desk<'a> {
     pub fn look(&mut self, board: &Board, r: RequestId) -> Looked
         requires at { IsAt board.now self.old }
         requires request { IsRequest (plan_of board.now) r }
-        requires stage { IsLetOrGone (stage_at self.old r) }
+        requires lead_state { IsLetOrGone (lead_state_at self.old r) }
         ensures moves { MovesOne board.now r self.old self.new }
-        ensures stage { SeesStage board.now r result self.old.lead self.new.lead }
+        ensures lead_state { SeesLeadState board.now r result self.old.lead self.new.lead }
         ensures found { LeadFinds (request_word r) (Shows result) self.old.lead self.new.lead }
     {
         board.look(&mut self.lead, r)
     }
 
-    /// How far a request has come on the board, at whatever stage it is.
+    /// How far a request has come on the board, in whatever lead state it is.
     pub fn progress(&mut self, board: &Board, r: RequestId) -> Progress
         requires at { IsAt board.now self.old }
         requires request { IsRequest (plan_of board.now) r }
         ensures moves { MovesOne board.now r self.old self.new }
-        ensures progress { HasProgress result (stage_at self.old r) }
-        ensures stage { LooksOn (stage_at self.old r) (stage_at self.new r) }
+        ensures progress { HasProgress result (lead_state_at self.old r) }
+        ensures lead_state { LooksOn (lead_state_at self.old r) (lead_state_at self.new r) }
         ensures found { FindsFitting r self.old.lead self.new.lead }
     {
         board.progress(&mut self.lead, r)
@@ -147,9 +148,9 @@ impl<'a> Desk<'a> {
     pub fn withdraw(&mut self, board: &Board, r: RequestId)
         requires at { IsAt board.now self.old }
         requires request { IsRequest (plan_of board.now) r }
-        requires stage { IsLet (stage_at self.old r) }
+        requires lead_state { IsLet (lead_state_at self.old r) }
         ensures moves { MovesOne board.now r self.old self.new }
-        ensures stage { stage_at self.new r ≡ stage.NotLet }
+        ensures lead_state { lead_state_at self.new r ≡ lead_state.NotLet }
         ensures found { FindsFitting r self.old.lead self.new.lead }
     {
         board.back(&mut self.lead, r);
@@ -161,7 +162,7 @@ impl<'a> Desk<'a> {
         requires place { IsPlace (plan_of board.now) place }
         ensures at { IsAt board.now self.new }
         ensures same { SameWork self.old self.new }
-        ensures lead { KeepsStages board.now self.old.lead self.new.lead }
+        ensures lead { KeepsLeadStates board.now self.old.lead self.new.lead }
         ensures found { LeadFinds (place_word (plan_of board.now) place) IsFlag self.old.lead
             self.new.lead }
     {
@@ -174,7 +175,7 @@ impl<'a> Desk<'a> {
         requires place { IsPlace (plan_of board.now) place }
         ensures at { IsAt board.now self.new }
         ensures same { SameWork self.old self.new }
-        ensures lead { KeepsStages board.now self.old.lead self.new.lead }
+        ensures lead { KeepsLeadStates board.now self.old.lead self.new.lead }
         ensures found { LeadFinds (place_word (plan_of board.now) place) IsFlag self.old.lead
             self.new.lead }
     {
@@ -186,7 +187,7 @@ impl<'a> Desk<'a> {
         requires at { IsAt board.now self.old }
         ensures at { IsAt board.now self.new }
         ensures same { SameWork self.old self.new }
-        ensures lead { KeepsStages board.now self.old.lead self.new.lead }
+        ensures lead { KeepsLeadStates board.now self.old.lead self.new.lead }
         ensures found { LeadFinds (end_word (plan_of board.now)) IsFlag self.old.lead
             self.new.lead }
     {
@@ -242,7 +243,7 @@ impl<'a> Desk<'a> {
         requires at { IsAt board.now self.old }
         requires on { SpoolIsOn self.old.work.spool (E.state spool.old) }
         requires request { IsRequest (plan_of board.now) r }
-        requires stage { IsGone (stage_at self.old r) }
+        requires lead_state { IsGone (lead_state_at self.old r) }
         requires nothing_forced { forced_at self.old ≡ None }
         requires nothing_kept { self.old.kept ≡ None }
 

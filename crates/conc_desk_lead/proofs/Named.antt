@@ -10,12 +10,12 @@ use Rattle.conc_types.specs.declared.plan.Plan.{Plan}
 use Rattle.conc_types.specs.declared.plan.Req.{Req}
 use Rattle.conc_types.specs.Plans.{request}
 use Rattle.conc_types.specs.Words.{numbered}
-use Rattle.conc_board_seats.specs.declared.views.Stage.{Stage}
-use Rattle.conc_board_seats.specs.declared.views.Stage.TheVariants.{NotLet, Let, Seen, Gone, Got, Done}
-use Rattle.conc_board_seats.specs.Stages.{stage_at, stage_in}
+use Rattle.conc_board_seats.specs.declared.views.LeadState.{LeadState}
+use Rattle.conc_board_seats.specs.declared.views.LeadState.TheVariants.{NotLet, Let, Seen, Gone, Got, Done}
+use Rattle.conc_board_seats.specs.LeadStates.{lead_state_at, lead_state_in}
 use Rattle.conc_board_seats.specs.Words.{IsRequest, count_of_requests, request_word}
 use Rattle.conc_law.proofs.Numbering.{numbered-at}
-use Rattle.conc_board.proofs.Leads.{stage_in-request}
+use Rattle.conc_board.proofs.Leads.{lead_state_in-request}
 use Rattle.conc_desk_lead.specs.Following.{TakenBack}
 
 within : (xs : List Req) (n : ℕ) (x : Req) → numbered xs n ≡ Some x → (1 ≤ n) × (n ≤ length xs)
@@ -44,16 +44,16 @@ none_copied None none = refl
 none_copied (Some x) none = cc
 
 -- where it has none, none is let
-pub not_let : (plan : Plan) (r : RequestId) (stages : List Stage) (found : Option (Bor Req)) → option_copied found ≡ request plan r → is_some found ≡ false
-    → length stages ≡ count_of_requests plan → stage_in stages r ≡ NotLet
+pub not_let : (plan : Plan) (r : RequestId) (lead_states : List LeadState) (found : Option (Bor Req)) → option_copied found ≡ request plan r → is_some found ≡ false
+    → length lead_states ≡ count_of_requests plan → lead_state_in lead_states r ≡ NotLet
 unfolding request
-not_let plan r stages found copied none all = dite (ℕ_discrete r.number 0)
-    (λ e. ap (λ b. if b then NotLet else stage_at stages (request_word r)) (eq-eqb r.number 0 e))
+not_let plan r lead_states found copied none all = dite (ℕ_discrete r.number 0)
+    (λ e. ap (λ b. if b then NotLet else lead_state_at lead_states (request_word r)) (eq-eqb r.number 0 e))
     (λ ne. let past = outside plan.requests r.number (request_word r) (omega (arith, ne)) (sym copied ∙ none_copied found none) in
-    stage_in-request stages r (omega (arith, ne)) ∙ get_or_past stages (request_word r) NotLet (omega arith))
+    lead_state_in-request lead_states r (omega (arith, ne)) ∙ get_or_past lead_states (request_word r) NotLet (omega arith))
 
 -- a request that is not let cannot be taken back
-pub not_taken_back : (st : Stage) → st ≡ NotLet → TakenBack st st
+pub not_taken_back : (st : LeadState) → st ≡ NotLet → TakenBack st st
 not_taken_back NotLet none = refl
 not_taken_back Let none = cc
 not_taken_back (Seen p) none = cc

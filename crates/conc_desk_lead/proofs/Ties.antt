@@ -1,4 +1,4 @@
--- One more event, and what goes with the stage of a request.
+-- One more event, and what goes with the lead state of a request.
 use Rattle.std.proofs.Common.{◌≡◌, ◌||◌, Bool, is_some, true, false, List, ◌∷◌, Option, None, Some, refl, sym, ◌∙◌, ap, subst}
 use Rattle.std.specs.Bool.{then_some}
 use Rattle.std.proofs.lemmas.Bool.{and_from, both_ways, not_from_false, or_left, or_parts, or_right}

@@ -10,48 +10,48 @@ use Rattle.conc_types.specs.declared.script.Act.TheVariants as act
 use Rattle.conc_law.specs.Kinds.{act_of}
 use Rattle.conc_law.specs.Words.{id_eq}
 use Rattle.conc_board.specs.declared.lead.Lead.{Lead}
-use Rattle.conc_board.specs.Seats.{places_of_lead, stage_of}
-use Rattle.conc_board_seats.specs.declared.views.Stage.{Stage}
-use Rattle.conc_board_seats.specs.declared.views.Stage.TheVariants.{NotLet, Let, Seen, Gone}
+use Rattle.conc_board.specs.Seats.{lead_state_of, places_of_lead}
+use Rattle.conc_board_seats.specs.declared.views.LeadState.{LeadState}
+use Rattle.conc_board_seats.specs.declared.views.LeadState.TheVariants.{NotLet, Let, Seen, Gone}
 
 -- ---- one request
 
 -- a request that is let out and has no go is taken back
-abbrev pub TakenBack : Stage → Stage → Type 0
+abbrev pub TakenBack : LeadState → LeadState → Type 0
 TakenBack Let new = new ≡ NotLet
 TakenBack (Seen p) new = new ≡ NotLet
 TakenBack old new = new ≡ old
 
 -- a request that has the go is told to stop, and is marked where that won. A look at another may have seen its claim
-abbrev pub ToldToStop : Stage → Stage → Type 0
+abbrev pub ToldToStop : LeadState → LeadState → Type 0
 ToldToStop Let new = (new ≡ Let) ⊎ ((p : PlaceId) × (new ≡ Seen p))
 ToldToStop (Gone p marked) new = (won : Bool) × (new ≡ Gone p (won || marked))
 ToldToStop old new = new ≡ old
 
--- each other request is at the stage that it was at, and the lead has the places that it had
+-- each other request is in the lead state that it was in, and the lead has the places that it had
 pub record SameBut (r : RequestId) (old new : Lead) : Type 0 where
-  pub stages : (q : RequestId) → q ≢ r → stage_of new q ≡ stage_of old q
+  pub lead_states : (q : RequestId) → q ≢ r → lead_state_of new q ≡ lead_state_of old q
   pub places : places_of_lead new ≡ places_of_lead old
 
--- ---- the stage of a request after an event, by the one before
+-- ---- the lead state of a request after an event, by the one before
 
 -- the first where the event is about the request, else the second
 abbrev pub Where : Bool → Type 0 → Type 0 → Type 0
 Where true one other = one
 Where false one other = other
 
-abbrev pub StageAfterAct : Option Act → RequestId → Stage → Stage → Type 0
-StageAfterAct (Some (act.Hold q)) r old new = Where (id_eq q r) (TakenBack old new) (new ≡ old)
-StageAfterAct (Some (act.Cancel q)) r old new = Where (id_eq q r) (TakenBack old new) (new ≡ old)
-StageAfterAct (Some (act.Terminate q)) r old new = Where (id_eq q r) (ToldToStop old new) (new ≡ old)
-StageAfterAct _ r old new = new ≡ old
+abbrev pub LeadStateAfterAct : Option Act → RequestId → LeadState → LeadState → Type 0
+LeadStateAfterAct (Some (act.Hold q)) r old new = Where (id_eq q r) (TakenBack old new) (new ≡ old)
+LeadStateAfterAct (Some (act.Cancel q)) r old new = Where (id_eq q r) (TakenBack old new) (new ≡ old)
+LeadStateAfterAct (Some (act.Terminate q)) r old new = Where (id_eq q r) (ToldToStop old new) (new ≡ old)
+LeadStateAfterAct _ r old new = new ≡ old
 
--- a start gives the go; a hold or a cancel takes back, a terminate stops; nothing else changes a stage
-abbrev pub StageAfter : Plan → Event → RequestId → Stage → Stage → Type 0
-StageAfter plan (event.Started q p) r old new = Where (id_eq q r) (new ≡ Gone p false) (new ≡ old)
-StageAfter plan e r old new = StageAfterAct (act_of plan e) r old new
+-- a start gives the go; a hold or a cancel takes back, a terminate stops; nothing else changes a lead state
+abbrev pub LeadStateAfter : Plan → Event → RequestId → LeadState → LeadState → Type 0
+LeadStateAfter plan (event.Started q p) r old new = Where (id_eq q r) (new ≡ Gone p false) (new ≡ old)
+LeadStateAfter plan e r old new = LeadStateAfterAct (act_of plan e) r old new
 
--- the stage of each request is so, and the lead has the places that it had
+-- the lead state of each request is so, and the lead has the places that it had
 pub record Follows (plan : Plan) (e : Event) (old new : Lead) : Type 0 where
-  pub stages : (r : RequestId) → StageAfter plan e r (stage_of old r) (stage_of new r)
+  pub lead_states : (r : RequestId) → LeadStateAfter plan e r (lead_state_of old r) (lead_state_of new r)
   pub places : places_of_lead new ≡ places_of_lead old

@@ -8,9 +8,9 @@ use Rattle.conc_types.specs.declared.plan.Req.{Req}
 use Rattle.conc_law.specs.Facts.{facts_of}
 use Rattle.conc_law.specs.Words.{Has}
 use Rattle.conc_board.specs.declared.lead.Lead.{Lead}
-use Rattle.conc_board.specs.Seats.{stage_of}
-use Rattle.conc_board_seats.specs.declared.views.Stage.{Stage}
-use Rattle.conc_board_seats.specs.declared.views.Stage.TheVariants.{NotLet, Let, Seen, Gone, Got, Done}
+use Rattle.conc_board.specs.Seats.{lead_state_of}
+use Rattle.conc_board_seats.specs.declared.views.LeadState.{LeadState}
+use Rattle.conc_board_seats.specs.declared.views.LeadState.TheVariants.{NotLet, Let, Seen, Gone, Got, Done}
 
 -- it is let, and does not run
 pub record WaitsToStart (facts : Facts) : Type 0 where
@@ -23,8 +23,8 @@ pub record RunsAt (place : PlaceId) (marked : Bool) (facts : Facts) : Type 0 whe
   pub started : facts.started ≡ true
   pub terminated : marked ≡ true → facts.terminated ≡ true
 
--- the stage of a request on the board goes with its facts
-abbrev pub GoesWith : Stage → Facts → Type 0
+-- the lead state of a request on the board goes with its facts
+abbrev pub GoesWith : LeadState → Facts → Type 0
 GoesWith NotLet facts = ⊤
 GoesWith Let facts = WaitsToStart facts
 GoesWith (Seen p) facts = WaitsToStart facts
@@ -32,6 +32,6 @@ GoesWith (Gone p marked) facts = RunsAt p marked facts
 GoesWith (Got p marked) facts = RunsAt p marked facts
 GoesWith (Done marked) facts = facts.started ≡ true
 
--- so does the stage of each request of the plan after these events, which are given with the latest first
-pub record StagesGoWith (plan : Plan) (past : List Event) (lead : Lead) : Type 0 where
-  pub each : (r : Req) → Has plan.requests r → GoesWith (stage_of lead r.number) (facts_of plan past r)
+-- so does the lead state of each request of the plan after these events, which are given with the latest first
+pub record LeadStatesGoWith (plan : Plan) (past : List Event) (lead : Lead) : Type 0 where
+  pub each : (r : Req) → Has plan.requests r → GoesWith (lead_state_of lead r.number) (facts_of plan past r)

@@ -2,9 +2,9 @@ ghost use Rattle.std.specs.Prelude.{◌≡◌};
 ghost use Rattle.conc_types.specs.declared.event.Event.TheVariants as events;
 ghost use Rattle.conc_types.specs.declared.event.PlaceId.{PlaceId};
 ghost use Rattle.conc_types.specs.declared.event.RequestId.{RequestId};
-ghost use Rattle.conc_board.specs.Seats.{IsLeadOf, places_of_lead, plan_of, stage_of};
+ghost use Rattle.conc_board.specs.Seats.{IsLeadOf, lead_state_of, places_of_lead, plan_of};
 ghost use Rattle.conc_board_seats.specs.Words.{IsRequest};
-ghost use Rattle.conc_board_seats.specs.declared.views.Stage.TheVariants as stage;
+ghost use Rattle.conc_board_seats.specs.declared.views.LeadState.TheVariants as lead_state;
 ghost use Rattle.conc_desk_lead.specs.Following.{Follows, SameBut, TakenBack, ToldToStop};
 
 use conc_board::{Board, Lead, Progress};
@@ -16,7 +16,7 @@ fn take_back(board: &Board, lead: &mut Lead, plan: &Plan, r: RequestId)
     requires lead { IsLeadOf board.now lead.old }
     requires plan { plan.now ≡ plan_of board.now }
     ensures lead { IsLeadOf board.now lead.new }
-    ensures stage { TakenBack (stage_of lead.old r) (stage_of lead.new r) }
+    ensures lead_state { TakenBack (lead_state_of lead.old r) (lead_state_of lead.new r) }
     ensures others { SameBut r lead.old lead.new }
 {
     if plan.request(r).is_none() {
@@ -32,7 +32,7 @@ fn tell_to_stop(board: &Board, lead: &mut Lead, plan: &Plan, r: RequestId)
     requires lead { IsLeadOf board.now lead.old }
     requires plan { plan.now ≡ plan_of board.now }
     ensures lead { IsLeadOf board.now lead.new }
-    ensures stage { ToldToStop (stage_of lead.old r) (stage_of lead.new r) }
+    ensures lead_state { ToldToStop (lead_state_of lead.old r) (lead_state_of lead.new r) }
     ensures others { SameBut r lead.old lead.new }
 {
     if plan.request(r).is_none() {
@@ -49,7 +49,7 @@ pub fn follow(board: &Board, lead: &mut Lead, plan: &Plan, event: Event)
     requires lead { IsLeadOf board.now lead.old }
     requires plan { plan.now ≡ plan_of board.now }
     requires start { (r : RequestId) (p : PlaceId) → event ≡ events.Started r p
-        → IsRequest plan.now r × (stage_of lead.old r ≡ stage.Seen p) }
+        → IsRequest plan.now r × (lead_state_of lead.old r ≡ lead_state.Seen p) }
     ensures lead { IsLeadOf board.now lead.new }
     ensures follows { Follows plan.now event lead.old lead.new }
 {

@@ -12,29 +12,30 @@ ghost use Rattle.conc_law.specs.Law.{LawfulSoFar, may_follow};
 ghost use Rattle.conc_law.specs.State.{is_live};
 ghost use Rattle.conc_law.specs.Words.{Has};
 ghost use Rattle.conc_board.specs.declared.lead.Lead.{Lead};
-ghost use Rattle.conc_board.specs.Seats.{stage_of};
+ghost use Rattle.conc_board.specs.Seats.{lead_state_of};
 ghost use Rattle.conc_board_seats.specs.Rule.{exclude};
-ghost use Rattle.conc_board_seats.specs.Stages.{IsGone, IsLetOrGone, IsSettled};
+ghost use Rattle.conc_board_seats.specs.LeadStates.{IsGone, IsLetOrGone, IsSettled};
 ghost use Rattle.conc_desk_lead.specs.Following.{Follows};
-ghost use Rattle.conc_desk_lead.specs.Ties.{StagesGoWith, WaitsToStart};
+ghost use Rattle.conc_desk_lead.specs.Ties.{LeadStatesGoWith, WaitsToStart};
 
 /// What the lead knows of each request goes with the list after one more event, once what that event means for
 /// the board is done. The event may follow the list, is no resume, and ends no request that has the go.
-pub fn stages_go_with_the_list()
+pub fn lead_states_go_with_the_list()
     ensures { (plan : Plan) (readings : Option (List Reading)) (history : List Event) (e : Event)
         (old new : Lead) → IsTrue (may_follow plan readings (reverse history) e) →
-        IsFalse (is_resume e) → ((r : RequestId) → IsSettled (stage_of old r)) →
-        ((r : RequestId) → IsGone (stage_of old r) → IsFalse (ends r e)) →
-        StagesGoWith plan (reverse history) old → Follows plan e old new →
-        StagesGoWith plan (e ∷ reverse history) new }
+        IsFalse (is_resume e) → ((r : RequestId) → IsSettled (lead_state_of old r)) →
+        ((r : RequestId) → IsGone (lead_state_of old r) → IsFalse (ends r e)) →
+        LeadStatesGoWith plan (reverse history) old → Follows plan e old new →
+        LeadStatesGoWith plan (e ∷ reverse history) new }
 {}
 
 /// A request that is let in a lawful list and does not run excludes none that the lead has on the board, where
 /// what it knows goes with the list. So it may be let out.
 pub fn on_the_board_none_excludes_what_waits()
     ensures { (plan : Plan) (history : List Event) (lead : Lead) (r : Req) (q : RequestId) →
-        LawfulSoFar plan history → StagesGoWith plan (reverse history) lead → Has plan.requests r →
-        WaitsToStart (facts_of plan (reverse history) r) → IsLetOrGone (stage_of lead q) →
+        LawfulSoFar plan history → LeadStatesGoWith plan (reverse history) lead →
+        Has plan.requests r →
+        WaitsToStart (facts_of plan (reverse history) r) → IsLetOrGone (lead_state_of lead q) →
         IsFalse (exclude plan r.number q) }
 {}
 
@@ -42,6 +43,8 @@ pub fn on_the_board_none_excludes_what_waits()
 /// goes with the list.
 pub fn what_is_on_the_board_is_live()
     ensures { (plan : Plan) (history : List Event) (lead : Lead) (r : Req) →
-        LawfulSoFar plan history → StagesGoWith plan (reverse history) lead → Has plan.requests r →
-        IsLetOrGone (stage_of lead r.number) → IsTrue (is_live (facts_of plan (reverse history) r)) }
+        LawfulSoFar plan history → LeadStatesGoWith plan (reverse history) lead →
+        Has plan.requests r →
+        IsLetOrGone (lead_state_of lead r.number) →
+        IsTrue (is_live (facts_of plan (reverse history) r)) }
 {}

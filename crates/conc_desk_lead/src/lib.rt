@@ -7,5 +7,6 @@ mod laws;
 
 pub use following::follow;
 pub use laws::{
-    on_the_board_none_excludes_what_waits, stages_go_with_the_list, what_is_on_the_board_is_live,
+    lead_states_go_with_the_list, on_the_board_none_excludes_what_waits,
+    what_is_on_the_board_is_live,
 };

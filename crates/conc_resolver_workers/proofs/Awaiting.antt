@@ -18,7 +18,7 @@ use Rattle.conc_desk.specs.Keeping.{AnswersTo, IsTaken, must_stop, must_stop_at}
 use Rattle.conc_desk.specs.State.{DeskState}
 use Rattle.conc_desk.specs.declared.keeping.KeepFail.TheVariants as fails
 use Rattle.conc_desk.proofs.Ends.{left_in}
-use Rattle.conc_desk_lead.specs.Ties.{StagesGoWith}
+use Rattle.conc_desk_lead.specs.Ties.{LeadStatesGoWith}
 use Rattle.conc_resolver_workers.specs.Runs.{AwaitsReport}
 
 -- it need not stop
@@ -26,7 +26,7 @@ goes-on : (stop : Bool) (posted : Posted) → AnswersTo stop posted (Err fails.N
 goes-on true posted answers = let e = answers.1 in absurd (cc)
 goes-on false posted answers = refl
 
-pub awaits : (board : Board) (old new : DeskState) (r : RequestId) → board_plan board ≡ plan_at old → IsRequest (board_plan board) r → StagesGoWith (plan_at old) (reverse (list_at old)) old.lead
+pub awaits : (board : Board) (old new : DeskState) (r : RequestId) → board_plan board ≡ plan_at old → IsRequest (board_plan board) r → LeadStatesGoWith (plan_at old) (reverse (list_at old)) old.lead
     → IsTaken board r (Err fails.NoMemory) old new → AwaitsReport (plan_at old) (list_at old)
 awaits board old new r is named tied taken =
     let plan = plan_at old in

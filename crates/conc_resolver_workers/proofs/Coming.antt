@@ -23,7 +23,7 @@ use Rattle.conc_law.proofs.Positions.{reverse-push}
 use Rattle.conc_resolver_choice.proofs.Pushes.{is_lawful-more}
 use Rattle.conc_machine.specs.StandsFor.{plan_of, readings_of, StandsFor}
 use Rattle.conc_machine.specs.declared.machine.Machine.{Machine}
-use Rattle.conc_desk.specs.Desks.{list_at, plan_at, stage_at}
+use Rattle.conc_desk.specs.Desks.{lead_state_at, list_at, plan_at}
 use Rattle.conc_desk.specs.Logging.{IsItsTurn, WasSeen}
 use Rattle.conc_desk.specs.State.{DeskState}
 

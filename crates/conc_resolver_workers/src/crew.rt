@@ -2,7 +2,7 @@
 ghost use Rattle.std.specs.Prelude.{◌≡◌, ◌<◌, ◌≤◌, ℕ, All, IfOk, length, None, slice_index_or, vec_len};
 ghost use Rattle.std.specs.Thread.{IsSync};
 ghost use Rattle.conc_types.specs.declared.event.RequestId.{RequestId};
-ghost use Rattle.conc_board.specs.Seats.{HasAllPlaces, IsLeadOf, plan_of, SameStages};
+ghost use Rattle.conc_board.specs.Seats.{HasAllPlaces, IsLeadOf, plan_of, SameLeadStates};
 ghost use Rattle.conc_resolver_workers.specs.Crews.{AreDealt, Covers, IsFree, IsFreeWorker, places_had, SamePlaces};
 
 use conc_board::{Board, Hand, Lead};
@@ -60,7 +60,7 @@ pub(crate) fn give_hands(board: &Board, lead: &mut Lead, crew: &mut [Worker])
         → AreDealt (plan_of board.now) (length crew.old) i
         (slice_index_or crew.old i d).places.items }
     ensures lead { IsLeadOf board.now lead.new }
-    ensures stages { SameStages lead.old lead.new }
+    ensures lead_states { SameLeadStates lead.old lead.new }
     ensures free { All (IsFreeWorker board.now) crew.new }
     ensures covers { Covers (plan_of board.now) lead.new crew.new }
 {

@@ -1,9 +1,9 @@
 // Events that are journaled at the desk, and told.
 ghost use Rattle.std.specs.Prelude.{◌≡◌, ◌∷◌, ◌++◌, [], IsFalse, None};
-ghost use Rattle.conc_board_seats.specs.Stages.{IsGone};
+ghost use Rattle.conc_board_seats.specs.LeadStates.{IsGone};
 ghost use Rattle.conc_board_seats.specs.Words.{IsRequest};
 ghost use Rattle.conc_board.specs.Seats.{plan_of};
-ghost use Rattle.conc_desk.specs.Desks.{list_at, plan_at, stage_at};
+ghost use Rattle.conc_desk.specs.Desks.{lead_state_at, list_at, plan_at};
 ghost use Rattle.conc_desk.specs.Logging.{IsItsTurn, WasSeen};
 ghost use Rattle.conc_law.specs.Kinds.{is_resume};
 ghost use Rattle.conc_law.specs.Law.{Lawful};
@@ -61,7 +61,7 @@ pub(crate) fn end<R: Wait, D: Disk, E: Disk, T: Teller>(
     requires at_work { IsAtWork board.now desk.old (D.state journal.old) (E.state spool.old)
         (T.list teller.old) (T.takes teller.old) }
     requires request { IsRequest (plan_of board.now) r }
-    requires gone { IsGone (stage_at desk.old r) }
+    requires gone { IsGone (lead_state_at desk.old r) }
     ensures { Resolves board.now (disks (D.state journal.old) (D.state journal.new)
         (E.state spool.old) (E.state spool.new)) (T.list teller.new) (T.takes teller.new)
         (T.may_lack teller.new) result desk.old desk.new }

@@ -2,9 +2,9 @@
 // reading. It works by the desk's calls alone.
 ghost use Rattle.std.specs.Prelude.{IfOk, IsTrue, OnOk};
 ghost use Rattle.conc_board.specs.Seats.{plan_of};
-ghost use Rattle.conc_board_seats.specs.Stages.{IsLet};
+ghost use Rattle.conc_board_seats.specs.LeadStates.{IsLet};
 ghost use Rattle.conc_board_seats.specs.Words.{IsRequest};
-ghost use Rattle.conc_desk.specs.Desks.{list_at, plan_at, stage_at};
+ghost use Rattle.conc_desk.specs.Desks.{lead_state_at, list_at, plan_at};
 ghost use Rattle.conc_law.specs.Law.{Finished};
 ghost use Rattle.conc_run_state.specs.Disks.{disks};
 ghost use Rattle.conc_run_steps.specs.Steps.{readings_in};
@@ -121,7 +121,7 @@ fn start<R: Wait, D: Disk, E: Disk, T: Teller>(
     requires at_work { IsAtWork board.now desk.old (D.state journal.old) (E.state spool.old)
         (T.list teller.old) (T.takes teller.old) }
     requires request { IsRequest (plan_of board.now) r }
-    requires let_out { IsLet (stage_at desk.old r) }
+    requires let_out { IsLet (lead_state_at desk.old r) }
     ensures { Resolves board.now (disks (D.state journal.old) (D.state journal.new)
         (E.state spool.old) (E.state spool.new)) (T.list teller.new) (T.takes teller.new)
         (T.may_lack teller.new) result desk.old desk.new }

@@ -1,8 +1,8 @@
 ghost use Rattle.std.specs.Prelude.{◌≡◌, ◌⊎◌, ◌<◌, All, IfOk, IsErrOf, IsTrue, length, OnOk, vec_len};
 ghost use Rattle.conc_types.specs.declared.event.RequestId.{RequestId};
-ghost use Rattle.conc_board_seats.specs.declared.views.Stage.TheVariants as stage;
+ghost use Rattle.conc_board_seats.specs.declared.views.LeadState.TheVariants as lead_state;
 ghost use Rattle.std.specs.Thread.{IsSync};
-ghost use Rattle.conc_board.specs.Seats.{IsLeadOf, plan_of, stage_of};
+ghost use Rattle.conc_board.specs.Seats.{IsLeadOf, lead_state_of, plan_of};
 ghost use Rattle.conc_desk.specs.Desks.{list_at, plan_at};
 ghost use Rattle.conc_journal.specs.Journals.{state_of};
 ghost use Rattle.conc_law.specs.Law.{Finished};
@@ -148,8 +148,8 @@ fn prepare(alloc: Global, plan: &Plan, threads: u32) -> Result<Means, NoMemory>
     requires threads { 0 < threads }
     ensures board { IfOk result (λ means. plan_of means.board ≡ plan.now) }
     ensures lead { IfOk result (λ means. IsLeadOf means.board means.lead) }
-    ensures stages { IfOk result (λ means. (r : RequestId)
-        → stage_of means.lead r ≡ stage.NotLet) }
+    ensures lead_states { IfOk result (λ means. (r : RequestId)
+        → lead_state_of means.lead r ≡ lead_state.NotLet) }
     ensures some { IfOk result (λ means. 0 < vec_len means.crew) }
     ensures free { IfOk result (λ means. All (IsFreeWorker means.board) means.crew.items) }
     ensures covers { IfOk result (λ means. Covers plan.now means.lead means.crew.items) }

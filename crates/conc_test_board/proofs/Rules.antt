@@ -10,18 +10,18 @@ use Rattle.conc_types.specs.declared.plan.Req.{Req}
 use Rattle.conc_types.specs.Plans.{request}
 use Rattle.conc_types.specs.Words.{numbered, some_and}
 use Rattle.conc_law.specs.Plans.{are_exclusive}
-use Rattle.conc_board_seats.specs.declared.views.Stage.{Stage}
-use Rattle.conc_board_seats.specs.declared.views.Stage.TheVariants.{NotLet, Let, Seen, Gone, Got, Done}
+use Rattle.conc_board_seats.specs.declared.views.LeadState.{LeadState}
+use Rattle.conc_board_seats.specs.declared.views.LeadState.TheVariants.{NotLet, Let, Seen, Gone, Got, Done}
 use Rattle.conc_board_seats.specs.Places.{has, without}
 use Rattle.conc_board_seats.specs.Rule.{exclude}
-use Rattle.conc_board_seats.specs.Stages.{IsGone, IsLet}
+use Rattle.conc_board_seats.specs.LeadStates.{IsGone, IsLet}
 use Rattle.conc_board_seats.proofs.Facts.{place_eq}
 use Rattle.conc_board.specs.declared.board.Board.{Board}
 use Rattle.conc_board.specs.declared.lead.Lead.{Lead}
 use Rattle.conc_board.specs.declared.lead.Looked.{Looked}
 use Rattle.conc_board.specs.declared.lead.Looked.TheVariants.{Free, Claimed, Running, Ended}
 use Rattle.conc_board.specs.Looks.{Looks}
-use Rattle.conc_board.specs.Seats.{Changes, KeepsStages}
+use Rattle.conc_board.specs.Seats.{Changes, KeepsLeadStates}
 use Rattle.conc_test_board.specs.Rounds.{IsSeen, OnlyOne}
 
 -- ---- exclusion
@@ -60,17 +60,17 @@ excludes_no_other plan r none q = ap (λ (o : Option Req). some_and (λ z. some_
 
 -- ---- looks
 
-pub let_still : (plan : Plan) (answer : Looked) (old new : Stage) → Looks plan answer old new → IsLet old → IsLet new × IsSeen answer new
+pub let_still : (plan : Plan) (answer : Looked) (old new : LeadState) → Looks plan answer old new → IsLet old → IsLet new × IsSeen answer new
 let_still plan Free old new l is = (subst IsLet (sym l.1) tt, tt)
 let_still plan (Claimed p) old new l is = (subst IsLet (sym l.2) tt, l.2)
 let_still plan (Running p) old new l is = absurd (subst IsLet l.1.1 is)
 let_still plan (Ended p) old new l is = absurd (subst IsLet l.1.1 is)
 
-pub gone_still : (plan : Plan) (answer : Looked) (old new : Stage) → Looks plan answer old new → IsGone old → new ≡ old
+pub gone_still : (plan : Plan) (answer : Looked) (old new : LeadState) → Looks plan answer old new → IsGone old → new ≡ old
 gone_still plan Free old new l is = absurd (subst IsGone l.0 is)
 gone_still plan (Claimed p) old new l is = absurd (both old l.1 is)
   where
-    both : (st : Stage) → IsLet st → IsGone st → ⊥
+    both : (st : LeadState) → IsLet st → IsGone st → ⊥
     both NotLet a b = a
     both Let a b = b
     both (Seen p) a b = b
@@ -85,8 +85,8 @@ gone_still plan (Ended p) old new l is = l.1.2
 pub only_one : (board : Board) (r : RequestId) (old new : Lead) → Changes board r old new → OnlyOne board r old new
 only_one board r old new c = record { lead = c.lead; others = c.others }
 
-pub only_one_kept : (board : Board) (r : RequestId) (old new : Lead) → KeepsStages board old new → OnlyOne board r old new
-only_one_kept board r old new k = record { lead = k.lead; others = λ q other. k.stages.each q }
+pub only_one_kept : (board : Board) (r : RequestId) (old new : Lead) → KeepsLeadStates board old new → OnlyOne board r old new
+only_one_kept board r old new k = record { lead = k.lead; others = λ q other. k.lead_states.each q }
 
 pub only_one_after : (board : Board) (r : RequestId) (old mid new : Lead) → OnlyOne board r old mid → OnlyOne board r mid new → OnlyOne board r old new
 only_one_after board r old mid new first second = record { lead = second.lead; others = λ q other. second.others q other ∙ first.others q other }

@@ -3,8 +3,8 @@ use Rattle.std.specs.Prelude.{◌≡◌, ◌≢◌, IsTrue}
 use Rattle.conc_types.specs.declared.event.PlaceId.{PlaceId}
 use Rattle.conc_types.specs.declared.event.RequestId.{RequestId}
 use Rattle.conc_board_seats.specs.declared.views.Doing.TheVariants.{Idle}
-use Rattle.conc_board_seats.specs.declared.views.Stage.{Stage}
-use Rattle.conc_board_seats.specs.declared.views.Stage.TheVariants.{Seen}
+use Rattle.conc_board_seats.specs.declared.views.LeadState.{LeadState}
+use Rattle.conc_board_seats.specs.declared.views.LeadState.TheVariants.{Seen}
 use Rattle.conc_board_seats.specs.Places.{has}
 use Rattle.conc_board_seats.specs.Words.{IsPlace}
 use Rattle.conc_board.specs.declared.board.Board.{Board}
@@ -12,7 +12,7 @@ use Rattle.conc_board.specs.declared.hand.Hand.{Hand}
 use Rattle.conc_board.specs.declared.lead.Lead.{Lead}
 use Rattle.conc_board.specs.declared.lead.Looked.{Looked}
 use Rattle.conc_board.specs.declared.lead.Looked.TheVariants.{Claimed}
-use Rattle.conc_board.specs.Seats.{IsHandOf, IsLeadOf, doing_of, places_of_hand, plan_of, stage_of}
+use Rattle.conc_board.specs.Seats.{IsHandOf, IsLeadOf, doing_of, lead_state_of, places_of_hand, plan_of}
 
 -- the hand does nothing, and the place is one of its own
 pub record IsFree (board : Board) (place : PlaceId) (hand : Hand) : Type 0 where
@@ -24,9 +24,9 @@ pub record IsFree (board : Board) (place : PlaceId) (hand : Hand) : Type 0 where
 -- calls on one request alone
 pub record OnlyOne (board : Board) (r : RequestId) (old new : Lead) : Type 0 where
   pub lead : IsLeadOf board new
-  pub others : (q : RequestId) → q ≢ r → stage_of new q ≡ stage_of old q
+  pub others : (q : RequestId) → q ≢ r → lead_state_of new q ≡ lead_state_of old q
 
 -- where a claim was seen, the lead knows its place
-abbrev pub IsSeen : Looked → Stage → Type 0
-IsSeen (Claimed p) stage = stage ≡ Seen p
-IsSeen answer stage = Unit {0}
+abbrev pub IsSeen : Looked → LeadState → Type 0
+IsSeen (Claimed p) lead_state = lead_state ≡ Seen p
+IsSeen answer lead_state = Unit {0}

@@ -6,10 +6,10 @@ ghost use Rattle.conc_law.specs.Plans as plans_spec;
 ghost use Rattle.conc_reports.specs.Reports.{as_report};
 ghost use Rattle.conc_board_seats.specs.Reports as reports_spec;
 ghost use Rattle.conc_board_seats.specs.Rule.{exclude};
-ghost use Rattle.conc_board_seats.specs.Stages.{IsGone, IsLet};
+ghost use Rattle.conc_board_seats.specs.LeadStates.{IsGone, IsLet};
 ghost use Rattle.conc_board_seats.specs.Words.{IsRequest};
-ghost use Rattle.conc_board_seats.specs.declared.views.Stage.TheVariants as stage;
-ghost use Rattle.conc_board.specs.Seats.{IsLeadOf, plan_of, stage_of};
+ghost use Rattle.conc_board_seats.specs.declared.views.LeadState.TheVariants as lead_state;
+ghost use Rattle.conc_board.specs.Seats.{IsLeadOf, lead_state_of, plan_of};
 ghost use Rattle.conc_test_board.specs.Rounds.{IsSeen, OnlyOne};
 
 use conc_board::{Board, Lead, Looked};
@@ -40,9 +40,9 @@ pub fn let_out_if_apart(board: &Board, plan: &Plan, lead: &mut Lead, r: RequestI
     requires plan { plan.now ≡ plan_of board.now }
     requires lead { IsLeadOf board.now lead.old }
     requires request { IsRequest (plan_of board.now) r }
-    requires stage { stage_of lead.old r ≡ stage.NotLet }
+    requires lead_state { lead_state_of lead.old r ≡ lead_state.NotLet }
     ensures lead { IsTrue result → OnlyOne board.now r lead.old lead.new }
-    ensures stage { IsTrue result → stage_of lead.new r ≡ stage.Let }
+    ensures lead_state { IsTrue result → lead_state_of lead.new r ≡ lead_state.Let }
 {
     if !excludes_none(plan, r) {
         return false;
@@ -55,10 +55,10 @@ pub fn let_out_if_apart(board: &Board, plan: &Plan, lead: &mut Lead, r: RequestI
 pub fn look_let(board: &Board, lead: &mut Lead, r: RequestId) -> Looked
     requires lead { IsLeadOf board.now lead.old }
     requires request { IsRequest (plan_of board.now) r }
-    requires stage { IsLet (stage_of lead.old r) }
+    requires lead_state { IsLet (lead_state_of lead.old r) }
     ensures lead { OnlyOne board.now r lead.old lead.new }
-    ensures stage { IsLet (stage_of lead.new r) }
-    ensures seen { IsSeen result (stage_of lead.new r) }
+    ensures lead_state { IsLet (lead_state_of lead.new r) }
+    ensures seen { IsSeen result (lead_state_of lead.new r) }
 {
     board.look(lead, r)
 }
@@ -67,9 +67,9 @@ pub fn look_let(board: &Board, lead: &mut Lead, r: RequestId) -> Looked
 pub fn look_gone(board: &Board, lead: &mut Lead, r: RequestId) -> Looked
     requires lead { IsLeadOf board.now lead.old }
     requires request { IsRequest (plan_of board.now) r }
-    requires stage { IsGone (stage_of lead.old r) }
+    requires lead_state { IsGone (lead_state_of lead.old r) }
     ensures lead { OnlyOne board.now r lead.old lead.new }
-    ensures stage { stage_of lead.new r ≡ stage_of lead.old r }
+    ensures lead_state { lead_state_of lead.new r ≡ lead_state_of lead.old r }
 {
     board.look(lead, r)
 }

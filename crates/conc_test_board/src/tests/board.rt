@@ -3,11 +3,11 @@ ghost use Rattle.conc_types.specs.declared.event.RequestId.{RequestId};
 ghost use Rattle.conc_law.specs.Places.{count_of_places};
 ghost use Rattle.conc_board_seats.specs.Words.{count_of_requests, IsPlace, IsRequest};
 ghost use Rattle.conc_board_seats.specs.Places.{has, without};
-ghost use Rattle.conc_board_seats.specs.Stages.{IsGone, is_marked};
+ghost use Rattle.conc_board_seats.specs.LeadStates.{IsGone, is_marked};
 ghost use Rattle.conc_board_seats.specs.declared.views.Doing.TheVariants as does;
-ghost use Rattle.conc_board_seats.specs.declared.views.Stage.TheVariants as stage;
+ghost use Rattle.conc_board_seats.specs.declared.views.LeadState.TheVariants as lead_state;
 ghost use Rattle.conc_board.specs.Claims.{HasClaim, HasPermit};
-ghost use Rattle.conc_board.specs.Seats.{doing_of, HasAllPlaces, IsHandOf, IsLeadOf, plan_of, places_of_lead, SameStages, stage_of, Stays};
+ghost use Rattle.conc_board.specs.Seats.{doing_of, HasAllPlaces, IsHandOf, IsLeadOf, lead_state_of, plan_of, places_of_lead, SameLeadStates, Stays};
 ghost use Rattle.conc_test_board.specs.Rounds.{IsFree, OnlyOne};
 
 use super::rounds::{claim_some, collect_some, go_where_claimed, let_out_apart, permit_for};
@@ -70,7 +70,7 @@ fn hand_at(board: &Board, lead: &mut Lead, place: PlaceId) -> Hand
     requires place { IsPlace (plan_of board.now) place }
     requires own { IsTrue (has (places_of_lead lead.old) place) }
     ensures lead { IsLeadOf board.now lead.new }
-    ensures stages { SameStages lead.old lead.new }
+    ensures lead_states { SameLeadStates lead.old lead.new }
     ensures left { places_of_lead lead.new ≡ without (places_of_lead lead.old) (place ∷ []) }
     ensures hand { IsFree board.now place result }
 {
@@ -104,9 +104,9 @@ fn withdrawn<Rt: Abort>(rt: &Rt, board: &Board, hand: &mut Hand, claim: Claim)
 fn finds_nothing<Rt: Abort>(rt: &Rt, board: &Board, lead: &mut Lead, r: RequestId)
     requires lead { IsLeadOf board.now lead.old }
     requires request { IsRequest (plan_of board.now) r }
-    requires stage { IsGone (stage_of lead.old r) }
+    requires lead_state { IsGone (lead_state_of lead.old r) }
     ensures lead { OnlyOne board.now r lead.old lead.new }
-    ensures stage { stage_of lead.new r ≡ stage_of lead.old r }
+    ensures lead_state { lead_state_of lead.new r ≡ lead_state_of lead.old r }
 {
     match board.collect(lead, r) {
         Err(NotYet) => {}
@@ -179,10 +179,10 @@ fn claim_is_taken_back<Rt: Abort>(
     requires plan { plan.now ≡ plan_of board.now }
     requires lead { IsLeadOf board.now lead.old }
     requires request { IsRequest (plan_of board.now) r }
-    requires stage { stage_of lead.old r ≡ stage.NotLet }
+    requires lead_state { lead_state_of lead.old r ≡ lead_state.NotLet }
     requires free { IsFree board.now place hand.old }
     ensures lead { OnlyOne board.now r lead.old lead.new }
-    ensures stage { stage_of lead.new r ≡ stage.NotLet }
+    ensures lead_state { lead_state_of lead.new r ≡ lead_state.NotLet }
     ensures hand { IsFree board.now place hand.new }
 {
     let_out_apart(rt, board, plan, lead, r);
@@ -209,7 +209,7 @@ fn stop_comes_before_the_post<Rt: Abort>(
     requires plan { plan.now ≡ plan_of board.now }
     requires lead { IsLeadOf board.now lead.old }
     requires request { IsRequest (plan_of board.now) r }
-    requires stage { stage_of lead.old r ≡ stage.NotLet }
+    requires lead_state { lead_state_of lead.old r ≡ lead_state.NotLet }
     requires free { IsFree board.now place hand.old }
     ensures lead { OnlyOne board.now r lead.old lead.new }
     ensures hand { IsFree board.now place hand.new }
@@ -244,7 +244,7 @@ fn stop_comes_after_the_post<Rt: Abort>(
     requires plan { plan.now ≡ plan_of board.now }
     requires lead { IsLeadOf board.now lead.old }
     requires request { IsRequest (plan_of board.now) r }
-    requires stage { stage_of lead.old r ≡ stage.NotLet }
+    requires lead_state { lead_state_of lead.old r ≡ lead_state.NotLet }
     requires free { IsFree board.now place hand.old }
     ensures lead { OnOk result (OnlyOne board.now r lead.old lead.new) }
     ensures hand { OnOk result (IsFree board.now place hand.new) }
@@ -277,10 +277,10 @@ fn place_is_closed<Rt: Abort>(
     requires plan { plan.now ≡ plan_of board.now }
     requires lead { IsLeadOf board.now lead.old }
     requires request { IsRequest (plan_of board.now) r }
-    requires stage { stage_of lead.old r ≡ stage.NotLet }
+    requires lead_state { lead_state_of lead.old r ≡ lead_state.NotLet }
     requires free { IsFree board.now place hand.old }
     ensures lead { OnlyOne board.now r lead.old lead.new }
-    ensures stage { stage_of lead.new r ≡ stage.NotLet }
+    ensures lead_state { lead_state_of lead.new r ≡ lead_state.NotLet }
     ensures hand { IsFree board.now place hand.new }
 {
     let_out_apart(rt, board, plan, lead, r);
@@ -309,8 +309,8 @@ fn hints_are_followed<Rt: Abort>(
     requires lead { IsLeadOf board.now lead.old }
     requires request { IsRequest (plan_of board.now) first }
     requires requested { IsRequest (plan_of board.now) second }
-    requires stage { stage_of lead.old first ≡ stage.NotLet }
-    requires staged { stage_of lead.old second ≡ stage.NotLet }
+    requires lead_state { lead_state_of lead.old first ≡ lead_state.NotLet }
+    requires second_lead_state { lead_state_of lead.old second ≡ lead_state.NotLet }
     requires two { second ≢ first }
     requires free { IsFree board.now place hand.old }
     ensures lead { IsLeadOf board.now lead.new }
@@ -337,7 +337,7 @@ pub(super) fn three_hands(board: &Board, lead: &mut Lead) -> (Hand, Hand, Hand)
     requires places { HasAllPlaces board.now lead.old }
     requires three { count_of_places (plan_of board.now) ≡ 3 }
     ensures lead { IsLeadOf board.now lead.new }
-    ensures stages { SameStages lead.old lead.new }
+    ensures lead_states { SameLeadStates lead.old lead.new }
     ensures first { IsFree board.now (record { index = 0 }) result.0 }
     ensures second { IsFree board.now (record { index = 1 }) result.1 }
     ensures third { IsFree board.now (record { index = 2 }) result.2 }
@@ -367,7 +367,7 @@ pub(super) fn open_all(board: &Board, lead: &mut Lead)
     requires lead { IsLeadOf board.now lead.old }
     requires three { count_of_places (plan_of board.now) ≡ 3 }
     ensures lead { IsLeadOf board.now lead.new }
-    ensures stages { SameStages lead.old lead.new }
+    ensures lead_states { SameLeadStates lead.old lead.new }
 {
     board.open_place(lead, PlaceId { index: 0 });
     board.open_place(lead, PlaceId { index: 1 });
@@ -388,7 +388,7 @@ fn take_turns<Rt: Abort>(
     requires plan { plan.now ≡ plan_of board.now }
     requires four { count_of_requests (plan_of board.now) ≡ 4 }
     requires lead { IsLeadOf board.now lead.old }
-    requires stages { (r : RequestId) → stage_of lead.old r ≡ stage.NotLet }
+    requires lead_states { (r : RequestId) → lead_state_of lead.old r ≡ lead_state.NotLet }
     requires first { IsFree board.now (record { index = 0 }) first.old }
     requires second { IsFree board.now (record { index = 1 }) second.old }
     requires third { IsFree board.now (record { index = 2 }) third.old }

@@ -1,10 +1,10 @@
 ghost use Rattle.std.specs.Prelude.{◌≡◌, ℕ, Bool, false};
-ghost use Rattle.conc_board_seats.specs.Stages.{IsGone, IsLet, is_marked};
+ghost use Rattle.conc_board_seats.specs.LeadStates.{IsGone, IsLet, is_marked};
 ghost use Rattle.conc_board_seats.specs.Words.{IsRequest};
 ghost use Rattle.conc_board_seats.specs.declared.views.Doing.TheVariants as does;
-ghost use Rattle.conc_board_seats.specs.declared.views.Stage.TheVariants as stage;
+ghost use Rattle.conc_board_seats.specs.declared.views.LeadState.TheVariants as lead_state;
 ghost use Rattle.conc_board.specs.Claims.{HasClaim, HasPermit};
-ghost use Rattle.conc_board.specs.Seats.{IsHandOf, IsLeadOf, plan_of, places_of_hand, stage_of, Stays};
+ghost use Rattle.conc_board.specs.Seats.{IsHandOf, IsLeadOf, lead_state_of, plan_of, places_of_hand, Stays};
 ghost use Rattle.conc_test_board.specs.Rounds.{IsFree, OnlyOne};
 
 use crate::{let_out_if_apart, look_let};
@@ -23,9 +23,9 @@ pub(crate) fn let_out_apart<Rt: Abort>(
     requires plan { plan.now ≡ plan_of board.now }
     requires lead { IsLeadOf board.now lead.old }
     requires request { IsRequest (plan_of board.now) r }
-    requires stage { stage_of lead.old r ≡ stage.NotLet }
+    requires lead_state { lead_state_of lead.old r ≡ lead_state.NotLet }
     ensures lead { OnlyOne board.now r lead.old lead.new }
-    ensures stage { stage_of lead.new r ≡ stage.Let }
+    ensures lead_state { lead_state_of lead.new r ≡ lead_state.Let }
 {
     if !let_out_if_apart(board, plan, lead, r) {
         panic!(rt; "the request excludes another one");
@@ -58,9 +58,9 @@ pub(crate) fn go_where_claimed<Rt: Abort>(
 ) -> PlaceId
     requires lead { IsLeadOf board.now lead.old }
     requires request { IsRequest (plan_of board.now) r }
-    requires stage { IsLet (stage_of lead.old r) }
+    requires lead_state { IsLet (lead_state_of lead.old r) }
     ensures lead { OnlyOne board.now r lead.old lead.new }
-    ensures stage { stage_of lead.new r ≡ stage.Gone result false }
+    ensures lead_state { lead_state_of lead.new r ≡ lead_state.Gone result false }
 {
     match look_let(board, lead, r) {
         Looked::Claimed(place) => {
@@ -93,9 +93,10 @@ pub(crate) fn collect_some<Rt: Abort>(
 ) -> Posted
     requires lead { IsLeadOf board.now lead.old }
     requires request { IsRequest (plan_of board.now) r }
-    requires stage { IsGone (stage_of lead.old r) }
+    requires lead_state { IsGone (lead_state_of lead.old r) }
     ensures lead { OnlyOne board.now r lead.old lead.new }
-    ensures stage { stage_of lead.new r ≡ stage.Done (is_marked (stage_of lead.old r)) }
+    ensures lead_state { lead_state_of lead.new r
+        ≡ lead_state.Done (is_marked (lead_state_of lead.old r)) }
 {
     match board.collect(lead, r) {
         Ok(posted) => posted,

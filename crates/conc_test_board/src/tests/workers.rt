@@ -2,10 +2,10 @@ ghost use Rattle.std.specs.Prelude.{◌≡◌};
 ghost use Rattle.std.specs.Thread.{IsSync};
 ghost use Rattle.conc_types.specs.declared.event.PlaceId.{PlaceId};
 ghost use Rattle.conc_types.specs.declared.event.RequestId.{RequestId};
-ghost use Rattle.conc_board_seats.specs.Stages.{IsGone, IsLet};
+ghost use Rattle.conc_board_seats.specs.LeadStates.{IsGone, IsLet};
 ghost use Rattle.conc_board_seats.specs.Words.{count_of_requests, IsRequest};
-ghost use Rattle.conc_board_seats.specs.declared.views.Stage.TheVariants as stage;
-ghost use Rattle.conc_board.specs.Seats.{IsLeadOf, plan_of, stage_of};
+ghost use Rattle.conc_board_seats.specs.declared.views.LeadState.TheVariants as lead_state;
+ghost use Rattle.conc_board.specs.Seats.{IsLeadOf, lead_state_of, plan_of};
 ghost use Rattle.conc_test_board.specs.Rounds.{IsFree, OnlyOne};
 
 use super::board::{join_three, open_all, plan_of_four, three_hands};
@@ -28,9 +28,9 @@ use std::thread::{Threads, join};
 fn go_when_claimed<R: Wait>(rt: &R, board: &Board, lead: &mut Lead, r: RequestId)
     requires lead { IsLeadOf board.now lead.old }
     requires request { IsRequest (plan_of board.now) r }
-    requires stage { IsLet (stage_of lead.old r) }
+    requires lead_state { IsLet (lead_state_of lead.old r) }
     ensures lead { OnlyOne board.now r lead.old lead.new }
-    ensures stage { IsGone (stage_of lead.new r) }
+    ensures lead_state { IsGone (lead_state_of lead.new r) }
 {
     for _ in rt.forever() {
         match look_let(board, lead, r) {
@@ -48,7 +48,7 @@ fn go_when_claimed<R: Wait>(rt: &R, board: &Board, lead: &mut Lead, r: RequestId
 fn collect_when_left<R: Wait>(rt: &R, board: &Board, lead: &mut Lead, r: RequestId) -> Posted
     requires lead { IsLeadOf board.now lead.old }
     requires request { IsRequest (plan_of board.now) r }
-    requires stage { IsGone (stage_of lead.old r) }
+    requires lead_state { IsGone (lead_state_of lead.old r) }
     ensures lead { OnlyOne board.now r lead.old lead.new }
 {
     for _ in rt.forever() {
@@ -65,7 +65,7 @@ fn see_through<R: Wait + Abort>(rt: &R, board: &Board, plan: &Plan, lead: &mut L
     requires plan { plan.now ≡ plan_of board.now }
     requires lead { IsLeadOf board.now lead.old }
     requires request { IsRequest (plan_of board.now) r }
-    requires stage { stage_of lead.old r ≡ stage.NotLet }
+    requires lead_state { lead_state_of lead.old r ≡ lead_state.NotLet }
     ensures lead { OnlyOne board.now r lead.old lead.new }
 {
     let_out_apart(rt, board, plan, lead, r);
@@ -83,7 +83,7 @@ fn see_all<R: Wait + Abort>(rt: &R, board: &Board, plan: &Plan, mut lead: Lead) 
     requires plan { plan.now ≡ plan_of board.now }
     requires four { count_of_requests (plan_of board.now) ≡ 4 }
     requires lead { IsLeadOf board.now lead }
-    requires stages { (r : RequestId) → stage_of lead r ≡ stage.NotLet }
+    requires lead_states { (r : RequestId) → lead_state_of lead r ≡ lead_state.NotLet }
     ensures { IsLeadOf board.now result }
 {
     for number in 1..5 {
@@ -185,7 +185,7 @@ fn see_all_served<R: Threads + Wait + Abort + Sync>(
     requires plan { plan.now ≡ plan_of board.now }
     requires four { count_of_requests (plan_of board.now) ≡ 4 }
     requires lead { IsLeadOf board.now lead }
-    requires stages { (r : RequestId) → stage_of lead r ≡ stage.NotLet }
+    requires lead_states { (r : RequestId) → lead_state_of lead r ≡ lead_state.NotLet }
     requires first { IsFree board.now (record { index = 0 }) first }
     requires second { IsFree board.now (record { index = 1 }) second }
     requires third { IsFree board.now (record { index = 2 }) third }
@@ -198,7 +198,8 @@ fn see_all_served<R: Threads + Wait + Abort + Sync>(
         rt,
         move || -> Lead
             requires { (plan.now ≡ plan_of board.now) × (count_of_requests (plan_of board.now) ≡ 4)
-                × IsLeadOf board.now lead × ((r : RequestId) → stage_of lead r ≡ stage.NotLet) }
+                × IsLeadOf board.now lead
+                × ((r : RequestId) → lead_state_of lead r ≡ lead_state.NotLet) }
             ensures { IsLeadOf board.entry.now result }
         { see_all(rt, board, plan, lead) },
         move || -> (Hand, Hand, Hand)

@@ -1,9 +1,9 @@
 ghost use Rattle.std.specs.Prelude.{◌≡◌, ◌≤◌, ◌+◌, IfOk, IfSome, IsTrue, None};
 ghost use Rattle.conc_law.specs.Places.{count_of_places};
 ghost use Rattle.conc_board.specs.Claims.{HasPermit};
-ghost use Rattle.conc_board.specs.Seats.{HasAllPlaces, IsLeadOf, places_of_lead, plan_of as board_plan, SameStages, stage_of, Stays};
+ghost use Rattle.conc_board.specs.Seats.{HasAllPlaces, IsLeadOf, lead_state_of, places_of_lead, plan_of as board_plan, SameLeadStates, Stays};
 ghost use Rattle.conc_board_seats.specs.Places.{has};
-ghost use Rattle.conc_board_seats.specs.declared.views.Stage.TheVariants as stage;
+ghost use Rattle.conc_board_seats.specs.declared.views.LeadState.TheVariants as lead_state;
 ghost use Rattle.conc_desk.specs.Desks.{IsAt};
 ghost use Rattle.conc_types.specs.declared.event.RequestId.{RequestId};
 ghost use Rattle.conc_board_seats.specs.Words.{count_of_requests, IsPlace};
@@ -143,7 +143,7 @@ fn hand_at(board: &Board, lead: &mut Lead, place: PlaceId) -> Hand
     requires place { IsPlace (board_plan board.now) place }
     requires own { IsTrue (has (places_of_lead lead.old) place) }
     ensures lead { IsLeadOf board.now lead.new }
-    ensures stages { SameStages lead.old lead.new }
+    ensures lead_states { SameLeadStates lead.old lead.new }
     ensures hand { IsFree board.now place result }
 {
     board.split(lead, &[place])
@@ -155,7 +155,7 @@ fn one_hand(board: &Board, lead: &mut Lead) -> Hand
     requires places { HasAllPlaces board.now lead.old }
     requires two { count_of_places (board_plan board.now) ≡ 2 }
     ensures lead { IsLeadOf board.now lead.new }
-    ensures stages { SameStages lead.old lead.new }
+    ensures lead_states { SameLeadStates lead.old lead.new }
     ensures hand { IsFree board.now (record { index = 0 }) result }
 {
     hand_at(board, lead, HERE)
@@ -166,7 +166,7 @@ fn desk_at<'a>(board: &Board, plan: &'a Plan, lead: Lead, work: Work<'a>) -> Des
     requires plan { plan.now ≡ board_plan board.now }
     requires two { count_of_places plan.now ≡ 2 }
     requires lead { IsLeadOf board.now lead }
-    requires none_let { (r : RequestId) → stage_of lead r ≡ stage.NotLet }
+    requires none_let { (r : RequestId) → lead_state_of lead r ≡ lead_state.NotLet }
     requires own { plan_in work ≡ plan.now }
     requires parts { IsTied None work any_disk any_disk }
     ensures at { IsAt board.now result }

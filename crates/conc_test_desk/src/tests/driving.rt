@@ -1,6 +1,6 @@
 ghost use Rattle.std.specs.Prelude.{◌≡◌, ◌<◌, ◌+◌, IfOk, IsTrue, None};
-ghost use Rattle.conc_board_seats.specs.declared.views.Stage.TheVariants as stage;
-ghost use Rattle.conc_desk.specs.Desks.{stage_at};
+ghost use Rattle.conc_board_seats.specs.declared.views.LeadState.TheVariants as lead_state;
+ghost use Rattle.conc_desk.specs.Desks.{lead_state_at};
 ghost use Rattle.conc_test_desk.specs.Driven.{IsDriven, IsPlain, room_at};
 
 use crate::Disks;
@@ -81,7 +81,7 @@ pub(crate) fn see_claim<Rt: Abort>(
     requires driven { IsDriven r board.now desk.old disks.old }
     ensures driven { IsDriven r board.now desk.new disks.new }
     ensures room { room_at desk.new ≡ room_at desk.old }
-    ensures seen { stage_at desk.new r ≡ stage.Seen result }
+    ensures seen { lead_state_at desk.new r ≡ lead_state.Seen result }
 {
     match desk.progress(board, r) {
         Progress::Let => {}

@@ -1,4 +1,4 @@
-use Rattle.conc_board_seats.specs.Stages.{IsGone}
+use Rattle.conc_board_seats.specs.LeadStates.{IsGone}
 use Rattle.conc_bench_board.proofs.Facts.{IsWithin}
 use Rattle.conc_bench_board.proofs.lead_calls.collect_each.Given as goal
 

@@ -1,4 +1,4 @@
-use Rattle.conc_board_seats.specs.Stages.{IsGone, IsLet}
+use Rattle.conc_board_seats.specs.LeadStates.{IsGone, IsLet}
 use Rattle.conc_bench_board.proofs.Facts.{IsWithin}
 use Rattle.conc_bench_board.proofs.lead_calls.go_all.Given as goal
 

@@ -1,6 +1,6 @@
-use Rattle.conc_board_seats.specs.declared.views.Stage.TheVariants.{NotLet}
+use Rattle.conc_board_seats.specs.declared.views.LeadState.TheVariants.{NotLet}
 use Rattle.std.proofs.Common.{◌≡◌}
-use Rattle.conc_board_seats.specs.Stages.{IsLet}
+use Rattle.conc_board_seats.specs.LeadStates.{IsLet}
 use Rattle.conc_bench_board.proofs.Facts.{IsWithin}
 use Rattle.conc_bench_board.proofs.lead_calls.let_out_all.Given as goal
 

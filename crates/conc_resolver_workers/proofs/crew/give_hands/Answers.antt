@@ -31,7 +31,7 @@ loop-index-preserved c =
     let now : (d : Worker) → get_or (set ws k worker) k d ≡ worker = λ d. get_or-set_same ws k worker d here in
     record {
       lead = made.lead;
-      stages = record { each = λ r. made.stages.each r ∙ i.stages.each r };
+      lead_states = record { each = λ r. made.lead_states.each r ∙ i.lead_states.each r };
       all = refl;
       long = length-set ws k worker ∙ i.long;
       dealt = λ j d small. dite (ℕ_discrete j k)

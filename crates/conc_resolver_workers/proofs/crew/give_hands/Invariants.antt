@@ -1,6 +1,6 @@
 use Rattle.std.proofs.Common.{◌≡◌, ◌<◌, ◌≤◌, ◌%◌, ℕ, true, length, slice_index_or}
 use Rattle.conc_types.specs.declared.event.PlaceId.{PlaceId}
-use Rattle.conc_board.specs.Seats.{IsLeadOf, places_of_lead, plan_of, SameStages}
+use Rattle.conc_board.specs.Seats.{IsLeadOf, places_of_lead, plan_of, SameLeadStates}
 use Rattle.conc_board_seats.specs.Places.{has}
 use Rattle.conc_board_seats.specs.Words.{IsPlace}
 use Rattle.conc_resolver_workers.specs.Crews.{AreDealt, IsFreeWorker, places_had}
@@ -10,7 +10,7 @@ use Rattle.conc_resolver_workers.proofs.crew.give_hands.Given as goal
 abbrev pub invariant-loop-index : goal.invariant-loop-index
 invariant-loop-index l = record {
   lead : IsLeadOf l.board l.lead;
-  stages : SameStages l.initial.lead l.lead;
+  lead_states : SameLeadStates l.initial.lead l.lead;
   all : l.index-end ≡ length l.initial.crew;
   long : length l.crew ≡ length l.initial.crew;
   dealt : (i : ℕ) (d : Worker) → i < length l.initial.crew → AreDealt (plan_of l.board) (length l.initial.crew) i (slice_index_or l.crew i d).places.items;

@@ -1,18 +1,18 @@
 use Rattle.std.proofs.Common.{◌≡◌, ◌∙◌, arith, ap, false, inr, refl, subst, sym}
-use Rattle.conc_board_seats.specs.declared.views.Stage.{Stage}
-use Rattle.conc_board_seats.specs.declared.views.Stage.TheVariants.{Gone, Seen}
+use Rattle.conc_board_seats.specs.declared.views.LeadState.{LeadState}
+use Rattle.conc_board_seats.specs.declared.views.LeadState.TheVariants.{Gone, Seen}
 use Rattle.conc_board_seats.specs.declared.views.View.{View}
 use Rattle.conc_board_seats.specs.Courses.{GoesOn}
-use Rattle.conc_board_seats.specs.Stages.{WordFits, gone, stage_at}
-use Rattle.conc_board_seats.specs.Steps.{with_stage}
+use Rattle.conc_board_seats.specs.LeadStates.{WordFits, gone, lead_state_at}
+use Rattle.conc_board_seats.specs.Steps.{with_lead_state}
 use Rattle.conc_board_seats.proofs.LeadSteps.{goes_by}
-use Rattle.conc_board.specs.Seats.{stage_of}
-use Rattle.conc_board.proofs.Leads.{adds_one, changes, new_stage, stage_there}
+use Rattle.conc_board.specs.Seats.{lead_state_of}
+use Rattle.conc_board.proofs.Leads.{adds_one, changes, lead_state_there, new_lead_state}
 use Rattle.conc_board.proofs.board.Board.go.Goals as goal
 
 -- the lead has seen the claim of this place
-seen : (c : goal.After-running) → stage_at c.args.lead.now.seat.me.0.stages c.request_word.result ≡ Seen c.args.place
-seen c = stage_there c.args.lead.now.seat.me.0.stages c.args.r c.request_word.result c.request_word.ensures c.requires.request.from_one ∙ c.requires.stage
+seen : (c : goal.After-running) → lead_state_at c.args.lead.now.seat.me.0.lead_states c.request_word.result ≡ Seen c.args.place
+seen c = lead_state_there c.args.lead.now.seat.me.0.lead_states c.args.r c.request_word.result c.request_word.ensures c.requires.request.from_one ∙ c.requires.lead_state
 
 pub swap-requires : goal.swap-requires
 swap-requires c =
@@ -24,14 +24,14 @@ swap-requires c =
 
 pub returns-clause-lead : goal.returns-clause-lead
 returns-clause-lead c = changes _ _ _ _ c.request_word.result (Gone c.args.place false) c.swap.result c.requires.lead c.requires.request c.request_word.ensures c.swap.ensures.0
-    (c.swap.ensures.2.0 ∙ ap (λ (z : Stage). with_stage c.args.lead.now.seat.me.0 c.request_word.result (gone z) c.swap.result) (stage_there c.args.lead.now.seat.me.0.stages c.args.r c.request_word.result c.request_word.ensures c.requires.request.from_one ∙ c.requires.stage))
-    (subst (λ (z : Stage). GoesOn z (Gone c.args.place false)) (sym c.requires.stage) (inr (inr refl))) tt
+    (c.swap.ensures.2.0 ∙ ap (λ (z : LeadState). with_lead_state c.args.lead.now.seat.me.0 c.request_word.result (gone z) c.swap.result) (lead_state_there c.args.lead.now.seat.me.0.lead_states c.args.r c.request_word.result c.request_word.ensures c.requires.request.from_one ∙ c.requires.lead_state))
+    (subst (λ (z : LeadState). GoesOn z (Gone c.args.place false)) (sym c.requires.lead_state) (inr (inr refl))) tt
 
-pub returns-clause-stage : goal.returns-clause-stage
-returns-clause-stage c = new_stage _ c.args.r _ _ c.request_word.result (Gone c.args.place false) c.swap.result c.requires.lead.stages c.requires.request c.request_word.ensures
-    (c.swap.ensures.2.0 ∙ ap (λ (z : Stage). with_stage c.args.lead.now.seat.me.0 c.request_word.result (gone z) c.swap.result) (stage_there c.args.lead.now.seat.me.0.stages c.args.r c.request_word.result c.request_word.ensures c.requires.request.from_one ∙ c.requires.stage))
+pub returns-clause-lead_state : goal.returns-clause-lead_state
+returns-clause-lead_state c = new_lead_state _ c.args.r _ _ c.request_word.result (Gone c.args.place false) c.swap.result c.requires.lead.lead_states c.requires.request c.request_word.ensures
+    (c.swap.ensures.2.0 ∙ ap (λ (z : LeadState). with_lead_state c.args.lead.now.seat.me.0 c.request_word.result (gone z) c.swap.result) (lead_state_there c.args.lead.now.seat.me.0.lead_states c.args.r c.request_word.result c.request_word.ensures c.requires.request.from_one ∙ c.requires.lead_state))
 
 pub returns-clause-found : goal.returns-clause-found
-returns-clause-found c = adds_one (WordFits (stage_of c.args.lead.now c.args.r)) _ c.request_word.result c.swap.result _ _ c.request_word.ensures
-    (subst (λ (z : Stage). WordFits z c.swap.result) (stage_there c.args.lead.now.seat.me.0.stages c.args.r c.request_word.result c.request_word.ensures c.requires.request.from_one) c.swap.ensures.2.2)
+returns-clause-found c = adds_one (WordFits (lead_state_of c.args.lead.now c.args.r)) _ c.request_word.result c.swap.result _ _ c.request_word.ensures
+    (subst (λ (z : LeadState). WordFits z c.swap.result) (lead_state_there c.args.lead.now.seat.me.0.lead_states c.args.r c.request_word.result c.request_word.ensures c.requires.request.from_one) c.swap.ensures.2.2)
     (ap (λ (v : View). v.found) c.swap.ensures.2.0)

@@ -1,13 +1,13 @@
 use Rattle.std.proofs.Common.{◌∙◌, Option, arith, ap, subst, sym}
 use Rattle.conc_types.specs.declared.plan.Plan.{Plan}
-use Rattle.conc_board_seats.specs.declared.views.Stage.{Stage}
+use Rattle.conc_board_seats.specs.declared.views.LeadState.{LeadState}
 use Rattle.conc_board_seats.specs.declared.views.View.{View}
-use Rattle.conc_board_seats.specs.Stages.{looked}
-use Rattle.conc_board_seats.specs.Steps.{HasPlace, LookFits, with_stage}
+use Rattle.conc_board_seats.specs.LeadStates.{looked}
+use Rattle.conc_board_seats.specs.Steps.{HasPlace, LookFits, with_lead_state}
 use Rattle.conc_board_seats.proofs.LeadSteps.{looks}
 use Rattle.conc_board.specs.Looks.{Looks, Shows}
-use Rattle.conc_board.specs.Seats.{plan_of, stage_of}
-use Rattle.conc_board.proofs.Leads.{adds_one, changes, new_stage, stage_there}
+use Rattle.conc_board.specs.Seats.{lead_state_of, plan_of}
+use Rattle.conc_board.proofs.Leads.{adds_one, changes, lead_state_there, new_lead_state}
 use Rattle.conc_board.proofs.LookedSo.{looked_goes_on, looked_settled, looked_so}
 use Rattle.conc_board.proofs.board.Board.look.Goals as goal
 
@@ -18,28 +18,28 @@ load-word-requires c =
 
 pub returns-clause-lead : goal.returns-clause-lead
 returns-clause-lead c =
-    let there = stage_there c.args.lead.now.seat.me.0.stages c.args.r c.request_word.result c.request_word.ensures c.requires.request.from_one in
+    let there = lead_state_there c.args.lead.now.seat.me.0.lead_states c.args.r c.request_word.result c.request_word.ensures c.requires.request.from_one in
     let n = c.load-word.result in
-    changes _ _ _ _ c.request_word.result (looked (stage_of c.args.lead.now c.args.r) n) n c.requires.lead c.requires.request c.request_word.ensures c.load-word.ensures.0
-    (c.load-word.ensures.2.0 ∙ ap (λ (z : Stage). with_stage c.args.lead.now.seat.me.0 c.request_word.result (looked z n) n) there)
-    (looked_goes_on (stage_of c.args.lead.now c.args.r) n) (looked_settled (stage_of c.args.lead.now c.args.r) n (c.requires.lead.settled c.args.r))
+    changes _ _ _ _ c.request_word.result (looked (lead_state_of c.args.lead.now c.args.r) n) n c.requires.lead c.requires.request c.request_word.ensures c.load-word.ensures.0
+    (c.load-word.ensures.2.0 ∙ ap (λ (z : LeadState). with_lead_state c.args.lead.now.seat.me.0 c.request_word.result (looked z n) n) there)
+    (looked_goes_on (lead_state_of c.args.lead.now c.args.r) n) (looked_settled (lead_state_of c.args.lead.now c.args.r) n (c.requires.lead.settled c.args.r))
 
-pub returns-clause-stage : goal.returns-clause-stage
-returns-clause-stage c =
-    let there = stage_there c.args.lead.now.seat.me.0.stages c.args.r c.request_word.result c.request_word.ensures c.requires.request.from_one in
+pub returns-clause-lead_state : goal.returns-clause-lead_state
+returns-clause-lead_state c =
+    let there = lead_state_there c.args.lead.now.seat.me.0.lead_states c.args.r c.request_word.result c.request_word.ensures c.requires.request.from_one in
     let n = c.load-word.result in let b = c.args.self.now in let plan = plan_of b in let tells = c.load-word.ensures.2 in
-    let now = new_stage plan c.args.r c.args.lead.now.seat.me.0 c.load-word.new.seat.me.0 c.request_word.result (looked (stage_of c.args.lead.now c.args.r) n) n c.requires.lead.stages c.requires.request c.request_word.ensures
-    (tells.0 ∙ ap (λ (z : Stage). with_stage c.args.lead.now.seat.me.0 c.request_word.result (looked z n) n) there) in
-    let so = looked_so plan (omega (arith, b.few_places, b.place_count)) n c.looked_by.result (stage_of c.args.lead.now c.args.r) c.requires.stage
-    (subst (λ (z : Option Plan × Stage). HasPlace z.0 (looked z.1 n)) (λ i. (c.requires.lead.plan i, there i)) tells.2)
-    (subst (λ (z : Stage). LookFits (looked z n) n) there tells.3) c.looked_by.ensures in
-    subst (Looks plan c.looked_by.result (stage_of c.args.lead.now c.args.r)) (sym now) so.0
+    let now = new_lead_state plan c.args.r c.args.lead.now.seat.me.0 c.load-word.new.seat.me.0 c.request_word.result (looked (lead_state_of c.args.lead.now c.args.r) n) n c.requires.lead.lead_states c.requires.request c.request_word.ensures
+    (tells.0 ∙ ap (λ (z : LeadState). with_lead_state c.args.lead.now.seat.me.0 c.request_word.result (looked z n) n) there) in
+    let so = looked_so plan (omega (arith, b.few_places, b.place_count)) n c.looked_by.result (lead_state_of c.args.lead.now c.args.r) c.requires.lead_state
+    (subst (λ (z : Option Plan × LeadState). HasPlace z.0 (looked z.1 n)) (λ i. (c.requires.lead.plan i, there i)) tells.2)
+    (subst (λ (z : LeadState). LookFits (looked z n) n) there tells.3) c.looked_by.ensures in
+    subst (Looks plan c.looked_by.result (lead_state_of c.args.lead.now c.args.r)) (sym now) so.0
 
 pub returns-clause-found : goal.returns-clause-found
 returns-clause-found c =
-    let there = stage_there c.args.lead.now.seat.me.0.stages c.args.r c.request_word.result c.request_word.ensures c.requires.request.from_one in
+    let there = lead_state_there c.args.lead.now.seat.me.0.lead_states c.args.r c.request_word.result c.request_word.ensures c.requires.request.from_one in
     let n = c.load-word.result in let b = c.args.self.now in let plan = plan_of b in let tells = c.load-word.ensures.2 in
-    let so = looked_so plan (omega (arith, b.few_places, b.place_count)) n c.looked_by.result (stage_of c.args.lead.now c.args.r) c.requires.stage
-    (subst (λ (z : Option Plan × Stage). HasPlace z.0 (looked z.1 n)) (λ i. (c.requires.lead.plan i, there i)) tells.2)
-    (subst (λ (z : Stage). LookFits (looked z n) n) there tells.3) c.looked_by.ensures in
+    let so = looked_so plan (omega (arith, b.few_places, b.place_count)) n c.looked_by.result (lead_state_of c.args.lead.now c.args.r) c.requires.lead_state
+    (subst (λ (z : Option Plan × LeadState). HasPlace z.0 (looked z.1 n)) (λ i. (c.requires.lead.plan i, there i)) tells.2)
+    (subst (λ (z : LeadState). LookFits (looked z n) n) there tells.3) c.looked_by.ensures in
     adds_one (Shows c.looked_by.result) _ c.request_word.result n _ _ c.request_word.ensures so.1 (ap (λ (v : View). v.found) tells.0)

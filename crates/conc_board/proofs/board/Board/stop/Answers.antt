@@ -2,8 +2,8 @@ use Rattle.std.proofs.Common.{◌∙◌, refl, sym}
 use Rattle.conc_board.proofs.Leads.{adds_two, changes_after}
 use Rattle.conc_board.proofs.board.Board.stop.Goals as goal
 
-pub stop_at-requires-clause-stage : goal.stop_at-requires-clause-stage
-stop_at-requires-clause-stage c = let go = c.place_of_go-place.ensures in (go.place.0, go.same ∙ go.place.1)
+pub stop_at-requires-clause-lead_state : goal.stop_at-requires-clause-lead_state
+stop_at-requires-clause-lead_state c = let go = c.place_of_go-place.ensures in (go.place.0, go.same ∙ go.place.1)
 
 pub returns-clause-lead : goal.returns-clause-lead
 returns-clause-lead c = changes_after _ _ _ _ _ c.place_of_go-place.ensures.lead c.place_of_go-place.ensures.same c.stop_at.ensures.lead

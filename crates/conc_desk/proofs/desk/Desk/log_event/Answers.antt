@@ -7,7 +7,7 @@ use Rattle.conc_law.proofs.Positions.{reverse-push}
 use Rattle.conc_run_state.specs.Works.{list_in}
 use Rattle.conc_run_steps.specs.Steps.{plan_in, readings_in, SurvivesFor}
 use Rattle.conc_desk_lead.specs.Following.{Follows}
-use Rattle.conc_desk_lead.specs.Ties.{StagesGoWith}
+use Rattle.conc_desk_lead.specs.Ties.{LeadStatesGoWith}
 use Rattle.conc_desk_lead.proofs.After.{tied_after}
 use Rattle.conc_desk.specs.Desks.{list_at, plan_at}
 use Rattle.conc_desk.specs.Logging.{IsItsTurn}
@@ -56,7 +56,7 @@ invariant_of-self-2 g c =
       plan_is = desk.plan_is ∙ sym c.add_event.ensures.plan;
       seated = seated c.args.board.now (plan_in new) lead' (c.requires.at.plan ∙ (ap plan_at (sym c.self.view_is) ∙ sym c.add_event.ensures.plan)) c.follow.ensures.lead;
       parts = off_journal new e None (g.D.Disk.state c.add_event.new.journal) c.in_ok-receipt.ensures.logged;
-      tied = subst (λ (z : Plan × List Event). StagesGoWith z.0 z.1 lead')
+      tied = subst (λ (z : Plan × List Event). LeadStatesGoWith z.0 z.1 lead')
           (λ i. (sym c.add_event.ensures.plan i, sym (ap reverse c.in_ok-receipt.ensures.added ∙ reverse-push (list_in old) e) i)) after;
       may_be_kept = tt;
     }

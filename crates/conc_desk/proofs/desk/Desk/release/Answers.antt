@@ -5,10 +5,10 @@ use Rattle.conc_types.specs.Plans.{request}
 use Rattle.conc_law.specs.Facts.{facts_of}
 use Rattle.conc_law.proofs.Comes.{same_request}
 use Rattle.conc_law.proofs.Numbering.{numbered_plan}
-use Rattle.conc_board.specs.Seats.{plan_of, stage_of}
-use Rattle.conc_board_seats.specs.declared.views.Stage.{Stage}
+use Rattle.conc_board.specs.Seats.{lead_state_of, plan_of}
+use Rattle.conc_board_seats.specs.declared.views.LeadState.{LeadState}
 use Rattle.conc_board_seats.specs.Rule.{exclude}
-use Rattle.conc_board_seats.specs.Stages.{IsGone, IsLetOrGone}
+use Rattle.conc_board_seats.specs.LeadStates.{IsGone, IsLetOrGone}
 use Rattle.conc_board_seats.specs.Words.{IsRequest}
 use Rattle.conc_run_steps.specs.Steps.{plan_in, readings_in}
 use Rattle.conc_run_steps.proofs.Coming.{lawful-past}
@@ -30,13 +30,13 @@ pub let_out-requires-clause-apart : goal.let_out-requires-clause-apart
 let_out-requires-clause-apart c =
     let out = subst (λ (d : DeskState). IsLetIn d c.args.r) (sym c.self.view_is) c.requires.let_out in let is = c.requires.at.plan ∙ ap plan_at (sym c.self.view_is) in let work = c.self.inside.work in let plan = plan_in work in let parts = c.self.invariant.parts in
     let past = lawful-past plan work.machine (readings_in work) (list_in work) parts.readings_are parts.lawful in
-    subst (λ (p : Plan). (q : RequestId) → IsLetOrGone (stage_of c.self.inside.lead q) → exclude p c.args.r q ≡ false) (sym is)
+    subst (λ (p : Plan). (q : RequestId) → IsLetOrGone (lead_state_of c.self.inside.lead q) → exclude p c.args.r q ≡ false) (sym is)
     (apart plan (reverse (list_in work)) past c.self.inside.lead c.self.invariant.tied out.req out.there out.waits c.args.r out.number)
 
 pub invariant_of-self : goal.invariant_of-self
 invariant_of-self c =
     let out = subst (λ (d : DeskState). IsLetIn d c.args.r) (sym c.self.view_is) c.requires.let_out in let is = c.requires.at.plan ∙ ap plan_at (sym c.self.view_is) in let work = c.self.inside.work in let plan = plan_in work in
     moved c.args.board.now c.args.r work c.self.inside.kept c.self.inside.lead c.let_out.new.lead c.let_out.ensures.lead c.self.inside.plan.now is c.self.invariant
-    (λ x hx e. subst (λ (z : Stage). GoesWith z (facts_of plan (reverse (list_in work)) x)) (sym c.let_out.ensures.stage)
+    (λ x hx e. subst (λ (z : LeadState). GoesWith z (facts_of plan (reverse (list_in work)) x)) (sym c.let_out.ensures.lead_state)
     (subst (λ q. WaitsToStart (facts_of plan (reverse (list_in work)) q)) (same_request plan out.req x out.there hx (out.number ∙ sym e)) out.waits))
-    (λ now. absurd (subst (λ (z : Stage). IsGone z) c.let_out.ensures.stage now))
+    (λ now. absurd (subst (λ (z : LeadState). IsGone z) c.let_out.ensures.lead_state now))
