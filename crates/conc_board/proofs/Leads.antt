@@ -15,7 +15,7 @@ use Rattle.conc_board_seats.specs.Words.{IsRequest, count_of_requests, request_o
 use Rattle.conc_board_seats.proofs.Facts.{request_eq}
 use Rattle.conc_board.specs.declared.board.Board.{Board}
 use Rattle.conc_board.specs.declared.lead.Lead.{Lead}
-use Rattle.conc_board.specs.Seats.{AddsOne, Changes, IsLeadOf, KeepsLeadStates, lead_state_of, plan_of}
+use Rattle.conc_board.specs.Seats.{AddsOne, Changes, IsLeadOf, LeavesLeadStates, lead_state_of, plan_of}
 
 -- ---- lead states of requests
 
@@ -90,9 +90,9 @@ changes board r old new i st n lead of_plan word seat is goes_on calm = record {
 }
 
 -- its view only notes a step
-pub keeps_lead_states : (board : Board) (old new : Lead) (i n : ℕ) → IsLeadOf board old → new.seat.table_id ≡ old.seat.table_id →
-    new.seat.me.0 ≡ noted old.seat.me.0 i n → KeepsLeadStates board old new
-keeps_lead_states board old new i n lead seat is = record {
+pub leaves_lead_states : (board : Board) (old new : Lead) (i n : ℕ) → IsLeadOf board old → new.seat.table_id ≡ old.seat.table_id →
+    new.seat.me.0 ≡ noted old.seat.me.0 i n → LeavesLeadStates board old new
+leaves_lead_states board old new i n lead seat is = record {
   lead = record {
     seat = seat ∙ lead.seat;
     plan = ap (λ (v : View). v.plan) is ∙ lead.plan;
@@ -104,12 +104,12 @@ keeps_lead_states board old new i n lead seat is = record {
 }
 
 -- a request that keeps its lead state
-pub no_change : (board : Board) (r : RequestId) (old new : Lead) → KeepsLeadStates board old new → Changes board r old new
-no_change board r old new kept = record {
-  lead = kept.lead;
-  goes_on = inl (kept.lead_states.each r);
-  others = λ q _. kept.lead_states.each q;
-  places = kept.places;
+pub no_change : (board : Board) (r : RequestId) (old new : Lead) → LeavesLeadStates board old new → Changes board r old new
+no_change board r old new leaves = record {
+  lead = leaves.lead;
+  goes_on = inl (leaves.lead_states.each r);
+  others = λ q _. leaves.lead_states.each q;
+  places = leaves.places;
 }
 
 -- two calls on a request, of which the first keeps its lead state

@@ -13,7 +13,7 @@ use Rattle.conc_board_seats.specs.declared.views.View.{View}
 use Rattle.conc_board_seats.specs.Places.{has}
 use Rattle.conc_board_seats.specs.Rule.{AreApart, BoardState, HasLeft, IsAtOwn, Runs, home_at, nobody, first_view, view_at}
 use Rattle.conc_board_seats.specs.LeadStates.{WordFits, is_marked, lead_state_at}
-use Rattle.conc_board_seats.specs.Steps.{Slot, Tells, back_tells, claim_tells, clear_tells, given, go_tells, got_tells, joined, kept, let_out_tells, look_tells, poll_tells, post_tells, stop_tells, switch_tells, warn_tells}
+use Rattle.conc_board_seats.specs.Steps.{Slot, Tells, back_tells, claim_tells, clear_tells, given, go_tells, got_tells, joined, let_out_tells, look_tells, poll_tells, post_tells, stop_tells, switch_tells, warn_tells, with_places_off}
 use Rattle.conc_board_seats.specs.Words.{IsRequest, claimed, count_of_requests, ended, request_of, request_word, running, stopping}
 
 -- ---- states
@@ -121,7 +121,7 @@ pub record StepsAreRecorded : Type 0 where
   pub post : Records post_tells
   pub first : (plan : Plan) → (first_view plan).found ≡ []
   pub new_hand : (ps : List PlaceId) (v : View) → (given ps v).found ≡ []
-  pub split : (ps : List PlaceId) (v : View) → (kept ps v).found ≡ v.found
+  pub split : (ps : List PlaceId) (v : View) → (with_places_off ps v).found ≡ v.found
   pub join : (v w : View) → (joined v w).found ≡ v.found
   pub left : nobody.found ≡ []
 
@@ -149,7 +149,7 @@ pub record PostsAreRecorded : Type 0 where
   pub see_stop : KeepsPosts warn_tells
   pub first : (plan : Plan) → (first_view plan).posts ≡ []
   pub new_hand : (ps : List PlaceId) (v : View) → (given ps v).posts ≡ []
-  pub split : (ps : List PlaceId) (v : View) → (kept ps v).posts ≡ v.posts
+  pub split : (ps : List PlaceId) (v : View) → (with_places_off ps v).posts ≡ v.posts
   pub join : (v w : View) → (joined v w).posts ≡ v.posts
   pub left : nobody.posts ≡ []
 

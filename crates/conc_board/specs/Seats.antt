@@ -93,7 +93,7 @@ pub record Changes (board : Board) (r : RequestId) (old new : Lead) : Type 0 whe
   pub places : places_of_lead new ≡ places_of_lead old
 
 -- a call on no request
-pub record KeepsLeadStates (board : Board) (old new : Lead) : Type 0 where
+pub record LeavesLeadStates (board : Board) (old new : Lead) : Type 0 where
   pub lead : IsLeadOf board new
   pub lead_states : SameLeadStates old new
   pub places : places_of_lead new ≡ places_of_lead old

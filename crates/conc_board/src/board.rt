@@ -12,7 +12,7 @@ use crate::hand::Hand;
 use crate::last_claims::LastClaims;
 use crate::lead::Lead;
 use crate::owners::owners_of;
-use crate::plays::{Keeping, Passing, SplitsOff, TakesIn};
+use crate::plays::{BoardRule, Passing, SplitsOff, TakesIn};
 use atomic_table::Table;
 use conc_board_seats::{Posted, View};
 use conc_time::place_count;
@@ -25,7 +25,7 @@ use std::marker::Brand;
 /// each request, which all seats share.
 #[derive(Drop)]
 pub struct Board {
-    pub(crate) table: Table<Option<Posted>, View, Plan, Keeping, Global>,
+    pub(crate) table: Table<Option<Posted>, View, Plan, BoardRule, Global>,
     pub(crate) requests: usize,
     pub(crate) places: usize,
     // For each place its manager, by its place in the setup.

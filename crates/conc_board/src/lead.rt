@@ -6,7 +6,7 @@ ghost use Rattle.conc_board.specs.Answers.{LookedBy, ProgressBy};
 
 use crate::Board;
 use crate::numbers::{DONE, IDLE, RELEASED, STATE, place_named, request_word, running, stopping};
-use crate::plays::{Clears, Gets, Goes, Keeping, LetsOut, Looks, Stops, Switches, TakesBack};
+use crate::plays::{BoardRule, Clears, Gets, Goes, LetsOut, Looks, Stops, Switches, TakesBack};
 use atomic_table::{Seat, Shared};
 use conc_board_seats::{Posted, View};
 use conc_types::{PlaceId, Plan, RequestId};
@@ -57,7 +57,7 @@ impl Board {
     ghost use Rattle.conc_board_seats.specs.Words.{end_word, IsPlace, IsRequest, place_word};
     ghost use Rattle.conc_board_seats.specs.declared.views.LeadState.TheVariants as lead_state;
     ghost use Rattle.conc_board.specs.Looks.{HasProgress, LooksOn, SeesLeadState, Shows};
-    ghost use Rattle.conc_board.specs.Seats.{Changes, FindsFitting, IsApart, IsFlag, IsLeadOf, IsLeftFor, KeepsLeadStates, LeadFinds, lead_state_of, plan_of};
+    ghost use Rattle.conc_board.specs.Seats.{Changes, FindsFitting, IsApart, IsFlag, IsLeadOf, IsLeftFor, LeadFinds, LeavesLeadStates, lead_state_of, plan_of};
     ghost use Rattle.conc_board.specs.Stops.{Collects, FindsRunning, Stops as StopsAs, StopsAt, TakesPost};
 
     /// Lets a request out that is not on the board and excludes none that is.
@@ -218,7 +218,7 @@ impl Board {
     pub fn open_place(&self, lead: &mut Lead, place: PlaceId)
         requires lead { IsLeadOf self.now lead.old }
         requires place { IsPlace (plan_of self.now) place }
-        ensures lead { KeepsLeadStates self.now lead.old lead.new }
+        ensures lead { LeavesLeadStates self.now lead.old lead.new }
         ensures found { LeadFinds (place_word (plan_of self.now) place) IsFlag lead.old lead.new }
     {
         self.set_place(lead, place, 1);
@@ -229,7 +229,7 @@ impl Board {
     pub fn close_place(&self, lead: &mut Lead, place: PlaceId)
         requires lead { IsLeadOf self.now lead.old }
         requires place { IsPlace (plan_of self.now) place }
-        ensures lead { KeepsLeadStates self.now lead.old lead.new }
+        ensures lead { LeavesLeadStates self.now lead.old lead.new }
         ensures found { LeadFinds (place_word (plan_of self.now) place) IsFlag lead.old lead.new }
     {
         self.set_place(lead, place, 0);
@@ -239,7 +239,7 @@ impl Board {
         requires lead { IsLeadOf self.now lead.old }
         requires place { IsPlace (plan_of self.now) place }
         requires switch { switch ≤ 1 }
-        ensures lead { KeepsLeadStates self.now lead.old lead.new }
+        ensures lead { LeavesLeadStates self.now lead.old lead.new }
         ensures found { LeadFinds (place_word (plan_of self.now) place) IsFlag lead.old lead.new }
     {
         let word = self.requests + place.index as usize;
@@ -251,7 +251,7 @@ impl Board {
     /// Tells all hands that there is no more to come.
     pub fn finish_all(&self, lead: &mut Lead)
         requires lead { IsLeadOf self.now lead.old }
-        ensures lead { KeepsLeadStates self.now lead.old lead.new }
+        ensures lead { LeavesLeadStates self.now lead.old lead.new }
         ensures found { LeadFinds (end_word (plan_of self.now)) IsFlag lead.old lead.new }
     {
         let word = self.requests + self.places;
@@ -263,7 +263,7 @@ impl Board {
 // Takes what the slot holds that the seat took last. It does so in place: an exchange would write the whole
 // slot anew.
 fn take_out(
-    shared: &Shared<Option<Posted>, View, Plan, Keeping>,
+    shared: &Shared<Option<Posted>, View, Plan, BoardRule>,
     seat: &mut Seat<Option<Posted>, View>,
     slot: usize,
 ) -> Option<Posted>

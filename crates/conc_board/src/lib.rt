@@ -23,4 +23,4 @@ pub use laws::{
     rule_reads_no_finds, steps_are_recorded,
 };
 pub use lead::{Lead, Looked, NotYet, Progress};
-pub use plays::Keeping;
+pub use plays::BoardRule;

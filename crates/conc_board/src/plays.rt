@@ -2,7 +2,7 @@
 ghost use Rattle.std.specs.Prelude.{List, []};
 ghost use Rattle.conc_types.specs.declared.event.PlaceId.{PlaceId};
 ghost use Rattle.conc_board_seats.specs.Rule.{first_view, Keep, nobody};
-ghost use Rattle.conc_board_seats.specs.Steps.{back_tells, claim_tells, clear_tells, given, go_tells, got_tells, joined, kept, let_out_tells, look_tells, poll_tells, post_tells, stop_tells, switch_tells, warn_tells};
+ghost use Rattle.conc_board_seats.specs.Steps.{back_tells, claim_tells, clear_tells, given, go_tells, got_tells, joined, let_out_tells, look_tells, poll_tells, post_tells, stop_tells, switch_tells, warn_tells, with_places_off};
 
 use atomic_table::{Join, Play, Split, TableRule};
 use conc_board_seats::{Posted, View};
@@ -10,9 +10,9 @@ use conc_types::Plan;
 use std::marker::{Brand, PhantomData};
 
 /// The rule that holds between any two steps on a board.
-pub struct Keeping;
+pub struct BoardRule;
 
-impl TableRule<Option<Posted>, View, Plan> for Keeping {
+impl TableRule<Option<Posted>, View, Plan> for BoardRule {
     ghost holds = { Keep };
 
     ghost first = { first_view };
@@ -112,7 +112,7 @@ pub(crate) struct SplitsOff<J: Passing> {
 }
 
 impl<J: Passing> Split<View> for SplitsOff<J> {
-    ghost left = { kept J.passes };
+    ghost left = { with_places_off J.passes };
 
     ghost right = { given J.passes };
 }

@@ -16,7 +16,7 @@ use Rattle.conc_board_seats.specs.declared.views.View.{View}
 use Rattle.conc_board_seats.specs.Places.{has, without}
 use Rattle.conc_board_seats.specs.Rule.{AreApart, Fits, IsAtOwn, Keep, Works, doing_at, first_view, home_at, nobody, view_at}
 use Rattle.conc_board_seats.specs.LeadStates.{IsLive, lead_state_at}
-use Rattle.conc_board_seats.specs.Steps.{Slot, given, joined, kept}
+use Rattle.conc_board_seats.specs.Steps.{Slot, given, joined, with_places_off}
 use Rattle.conc_board_seats.specs.Words.{count_of_requests, count_of_words, request_of}
 use Rattle.conc_board_seats.proofs.Facts.{at_view, place_eq, replicate_at, same_part}
 use Rattle.conc_board_seats.proofs.Moves.{home, led, word}
@@ -122,10 +122,10 @@ module _ (plan : Plan) where
   works_moved (Waits r p) owner owner' ws j stays h = (stays p (λ e. cc) h.0, h.1, h.2)
   works_moved (Serves r p stop) owner owner' ws j stays h = (stays p (λ e. cc) h.0, h.1, h.2, h.3)
 
-  pub splits : (id : ℕ) (v : View) (ps : List PlaceId) → v.doing ≡ Idle → ((p : PlaceId) → has ps p ≡ true → has v.places p ≡ true) → Splits (Keep plan) id v (kept ps v) (given ps v)
+  pub splits : (id : ℕ) (v : View) (ps : List PlaceId) → v.doing ≡ Idle → ((p : PlaceId) → has ps p ≡ true → has v.places p ≡ true) → Splits (Keep plan) id v (with_places_off ps v) (given ps v)
   splits id v ps idle mine s k at =
       let here = at_view s.views id v at in
-      let left : View = kept ps v in let right : View = given ps v in
+      let left : View = with_places_off ps v in let right : View = given ps v in
       let mid : List View = set s.views id left in
       let vs : List View = mid ++ right ∷ [] in
       let new : ℕ = length mid in

@@ -42,8 +42,8 @@ with_left v ((i, Some x) ∷ slots) = with_post v i x
 with_left v slots = v
 
 -- of the lead, which passes places on, and of the hand that gets them
-abbrev pub kept : List PlaceId → View → View
-kept ps v = record v { places = without v.places ps }
+abbrev pub with_places_off : List PlaceId → View → View
+with_places_off ps v = record v { places = without v.places ps }
 
 abbrev pub given : List PlaceId → View → View
 given ps v = record { leads = false; plan = None; lead_states = []; places = ps; doing = Idle; found = []; posts = [] }

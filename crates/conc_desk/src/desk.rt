@@ -47,7 +47,7 @@ impl<'a> Model for Desk<'a> {
 
 impl<'a> Desk<'a> {
     ghost use Rattle.conc_board.specs.Looks.{HasProgress, LooksOn, SeesLeadState, Shows};
-    ghost use Rattle.conc_board.specs.Seats.{FindsFitting, KeepsLeadStates, LeadFinds, IsFlag, plan_of};
+    ghost use Rattle.conc_board.specs.Seats.{FindsFitting, LeadFinds, IsFlag, LeavesLeadStates, plan_of};
     ghost use Rattle.conc_board_seats.specs.LeadStates.{IsGone, IsLet, IsLetOrGone};
     ghost use Rattle.conc_board_seats.specs.Words.{end_word, IsPlace, IsRequest, place_word, request_word};
     ghost use Rattle.std.specs.Prelude.{◌⊎◌, ◌<◌, ◌∷◌, ◌++◌, [], IfOk, IsFalse, IsTrue, OnErr, OnOk, reverse, Some};
@@ -162,7 +162,7 @@ impl<'a> Desk<'a> {
         requires place { IsPlace (plan_of board.now) place }
         ensures at { IsAt board.now self.new }
         ensures same { SameWork self.old self.new }
-        ensures lead { KeepsLeadStates board.now self.old.lead self.new.lead }
+        ensures lead { LeavesLeadStates board.now self.old.lead self.new.lead }
         ensures found { LeadFinds (place_word (plan_of board.now) place) IsFlag self.old.lead
             self.new.lead }
     {
@@ -175,7 +175,7 @@ impl<'a> Desk<'a> {
         requires place { IsPlace (plan_of board.now) place }
         ensures at { IsAt board.now self.new }
         ensures same { SameWork self.old self.new }
-        ensures lead { KeepsLeadStates board.now self.old.lead self.new.lead }
+        ensures lead { LeavesLeadStates board.now self.old.lead self.new.lead }
         ensures found { LeadFinds (place_word (plan_of board.now) place) IsFlag self.old.lead
             self.new.lead }
     {
@@ -187,7 +187,7 @@ impl<'a> Desk<'a> {
         requires at { IsAt board.now self.old }
         ensures at { IsAt board.now self.new }
         ensures same { SameWork self.old self.new }
-        ensures lead { KeepsLeadStates board.now self.old.lead self.new.lead }
+        ensures lead { LeavesLeadStates board.now self.old.lead self.new.lead }
         ensures found { LeadFinds (end_word (plan_of board.now)) IsFlag self.old.lead
             self.new.lead }
     {

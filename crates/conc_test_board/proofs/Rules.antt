@@ -21,7 +21,7 @@ use Rattle.conc_board.specs.declared.lead.Lead.{Lead}
 use Rattle.conc_board.specs.declared.lead.Looked.{Looked}
 use Rattle.conc_board.specs.declared.lead.Looked.TheVariants.{Free, Claimed, Running, Ended}
 use Rattle.conc_board.specs.Looks.{Looks}
-use Rattle.conc_board.specs.Seats.{Changes, KeepsLeadStates}
+use Rattle.conc_board.specs.Seats.{Changes, LeavesLeadStates}
 use Rattle.conc_test_board.specs.Rounds.{IsSeen, OnlyOne}
 
 -- ---- exclusion
@@ -85,7 +85,7 @@ gone_still plan (Ended p) old new l is = l.1.2
 pub only_one : (board : Board) (r : RequestId) (old new : Lead) → Changes board r old new → OnlyOne board r old new
 only_one board r old new c = record { lead = c.lead; others = c.others }
 
-pub only_one_kept : (board : Board) (r : RequestId) (old new : Lead) → KeepsLeadStates board old new → OnlyOne board r old new
+pub only_one_kept : (board : Board) (r : RequestId) (old new : Lead) → LeavesLeadStates board old new → OnlyOne board r old new
 only_one_kept board r old new k = record { lead = k.lead; others = λ q other. k.lead_states.each q }
 
 pub only_one_after : (board : Board) (r : RequestId) (old mid new : Lead) → OnlyOne board r old mid → OnlyOne board r mid new → OnlyOne board r old new

@@ -1,7 +1,7 @@
 use Rattle.std.proofs.Common.{◌≤◌, ◌+◌, ap, arith}
 use Rattle.conc_board_seats.specs.declared.views.View.{View}
 use Rattle.conc_board_seats.proofs.LeadSteps.{switches}
-use Rattle.conc_board.proofs.Leads.{adds_one, keeps_lead_states}
+use Rattle.conc_board.proofs.Leads.{adds_one, leaves_lead_states}
 use Rattle.conc_board.proofs.board.Board.finish_all.Goals as goal
 
 pub swap-requires : goal.swap-requires
@@ -9,7 +9,7 @@ swap-requires c = let b = c.args.self.now in
     (c.requires.lead.seat, omega (arith, b.words, b.request_count, b.place_count), switches b.table.shared.key _ _ _ _ _ (omega (arith, b.request_count)) (omega (arith, b.request_count, b.place_count)) (omega arith))
 
 pub returns-clause-lead : goal.returns-clause-lead
-returns-clause-lead c = keeps_lead_states _ _ _ _ c.swap.result c.requires.lead c.swap.ensures.0 c.swap.ensures.2.0
+returns-clause-lead c = leaves_lead_states _ _ _ _ c.swap.result c.requires.lead c.swap.ensures.0 c.swap.ensures.2.0
 
 pub returns-clause-found : goal.returns-clause-found
 returns-clause-found c = let b = c.args.self.now in
