@@ -13,7 +13,7 @@ use Rattle.conc_board_seats.specs.declared.views.View.{View}
 use Rattle.conc_board_seats.specs.Places.{has}
 use Rattle.conc_board_seats.specs.Rule.{AreApart, BoardState, HasLeft, IsAtOwn, Runs, home_at, nobody, first_view, view_at}
 use Rattle.conc_board_seats.specs.LeadStates.{WordFits, is_marked, lead_state_at}
-use Rattle.conc_board_seats.specs.Steps.{Slot, Tells, back_tells, claim_tells, clear_tells, given, go_tells, got_tells, joined, let_out_tells, look_tells, poll_tells, post_tells, stop_tells, switch_tells, warn_tells, with_places_off}
+use Rattle.conc_board_seats.specs.Steps.{Slot, StepLeaves, back_leaves, claim_leaves, clear_leaves, given, go_leaves, got_leaves, joined, let_out_leaves, look_leaves, poll_leaves, post_leaves, stop_leaves, switch_leaves, warn_leaves, with_places_off}
 use Rattle.conc_board_seats.specs.Words.{IsRequest, claimed, count_of_requests, ended, request_of, request_word, running, stopping}
 
 -- ---- states
@@ -99,26 +99,26 @@ pub record Points (plan : Plan) (s : BoardState) : Type 0 where
 -- ---- steps
 
 -- the step adds to what its seat found the number of the word and what stood there, and nothing else
-abbrev pub Records : Tells → Type 0
-Records tells =
-    (st : Step Slot) (before : Me Slot View) (n : ℕ) (after : Me Slot View) → tells st before n after
+abbrev pub Records : StepLeaves → Type 0
+Records leaves =
+    (st : Step Slot) (before : Me Slot View) (n : ℕ) (after : Me Slot View) → leaves st before n after
     → after.0.found ≡ before.0.found ++ (st.word, n) ∷ []
 
 -- each kind of step does; and what is found is empty at first, in a new hand and in the view that is left
 -- when a hand is taken in, and neither a split nor a join changes what the lead found
 pub record StepsAreRecorded : Type 0 where
-  pub let_out : Records let_out_tells
-  pub look : Records look_tells
-  pub go : Records go_tells
-  pub back : Records back_tells
-  pub stop : Records stop_tells
-  pub get : Records got_tells
-  pub clear : Records clear_tells
-  pub switch : Records switch_tells
-  pub claim : Records claim_tells
-  pub poll : Records poll_tells
-  pub see_stop : Records warn_tells
-  pub post : Records post_tells
+  pub let_out : Records let_out_leaves
+  pub look : Records look_leaves
+  pub go : Records go_leaves
+  pub back : Records back_leaves
+  pub stop : Records stop_leaves
+  pub get : Records got_leaves
+  pub clear : Records clear_leaves
+  pub switch : Records switch_leaves
+  pub claim : Records claim_leaves
+  pub poll : Records poll_leaves
+  pub see_stop : Records warn_leaves
+  pub post : Records post_leaves
   pub first : (plan : Plan) → (first_view plan).found ≡ []
   pub new_hand : (ps : List PlaceId) (v : View) → (given ps v).found ≡ []
   pub split : (ps : List PlaceId) (v : View) → (with_places_off ps v).found ≡ v.found
@@ -126,27 +126,27 @@ pub record StepsAreRecorded : Type 0 where
   pub left : nobody.found ≡ []
 
 -- the step leaves what its seat took and left as it was
-abbrev pub KeepsPosts : Tells → Type 0
-KeepsPosts tells = (st : Step Slot) (before : Me Slot View) (n : ℕ) (after : Me Slot View) → tells st before n after → after.0.posts ≡ before.0.posts
+abbrev pub KeepsPosts : StepLeaves → Type 0
+KeepsPosts leaves = (st : Step Slot) (before : Me Slot View) (n : ℕ) (after : Me Slot View) → leaves st before n after → after.0.posts ≡ before.0.posts
 
 -- Two kinds of step add to it: the lead's load that takes a slot, what was in the slot; a hand's post, what it leaves
 -- there. No other kind does.
 pub record PostsAreRecorded : Type 0 where
-  pub get : (st : Step Slot) (before : Me Slot View) (n : ℕ) (after : Me Slot View) → got_tells st before n after
+  pub get : (st : Step Slot) (before : Me Slot View) (n : ℕ) (after : Me Slot View) → got_leaves st before n after
       → (after.0.posts ≡ before.0.posts)
       ⊎ ((x : Posted) × (after.1 ≡ (st.word, Some x) ∷ before.1) × (after.0.posts ≡ before.0.posts ++ (st.word, x) ∷ []))
-  pub post : (st : Step Slot) (before : Me Slot View) (n : ℕ) (after : Me Slot View) (x : Posted) (slots : List (ℕ × Slot)) → post_tells st before n after
+  pub post : (st : Step Slot) (before : Me Slot View) (n : ℕ) (after : Me Slot View) (x : Posted) (slots : List (ℕ × Slot)) → post_leaves st before n after
       → before.1 ≡ (st.word, Some x) ∷ slots → after.0.posts ≡ before.0.posts ++ (st.word, x) ∷ []
-  pub let_out : KeepsPosts let_out_tells
-  pub look : KeepsPosts look_tells
-  pub go : KeepsPosts go_tells
-  pub back : KeepsPosts back_tells
-  pub stop : KeepsPosts stop_tells
-  pub clear : KeepsPosts clear_tells
-  pub switch : KeepsPosts switch_tells
-  pub claim : KeepsPosts claim_tells
-  pub poll : KeepsPosts poll_tells
-  pub see_stop : KeepsPosts warn_tells
+  pub let_out : KeepsPosts let_out_leaves
+  pub look : KeepsPosts look_leaves
+  pub go : KeepsPosts go_leaves
+  pub back : KeepsPosts back_leaves
+  pub stop : KeepsPosts stop_leaves
+  pub clear : KeepsPosts clear_leaves
+  pub switch : KeepsPosts switch_leaves
+  pub claim : KeepsPosts claim_leaves
+  pub poll : KeepsPosts poll_leaves
+  pub see_stop : KeepsPosts warn_leaves
   pub first : (plan : Plan) → (first_view plan).posts ≡ []
   pub new_hand : (ps : List PlaceId) (v : View) → (given ps v).posts ≡ []
   pub split : (ps : List PlaceId) (v : View) → (with_places_off ps v).posts ≡ v.posts

@@ -1,8 +1,8 @@
-// The rule of the board, and what each step tells.
+// The rule of the board, and what each step leaves.
 ghost use Rattle.std.specs.Prelude.{List, []};
 ghost use Rattle.conc_types.specs.declared.event.PlaceId.{PlaceId};
 ghost use Rattle.conc_board_seats.specs.Rule.{first_view, Keep, nobody};
-ghost use Rattle.conc_board_seats.specs.Steps.{back_tells, claim_tells, clear_tells, given, go_tells, got_tells, joined, let_out_tells, look_tells, poll_tells, post_tells, stop_tells, switch_tells, warn_tells, with_places_off};
+ghost use Rattle.conc_board_seats.specs.Steps.{back_leaves, claim_leaves, clear_leaves, given, go_leaves, got_leaves, joined, let_out_leaves, look_leaves, poll_leaves, post_leaves, stop_leaves, switch_leaves, warn_leaves, with_places_off};
 
 use atomic_table::{Join, Play, Split, TableRule};
 use conc_board_seats::{Posted, View};
@@ -23,43 +23,43 @@ impl TableRule<Option<Posted>, View, Plan> for BoardRule {
 pub(crate) struct LetsOut;
 
 impl Play<Option<Posted>, View> for LetsOut {
-    ghost then = { let_out_tells };
+    ghost then = { let_out_leaves };
 }
 
 pub(crate) struct Looks;
 
 impl Play<Option<Posted>, View> for Looks {
-    ghost then = { look_tells };
+    ghost then = { look_leaves };
 }
 
 pub(crate) struct Goes;
 
 impl Play<Option<Posted>, View> for Goes {
-    ghost then = { go_tells };
+    ghost then = { go_leaves };
 }
 
 pub(crate) struct TakesBack;
 
 impl Play<Option<Posted>, View> for TakesBack {
-    ghost then = { back_tells };
+    ghost then = { back_leaves };
 }
 
 pub(crate) struct Stops;
 
 impl Play<Option<Posted>, View> for Stops {
-    ghost then = { stop_tells };
+    ghost then = { stop_leaves };
 }
 
 pub(crate) struct Gets;
 
 impl Play<Option<Posted>, View> for Gets {
-    ghost then = { got_tells };
+    ghost then = { got_leaves };
 }
 
 pub(crate) struct Clears;
 
 impl Play<Option<Posted>, View> for Clears {
-    ghost then = { clear_tells };
+    ghost then = { clear_leaves };
 }
 
 // ---- a hand's steps
@@ -67,25 +67,25 @@ impl Play<Option<Posted>, View> for Clears {
 pub(crate) struct Claims;
 
 impl Play<Option<Posted>, View> for Claims {
-    ghost then = { claim_tells };
+    ghost then = { claim_leaves };
 }
 
 pub(crate) struct Polls;
 
 impl Play<Option<Posted>, View> for Polls {
-    ghost then = { poll_tells };
+    ghost then = { poll_leaves };
 }
 
 pub(crate) struct SeesStop;
 
 impl Play<Option<Posted>, View> for SeesStop {
-    ghost then = { warn_tells };
+    ghost then = { warn_leaves };
 }
 
 pub(crate) struct Posts;
 
 impl Play<Option<Posted>, View> for Posts {
-    ghost then = { post_tells };
+    ghost then = { post_leaves };
 }
 
 // ---- steps on the words of places and of the end
@@ -93,7 +93,7 @@ impl Play<Option<Posted>, View> for Posts {
 pub(crate) struct Switches;
 
 impl Play<Option<Posted>, View> for Switches {
-    ghost then = { switch_tells };
+    ghost then = { switch_leaves };
 }
 
 // ---- seats that are split off and taken in

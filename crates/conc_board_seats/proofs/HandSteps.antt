@@ -1,4 +1,4 @@
--- Each step of a hand's keeps the rule, and tells what it is to tell.
+-- Each step of a hand's keeps the rule, and leaves what it is to leave.
 use Rattle.std.proofs.Common.{◌≡◌, ℕ, eqb, ◌+◌, ◌-◌, ◌==◌, ◌<◌, ◌≤◌, ◌≢◌, ◌⊎◌, if◌then◌else◌, Bool, true, false, List, [], ◌∷◌, sym, refl, ap, ◌∙◌, subst, inl, inr, ⊎_elim, arith, eq-eqb, ne_eqb, Some, None}
 use mathlib.Core.Logic.{dite}
 use mathlib.Core.Option.{none, some}
@@ -23,7 +23,7 @@ use Rattle.conc_board_seats.specs.Places.{has}
 use Rattle.conc_board_seats.specs.Reports.{MayLeave}
 use Rattle.conc_board_seats.specs.Rule.{Fits, Home, IsAtOwn, IsServed, Keep, Runs, Works, doing_at, view_at}
 use Rattle.conc_board_seats.specs.LeadStates.{lead_state_at}
-use Rattle.conc_board_seats.specs.Steps.{ServedFits, Slot, claim_tells, poll_tells, post_tells, warn_tells, with_doing, with_left, with_post}
+use Rattle.conc_board_seats.specs.Steps.{ServedFits, Slot, claim_leaves, poll_leaves, post_leaves, warn_leaves, with_doing, with_left, with_post}
 use Rattle.conc_board_seats.specs.Words.{IsPlace, IsRequest, claimed, count_of_requests, ended, place_in, request_of, run_word, running, stopping}
 use Rattle.conc_board_seats.proofs.Facts.{at_view, fits_on, home_there, no_permit, place_eq}
 use Rattle.conc_board_seats.proofs.Moves.{OnlyOn, St, hand_moves, home, own_doing, word}
@@ -46,7 +46,7 @@ module _ (plan : Plan) where
   claim_fits at at' r q (Done m) n h few one near mine f = let e = f.0 in absurd (omega arith)
 
   pub claims : (slots id : ℕ) (me : Me Slot View) (i : ℕ) (q : PlaceId) → i < count_of_requests plan → IsPlace plan q → has me.0.places q ≡ true →
-      me.0.doing ≡ Idle → Allows Rule slots id me i (λ n. either (eqb n 1) (claimed q) n) (claim_tells (step slots i 1 (claimed q) none) me)
+      me.0.doing ≡ Idle → Allows Rule slots id me i (λ n. either (eqb n 1) (claimed q) n) (claim_leaves (step slots i 1 (claimed q) none) me)
   claims slots id me i q inside near owns idle s k _ at _ =
       let v : View = me.0 in let n : ℕ = word s i in let few = k.few_places in let r : RequestId = request_of i in
       let here = at_view s.views id v at in
@@ -225,7 +225,7 @@ module _ (plan : Plan) where
       (λ nd. subst (λ b. F (if b then Waits r p else Idle)) (sym (ne_eqb n (claimed p) nd)) (no_more na nc nd))))))
 
   pub polls : (slots id : ℕ) (me : Me Slot View) (i : ℕ) (p : PlaceId) → me.0.doing ≡ Waits (request_of i) p → me.1 ≡ [] → i < count_of_requests plan →
-      Allows Rule slots id me i (λ n. n) (poll_tells (step slots i 0 0 none) me)
+      Allows Rule slots id me i (λ n. n) (poll_leaves (step slots i 0 0 none) me)
   polls slots id me i p waits empty inside s k _ at _ =
       let v : View = me.0 in let n : ℕ = word s i in let d : Doing = polled v.doing n in
       let t : Next slots id me i p waits empty inside s k at d = subst (Next slots id me i p waits empty inside s k at) (ap (λ (x : Doing). polled x n) (sym waits))
@@ -279,7 +279,7 @@ module _ (plan : Plan) where
 
   pub posts : (slots id : ℕ) (me : Me Slot View) (i : ℕ) (p : PlaceId) (stop : Bool) (x : Posted) → me.0.doing ≡ Serves (request_of i) p stop → me.1 ≡ (i, Some x) ∷ [] →
       MayLeave plan (request_of i) stop x → i < count_of_requests plan →
-      Allows Rule slots id me i (λ _. ended p) (post_tells (step slots i (ended p) 0 none) me)
+      Allows Rule slots id me i (λ _. ended p) (post_leaves (step slots i (ended p) 0 none) me)
   posts slots id me i p stop x serves carries may inside s k _ at _ =
       let v : View = me.0 in let n : ℕ = word s i in let w : View = with_post (with_doing v Idle i n) i x in let few = k.few_places in
       let held = serving s k id i v p stop at serves in
@@ -305,7 +305,7 @@ module _ (plan : Plan) where
       (λ ne. subst (λ b. F (if b then Serves r p true else Serves r p stop)) (sym (ne_eqb n (stopping p) ne)) (miss ne))
 
   pub warns : (slots id : ℕ) (me : Me Slot View) (i : ℕ) (p : PlaceId) (stop : Bool) → me.0.doing ≡ Serves (request_of i) p stop → i < count_of_requests plan →
-      Allows Rule slots id me i (λ n. n) (warn_tells (step slots i 0 0 none) me)
+      Allows Rule slots id me i (λ n. n) (warn_leaves (step slots i 0 0 none) me)
   warns slots id me i p stop serves inside s k _ at _ =
       let v : View = me.0 in let n : ℕ = word s i in let r : RequestId = request_of i in let d : Doing = warned v.doing n in let w : View = with_doing v d i n in
       let held = serving s k id i v p stop at serves in
@@ -332,12 +332,12 @@ module _ (plan : Plan) where
   -- ---- the same, where the numbers are called otherwise
 
   pub claims_by : (slots id : ℕ) (me : Me Slot View) (i : ℕ) (q : PlaceId) (x : ℕ) → x ≡ claimed q → i < count_of_requests plan → IsPlace plan q → has me.0.places q ≡ true →
-      me.0.doing ≡ Idle → Allows Rule slots id me i (λ n. either (eqb n 1) x n) (claim_tells (step slots i 1 x none) me)
-  claims_by slots id me i q x e inside near owns idle = subst (λ (z : ℕ). Allows Rule slots id me i (λ n. either (eqb n 1) z n) (claim_tells (step slots i 1 z none) me)) (sym e)
+      me.0.doing ≡ Idle → Allows Rule slots id me i (λ n. either (eqb n 1) x n) (claim_leaves (step slots i 1 x none) me)
+  claims_by slots id me i q x e inside near owns idle = subst (λ (z : ℕ). Allows Rule slots id me i (λ n. either (eqb n 1) z n) (claim_leaves (step slots i 1 z none) me)) (sym e)
       (claims slots id me i q inside near owns idle)
 
   pub posts_by : (slots id : ℕ) (me : Me Slot View) (i : ℕ) (p : PlaceId) (stop : Bool) (left : Posted) (x : ℕ) → x ≡ ended p → me.0.doing ≡ Serves (request_of i) p stop →
       me.1 ≡ (i, Some left) ∷ [] → MayLeave plan (request_of i) stop left → i < count_of_requests plan →
-      Allows Rule slots id me i (λ _. x) (post_tells (step slots i x 0 none) me)
-  posts_by slots id me i p stop left x e serves carries may inside = subst (λ (z : ℕ). Allows Rule slots id me i (λ _. z) (post_tells (step slots i z 0 none) me)) (sym e)
+      Allows Rule slots id me i (λ _. x) (post_leaves (step slots i x 0 none) me)
+  posts_by slots id me i p stop left x e serves carries may inside = subst (λ (z : ℕ). Allows Rule slots id me i (λ _. z) (post_leaves (step slots i z 0 none) me)) (sym e)
       (posts slots id me i p stop left serves carries may inside)

@@ -1,4 +1,4 @@
--- Each step of the lead's keeps the rule, and tells what it is to tell.
+-- Each step of the lead's keeps the rule, and leaves what it is to leave.
 use Rattle.std.proofs.Common.{◌≡◌, ℕ, eqb, ◌/◌, ◌<◌, ◌≤◌, ◌≢◌, ◌⊎◌, if◌then◌else◌, Bool, true, false, List, [], ◌∷◌, sym, refl, ap, ◌∙◌, subst, inl, inr, arith, length-set, get_or-set_other, get_or-set_same, eq-eqb, ne_eqb, Option, Some, None}
 use mathlib.Core.Logic.{dite}
 use mathlib.Core.Option.{none, some}
@@ -17,7 +17,7 @@ use Rattle.conc_board_seats.specs.declared.views.LeadState.TheVariants.{NotLet, 
 use Rattle.conc_board_seats.specs.declared.views.View.{View}
 use Rattle.conc_board_seats.specs.Rule.{Fits, HasLeft, Home, Keep, Runs, doing_at, exclude}
 use Rattle.conc_board_seats.specs.LeadStates.{IsLet, IsLive, cleared, gone, got, is_marked, lead_state_at, looked, marked}
-use Rattle.conc_board_seats.specs.Steps.{EndedFits, IsTold, RunFits, Slot, back_tells, clear_tells, go_tells, got_tells, let_out_tells, look_tells, note_tells, noted, stop_tells, switch_tells, with_lead_state, with_post}
+use Rattle.conc_board_seats.specs.Steps.{EndedFits, MayBeLeft, RunFits, Slot, back_leaves, clear_leaves, go_leaves, got_leaves, let_out_leaves, look_leaves, note_leaves, noted, stop_leaves, switch_leaves, with_lead_state, with_post}
 use Rattle.conc_board_seats.specs.Words.{IsPlace, claimed, count_of_requests, count_of_words, ended, request_of, run_word, running, stopping}
 use Rattle.conc_board_seats.proofs.Facts.{apart_more, apart_same, home_there, let_free, has_place, look_fits, looked_fits, looked_live, no_permit, word_fits}
 use Rattle.conc_board_seats.proofs.Moves.{St, home, led, lead_moves, plain_moves, word}
@@ -28,7 +28,7 @@ module _ (plan : Plan) where
 
   pub lets_out : (slots id : ℕ) (me : Me Slot View) (r : ℕ) → me.0.leads ≡ true → r < count_of_requests plan → lead_state_at me.0.lead_states r ≡ NotLet →
       ((q : ℕ) → IsLive (lead_state_at me.0.lead_states q) → exclude plan (request_of r) (request_of q) ≡ false) →
-      Allows Rule slots id me r (λ _. 1) (let_out_tells (step slots r 1 0 none) me)
+      Allows Rule slots id me r (λ _. 1) (let_out_leaves (step slots r 1 0 none) me)
   lets_out slots id me r leads inside out alone s k _ at _ =
       let v : View = me.0 in let n : ℕ = word s r in let w : View = with_lead_state v r Let n in
       let l = led plan s k id v at leads in let full = l.all_lead_states in let few = k.few_places in
@@ -46,7 +46,7 @@ module _ (plan : Plan) where
         (refl, refl, zero_there),
       )
 
-  pub looks : (slots id : ℕ) (me : Me Slot View) (r : ℕ) → me.0.leads ≡ true → r < count_of_requests plan → Allows Rule slots id me r (λ n. n) (look_tells (step slots r 0 0 none) me)
+  pub looks : (slots id : ℕ) (me : Me Slot View) (r : ℕ) → me.0.leads ≡ true → r < count_of_requests plan → Allows Rule slots id me r (λ n. n) (look_leaves (step slots r 0 0 none) me)
   looks slots id me r leads inside s k _ at _ =
       let v : View = me.0 in let n : ℕ = word s r in let st : LeadState = looked (lead_state_at v.lead_states r) n in let w : View = with_lead_state v r st n in
       let l = led plan s k id v at leads in let full = l.all_lead_states in (
@@ -63,7 +63,7 @@ module _ (plan : Plan) where
       )
 
   pub goes : (slots id : ℕ) (me : Me Slot View) (r : ℕ) (p : PlaceId) → me.0.leads ≡ true → r < count_of_requests plan → lead_state_at me.0.lead_states r ≡ Seen p →
-      Allows Rule slots id me r (λ _. running p) (go_tells (step slots r (running p) 0 none) me)
+      Allows Rule slots id me r (λ _. running p) (go_leaves (step slots r (running p) 0 none) me)
   goes slots id me r p leads inside seen s k _ at _ =
       let v : View = me.0 in let n : ℕ = word s r in let st : LeadState = gone (lead_state_at v.lead_states r) in let w : View = with_lead_state v r st n in
       let l = led plan s k id v at leads in let full = l.all_lead_states in let few = k.few_places in
@@ -82,7 +82,7 @@ module _ (plan : Plan) where
         (refl, refl, word_fits plan (doing_at s.views k.owner) (request_of r) (lead_state_at v.lead_states r) n (home s r) (l.fits r inside)),
       )
 
-  pub takes_back : (slots id : ℕ) (me : Me Slot View) (r : ℕ) → me.0.leads ≡ true → r < count_of_requests plan → IsLet (lead_state_at me.0.lead_states r) → Allows Rule slots id me r (λ _. 0) (back_tells (step slots r 0 0 none) me)
+  pub takes_back : (slots id : ℕ) (me : Me Slot View) (r : ℕ) → me.0.leads ≡ true → r < count_of_requests plan → IsLet (lead_state_at me.0.lead_states r) → Allows Rule slots id me r (λ _. 0) (back_leaves (step slots r 0 0 none) me)
   takes_back slots id me r leads inside is s k _ at _ =
       let v : View = me.0 in let n : ℕ = word s r in let w : View = with_lead_state v r NotLet n in
       let l = led plan s k id v at leads in let full = l.all_lead_states in let few = k.few_places in
@@ -114,7 +114,7 @@ module _ (plan : Plan) where
   stop_permits p n few small hit true q near e = absurd (omega arith)
 
   pub stops : (slots id : ℕ) (me : Me Slot View) (r : ℕ) (p : PlaceId) (m : Bool) → me.0.leads ≡ true → r < count_of_requests plan → lead_state_at me.0.lead_states r ≡ Gone p m →
-      Allows Rule slots id me r (λ n. either (eqb n (running p)) (stopping p) n) (stop_tells (step slots r (running p) (stopping p) none) me)
+      Allows Rule slots id me r (λ n. either (eqb n (running p)) (stopping p) n) (stop_leaves (step slots r (running p) (stopping p) none) me)
   stops slots id me r p m leads inside is s k _ at _ =
       let v : View = me.0 in let n : ℕ = word s r in let st : LeadState = marked (lead_state_at v.lead_states r) in
       let l = led plan s k id v at leads in let full = l.all_lead_states in let few = k.few_places in
@@ -153,7 +153,7 @@ module _ (plan : Plan) where
   not_ended at r p m n h few not (near, inr e) = let x = e.0 in absurd (not (omega arith))
 
   pub collects : (slots id : ℕ) (me : Me Slot View) (r : ℕ) (p : PlaceId) (m : Bool) → me.0.leads ≡ true → r < count_of_requests plan → lead_state_at me.0.lead_states r ≡ Gone p m →
-      Allows Rule slots id me r (λ n. n) (got_tells (step slots r 0 0 none) me)
+      Allows Rule slots id me r (λ n. n) (got_leaves (step slots r 0 0 none) me)
   collects slots id me r p m leads inside is s k _ at _ =
       let v : View = me.0 in let n : ℕ = word s r in let st : LeadState = got (lead_state_at v.lead_states r) in
       let l = led plan s k id v at leads in let full = l.all_lead_states in let few = k.few_places in
@@ -169,7 +169,7 @@ module _ (plan : Plan) where
             (λ q other. get_or-set_other v.lead_states r q st NotLet other)
             (λ stop q near h. h)
             refl,
-        ((λ _. (subst (λ (z : LeadState). EndedFits z n) (sym is) e.0, (x, refl, refl, subst (λ (z : Option Plan × Bool). IsTold z.0 (request_of r) z.1 x) (λ i. (sym l.knows_plan i, ap is_marked (sym is) i)) e.1.2))), (λ not. absurd (not four))),
+        ((λ _. (subst (λ (z : LeadState). EndedFits z n) (sym is) e.0, (x, refl, refl, subst (λ (z : Option Plan × Bool). MayBeLeft z.0 (request_of r) z.1 x) (λ i. (sym l.knows_plan i, ap is_marked (sym is) i)) e.1.2))), (λ not. absurd (not four))),
       ))
       (λ not. let w : View = noted v r n in (
         w,
@@ -180,7 +180,7 @@ module _ (plan : Plan) where
       ))
 
   pub clears : (slots id : ℕ) (me : Me Slot View) (r : ℕ) (p : PlaceId) (m : Bool) → me.0.leads ≡ true → r < count_of_requests plan → lead_state_at me.0.lead_states r ≡ Got p m → me.1 ≡ (r, None) ∷ [] →
-      Allows Rule slots id me r (λ _. 2) (clear_tells (step slots r 2 0 none) me)
+      Allows Rule slots id me r (λ _. 2) (clear_leaves (step slots r 2 0 none) me)
   clears slots id me r p m leads inside is carries s k _ at _ =
       let v : View = me.0 in let n : ℕ = word s r in let st : LeadState = cleared (lead_state_at v.lead_states r) in let w : View = with_lead_state v r st n in
       let l = led plan s k id v at leads in let full = l.all_lead_states in let few = k.few_places in
@@ -200,28 +200,28 @@ module _ (plan : Plan) where
 
   -- a write of the word of a place or of the end, and a load of one, by any seat
   pub switches : (slots id : ℕ) (me : Me Slot View) (i x : ℕ) → count_of_requests plan ≤ i → i < count_of_words plan → x ≤ 1 →
-      Allows Rule slots id me i (λ _. x) (switch_tells (step slots i x 0 none) me)
+      Allows Rule slots id me i (λ _. x) (switch_leaves (step slots i x 0 none) me)
   switches slots id me i x far inside small s k _ at _ = let n : ℕ = word s i in
       (noted me.0 i n, keeps, tt, plain_moves plan s k id i x n me.1 me.0 at inside (λ near. absurd (omega arith)) (λ _. small), (refl, refl, k.switches i far))
 
   pub sees : (slots id : ℕ) (me : Me Slot View) (i : ℕ) → count_of_requests plan ≤ i → i < count_of_words plan →
-      Allows Rule slots id me i (λ n. n) (switch_tells (step slots i 0 0 none) me)
+      Allows Rule slots id me i (λ n. n) (switch_leaves (step slots i 0 0 none) me)
   sees slots id me i far inside s k _ at _ = let n : ℕ = word s i in
       (noted me.0 i n, keeps, tt, plain_moves plan s k id i n n me.1 me.0 at inside (λ near. absurd (omega arith)) (λ _. k.switches i far), (refl, refl, k.switches i far))
 
   -- a load of the word of a request by any seat, which learns nothing else
   pub notes : (slots id : ℕ) (me : Me Slot View) (i : ℕ) → i < count_of_requests plan →
-      Allows Rule slots id me i (λ n. n) (note_tells (step slots i 0 0 none) me)
+      Allows Rule slots id me i (λ n. n) (note_leaves (step slots i 0 0 none) me)
   notes slots id me i inside s k _ at _ = let n : ℕ = word s i in
       (noted me.0 i n, keeps, tt, plain_moves plan s k id i n n me.1 me.0 at (omega arith) (λ _. refl) (λ far. absurd (omega arith)), (refl, refl))
 
   -- ---- the same, where the numbers are called otherwise
 
   pub goes_by : (slots id : ℕ) (me : Me Slot View) (i : ℕ) (p : PlaceId) (x : ℕ) → x ≡ running p → me.0.leads ≡ true → i < count_of_requests plan →
-      lead_state_at me.0.lead_states i ≡ Seen p → Allows Rule slots id me i (λ _. x) (go_tells (step slots i x 0 none) me)
-  goes_by slots id me i p x e leads inside seen = subst (λ (z : ℕ). Allows Rule slots id me i (λ _. z) (go_tells (step slots i z 0 none) me)) (sym e) (goes slots id me i p leads inside seen)
+      lead_state_at me.0.lead_states i ≡ Seen p → Allows Rule slots id me i (λ _. x) (go_leaves (step slots i x 0 none) me)
+  goes_by slots id me i p x e leads inside seen = subst (λ (z : ℕ). Allows Rule slots id me i (λ _. z) (go_leaves (step slots i z 0 none) me)) (sym e) (goes slots id me i p leads inside seen)
 
   pub stops_by : (slots id : ℕ) (me : Me Slot View) (i : ℕ) (p : PlaceId) (m : Bool) (x y : ℕ) → x ≡ running p → y ≡ stopping p → me.0.leads ≡ true → i < count_of_requests plan →
-      lead_state_at me.0.lead_states i ≡ Gone p m → Allows Rule slots id me i (λ n. either (eqb n x) y n) (stop_tells (step slots i x y none) me)
-  stops_by slots id me i p m x y e f leads inside is = subst (λ (z : ℕ × ℕ). Allows Rule slots id me i (λ n. either (eqb n z.0) z.1 n) (stop_tells (step slots i z.0 z.1 none) me))
+      lead_state_at me.0.lead_states i ≡ Gone p m → Allows Rule slots id me i (λ n. either (eqb n x) y n) (stop_leaves (step slots i x y none) me)
+  stops_by slots id me i p m x y e f leads inside is = subst (λ (z : ℕ × ℕ). Allows Rule slots id me i (λ n. either (eqb n z.0) z.1 n) (stop_leaves (step slots i z.0 z.1 none) me))
       (λ k. (sym e k, sym f k)) (stops slots id me i p m leads inside is)

@@ -1,4 +1,4 @@
--- What each step tells of the seat that makes it.
+-- What each step leaves of the seat that makes it.
 use Rattle.std.specs.Prelude.{◌≡◌, ◌≢◌, ◌⊎◌, ℕ, ◌/◌, ◌≤◌, ◌==◌, Bool, false, List, [], ◌∷◌, ◌++◌, if◌then◌else◌, slice_set, Option, Some, None}
 use Rattle.atomic_table.specs.Table.{Me, Step, rest}
 use Rattle.conc_types.specs.declared.event.PlaceId.{PlaceId}
@@ -52,16 +52,16 @@ given ps v = record { leads = false; plan = None; lead_states = []; places = ps;
 abbrev pub joined : View → View → View
 joined v w = record v { places = w.places ++ v.places }
 
--- ---- the steps: each tells the seat after it, by the number n that it found
+-- ---- the steps: each says what it leaves of its seat, by the number n that it found
 
 abbrev pub Slot : Type 0
 Slot = Option Posted
 
-abbrev pub Tells : Type 1
-Tells = Step Slot → Me Slot View → ℕ → Me Slot View → Type 0
+abbrev pub StepLeaves : Type 1
+StepLeaves = Step Slot → Me Slot View → ℕ → Me Slot View → Type 0
 
-abbrev pub let_out_tells : Tells
-let_out_tells st m n m' =
+abbrev pub let_out_leaves : StepLeaves
+let_out_leaves st m n m' =
     (m'.0 ≡ with_lead_state m.0 st.word Let n) × (m'.1 ≡ m.1) × (n ≡ idle)
 
 -- what a word that the lead loaded as n says of the lead state that it then knows
@@ -76,31 +76,31 @@ HasPlace (Some plan) (Seen p) = IsPlace plan p
 HasPlace (Some plan) (Gone p marked) = IsPlace plan p
 HasPlace (Some plan) lead_state = Unit {0}
 
-abbrev pub look_tells : Tells
-look_tells st m n m' =
+abbrev pub look_leaves : StepLeaves
+look_leaves st m n m' =
     (m'.0 ≡ with_lead_state m.0 st.word (looked (lead_state_at m.0.lead_states st.word) n) n) × (m'.1 ≡ m.1)
     × HasPlace m.0.plan (looked (lead_state_at m.0.lead_states st.word) n)
     × LookFits (looked (lead_state_at m.0.lead_states st.word) n) n
 
-abbrev pub go_tells : Tells
-go_tells st m n m' =
+abbrev pub go_leaves : StepLeaves
+go_leaves st m n m' =
     (m'.0 ≡ with_lead_state m.0 st.word (gone (lead_state_at m.0.lead_states st.word)) n) × (m'.1 ≡ m.1)
     × WordFits (lead_state_at m.0.lead_states st.word) n
 
-abbrev pub back_tells : Tells
-back_tells st m n m' =
+abbrev pub back_leaves : StepLeaves
+back_leaves st m n m' =
     (m'.0 ≡ with_lead_state m.0 st.word NotLet n) × (m'.1 ≡ m.1) × WordFits (lead_state_at m.0.lead_states st.word) n
 
-abbrev pub stop_tells : Tells
-stop_tells st m n m' =
+abbrev pub stop_leaves : StepLeaves
+stop_leaves st m n m' =
     (m'.0 ≡ (if n == st.first then with_lead_state m.0 st.word (marked (lead_state_at m.0.lead_states st.word)) n
     else noted m.0 st.word n))
     × (m'.1 ≡ m.1) × WordFits (lead_state_at m.0.lead_states st.word) n
 
 -- what was left may be, by the plan that the lead knows
-abbrev pub IsTold : Option Plan → RequestId → Bool → Posted → Type 0
-IsTold None r marked x = ⊥
-IsTold (Some plan) r marked x = MayLeave plan r marked x
+abbrev pub MayBeLeft : Option Plan → RequestId → Bool → Posted → Type 0
+MayBeLeft None r marked x = ⊥
+MayBeLeft (Some plan) r marked x = MayLeave plan r marked x
 
 -- the word of a request that has the go, where it ended and where it did not
 abbrev pub EndedFits : LeadState → ℕ → Type 0
@@ -112,37 +112,37 @@ RunFits (Gone p marked) n = (n ≡ running p) ⊎ (n ≡ stopping p)
 RunFits lead_state n = Unit {0}
 
 -- the lead's load that takes the slot where the word is Ended
-abbrev pub got_tells : Tells
-got_tells st m n m' =
+abbrev pub got_leaves : StepLeaves
+got_leaves st m n m' =
     (n / 256 ≡ 4 →
     EndedFits (lead_state_at m.0.lead_states st.word) n
     × ((x : Posted)
     × (m'.0 ≡ with_post (with_lead_state m.0 st.word (got (lead_state_at m.0.lead_states st.word)) n) st.word x)
     × (m'.1 ≡ (st.word, Some x) ∷ m.1)
-    × IsTold m.0.plan (request_of st.word) (is_marked (lead_state_at m.0.lead_states st.word)) x))
+    × MayBeLeft m.0.plan (request_of st.word) (is_marked (lead_state_at m.0.lead_states st.word)) x))
     × (n / 256 ≢ 4 → (m'.0 ≡ noted m.0 st.word n) × (m'.1 ≡ m.1)
     × RunFits (lead_state_at m.0.lead_states st.word) n)
 
-abbrev pub clear_tells : Tells
-clear_tells st m n m' =
+abbrev pub clear_leaves : StepLeaves
+clear_leaves st m n m' =
     (m'.0 ≡ with_lead_state m.0 st.word (cleared (lead_state_at m.0.lead_states st.word)) n) × (m'.1 ≡ rest m.1)
     × WordFits (lead_state_at m.0.lead_states st.word) n
 
 -- a step on a word by which a seat learns nothing but what it found
-abbrev pub note_tells : Tells
-note_tells st m n m' = (m'.0 ≡ noted m.0 st.word n) × (m'.1 ≡ m.1)
+abbrev pub note_leaves : StepLeaves
+note_leaves st m n m' = (m'.0 ≡ noted m.0 st.word n) × (m'.1 ≡ m.1)
 
 -- the same on the word of a place or of the end
-abbrev pub switch_tells : Tells
-switch_tells st m n m' = (m'.0 ≡ noted m.0 st.word n) × (m'.1 ≡ m.1) × (n ≤ 1)
+abbrev pub switch_leaves : StepLeaves
+switch_leaves st m n m' = (m'.0 ≡ noted m.0 st.word n) × (m'.1 ≡ m.1) × (n ≤ 1)
 
-abbrev pub claim_tells : Tells
-claim_tells st m n m' =
+abbrev pub claim_leaves : StepLeaves
+claim_leaves st m n m' =
     (m'.0 ≡ with_doing m.0 (if n == released then Waits (request_of st.word) (place_in 256 st.second) else Idle) st.word n)
     × (m'.1 ≡ m.1)
 
-abbrev pub poll_tells : Tells
-poll_tells st m n m' =
+abbrev pub poll_leaves : StepLeaves
+poll_leaves st m n m' =
     (m'.0 ≡ with_doing m.0 (polled m.0.doing n) st.word n) × (m'.1 ≡ carried_by (polled m.0.doing n))
 
 -- the word of a request that the hand serves
@@ -150,10 +150,10 @@ abbrev pub ServedFits : Doing → ℕ → Type 0
 ServedFits (Serves r p stop) n = Runs stop p n
 ServedFits doing n = Unit {0}
 
-abbrev pub warn_tells : Tells
-warn_tells st m n m' =
+abbrev pub warn_leaves : StepLeaves
+warn_leaves st m n m' =
     (m'.0 ≡ with_doing m.0 (warned m.0.doing n) st.word n) × (m'.1 ≡ m.1) × ServedFits m.0.doing n
 
-abbrev pub post_tells : Tells
-post_tells st m n m' =
+abbrev pub post_leaves : StepLeaves
+post_leaves st m n m' =
     (m'.0 ≡ with_left (with_doing m.0 Idle st.word n) m.1) × (m'.1 ≡ rest m.1) × ServedFits m.0.doing n

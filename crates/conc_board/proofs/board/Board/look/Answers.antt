@@ -27,19 +27,19 @@ returns-clause-lead c =
 pub returns-clause-lead_state : goal.returns-clause-lead_state
 returns-clause-lead_state c =
     let there = lead_state_there c.args.lead.now.seat.me.0.lead_states c.args.r c.request_word.result c.request_word.ensures c.requires.request.from_one in
-    let n = c.load-word.result in let b = c.args.self.now in let plan = plan_of b in let tells = c.load-word.ensures.2 in
+    let n = c.load-word.result in let b = c.args.self.now in let plan = plan_of b in let leaves = c.load-word.ensures.2 in
     let now = new_lead_state plan c.args.r c.args.lead.now.seat.me.0 c.load-word.new.seat.me.0 c.request_word.result (looked (lead_state_of c.args.lead.now c.args.r) n) n c.requires.lead.lead_states c.requires.request c.request_word.ensures
-    (tells.0 ∙ ap (λ (z : LeadState). with_lead_state c.args.lead.now.seat.me.0 c.request_word.result (looked z n) n) there) in
+    (leaves.0 ∙ ap (λ (z : LeadState). with_lead_state c.args.lead.now.seat.me.0 c.request_word.result (looked z n) n) there) in
     let so = looked_so plan (omega (arith, b.few_places, b.place_count)) n c.looked_by.result (lead_state_of c.args.lead.now c.args.r) c.requires.lead_state
-    (subst (λ (z : Option Plan × LeadState). HasPlace z.0 (looked z.1 n)) (λ i. (c.requires.lead.plan i, there i)) tells.2)
-    (subst (λ (z : LeadState). LookFits (looked z n) n) there tells.3) c.looked_by.ensures in
+    (subst (λ (z : Option Plan × LeadState). HasPlace z.0 (looked z.1 n)) (λ i. (c.requires.lead.plan i, there i)) leaves.2)
+    (subst (λ (z : LeadState). LookFits (looked z n) n) there leaves.3) c.looked_by.ensures in
     subst (Looks plan c.looked_by.result (lead_state_of c.args.lead.now c.args.r)) (sym now) so.0
 
 pub returns-clause-found : goal.returns-clause-found
 returns-clause-found c =
     let there = lead_state_there c.args.lead.now.seat.me.0.lead_states c.args.r c.request_word.result c.request_word.ensures c.requires.request.from_one in
-    let n = c.load-word.result in let b = c.args.self.now in let plan = plan_of b in let tells = c.load-word.ensures.2 in
+    let n = c.load-word.result in let b = c.args.self.now in let plan = plan_of b in let leaves = c.load-word.ensures.2 in
     let so = looked_so plan (omega (arith, b.few_places, b.place_count)) n c.looked_by.result (lead_state_of c.args.lead.now c.args.r) c.requires.lead_state
-    (subst (λ (z : Option Plan × LeadState). HasPlace z.0 (looked z.1 n)) (λ i. (c.requires.lead.plan i, there i)) tells.2)
-    (subst (λ (z : LeadState). LookFits (looked z n) n) there tells.3) c.looked_by.ensures in
-    adds_one (Shows c.looked_by.result) _ c.request_word.result n _ _ c.request_word.ensures so.1 (ap (λ (v : View). v.found) tells.0)
+    (subst (λ (z : Option Plan × LeadState). HasPlace z.0 (looked z.1 n)) (λ i. (c.requires.lead.plan i, there i)) leaves.2)
+    (subst (λ (z : LeadState). LookFits (looked z n) n) there leaves.3) c.looked_by.ensures in
+    adds_one (Shows c.looked_by.result) _ c.request_word.result n _ _ c.request_word.ensures so.1 (ap (λ (v : View). v.found) leaves.0)
