@@ -31,11 +31,11 @@ prefix-less (x ∷ xs) (y ∷ ys) e r rest is =
     (less.0, ap (λ (l : List Event). y ∷ l) less.1 ∙ ap (λ (z : Event). z ∷ (xs ++ less.0)) same)
 
 -- what was acknowledged begins with the events found
-pub prefix-kept : (found kept last : List Event) → IsPrefix (opening found) last → (last ≡ kept) ⊎ ((e : Event) × (last ≡ kept ++ e ∷ [])) → IsPrefix found kept
-prefix-kept found kept last begins (inl same) = subst (λ (l : List Event). IsPrefix found l) same (prefix-twice found (opening found) last (prefix-opening found) begins)
-prefix-kept [] kept last begins (inr more) = (kept, refl)
-prefix-kept (x ∷ xs) kept last begins (inr more) =
-    prefix-less (x ∷ xs) kept more.0 event.Resume begins.0 (sym more.1 ∙ begins.1 ∙ append_assoc (x ∷ xs) (event.Resume ∷ []) begins.0)
+pub prefix-acknowledged : (found acknowledged last : List Event) → IsPrefix (opening found) last → (last ≡ acknowledged) ⊎ ((e : Event) × (last ≡ acknowledged ++ e ∷ [])) → IsPrefix found acknowledged
+prefix-acknowledged found acknowledged last begins (inl same) = subst (λ (l : List Event). IsPrefix found l) same (prefix-twice found (opening found) last (prefix-opening found) begins)
+prefix-acknowledged [] acknowledged last begins (inr more) = (acknowledged, refl)
+prefix-acknowledged (x ∷ xs) acknowledged last begins (inr more) =
+    prefix-less (x ∷ xs) acknowledged more.0 event.Resume begins.0 (sym more.1 ∙ begins.1 ∙ append_assoc (x ∷ xs) (event.Resume ∷ []) begins.0)
 
 -- the opening is the list found, or has the resume behind it
 pub opening-adds : (found : List Event) → (opening found ≡ found) ⊎ ((e : Event) × (opening found ≡ found ++ e ∷ []))

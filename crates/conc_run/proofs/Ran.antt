@@ -25,7 +25,7 @@ use Rattle.conc_run_state.specs.declared.error.HistoryFail.TheVariants as histor
 use Rattle.conc_run_state.specs.declared.work.Work.{Work}
 use Rattle.conc_run.specs.Whole.{HasLeft, HasNow, IsCutShort, IsFinished, LacksMemoryThere}
 use Rattle.conc_run_state.proofs.Prefixes.{prefix-twice}
-use Rattle.conc_run.proofs.Lists.{prefix-kept, prefix-with_pending, stored-opening, used-opening, used-prefix}
+use Rattle.conc_run.proofs.Lists.{prefix-acknowledged, prefix-with_pending, stored-opening, used-opening, used-prefix}
 use Rattle.conc_run.proofs.Survived.{begun-longest, fits-survives, journal-left}
 use Rattle.conc_run.proofs.Texts.{Keeps, spool-left, spool-now}
 
@@ -57,8 +57,8 @@ module _ (threads : ℕ) (h : Handed) (journal spool : DiskState) (old new : Wor
 
   used-grows : used_of old.spool ≤ used_of new.spool
   used-grows =
-      let kept = prefix-kept begun.found (list_in new) (longest_in new) begins went.acknowledged in
-      let with = prefix-twice begun.found (list_in new) (with_pending went.pending (list_in new)) kept (prefix-with_pending went.pending (list_in new)) in
+      let acknowledged = prefix-acknowledged begun.found (list_in new) (longest_in new) begins went.last_is in
+      let with = prefix-twice begun.found (list_in new) (with_pending went.pending (list_in new)) acknowledged (prefix-with_pending went.pending (list_in new)) in
       omega (arith, used-found, used-prefix begun.found (with_pending went.pending (list_in new)) with, went.tied.used_is)
 
   own-digest : state_digest (state_of new.journal) ≡ Some h.digest
@@ -83,10 +83,10 @@ module _ (threads : ℕ) (h : Handed) (journal spool : DiskState) (old new : Wor
       → HasLeft threads h begun.found (list_in new) (longest_in new)
   left-run to_so_far stays survives = record {
     events = begun.taken.is_found.events;
-    begins = prefix-kept begun.found (list_in new) (longest_in new) begins went.acknowledged;
+    begins = prefix-acknowledged begun.found (list_in new) (longest_in new) begins went.last_is;
     goes_on = inr goes-on;
     alone = λ none. inr (goes-alone none);
-    acknowledged = went.acknowledged;
+    last_is = went.last_is;
     journal = journal-left h.digest begun.found (longest_in new) h.disks.journal_before journal h.disks.journal_after begins begun.left
         (subst (λ (l : List Event). LeavesOnly (Survives h.digest l (longest_in new)) journal h.disks.journal_after) begun.list (went.journal h.digest begun.state));
     spool = subst (λ (n : ℕ). LeavesOnly (Keeps h.disks.spool_before n) h.disks.spool_before h.disks.spool_after) used-found (spool-left (used_of old.spool) h.disks.spool_before spool h.disks.spool_after stays survives went.spool);
@@ -94,17 +94,17 @@ module _ (threads : ℕ) (h : Handed) (journal spool : DiskState) (old new : Wor
   }
 
   -- no append met a fault
-  pub longest-kept : state_of new.journal ≡ state_of old.journal → longest_in new ≡ list_in new
-  longest-kept same = begun-longest (state_of new.journal) h.digest (list_in new) (same ∙ begun.state)
+  pub longest-acknowledged : state_of new.journal ≡ state_of old.journal → longest_in new ≡ list_in new
+  longest-acknowledged same = begun-longest (state_of new.journal) h.digest (list_in new) (same ∙ begun.state)
 
-  goes-kept : state_of new.journal ≡ state_of old.journal → GoesOn h.plan h.readings (opening begun.found) (list_in new)
-  goes-kept same = subst (λ (l : List Event). GoesOn h.plan h.readings (opening begun.found) l) (longest-kept same) goes-on
+  goes-acknowledged : state_of new.journal ≡ state_of old.journal → GoesOn h.plan h.readings (opening begun.found) (list_in new)
+  goes-acknowledged same = subst (λ (l : List Event). GoesOn h.plan h.readings (opening begun.found) l) (longest-acknowledged same) goes-on
 
   is-alone : state_of new.journal ≡ state_of old.journal → Finished h.plan h.readings (list_in new) → threads ≡ 0 → Alone h.plan h.readings begun.found (list_in new)
   is-alone same finished none =
-      let going = goes-kept same in record {
+      let going = goes-acknowledged same in record {
         begins = (going.added, going.all);
-        each = subst (λ (l : List Event). GoesOnAlone h.plan h.readings (opening begun.found) l) (longest-kept same) (goes-alone none);
+        each = subst (λ (l : List Event). GoesOnAlone h.plan h.readings (opening begun.found) l) (longest-acknowledged same) (goes-alone none);
         finished = finished;
       }
 
@@ -113,12 +113,12 @@ module _ (threads : ℕ) (h : Handed) (journal spool : DiskState) (old new : Wor
   finished-run to_so_far stays survives same finished = record {
     found = begun.found;
     taken = still-taken;
-    goes_on = goes-kept same;
+    goes_on = goes-acknowledged same;
     finished = finished;
     alone = is-alone same finished;
     journal = subst (λ (s : JournalState). EachImage (FitsState s (list_in new)) h.disks.journal_after) (same ∙ begun.state) went.tied.journal_on;
-    stored = λ from stored. subst (λ (l : List Event). EachImage (AreStored h.plan from l) h.disks.spool_after) (longest-kept same) (stored-longest from stored);
-    left = subst (λ (l : List Event). HasLeft threads h begun.found (list_in new) l) (longest-kept same) (left-run to_so_far stays survives);
+    stored = λ from stored. subst (λ (l : List Event). EachImage (AreStored h.plan from l) h.disks.spool_after) (longest-acknowledged same) (stored-longest from stored);
+    left = subst (λ (l : List Event). HasLeft threads h begun.found (list_in new) l) (longest-acknowledged same) (left-run to_so_far stays survives);
   }
 
   -- the run ended before its history was finished
@@ -129,9 +129,9 @@ module _ (threads : ℕ) (h : Handed) (journal spool : DiskState) (old new : Wor
     cause = cause;
     untouched = untouched;
     found = begun.found;
-    kept = list_in new;
+    acknowledged = list_in new;
     last = longest_in new;
     left = left-run to_so_far stays survives;
-    whole = λ quiet. longest-kept (sound quiet);
+    whole = λ quiet. longest-acknowledged (sound quiet);
     memory = λ lacks. inr (memory lacks);
   }

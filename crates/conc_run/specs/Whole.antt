@@ -28,29 +28,29 @@ HasBetween h first last image = h.disks.journal_before.may_leave image ⊎ Survi
 abbrev pub KeepsTexts : Handed → List Event → List ℕ → Type 0
 KeepsTexts h found image = h.disks.spool_before.may_leave image ⊎ KeepsBelow (used (reverse found)) h.disks.spool_before image
 
--- What was found is taken. Each image now of the journal has the kept list or the last, which is lawful, every life judged as
--- an earlier one. Each image now of the spool has the bytes of the texts of the ends found, and holds those of the last list
--- if the spool held those found.
-pub record HasNow (h : Handed) (found kept last : List Event) : Type 0 where
+-- What was found is taken. Each image now of the journal has the acknowledged list or the last, which is lawful, every life
+-- judged as an earlier one. Each image now of the spool has the bytes of the texts of the ends found, and holds those of the
+-- last list if the spool held those found.
+pub record HasNow (h : Handed) (found acknowledged last : List Event) : Type 0 where
   pub taken : IsTaken h found
   pub so_far : LawfulSoFar h.plan last
-  pub journal : EachImage (Survives h.digest kept last) h.disks.journal_after
+  pub journal : EachImage (Survives h.digest acknowledged last) h.disks.journal_after
   pub spool : EachImage (KeepsBelow (used (reverse found)) h.disks.spool_before) h.disks.spool_after
   pub stored : (from : ℕ) → IfSome h.disks.spool_before.seen (AreStored h.plan from found) → EachImage (AreStored h.plan from last) h.disks.spool_after
 
--- What the run leaves on its disks, however it ended. `found` is the list found, `kept` the one that was acknowledged, and `last`
--- the longest that the journal's disk may have: `kept`, or `kept` and the event whose append met a fault. At each moment a crash
--- left a list that begins with the one found and is a beginning of the last one. Now nothing was written, or it leaves the kept
--- one or the last. Without threads each event that was added is the one that comes next.
-pub record HasLeft (threads : ℕ) (h : Handed) (found kept last : List Event) : Type 0 where
+-- What the run leaves on its disks, however it ended. `found` is the list found, `acknowledged` the one that was acknowledged,
+-- and `last` the longest that the journal's disk may have: `acknowledged`, or that and the event whose append met a fault. At
+-- each moment a crash left a list that begins with the one found and is a beginning of the last one. Now nothing was written, or
+-- it leaves the acknowledged one or the last. Without threads each event that was added is the one that comes next.
+pub record HasLeft (threads : ℕ) (h : Handed) (found acknowledged last : List Event) : Type 0 where
   pub events : IfSome h.disks.journal_before.seen (λ image. found ≡ events_of image)
-  pub begins : IsPrefix found kept
+  pub begins : IsPrefix found acknowledged
   pub goes_on : (last ≡ found) ⊎ GoesOn h.plan h.readings (opening found) last
   pub alone : threads ≡ 0 → (last ≡ found) ⊎ GoesOnAlone h.plan h.readings (opening found) last
-  pub acknowledged : (last ≡ kept) ⊎ ((e : Event) × (last ≡ kept ++ e ∷ []))
+  pub last_is : (last ≡ acknowledged) ⊎ ((e : Event) × (last ≡ acknowledged ++ e ∷ []))
   pub journal : LeavesOnly (HasBetween h found last) h.disks.journal_before h.disks.journal_after
   pub spool : LeavesOnly (KeepsTexts h found) h.disks.spool_before h.disks.spool_after
-  pub now : IsUntouched h ⊎ HasNow h found kept last
+  pub now : IsUntouched h ⊎ HasNow h found acknowledged last
 
 -- ---- how a run ends
 
@@ -69,9 +69,9 @@ pub record IsFinished (threads : ℕ) (h : Handed) (list : List Event) : Type 0 
 
 -- Where a run may find no memory once something is written. Without threads it is at the report of the end that comes next;
 -- with threads before any event past the resume, or at the report of a request that runs.
-pub record LacksMemoryThere (threads : ℕ) (h : Handed) (found kept : List Event) : Type 0 where
-  pub alone : threads ≡ 0 → LacksMemory h.plan h.readings kept
-  pub beside : threads ≢ 0 → (kept ≡ opening found) ⊎ AwaitsReport h.plan kept
+pub record LacksMemoryThere (threads : ℕ) (h : Handed) (found acknowledged : List Event) : Type 0 where
+  pub alone : threads ≡ 0 → LacksMemory h.plan h.readings acknowledged
+  pub beside : threads ≢ 0 → (acknowledged ≡ opening found) ⊎ AwaitsReport h.plan acknowledged
 
 -- The run did not begin, or ended before its history was finished. Where it was refused nothing was written. Where it found no
 -- memory nothing was written either, or the list that it left is one after which it may find none. But for a fault of the
@@ -80,8 +80,8 @@ pub record IsCutShort (threads : ℕ) (h : Handed) (s : HistoryFail) : Type 0 wh
   pub cause : HasCause h s
   pub untouched : IsTrue (is_refusal s) → IsUntouched h
   pub found : List Event
-  pub kept : List Event
+  pub acknowledged : List Event
   pub last : List Event
-  pub left : HasLeft threads h found kept last
-  pub whole : IsFalse (is_journal_fault s) → last ≡ kept
-  pub memory : s ≡ history_fail.NoMemory → IsUntouched h ⊎ LacksMemoryThere threads h found kept
+  pub left : HasLeft threads h found acknowledged last
+  pub whole : IsFalse (is_journal_fault s) → last ≡ acknowledged
+  pub memory : s ≡ history_fail.NoMemory → IsUntouched h ⊎ LacksMemoryThere threads h found acknowledged

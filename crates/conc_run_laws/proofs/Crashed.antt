@@ -39,7 +39,7 @@ at-some {X = X} P o x is holds = subst (λ (s : Option X). IfSome s P) is holds
 abbrev pub OnlyNow : DiskState → Type 0
 OnlyNow disk = (image : List ℕ) → disk.left_since disk.moment image → disk.may_leave image
 
-module _ (threads : ℕ) (h : Handed) (found kept last : List Event) (began : BeganWell h) (only_now : OnlyNow h.disks.journal_before) (left : HasLeft threads h found kept last) where
+module _ (threads : ℕ) (h : Handed) (found acknowledged last : List Event) (began : BeganWell h) (only_now : OnlyNow h.disks.journal_before) (left : HasLeft threads h found acknowledged last) where
   found-is : found ≡ events_of began.image
   found-is = at-some (λ (i : List ℕ). found ≡ events_of i) h.disks.journal_before.seen began.image began.journal.seen left.events
 
@@ -109,8 +109,8 @@ module _ (h : Handed) (image texts : List ℕ) (fit : IsFit h.plan h.digest imag
   refuses-for_room (history_fail.DiskFault disk) cause = tt
   refuses-for_room history_fail.NoMemory cause = tt
 
-  pub finds-events : (threads : ℕ) (found kept last : List Event) → HasLeft threads h found kept last → found ≡ events_of image
-  finds-events threads found kept last left = at-some (λ (i : List ℕ). found ≡ events_of i) h.disks.journal_before.seen image journal left.events
+  pub finds-events : (threads : ℕ) (found acknowledged last : List Event) → HasLeft threads h found acknowledged last → found ≡ events_of image
+  finds-events threads found acknowledged last left = at-some (λ (i : List ℕ). found ≡ events_of i) h.disks.journal_before.seen image journal left.events
 
   still-right : (found last : List Event) → last ≡ found → IsRightLife h.plan found last
   still-right found last same = record {
@@ -119,8 +119,8 @@ module _ (h : Handed) (image texts : List ℕ) (fit : IsFit h.plan h.digest imag
     running = λ r has is. inr (λ i e from below there. absurd (past-end found last same i e (omega (arith, from, opening-long found)) there));
   }
 
-  pub goes-right : are_in_order h.readings ≡ true → (threads : ℕ) (found kept last : List Event) → HasLeft threads h found kept last → IsRightLife h.plan found last
-  goes-right order threads found kept last left = elim left.goes_on [
+  pub goes-right : are_in_order h.readings ≡ true → (threads : ℕ) (found acknowledged last : List Event) → HasLeft threads h found acknowledged last → IsRightLife h.plan found last
+  goes-right order threads found acknowledged last left = elim left.goes_on [
     | inl same ↦ still-right found last same
     | inr going ↦ right-life h.plan h.readings found last going order
   ]
@@ -130,10 +130,10 @@ module _ (h : Handed) (image texts : List ℕ) (fit : IsFit h.plan h.digest imag
       let same = finds-events threads finished.found list list finished.left in
       finished-interrupts h.plan h.readings (events_of image) list (subst (λ (l : List Event). GoesOn h.plan h.readings (opening l) list) same finished.goes_on) r has finished.finished is
 
-pub next-run : (threads : ℕ) (h next : Handed) (found kept last : List Event) (image texts : List ℕ) → next.plan ≡ h.plan → next.digest ≡ h.digest → are_in_order next.readings ≡ true → OnlyNow h.disks.journal_before
-    → BeganWell h → HasLeft threads h found kept last → IsNextOver h.disks.journal_before h.disks.journal_after next image texts → IsNextRun next found image
-next-run threads h next found kept last image texts same_plan same_digest order only_now began left over =
-    let both = left-fit threads h found kept last began only_now left image texts over.left over.within in
+pub next-run : (threads : ℕ) (h next : Handed) (found acknowledged last : List Event) (image texts : List ℕ) → next.plan ≡ h.plan → next.digest ≡ h.digest → are_in_order next.readings ≡ true → OnlyNow h.disks.journal_before
+    → BeganWell h → HasLeft threads h found acknowledged last → IsNextOver h.disks.journal_before h.disks.journal_after next image texts → IsNextRun next found image
+next-run threads h next found acknowledged last image texts same_plan same_digest order only_now began left over =
+    let both = left-fit threads h found acknowledged last began only_now left image texts over.left over.within in
     let fit = subst (λ (p : Plan). IsFit p next.digest image texts) (sym same_plan) (subst (λ (d : List ℕ). IsFit h.plan d image texts) (sym same_digest) both.0) in
     record {
       refuses = refuses-for_room next image texts fit over.journal over.spool;

@@ -66,16 +66,16 @@ held : {X : Type 0} (o : Option X) (P : Type 0) → IsTrue (is_some o) → IfSom
 held (Some x) P is holds = holds
 held None P is holds = cc is
 
-now-fit : (h : Handed) (found kept last : List Event) (image texts : List ℕ) → HasNow h found kept last → CrashesAtEnd h found image texts → IsFitEnd h kept image texts
-now-fit h found kept last image texts now end =
-    let survives = held h.disks.journal_after.seen ((i : List ℕ) → h.disks.journal_after.may_leave i → Survives h.digest kept last i) end.journal_exposes now.journal image end.journal in
+now-fit : (h : Handed) (found acknowledged last : List Event) (image texts : List ℕ) → HasNow h found acknowledged last → CrashesAtEnd h found image texts → IsFitEnd h acknowledged image texts
+now-fit h found acknowledged last image texts now end =
+    let survives = held h.disks.journal_after.seen ((i : List ℕ) → h.disks.journal_after.may_leave i → Survives h.digest acknowledged last i) end.journal_exposes now.journal image end.journal in
     let stored = held h.disks.spool_after.seen ((t : List ℕ) → h.disks.spool_after.may_leave t → AreStored h.plan 0 last t) end.spool_exposes (now.stored 0 end.stored) texts end.spool in
     let within = all-within h.plan (events_of image) last texts survives.within stored in
-    let both = left-good h.plan h.digest kept last image (length texts) (is_lawful_so_far-prefix h.plan) now.so_far survives within in
+    let both = left-good h.plan h.digest acknowledged last image (length texts) (is_lawful_so_far-prefix h.plan) now.so_far survives within in
     inr (record { own = both.0; good = both.1 }, survives.begins)
 
-pub end-fit : (threads : ℕ) (h : Handed) (found kept last : List Event) (image texts : List ℕ) → HasLeft threads h found kept last → CrashesAtEnd h found image texts → IsFitEnd h kept image texts
-end-fit threads h found kept last image texts left end = elim left.now [
+pub end-fit : (threads : ℕ) (h : Handed) (found acknowledged last : List Event) (image texts : List ℕ) → HasLeft threads h found acknowledged last → CrashesAtEnd h found image texts → IsFitEnd h acknowledged image texts
+end-fit threads h found acknowledged last image texts left end = elim left.now [
   | inl untouched ↦ inl untouched
-  | inr now ↦ now-fit h found kept last image texts now end
+  | inr now ↦ now-fit h found acknowledged last image texts now end
 ]

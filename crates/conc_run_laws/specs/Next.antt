@@ -64,8 +64,8 @@ RefusesForRoom h image _ = ⊥
 pub record IsNextRun (next : Handed) (found : List Event) (image : List ℕ) : Type 0 where
   pub refuses : (e : HistoryFail) → HasCause next e → RefusesForRoom next image e
   pub begins : IsPrefix found (events_of image)
-  pub finds : (threads : ℕ) (again kept last : List Event) → HasLeft threads next again kept last → again ≡ events_of image
-  pub goes_on : (threads : ℕ) (again kept last : List Event) → HasLeft threads next again kept last → IsRightLife next.plan again last
+  pub finds : (threads : ℕ) (again acknowledged last : List Event) → HasLeft threads next again acknowledged last → again ≡ events_of image
+  pub goes_on : (threads : ℕ) (again acknowledged last : List Event) → HasLeft threads next again acknowledged last → IsRightLife next.plan again last
   pub finishes : (threads : ℕ) (list : List Event) → IsFinished threads next list → (r : Req) → Has next.plan.requests r
       → IsTrue (runs (reverse (events_of image)) r.number) → IsInterrupted (events_of image) list r.number
 
@@ -81,4 +81,4 @@ pub record CrashesAtEnd (h : Handed) (found : List Event) (image texts : List �
 
 -- nothing was written; or the images fit together, and the list in the journal begins with the one that was acknowledged
 abbrev pub IsFitEnd : Handed → List Event → List ℕ → List ℕ → Type 0
-IsFitEnd h kept image texts = IsUntouched h ⊎ (IsFit h.plan h.digest image texts × IsPrefix kept (events_of image))
+IsFitEnd h acknowledged image texts = IsUntouched h ⊎ (IsFit h.plan h.digest image texts × IsPrefix acknowledged (events_of image))

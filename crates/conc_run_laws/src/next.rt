@@ -19,11 +19,11 @@ use conc_disk::Disk;
 pub fn the_next_run<D: Disk, E: Disk>()
     ensures { (threads : ℕ) (plan : Plan) (readings again : Readings) (digest : List ℕ)
         (journal crashed shown after : D) (spool spool_crashed spool_shown spool_after : E)
-        (found kept last : List Event) (image texts : List ℕ) →
+        (found acknowledged last : List Event) (image texts : List ℕ) →
         BeganWell (handed plan readings digest (D.state journal) (D.state crashed)
         (E.state spool) (E.state spool_crashed))
         → HasLeft threads (handed plan readings digest (D.state journal) (D.state crashed)
-        (E.state spool) (E.state spool_crashed)) found kept last
+        (E.state spool) (E.state spool_crashed)) found acknowledged last
         → IsNextOver (D.state journal) (D.state crashed) (handed plan again digest (D.state shown)
         (D.state after) (E.state spool_shown) (E.state spool_after)) image texts
         → IsNextRun (handed plan again digest (D.state shown) (D.state after)
@@ -35,12 +35,12 @@ pub fn the_next_run<D: Disk, E: Disk>()
 /// with all that was acknowledged.
 pub fn the_end_is_fit<D: Disk, E: Disk>()
     ensures { (threads : ℕ) (plan : Plan) (readings : Readings) (digest : List ℕ)
-        (journal journal_after : D) (spool spool_after : E) (found kept last : List Event)
+        (journal journal_after : D) (spool spool_after : E) (found acknowledged last : List Event)
         (image texts : List ℕ) →
         HasLeft threads (handed plan readings digest (D.state journal) (D.state journal_after)
-        (E.state spool) (E.state spool_after)) found kept last
+        (E.state spool) (E.state spool_after)) found acknowledged last
         → CrashesAtEnd (handed plan readings digest (D.state journal) (D.state journal_after)
         (E.state spool) (E.state spool_after)) found image texts
         → IsFitEnd (handed plan readings digest (D.state journal) (D.state journal_after)
-        (E.state spool) (E.state spool_after)) kept image texts }
+        (E.state spool) (E.state spool_after)) acknowledged image texts }
 {}

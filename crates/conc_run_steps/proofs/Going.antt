@@ -81,7 +81,7 @@ module _ (plan : Plan) (readings : List Reading) (old new : Work) (journal spool
       no_resume = refl;
       reported = λ i id o x from there. absurd (behind-end (list_in old) (longest_in new) longest i (event.Ended id o (Some x)) from there);
     };
-    acknowledged = inl (longest ∙ sym (ap (λ j. list_of j) same));
+    last_is = inl (longest ∙ sym (ap (λ j. list_of j) same));
     stored = λ from. subst (λ (l : List Event). EachImage (AreStored plan from (list_in old)) spool → EachImage (AreStored plan from l) spool') (sym longest) (stores.stored from);
     digest = ap (λ j. state_digest (state_of j)) same;
     journal = λ digest begun. leaves-none (Survives digest (list_in old) (longest_in new)) journal;
@@ -99,7 +99,7 @@ module _ (plan : Plan) (readings : List Reading) (old new : Work) (e : Event) (p
       → state_digest (state_of new.journal) ≡ state_digest (state_of old.journal)
       → SurvivesFor old.journal (list_in old) (list_in old ++ e ∷ []) journal journal'
       → WentOn plan readings (disks journal journal' spool spool') old new
-  went-one tied lawful acknowledged stores digest left = record {
+  went-one tied lawful last_is stores digest left = record {
     pending = pending;
     tied = tied;
     list = record {
@@ -109,7 +109,7 @@ module _ (plan : Plan) (readings : List Reading) (old new : Work) (e : Event) (p
       no_resume = ap (λ b. b || false) none;
       reported = λ i id o x from there. told-end plan id o x (last-there (list_in old) (longest_in new) e longest i (event.Ended id o (Some x)) from there) told;
     };
-    acknowledged = acknowledged;
+    last_is = last_is;
     stored = λ from. subst (λ (l : List Event). EachImage (AreStored plan from (list_in old)) spool → EachImage (AreStored plan from l) spool') (sym longest) (stores.stored from);
     digest = digest;
     journal = λ d begun. subst (λ (l : List Event). LeavesOnly (Survives d (list_in old) l) journal journal') (sym longest) (left d begun);
@@ -177,7 +177,7 @@ module _ (plan : Plan) (readings : List Reading) (old mid new : Work) (journal j
       pending = second.pending;
       tied = second.tied;
       list = goes-twice plan readings (list_in old) (list_in mid) (longest_in new) goes second.list;
-      acknowledged = second.acknowledged;
+      last_is = second.last_is;
       stored = λ from stored. second.stored from (subst (λ (l : List Event). EachImage (AreStored plan from l) spool') whole (first.stored from stored));
       digest = second.digest ∙ first.digest;
       journal = λ digest begun.

@@ -32,7 +32,7 @@ pub record WentOn (plan : Plan) (readings : List Reading) (d : Disks) (old new :
   pub pending : Option Event
   pub tied : AreTied plan readings pending new d.journal_after d.spool_after
   pub list : GoesOn plan readings (list_in old) (longest_in new)
-  pub acknowledged : (longest_in new ≡ list_in new) ⊎ ((e : Event) × (longest_in new ≡ list_in new ++ e ∷ []))
+  pub last_is : (longest_in new ≡ list_in new) ⊎ ((e : Event) × (longest_in new ≡ list_in new ++ e ∷ []))
   pub stored : (from : ℕ) → EachImage (AreStored plan from (list_in old)) d.spool_before → EachImage (AreStored plan from (longest_in new)) d.spool_after
   pub digest : state_digest (state_of new.journal) ≡ state_digest (state_of old.journal)
   pub journal : (digest : List ℕ) → state_of old.journal ≡ Begun digest → LeavesOnly (Survives digest (list_in old) (longest_in new)) d.journal_before d.journal_after

@@ -46,10 +46,10 @@ on-ok : {T E : Type 0} (r : Result T E) (x : T) (X : Type 0) → r ≡ Ok x → 
 on-ok r x X is on = subst (λ a. OnOk a X) is on
 
 -- where no memory was found before any event, or at a report; a teller without a list finds it always
-beside : (plan : Plan) (found kept list : List Event) → list ≡ opening found → (kept ≡ list) ⊎ (AwaitsReport plan kept ⊎ (IsTrue false × IsUntold None kept)) → (kept ≡ opening found) ⊎ AwaitsReport plan kept
-beside plan found kept list begun (inl same) = inl (same ∙ begun)
-beside plan found kept list begun (inr (inl awaits)) = inr awaits
-beside plan found kept list begun (inr (inr (lacks, untold))) = absurd (apart (sym lacks))
+beside : (plan : Plan) (found acknowledged list : List Event) → list ≡ opening found → (acknowledged ≡ list) ⊎ (AwaitsReport plan acknowledged ⊎ (IsTrue false × IsUntold None acknowledged)) → (acknowledged ≡ opening found) ⊎ AwaitsReport plan acknowledged
+beside plan found acknowledged list begun (inl same) = inl (same ∙ begun)
+beside plan found acknowledged list begun (inr (inl awaits)) = inr awaits
+beside plan found acknowledged list begun (inr (inr (lacks, untold))) = absurd (apart (sym lacks))
 
 pub returns-in_err-work-clause-cut_short : goal.returns-in_err-work-clause-cut_short
 returns-in_err-work-clause-cut_short g c =
