@@ -129,11 +129,13 @@ fn work_at_two<R: Threads + Wait + Sync>(
     join(
         rt,
         move || -> Hand
-            requires { (plan.now ≡ plan_of board.now) × IsFree board.now (record { index = 1 }) first }
+            requires { (plan.now ≡ plan_of board.now)
+                × IsFree board.now (record { index = 1 }) first }
             ensures { IsFree board.entry.now (record { index = 1 }) result }
         { work_at(rt, alloc, board, plan, first, PlaceId { index: 1 }) },
         move || -> Hand
-            requires { (plan.now ≡ plan_of board.now) × IsFree board.now (record { index = 2 }) second }
+            requires { (plan.now ≡ plan_of board.now)
+                × IsFree board.now (record { index = 2 }) second }
             ensures { IsFree board.entry.now (record { index = 2 }) result }
         { work_at(rt, alloc, board, plan, second, PlaceId { index: 2 }) },
     )
@@ -160,12 +162,16 @@ fn work_at_three<R: Threads + Wait + Sync>(
     let (first, (second, third)) = join(
         rt,
         move || -> Hand
-            requires { (plan.now ≡ plan_of board.now) × IsFree board.now (record { index = 0 }) first }
+            requires { (plan.now ≡ plan_of board.now)
+                × IsFree board.now (record { index = 0 }) first }
             ensures { IsFree board.entry.now (record { index = 0 }) result }
         { work_at(rt, alloc, board, plan, first, PlaceId { index: 0 }) },
         move || -> (Hand, Hand)
-            requires { IsSync R.row × (plan.now ≡ plan_of board.now) × IsFree board.now (record { index = 1 }) second × IsFree board.now (record { index = 2 }) third }
-            ensures { IsFree board.entry.now (record { index = 1 }) result.0 × IsFree board.entry.now (record { index = 2 }) result.1 }
+            requires { IsSync R.row × (plan.now ≡ plan_of board.now)
+                × IsFree board.now (record { index = 1 }) second
+                × IsFree board.now (record { index = 2 }) third }
+            ensures { IsFree board.entry.now (record { index = 1 }) result.0
+                × IsFree board.entry.now (record { index = 2 }) result.1 }
         { work_at_two(rt, alloc, board, plan, second, third) },
     );
     (first, second, third)
