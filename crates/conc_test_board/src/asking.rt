@@ -1,10 +1,7 @@
-ghost use Rattle.std.specs.Prelude.{◌≡◌, ℕ, IfOk, IsFalse, IsTrue, not};
+ghost use Rattle.std.specs.Prelude.{◌≡◌, IsFalse, IsTrue, not};
 ghost use Rattle.std.specs.List.{list_all};
-ghost use Rattle.std.specs.Option.{option_map};
 ghost use Rattle.conc_types.specs.declared.event.RequestId.{RequestId};
 ghost use Rattle.conc_law.specs.Plans as plans_spec;
-ghost use Rattle.conc_reports.specs.Reports.{as_report};
-ghost use Rattle.conc_board_seats.specs.Reports as reports_spec;
 ghost use Rattle.conc_board_seats.specs.Rule.{exclude};
 ghost use Rattle.conc_board_seats.specs.LeadStates.{IsGone, IsLet};
 ghost use Rattle.conc_board_seats.specs.Words.{IsRequest};
@@ -13,10 +10,8 @@ ghost use Rattle.conc_board.specs.Seats.{IsLeadOf, lead_state_of, plan_of};
 ghost use Rattle.conc_test_board.specs.Rounds.{IsSeen, OnlyOne};
 
 use conc_board::{Board, Lead, Looked};
-use conc_reports::{Made, report};
-use conc_rules::{are_exclusive, program_of};
-use conc_types::{NoMemory, Plan, Req, RequestId};
-use std::alloc::Global;
+use conc_rules::are_exclusive;
+use conc_types::{Plan, Req, RequestId};
 
 // Whether the request excludes none of these.
 fn excludes_no_other(plan: &Plan, x: &Req, others: &[Req]) -> bool
@@ -72,27 +67,4 @@ pub fn look_gone(board: &Board, lead: &mut Lead, r: RequestId) -> Looked
     ensures lead_state { lead_state_of lead.new r ≡ lead_state_of lead.old r }
 {
     board.look(lead, r)
-}
-
-/// The report of a request.
-#[tactic(auto, unfolding(conc_law::specs::Alone::report_of))]
-pub fn report_for(alloc: Global, plan: &Plan, r: RequestId) -> Result<Option<Made>, NoMemory>
-    ensures { IfOk result (λ made. option_map as_report made ≡ reports_spec.report_for plan.now r) }
-{
-    let Some(request) = plan.request(r) else {
-        return Ok(None);
-    };
-    let Some(program) = program_of(plan, request) else {
-        return Ok(None);
-    };
-    match plan
-        .setup
-        .table_named(plan.tables.as_slice(), &program.job.table)
-    {
-        Some(table) => {
-            let made = report(alloc, &program.job, request.argument.as_slice(), table)?;
-            Ok(Some(made))
-        }
-        None => Ok(None),
-    }
 }

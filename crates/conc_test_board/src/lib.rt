@@ -3,7 +3,7 @@
 
 mod asking;
 
-pub use asking::{excludes_none, let_out_if_apart, look_gone, look_let, report_for};
+pub use asking::{excludes_none, let_out_if_apart, look_gone, look_let};
 
 #[cfg(test)]
 mod tests;

@@ -10,9 +10,9 @@ use conc_rules::program_of;
 use conc_types::{NoMemory, Plan, RequestId};
 use std::alloc::Global;
 
-// The report of a request. Only a request of a program has one.
+/// The report of a request. Only a request of a program has one.
 #[tactic(auto, unfolding(conc_law::specs::Alone::report_of))]
-fn report_for(alloc: Global, plan: &Plan, r: RequestId) -> Result<Option<Made>, NoMemory>
+pub fn report_for(alloc: Global, plan: &Plan, r: RequestId) -> Result<Option<Made>, NoMemory>
     ensures { IfOk result (λ made. option_map as_report made ≡ reports_spec.report_for plan.now r) }
 {
     let Some(request) = plan.request(r) else {

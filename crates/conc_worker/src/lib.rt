@@ -9,5 +9,6 @@ mod worker;
 mod working;
 
 pub use laws::what_is_admitted_has_a_report;
+pub use leaving::report_for;
 pub use serving::{Served, serve_once};
 pub use working::work;

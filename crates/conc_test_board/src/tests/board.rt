@@ -11,7 +11,7 @@ ghost use Rattle.conc_board.specs.Seats.{doing_of, HasAllPlaces, IsHandOf, IsLea
 ghost use Rattle.conc_test_board.specs.Rounds.{IsFree, OnlyOne};
 
 use super::rounds::{claim_some, collect_some, go_where_claimed, let_out_apart, permit_for};
-use crate::{look_gone, look_let, report_for};
+use crate::{look_gone, look_let};
 use conc_board::{Board, Claim, Hand, Lead, Looked, NotYet, Permit, Polled, Posted};
 use conc_plan::make_plan;
 use conc_script::read_script;
@@ -19,6 +19,7 @@ use conc_setup::read_setup;
 use conc_tables::read_table;
 use conc_time::place_count;
 use conc_types::{NoMemory, PlaceId, Plan, ReadFail, RequestId, Seq};
+use conc_worker::report_for;
 use std::alloc::Global;
 use std::fmt::Debug;
 use std::process::Abort;

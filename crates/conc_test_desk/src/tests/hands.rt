@@ -5,8 +5,8 @@ ghost use Rattle.conc_board_seats.specs.declared.views.Doing.TheVariants as does
 ghost use Rattle.conc_test_board.specs.Rounds.{IsFree};
 
 use conc_board::{Board, Claim, Hand, Permit, Polled, Posted};
-use conc_test_board::report_for;
 use conc_types::{NoMemory, PlaceId, Plan};
+use conc_worker::report_for;
 use std::alloc::Global;
 use std::process::Abort;
 
