@@ -1,4 +1,4 @@
-use Rattle.std.proofs.Common.{◌≡◌, inl, inr, ◌⊎◌, ◌<◌, ℕ, List, None, Result, Ok, Err, IsTrue, refl, sym, ◌∙◌, ap, subst, true, false, arith}
+use Rattle.std.proofs.Common.{◌≡◌, inl, inr, ◌⊎◌, ◌<◌, ℕ, List, None, Result, Ok, Err, IsTrue, sym, ◌∙◌, ap, subst, true, false, arith}
 use Rattle.std.specs.Prelude.{OnOk}
 use Rattle.std.proofs.lemmas.Result.{err_from_is_err_and}
 use Rattle.conc_types.specs.declared.event.Event.{Event}
@@ -8,12 +8,9 @@ use Rattle.conc_law.specs.Law.{Finished}
 use Rattle.conc_run_state.specs.Causes.{is_journal_fault}
 use Rattle.conc_run_state.specs.Disks.{disks}
 use Rattle.conc_run_state.specs.Handed.{handed, Handed}
-use Rattle.conc_run_state.specs.Lists.{GoesOnAlone}
-use Rattle.conc_run_state.specs.Works.{list_in, longest_in}
-use Rattle.conc_run_state.specs.declared.error.RunFail.{RunFail}
+use Rattle.conc_run_state.specs.Works.{list_in}
 use Rattle.conc_run_state.specs.declared.error.RunFail.TheVariants as run_fail
 use Rattle.conc_run_state.specs.declared.error.HistoryFail.{HistoryFail}
-use Rattle.conc_run_state.specs.declared.error.HistoryFail.TheVariants as history_fail
 use Rattle.conc_resolver_workers.specs.Runs.{AwaitsReport}
 use Rattle.conc_run_steps.specs.Told.{IsUntold}
 use Rattle.conc_run_steps.specs.Going.{WentOn}
