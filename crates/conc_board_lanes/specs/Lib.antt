@@ -2,3 +2,4 @@ pub mod Rule
 pub mod Lane
 pub mod Rooms
 pub mod Lanes
+pub mod Puts

@@ -10,5 +10,5 @@ mod laws;
 mod rule;
 
 pub use lanes::{HandPass, Lanes, LeadPass};
-pub use laws::{lanes_are_in_order, lists_grow_by_one};
+pub use laws::{lanes_are_in_order, lanes_have_room, lists_grow_by_one, lists_take_one_more};
 pub use rule::{InOrder, Log};
