@@ -26,6 +26,7 @@ use Rattle.conc_run_state.specs.declared.work.Work.{Work}
 use Rattle.conc_run.specs.Whole.{HasLeft, HasNow, IsCutShort, IsFinished, LacksMemoryThere}
 use Rattle.conc_run_state.proofs.Prefixes.{prefix-twice}
 use Rattle.conc_run.proofs.Lists.{prefix-acknowledged, prefix-with_pending, stored-opening, used-opening, used-prefix}
+use Rattle.conc_run.proofs.Same.{HasLaw, same-result}
 use Rattle.conc_run.proofs.Survived.{begun-longest, fits-survives, journal-left}
 use Rattle.conc_run.proofs.Texts.{Keeps, spool-left, spool-now}
 
@@ -108,16 +109,20 @@ module _ (threads : ℕ) (h : Handed) (journal spool : DiskState) (old new : Wor
         finished = finished;
       }
 
-  pub finished-run : ((list : List Event) → Lawful h.plan h.readings list → LawfulSoFar h.plan list) → Stays h.disks.spool_before spool → LeavesOnly h.disks.spool_before.may_leave h.disks.spool_before spool → state_of new.journal ≡ state_of old.journal
+  stored-acknowledged : state_of new.journal ≡ state_of old.journal → (from : ℕ) → IfSome h.disks.spool_before.seen (AreStored h.plan from begun.found) → EachImage (AreStored h.plan from (list_in new)) h.disks.spool_after
+  stored-acknowledged same from stored = subst (λ (l : List Event). EachImage (AreStored h.plan from l) h.disks.spool_after) (longest-acknowledged same) (stored-longest from stored)
+
+  pub finished-run : ((list : List Event) → Lawful h.plan h.readings list → LawfulSoFar h.plan list) → HasLaw h → Stays h.disks.spool_before spool → LeavesOnly h.disks.spool_before.may_leave h.disks.spool_before spool → state_of new.journal ≡ state_of old.journal
       → Finished h.plan h.readings (list_in new) → IsFinished threads h (list_in new)
-  finished-run to_so_far stays survives same finished = record {
+  finished-run to_so_far law stays survives same finished = record {
     found = begun.found;
     taken = still-taken;
     goes_on = goes-acknowledged same;
     finished = finished;
     alone = is-alone same finished;
+    same = same-result h begun.found (list_in new) law (goes-acknowledged same) finished (stored-acknowledged same 0);
     journal = subst (λ (s : JournalState). EachImage (FitsState s (list_in new)) h.disks.journal_after) (same ∙ begun.state) went.tied.journal_on;
-    stored = λ from stored. subst (λ (l : List Event). EachImage (AreStored h.plan from l) h.disks.spool_after) (longest-acknowledged same) (stored-longest from stored);
+    stored = stored-acknowledged same;
     left = subst (λ (l : List Event). HasLeft threads h begun.found (list_in new) l) (longest-acknowledged same) (left-run to_so_far stays survives);
   }
 

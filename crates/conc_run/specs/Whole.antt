@@ -4,6 +4,7 @@ use Rattle.conc_types.specs.declared.event.Event.{Event}
 use Rattle.conc_law.specs.Alone.{Alone, opening}
 use Rattle.conc_law.specs.Law.{Finished, LawfulSoFar}
 use Rattle.conc_law.specs.State.{used}
+use Rattle.conc_law_sameness.specs.Steady.{Steady}
 use Rattle.conc_disk.specs.Left.{EachImage, LeavesOnly}
 use Rattle.conc_journal_image.specs.Image.{IsJournal}
 use Rattle.conc_journal.specs.Opens.{events_of}
@@ -17,6 +18,7 @@ use Rattle.conc_run_state.specs.Survival.{Survives}
 use Rattle.conc_run_state.specs.Stored.{AreStored}
 use Rattle.conc_run_state.specs.declared.error.HistoryFail.{HistoryFail}
 use Rattle.conc_run_state.specs.declared.error.HistoryFail.TheVariants as history_fail
+use Rattle.conc_run.specs.Same.{HasResultOfAlone}
 
 -- ---- what is left, of a run with so many threads
 
@@ -55,14 +57,16 @@ pub record HasLeft (threads : ℕ) (h : Handed) (found acknowledged last : List 
 -- ---- how a run ends
 
 -- The run is finished: its list goes on from the list found, with one resume where that is not empty, and its history is
--- finished. Without threads it is the one that the run without workers makes. Each image now of the journal has it, and each
--- of the spool holds the texts of the ends that were added, and of all ends if it held those found.
+-- finished. Without threads it is the one that the run without workers makes. For a steady plan over an empty list the result is
+-- that of the run without workers, whatever the number of threads. Each image now of the journal has the list, and each of the
+-- spool holds the texts of the ends that were added, and of all ends if it held those found.
 pub record IsFinished (threads : ℕ) (h : Handed) (list : List Event) : Type 0 where
   pub found : List Event
   pub taken : IsTaken h found
   pub goes_on : GoesOn h.plan h.readings (opening found) list
   pub finished : Finished h.plan h.readings list
   pub alone : threads ≡ 0 → Alone h.plan h.readings found list
+  pub same : found ≡ [] → Steady h.plan h.readings → HasResultOfAlone h list
   pub journal : EachImage (IsJournal h.digest list) h.disks.journal_after
   pub stored : (from : ℕ) → IfSome h.disks.spool_before.seen (AreStored h.plan from found) → EachImage (AreStored h.plan from list) h.disks.spool_after
   pub left : HasLeft threads h found list list

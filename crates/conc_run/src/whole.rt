@@ -9,6 +9,7 @@ ghost use Rattle.conc_run_state.specs.declared.error.DiskName.TheVariants as dis
 use conc_disk::Disk;
 use conc_journal::Silent;
 use conc_law::lawful_is_lawful_so_far;
+use conc_law_sameness::table_of_alone;
 use conc_outside_gate::Gate;
 use conc_resolver_alone::run_alone;
 use conc_resolver_workers::{Ran, run_with_workers};
@@ -57,6 +58,7 @@ pub fn run_plan<'p, D: Disk, E: Disk>(
         (E.state spool.old) (E.state spool.new))) }
 {
     lawful_is_lawful_so_far();
+    table_of_alone();
     let mut work = open(alloc, plan, readings, digest, journal, spool)?;
     match run_alone(alloc, &mut work, journal, spool) {
         Ok(()) => Ok(work),
@@ -87,10 +89,12 @@ pub fn run_on_threads<'p, R: Threads + Wait + Sync, D: Disk + Send, E: Disk + Se
         (E.state spool.old) (E.state spool.new))) }
 {
     lawful_is_lawful_so_far();
+    table_of_alone();
     let work = open(alloc, plan, readings, digest, journal, spool)?;
     let Ran {
         work: ended,
         answer,
+        ..
     } = run_with_workers(rt, alloc, work, journal, spool, &mut Silent, gate, threads);
     match answer {
         Ok(()) => Ok(ended),

@@ -12,7 +12,7 @@ use exits::EXITS;
 use files::FILES;
 use journals::{AFTER_A_FAULT, JOURNALS};
 use std::test::Fail;
-use threads::{THREADS, check_two_at_once};
+use threads::{ANY_THREADS, THREADS, check_two_at_once};
 use worked::{check_histories, check_runs, check_runs_on_threads};
 
 #[test]
@@ -27,8 +27,12 @@ fn worked_files_run_on_threads(rt: HostRuntime) -> Result<(), Fail> {
 
 #[test]
 fn workers_may_take_turns_in_any_order(rt: HostRuntime) -> Result<(), Fail> {
+    let alloc = rt.alloc();
     for _ in 0..ROUNDS {
-        check_examples(&rt, rt.alloc(), THREADS)?;
+        check_examples(&rt, alloc, THREADS)?;
+        for count in ["0", "1", "2", "4"] {
+            check_examples(&rt, alloc, &ANY_THREADS.replace(alloc, "COUNT", count)?)?;
+        }
     }
     Ok(())
 }

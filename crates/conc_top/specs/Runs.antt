@@ -17,8 +17,9 @@ use Rattle.conc_top.specs.declared.exit.Exit.TheVariants as exit
 use Rattle.conc_top.specs.Printing.{Sunk, TookNothing}
 
 -- This is the history of the run with so many threads. From what was found it goes on lawfully, and without threads as the run
--- without workers does. It is lawful and finished, running intervals of requests that exclude each other do not overlap, and each
--- end that was added tells what its report says. The journal has it, as a read and as a crash now would leave it.
+-- without workers does. For a steady plan over an empty list its result is that of the run without workers, whatever the number
+-- of threads. It is lawful and finished, running intervals of requests that exclude each other do not overlap, and each end that
+-- was added tells what its report says. The journal has it, as a read and as a crash now would leave it.
 pub record IsHistory (threads : ℕ) (h : Handed) (history : List Event) : Type 0 where
   pub finished : IsFinished threads h history
   pub lawful : Lawful h.plan h.readings history

@@ -8,35 +8,7 @@ use std::test::Fail;
 use std::thread::Threads;
 
 // Runs with workers in threads. What they may do in either order is left open.
-pub(crate) const THREADS: &str =
-    r#"a program that excludes itself has its requests run one after the other, at any of 4 places
-== setup
-tables = ["t.csv"]
-program = [{ name = "P", table = "t.csv", group = "k", sum = "v" }]
-incompatible = [{ program = "P", with = "P" }]
-manager = [{ name = "M", shift = [{ places = 4 }] }]
-== script
-2025-03-03T09:00:00,submit,P,ann,,,,
-2025-03-03T09:00:00,submit,P,ann,,,,
-== call run a.toml a.csv a.clock --threads 4
-== ends 0
-== prints
-tick 2025-03-03T09:00:00
-do 1
-do 2
-let 1
-start 1 1.*
-end 1 Normal 0 39
-let 2
-start 2 1.*
-end 2 Normal 39 39
---
-1 Completed Normal P
-2 Completed Normal P
-== judged
-lawful 9 finished
-=====
-a run without a word of threads has 4
+pub(crate) const THREADS: &str = r#"a run without a word of threads has 4
 == setup
 tables = ["t.csv"]
 program = [{ name = "P", table = "t.csv", group = "k", sum = "v" }]
@@ -130,6 +102,45 @@ end 2 Normal 0 39
 --
 1 Inactive On Hold P
 2 Completed Normal P
+"#;
+
+// A run with COUNT threads, whose table and texts are the same for each COUNT.
+pub(crate) const ANY_THREADS: &str =
+    r#"a program that excludes itself has its requests run one after the other, at any of 4 places, and COUNT threads
+== setup
+tables = ["t.csv"]
+program = [{ name = "P", table = "t.csv", group = "k", sum = "v" }]
+incompatible = [{ program = "P", with = "P" }]
+manager = [{ name = "M", shift = [{ places = 4 }] }]
+== script
+2025-03-03T09:00:00,submit,P,ann,,,,
+2025-03-03T09:00:00,submit,P,ann,,,,
+== call run a.toml a.csv a.clock --threads COUNT
+== ends 0
+== prints
+tick 2025-03-03T09:00:00
+do 1
+do 2
+let 1
+start 1 1.*
+end 1 Normal 0 39
+let 2
+start 2 1.*
+end 2 Normal 39 39
+--
+1 Completed Normal P
+2 Completed Normal P
+== judged
+lawful 9 finished
+== spool-text
+key,count,sum
+a,2,15
+b,1,20
+total,3,35
+key,count,sum
+a,2,15
+b,1,20
+total,3,35
 "#;
 
 // A manager with 2 places, and 2 requests that may run beside each other.

@@ -69,7 +69,7 @@ returns-in-Ok-clause-finished g c =
     finished-run c.args.threads h begun-on spool-begun work new begun
     (by-same h.plan h.readings work tied.plan_is tied.readings_are (λ plan readings. WentOn plan readings (disks begun-on h.disks.journal_after spool-begun h.disks.spool_after) work new) ran.ensures.went_on)
     (some-threads c.args.threads c.requires.threads)
-    (c.lawful_is_lawful_so_far.ensures c.args.plan.now c.args.readings.now) c.open.ensures.spool c.open.ensures.spool_survives
+    (c.lawful_is_lawful_so_far.ensures c.args.plan.now c.args.readings.now) (c.table_of_alone.ensures c.args.plan.now c.args.readings.now) c.open.ensures.spool c.open.ensures.spool_survives
     (ran.ensures.sound (λ is. no-err ran.result.answer _ _ c.in-Ok.is is))
     (by-same h.plan h.readings work tied.plan_is tied.readings_are (λ plan readings. Finished plan readings (list_in new)) (on-ok ran.result.answer _ (Finished (plan_in work) (readings_in work) (list_in new)) c.in-Ok.is ran.ensures.finished))
 

@@ -44,7 +44,7 @@ returns-in-Ok-clause-finished g c =
     finished-run 0 h begun-on spool-begun work new begun
     (by-same h.plan h.readings work tied.plan_is tied.readings_are (λ plan readings. WentOn plan readings (disks begun-on h.disks.journal_after spool-begun h.disks.spool_after) work new) c.run_alone.ensures.went_on)
     (λ _. by-same h.plan h.readings work tied.plan_is tied.readings_are (λ plan readings. GoesOnAlone plan readings (list_in work) (longest_in new)) c.run_alone.ensures.alone)
-    (c.lawful_is_lawful_so_far.ensures c.args.plan.now c.args.readings.now) c.open.ensures.spool c.open.ensures.spool_survives
+    (c.lawful_is_lawful_so_far.ensures c.args.plan.now c.args.readings.now) (c.table_of_alone.ensures c.args.plan.now c.args.readings.now) c.open.ensures.spool c.open.ensures.spool_survives
     (c.in-Ok.ensures.sound (λ is. cc))
     (by-same h.plan h.readings work tied.plan_is tied.readings_are (λ plan readings. Finished plan readings (list_in new)) c.in-Ok.ensures.finished)
 
