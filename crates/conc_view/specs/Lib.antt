@@ -1,0 +1,11 @@
+pub mod Book
+pub mod Bounds
+pub mod Counts
+pub mod Line
+pub mod Names
+pub mod Opened
+pub mod Publisher
+pub mod Stands
+pub mod Told
+pub mod Views
+pub mod Watcher
