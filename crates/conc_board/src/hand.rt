@@ -148,8 +148,8 @@ impl Board {
         self.table.shared.load::<Switches>(&mut hand.seat, word) == 1
     }
 
-    // Whether a place is open.
-    pub(crate) fn is_open(&self, hand: &mut Hand, place: PlaceId) -> bool
+    /// Whether a place is open.
+    pub fn is_open(&self, hand: &mut Hand, place: PlaceId) -> bool
         requires hand { IsHandOf self.now hand.old }
         requires place { IsPlace (plan_of self.now) place }
         ensures hand { Stays self.now hand.old hand.new }

@@ -1,5 +1,5 @@
-pub mod Moves
-pub mod Logged
 pub mod Ends
+pub mod Logged
+pub mod Moves
 pub mod Taken
-pub mod Pending
+pub mod Waiting

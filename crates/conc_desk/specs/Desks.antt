@@ -1,13 +1,5 @@
 -- Desks as contracts speak of them.
-use Rattle.std.specs.Prelude.{◌≡◌, List, Option, Some, reverse}
-use Rattle.std.specs.Option.{option_and_then}
-use Rattle.conc_types.specs.declared.event.Phase.{Phase}
-use Rattle.conc_types.specs.declared.event.Phase.TheVariants as phase
-use Rattle.conc_types.specs.declared.event.Status.{Status}
-use Rattle.conc_types.specs.declared.event.Status.TheVariants as status
-use Rattle.conc_types.specs.Plans.{request}
-use Rattle.conc_law.specs.State.{state}
-use Rattle.conc_law.specs.Status.{status_of}
+use Rattle.std.specs.Prelude.{◌≡◌, List, reverse}
 use Rattle.conc_types.specs.declared.event.Event.{Event}
 use Rattle.conc_types.specs.declared.event.RequestId.{RequestId}
 use Rattle.conc_types.specs.declared.plan.Plan.{Plan}
@@ -60,8 +52,3 @@ pub record MovesOne (board : Board) (r : RequestId) (old new : DeskState) : Type
   pub at : IsAt board new
   pub same : SameWork old new
   pub others : SameBut r old.lead new.lead
-
--- its status is that of a request which is let and waits to start
-abbrev pub HasStatusOfLet : Plan → List Event → RequestId → Type 0
-HasStatusOfLet plan past r =
-    ◌≡◌ {A = Option (Phase × Status)} (option_and_then (status_of plan (state plan past)) (request plan r)) (Some (phase.Pending, status.Normal))

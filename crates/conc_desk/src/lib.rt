@@ -3,8 +3,6 @@
 
 mod desk;
 mod keeping;
-mod waiting;
 
 pub use desk::Desk;
 pub use keeping::{KeepFail, Kept};
-pub use waiting::waits_to_start;

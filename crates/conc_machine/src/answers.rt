@@ -1,4 +1,4 @@
-ghost use Rattle.std.specs.Prelude.{◌≡◌, List};
+ghost use Rattle.std.specs.Prelude.{◌≡◌, ◌&&◌, List, not};
 ghost use Rattle.std.specs.List.{find};
 ghost use Rattle.std.specs.Option.{option_and_then, option_map};
 ghost use Rattle.conc_types.specs.declared.event.Event.{Event};
@@ -14,7 +14,7 @@ ghost use Rattle.conc_law.specs.Next.{runs_somewhere};
 ghost use Rattle.conc_law.specs.Places as places_spec;
 ghost use Rattle.conc_law.specs.Readings as readings_spec;
 ghost use Rattle.conc_law.specs.State as state_spec;
-ghost use Rattle.conc_law.specs.State.{is_stopping, now, state};
+ghost use Rattle.conc_law.specs.State.{is_running, is_stopping, now, state};
 ghost use Rattle.conc_law.specs.Status.{status_of};
 ghost use Rattle.conc_machine.specs.StandsFor.{plan_of, readings_of, StandsFor};
 
@@ -152,6 +152,22 @@ impl<'p> Machine<'p> {
             Some(r) => {
                 let facts = facts_at(&self.indexes.state, r);
                 facts.place.is_some() && facts.terminated
+            }
+            None => false,
+        }
+    }
+
+    /// Whether a request is let, and does not run.
+    pub fn waits_to_start(&self, request: RequestId) -> bool
+        ensures { (past : List Event) → StandsFor self.now past →
+            result ≡ some_and (λ r. (state_spec.facts_at (state (plan_of self.now) past) r).let_out
+            && not (is_running (state_spec.facts_at (state (plan_of self.now) past) r)))
+            (plans_spec.request (plan_of self.now) request) }
+    {
+        match self.plan.request(request) {
+            Some(r) => {
+                let facts = facts_at(&self.indexes.state, r);
+                facts.let_out && facts.place.is_none()
             }
             None => false,
         }

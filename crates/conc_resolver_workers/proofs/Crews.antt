@@ -14,6 +14,9 @@ use Rattle.conc_board.specs.declared.lead.Lead.{Lead}
 use Rattle.conc_board.specs.Seats.{IsHandOf, doing_of, places_of_hand, places_of_lead, plan_of}
 use Rattle.conc_board_seats.specs.declared.views.Doing.TheVariants.{Idle}
 use Rattle.conc_law.specs.Places.{count_of_places}
+use Rattle.conc_board_lanes.specs.Lanes.{AreHandPasses, IsHandPassOf}
+use Rattle.conc_board_lanes.specs.declared.lanes.HandPass.{HandPass}
+use Rattle.conc_board_lanes.specs.declared.lanes.Lanes.{Lanes}
 use Rattle.conc_resolver_workers.specs.Crews.{Covers, IsFree, IsFreeWorker, places_had, SamePlaces}
 use Rattle.conc_resolver_workers.specs.declared.crew.Worker.{Worker}
 
@@ -186,3 +189,19 @@ with-hand board places hand of_board idle passed within = (
   idle,
   record { of_plan = λ p is. record { within = within p is }; own = λ p is. ap (λ (ps : List PlaceId). has ps p) passed ∙ is },
 )
+
+-- ---- passes for the lanes
+
+-- of passes the last is one, and so are the others
+pub passes-last : (lanes : Lanes) (xs : List HandPass) (y : HandPass) → AreHandPasses lanes (xs ++ y ∷ []) → AreHandPasses lanes xs × IsHandPassOf lanes y
+unfolding AreHandPasses
+passes-last lanes [] y are = (tt, are.0)
+passes-last lanes (x ∷ xs) y are = let rest = passes-last lanes xs y are.1 in ((are.0, rest.0), rest.1)
+
+-- what holds of each worker and of one more holds of each then
+pub each-more : (P : ℕ → Worker → Type 0) (ws : List Worker) (w : Worker) → ((k : ℕ) (d : Worker) → k < length ws → P k (get_or ws k d)) → P (length ws) w
+    → (k : ℕ) (d : Worker) → k < length (ws ++ w ∷ []) → P k (get_or (ws ++ w ∷ []) k d)
+each-more P [] w each last zero d below = last
+each-more P [] w each last (suc k) d below = absurd (omega arith)
+each-more P (x ∷ ws) w each last zero d below = each 0 x (omega arith)
+each-more P (x ∷ ws) w each last (suc k) d below = each-more (λ j. P (suc j)) ws w (λ j e less. each (suc j) e (omega arith)) last k d (omega arith)

@@ -3,5 +3,8 @@ pub mod Logged
 pub mod Coming
 pub mod Awaiting
 pub mod Ending
+pub mod Filled
+pub mod PutWaiting
+pub mod Quiet
 pub mod Crews
 pub mod Waiting

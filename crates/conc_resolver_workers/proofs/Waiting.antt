@@ -9,15 +9,10 @@ use Rattle.conc_law.proofs.Numbering.{numbered_plan}
 use Rattle.conc_board.specs.declared.board.Board.{Board}
 use Rattle.conc_board.specs.Seats.{plan_of as board_plan}
 use Rattle.conc_board_seats.specs.Words.{IsRequest}
-use Rattle.conc_machine.specs.StandsFor.{plan_of}
-use Rattle.conc_machine.specs.declared.machine.Machine.{Machine}
-use Rattle.conc_desk.specs.Desks.{IsLetAfter, IsLetIn, list_at, plan_at}
+use Rattle.conc_desk.specs.Desks.{IsLetIn, plan_at}
 use Rattle.conc_desk.specs.State.{DeskState}
 use Rattle.conc_desk_lead.proofs.Named.{of_plan}
 use Rattle.conc_resolver_workers.proofs.Crews.{has-at}
-
-pub waits-in : (machine : Machine) (desk : DeskState) (r : RequestId) → machine ≡ desk.work.machine → IsLetAfter (plan_of machine) (reverse (list_at desk)) r → IsLetIn desk r
-waits-in machine desk r same waits = subst (λ (m : Machine). IsLetAfter (plan_of m) (reverse (list_at desk)) r) same waits
 
 -- what the plan has is a request of it
 pub has-request : (plan : Plan) (x : Req) → Has plan.requests x → IsRequest plan x.number

@@ -11,6 +11,8 @@ use Rattle.conc_board.specs.declared.board.Board.{Board}
 use Rattle.conc_board.specs.declared.hand.Hand.{Hand}
 use Rattle.conc_board.specs.declared.lead.Lead.{Lead}
 use Rattle.conc_board.specs.Seats.{IsHandOf, doing_of, places_of_hand, places_of_lead, plan_of}
+use Rattle.conc_board_lanes.specs.Lanes.{IsHandPassOf}
+use Rattle.conc_board_lanes.specs.declared.lanes.Lanes.{Lanes}
 use Rattle.conc_resolver_workers.specs.declared.crew.Worker.{Worker}
 use Rattle.conc_worker.specs.Places.{AreServed}
 
@@ -30,6 +32,10 @@ IsFree board places (Some hand) = IsHandOf board hand × (doing_of hand ≡ Idle
 abbrev pub IsFreeWorker : Board → Worker → Type 0
 IsFreeWorker board worker = IsFree board worker.places.items worker.hand
 
+-- its pass takes from these lanes
+abbrev pub HasPass : Lanes → Worker → Type 0
+HasPass lanes worker = IsHandPassOf lanes worker.pass
+
 -- the places that are its hand's
 abbrev pub places_had : Option Hand → List PlaceId
 places_had None = []
@@ -39,6 +45,11 @@ places_had (Some hand) = places_of_hand hand
 pub record SamePlaces (before after : List Worker) : Type 0 where
   pub long : length after ≡ length before
   pub each : (i : ℕ) (d : Worker) → i < length before → places_had (slice_index_or after i d).hand ≡ places_had (slice_index_or before i d).hand
+
+-- each worker has the pass that it had
+pub record SamePasses (before after : List Worker) : Type 0 where
+  pub long : length after ≡ length before
+  pub each : (i : ℕ) (d : Worker) → i < length before → (slice_index_or after i d).pass ≡ (slice_index_or before i d).pass
 
 -- each place of the plan is the lead's, or that of a worker's hand
 pub record Covers (plan : Plan) (lead : Lead) (crew : List Worker) : Type 0 where

@@ -1,3 +1,4 @@
 pub mod Crews
+pub mod Filling
 pub mod Resolving
 pub mod Runs

@@ -1,11 +1,15 @@
-// The workers of a run: each has a hand at the board, and places of its own.
+// The workers of a run: each has a hand at the board, a pass for the lanes, and places of its own.
 ghost use Rattle.std.specs.Prelude.{◌≡◌, ◌<◌, ◌≤◌, ℕ, All, IfOk, length, None, slice_index_or, vec_len};
 ghost use Rattle.std.specs.Thread.{IsSync};
 ghost use Rattle.conc_types.specs.declared.event.RequestId.{RequestId};
 ghost use Rattle.conc_board.specs.Seats.{HasAllPlaces, IsLeadOf, plan_of, SameLeadStates};
-ghost use Rattle.conc_resolver_workers.specs.Crews.{AreDealt, Covers, IsFree, IsFreeWorker, places_had, SamePlaces};
+ghost use Rattle.conc_board_lanes.specs.Lanes as lanes_spec;
+ghost use Rattle.conc_board_lanes.specs.Lanes.{AreHandPasses};
+ghost use Rattle.conc_board_lanes.specs.declared.lanes.Lanes.{Lanes};
+ghost use Rattle.conc_resolver_workers.specs.Crews.{AreDealt, Covers, HasPass, IsFree, IsFreeWorker, places_had, SamePasses, SamePlaces};
 
 use conc_board::{Board, Hand, Lead};
+use conc_board_lanes::{HandPass, Lanes};
 use conc_outside_gate::Gate;
 use conc_time::place_count;
 use conc_types::{NoMemory, PlaceId, Plan};
@@ -19,6 +23,7 @@ use std::thread::Threads;
 #[derive(Drop)]
 pub(crate) struct Worker {
     pub(crate) hand: Option<Hand>,
+    pub(crate) pass: HandPass,
     pub(crate) places: Vec<PlaceId>,
 }
 
@@ -36,17 +41,32 @@ fn dealt(alloc: Global, plan: &Plan, threads: u32, rest: u32) -> Result<Vec<Plac
     Ok(places)
 }
 
-/// So many workers without a hand, among whom the places are dealt in turn.
-pub(crate) fn hire(alloc: Global, plan: &Plan, threads: u32) -> Result<Vec<Worker>, NoMemory>
-    requires { 0 < threads }
+/// A worker without a hand for each of so many passes. The places are dealt among them in turn.
+pub(crate) fn hire(
+    alloc: Global,
+    plan: &Plan,
+    threads: u32,
+    mut passes: Vec<HandPass>,
+) -> Result<Vec<Worker>, NoMemory>
+    requires some { 0 < threads }
+    requires passes { vec_len passes ≡ threads }
     ensures count { IfOk result (λ crew. vec_len crew ≡ threads) }
     ensures dealt { IfOk result (λ crew. (i : ℕ) (d : _) → i < threads
         → AreDealt plan.now threads i (slice_index_or crew.items i d).places.items) }
+    ensures passes { IfOk result (λ crew. (lanes : Lanes) → AreHandPasses lanes passes.items
+        → All (HasPass lanes) crew.items) }
 {
     let mut crew = Vec::with_capacity(alloc, threads as usize)?;
     for rest in 0..threads {
         let places = dealt(alloc, plan, threads, rest)?;
-        crew.push(Worker { hand: None, places })?;
+        let Some(pass) = passes.pop() else {
+            unreachable!()
+        };
+        crew.push(Worker {
+            hand: None,
+            pass,
+            places,
+        })?;
     }
     Ok(crew)
 }
@@ -63,6 +83,7 @@ pub(crate) fn give_hands(board: &Board, lead: &mut Lead, crew: &mut [Worker])
     ensures lead_states { SameLeadStates lead.old lead.new }
     ensures free { All (IsFreeWorker board.now) crew.new }
     ensures covers { Covers (plan_of board.now) lead.new crew.new }
+    ensures passes { SamePasses crew.old crew.new }
 {
     for index in 0..crew.len() {
         let hand = board.split(lead, crew[index].places.as_slice());
@@ -76,18 +97,31 @@ fn serve<R: Wait, G: Gate>(
     alloc: Global,
     board: &Board,
     plan: &Plan,
+    lanes: &Lanes<'_>,
     worker: &mut Worker,
     gate: &G,
 )
     requires plan { plan.now ≡ plan_of board.now }
+    requires lanes { lanes_spec.plan_of lanes.now ≡ plan.now }
     requires free { IsFreeWorker board.now worker.old }
+    requires pass { HasPass lanes.now worker.old }
     ensures free { IsFreeWorker board.now worker.new }
     ensures places { places_had worker.new.hand ≡ places_had worker.old.hand }
 {
     let Some(hand) = worker.hand.take() else {
         unreachable!()
     };
-    let hand = work(rt, alloc, board, plan, hand, worker.places.as_slice(), gate);
+    let hand = work(
+        rt,
+        alloc,
+        board,
+        plan,
+        hand,
+        worker.places.as_slice(),
+        lanes,
+        &mut worker.pass,
+        gate,
+    );
     worker.hand = Some(hand);
 }
 
@@ -97,12 +131,15 @@ pub(crate) fn serve_all<R: Threads + Wait + Sync, G: Gate + Sync>(
     alloc: Global,
     board: &Board,
     plan: &Plan,
+    lanes: &Lanes<'_>,
     crew: &mut [Worker],
     gate: &G,
 )
     requires plan { plan.now ≡ plan_of board.now }
+    requires lanes { lanes_spec.plan_of lanes.now ≡ plan.now }
     requires some { 0 < length crew.old }
     requires free { All (IsFreeWorker board.now) crew.old }
+    requires passes { All (HasPass lanes.now) crew.old }
     ensures free { All (IsFreeWorker board.now) crew.new }
     ensures places { SamePlaces crew.old crew.new }
 {
@@ -112,10 +149,11 @@ pub(crate) fn serve_all<R: Threads + Wait + Sync, G: Gate + Sync>(
         crew,
         threads,
         &|_index, worker: &mut Worker|
-            requires { (plan.now ≡ plan_of board.now) × IsFreeWorker board.now worker.now }
+            requires { (plan.now ≡ plan_of board.now) × (lanes_spec.plan_of lanes.now ≡ plan.now)
+                × IsFreeWorker board.now worker.now × HasPass lanes.now worker.now }
             ensures { IsFreeWorker board.entry.now worker.exit.now
                 × (places_had worker.exit.now.hand ≡ places_had worker.entry.now.hand) }
-        { serve(rt, alloc, board, plan, worker, gate) },
+        { serve(rt, alloc, board, plan, lanes, worker, gate) },
     );
 }
 

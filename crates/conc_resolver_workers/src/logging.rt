@@ -9,6 +9,7 @@ ghost use Rattle.conc_law.specs.Kinds.{is_resume};
 ghost use Rattle.conc_law.specs.Law.{Lawful};
 ghost use Rattle.conc_run_state.specs.Disks.{disks};
 ghost use Rattle.conc_run_steps.specs.Steps.{readings_in};
+ghost use Rattle.conc_resolver_workers.specs.Filling.{AddsEvent, AddsNoLet};
 ghost use Rattle.conc_resolver_workers.specs.Resolving.{IsAtWork, Resolves};
 
 use conc_board::Board;
@@ -37,9 +38,10 @@ pub(crate) fn log<R: Wait, D: Disk, E: Disk, T: Teller>(
     requires no_resume { IsFalse (is_resume event) }
     requires seen { WasSeen event desk.old }
     requires no_end { IsItsTurn None event }
-    ensures { Resolves board.now (disks (D.state journal.old) (D.state journal.new)
+    ensures resolves { Resolves board.now (disks (D.state journal.old) (D.state journal.new)
         (E.state spool.now) (E.state spool.now)) (T.list teller.new) (T.takes teller.new)
         (T.may_lack teller.new) result desk.old desk.new }
+    ensures adds { AddsEvent event result desk.old desk.new }
 {
     match desk.log_event(board, journal, event) {
         Ok(receipt) => tell(rt, teller, &receipt),
@@ -62,9 +64,10 @@ pub(crate) fn end<R: Wait, D: Disk, E: Disk, T: Teller>(
         (T.list teller.old) (T.takes teller.old) }
     requires request { IsRequest (plan_of board.now) r }
     requires gone { IsGone (lead_state_at desk.old r) }
-    ensures { Resolves board.now (disks (D.state journal.old) (D.state journal.new)
+    ensures resolves { Resolves board.now (disks (D.state journal.old) (D.state journal.new)
         (E.state spool.old) (E.state spool.new)) (T.list teller.new) (T.takes teller.new)
         (T.may_lack teller.new) result desk.old desk.new }
+    ensures adds { AddsNoLet desk.old desk.new }
 {
     if desk.machine().forced().is_some() {
         return Ok(false);

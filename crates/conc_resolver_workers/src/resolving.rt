@@ -8,11 +8,13 @@ ghost use Rattle.conc_desk.specs.Desks.{lead_state_at, list_at, plan_at};
 ghost use Rattle.conc_law.specs.Law.{Finished};
 ghost use Rattle.conc_run_state.specs.Disks.{disks};
 ghost use Rattle.conc_run_steps.specs.Steps.{readings_in};
+ghost use Rattle.conc_resolver_workers.specs.Filling.{AddsNoLet, AreFilled, Fills};
 ghost use Rattle.conc_resolver_workers.specs.Resolving.{IsAtWork, Resolves};
 
-use crate::boarding::{release, release_all, release_if_let, set_places, withdraw};
+use crate::boarding::{let_out, release, release_all, set_places, withdraw};
 use crate::logging::{end, log};
 use conc_board::{Board, Looked, Progress};
+use conc_board_lanes::{Lanes, LeadPass};
 use conc_desk::Desk;
 use conc_disk::Disk;
 use conc_journal::Teller;
@@ -25,28 +27,42 @@ use std::thread;
 // How often the resolver looks at the places before it sleeps.
 const LOOKS: u32 = 64;
 
+/// What the resolver keeps beside its desk, so that hands and it find work at once.
+#[derive(Drop)]
+pub(crate) struct Hints {
+    /// The pass that puts into the lanes.
+    pub(crate) pass: LeadPass,
+    /// For each place the request that was started there last.
+    pub(crate) started: Vec<Option<RequestId>>,
+}
+
 // ---- single events
 
-// Journals what is forced, if anything is. A request that is let is let out on the board. True where something was.
+// Journals what is forced, if anything is. A request that is let is let out on the board, and put into the lanes. True where
+// something was.
 fn settle_one<R: Wait, D: Disk, E: Disk, T: Teller>(
     rt: &R,
     board: &Board,
+    lanes: &Lanes<'_>,
     desk: &mut Desk<'_>,
     journal: &mut D,
     spool: &mut E,
     teller: &mut T,
+    pass: &mut LeadPass,
 ) -> Result<bool, RunFail>
     requires at_work { IsAtWork board.now desk.old (D.state journal.old) (E.state spool.old)
         (T.list teller.old) (T.takes teller.old) }
-    ensures { Resolves board.now (disks (D.state journal.old) (D.state journal.new)
+    requires filled { AreFilled lanes.now desk.old pass.old }
+    ensures resolves { Resolves board.now (disks (D.state journal.old) (D.state journal.new)
         (E.state spool.old) (E.state spool.new)) (T.list teller.new) (T.takes teller.new)
         (T.may_lack teller.new) result desk.old desk.new }
+    ensures fills { Fills lanes.now result desk.old desk.new pass.new }
 {
     let Some(event) = desk.machine().forced() else {
         return Ok(false);
     };
     log(rt, board, desk, journal, spool, teller, event)?;
-    release_if_let(board, desk, event);
+    let_out(rt, board, lanes, desk, pass, event);
     Ok(true)
 }
 
@@ -54,19 +70,23 @@ fn settle_one<R: Wait, D: Disk, E: Disk, T: Teller>(
 fn settle<R: Wait, D: Disk, E: Disk, T: Teller>(
     rt: &R,
     board: &Board,
+    lanes: &Lanes<'_>,
     desk: &mut Desk<'_>,
     journal: &mut D,
     spool: &mut E,
     teller: &mut T,
+    pass: &mut LeadPass,
 ) -> Result<(), RunFail>
     requires at_work { IsAtWork board.now desk.old (D.state journal.old) (E.state spool.old)
         (T.list teller.old) (T.takes teller.old) }
-    ensures { Resolves board.now (disks (D.state journal.old) (D.state journal.new)
+    requires filled { AreFilled lanes.now desk.old pass.old }
+    ensures resolves { Resolves board.now (disks (D.state journal.old) (D.state journal.new)
         (E.state spool.old) (E.state spool.new)) (T.list teller.new) (T.takes teller.new)
         (T.may_lack teller.new) result desk.old desk.new }
+    ensures fills { Fills lanes.now result desk.old desk.new pass.new }
 {
     for _ in rt.forever() {
-        if !settle_one(rt, board, desk, journal, spool, teller)? {
+        if !settle_one(rt, board, lanes, desk, journal, spool, teller, pass)? {
             return Ok(());
         }
     }
@@ -84,9 +104,10 @@ fn take_reading<R: Wait, D: Disk, E: Disk, T: Teller>(
 ) -> Result<bool, RunFail>
     requires at_work { IsAtWork board.now desk.old (D.state journal.old) (E.state spool.old)
         (T.list teller.old) (T.takes teller.old) }
-    ensures { Resolves board.now (disks (D.state journal.old) (D.state journal.new)
+    ensures resolves { Resolves board.now (disks (D.state journal.old) (D.state journal.new)
         (E.state spool.old) (E.state spool.new)) (T.list teller.new) (T.takes teller.new)
         (T.may_lack teller.new) result desk.old desk.new }
+    ensures adds { AddsNoLet desk.old desk.new }
 {
     let machine = desk.machine();
     if machine.forced().is_some() {
@@ -122,9 +143,10 @@ fn start<R: Wait, D: Disk, E: Disk, T: Teller>(
         (T.list teller.old) (T.takes teller.old) }
     requires request { IsRequest (plan_of board.now) r }
     requires let_out { IsLet (lead_state_at desk.old r) }
-    ensures { Resolves board.now (disks (D.state journal.old) (D.state journal.new)
+    ensures resolves { Resolves board.now (disks (D.state journal.old) (D.state journal.new)
         (E.state spool.old) (E.state spool.new)) (T.list teller.new) (T.takes teller.new)
         (T.may_lack teller.new) result desk.old desk.new }
+    ensures adds { AddsNoLet desk.old desk.new }
 {
     let Looked::Claimed(place) = desk.look(board, r) else {
         return Ok(false);
@@ -169,9 +191,10 @@ fn look_at<R: Wait, D: Disk, E: Disk, T: Teller>(
 ) -> Result<bool, RunFail>
     requires at_work { IsAtWork board.now desk.old (D.state journal.old) (E.state spool.old)
         (T.list teller.old) (T.takes teller.old) }
-    ensures { Resolves board.now (disks (D.state journal.old) (D.state journal.new)
+    ensures resolves { Resolves board.now (disks (D.state journal.old) (D.state journal.new)
         (E.state spool.old) (E.state spool.new)) (T.list teller.new) (T.takes teller.new)
         (T.may_lack teller.new) result desk.old desk.new }
+    ensures adds { AddsNoLet desk.old desk.new }
 {
     if desk.machine().plan().request(r).is_none() {
         return Ok(false);
@@ -188,21 +211,42 @@ fn look_at<R: Wait, D: Disk, E: Disk, T: Teller>(
 fn see_to<R: Wait, D: Disk, E: Disk, T: Teller>(
     rt: &R,
     board: &Board,
+    lanes: &Lanes<'_>,
     desk: &mut Desk<'_>,
     journal: &mut D,
     spool: &mut E,
     teller: &mut T,
-    started: &mut [Option<RequestId>],
+    hints: &mut Hints,
     r: RequestId,
 ) -> Result<bool, RunFail>
     requires at_work { IsAtWork board.now desk.old (D.state journal.old) (E.state spool.old)
         (T.list teller.old) (T.takes teller.old) }
-    ensures { Resolves board.now (disks (D.state journal.old) (D.state journal.new)
+    requires filled { AreFilled lanes.now desk.old hints.old.pass }
+    ensures resolves { Resolves board.now (disks (D.state journal.old) (D.state journal.new)
         (E.state spool.old) (E.state spool.new)) (T.list teller.new) (T.takes teller.new)
         (T.may_lack teller.new) result desk.old desk.new }
+    ensures fills { Fills lanes.now result desk.old desk.new hints.new.pass }
 {
-    let any = look_at(rt, board, desk, journal, spool, teller, started, r)?;
-    settle(rt, board, desk, journal, spool, teller)?;
+    let any = look_at(
+        rt,
+        board,
+        desk,
+        journal,
+        spool,
+        teller,
+        hints.started.as_mut_slice(),
+        r,
+    )?;
+    settle(
+        rt,
+        board,
+        lanes,
+        desk,
+        journal,
+        spool,
+        teller,
+        &mut hints.pass,
+    )?;
     Ok(any)
 }
 
@@ -210,21 +254,24 @@ fn see_to<R: Wait, D: Disk, E: Disk, T: Teller>(
 fn see_to_started<R: Wait, D: Disk, E: Disk, T: Teller>(
     rt: &R,
     board: &Board,
+    lanes: &Lanes<'_>,
     desk: &mut Desk<'_>,
     journal: &mut D,
     spool: &mut E,
     teller: &mut T,
-    started: &mut [Option<RequestId>],
+    hints: &mut Hints,
     place: PlaceId,
 ) -> Result<bool, RunFail>
     requires at_work { IsAtWork board.now desk.old (D.state journal.old) (E.state spool.old)
         (T.list teller.old) (T.takes teller.old) }
-    ensures { Resolves board.now (disks (D.state journal.old) (D.state journal.new)
+    requires filled { AreFilled lanes.now desk.old hints.old.pass }
+    ensures resolves { Resolves board.now (disks (D.state journal.old) (D.state journal.new)
         (E.state spool.old) (E.state spool.new)) (T.list teller.new) (T.takes teller.new)
         (T.may_lack teller.new) result desk.old desk.new }
+    ensures fills { Fills lanes.now result desk.old desk.new hints.new.pass }
 {
-    match started.get(place.index as usize).copied().flatten() {
-        Some(r) => see_to(rt, board, desk, journal, spool, teller, started, r),
+    match hints.started.get(place.index as usize).copied().flatten() {
+        Some(r) => see_to(rt, board, lanes, desk, journal, spool, teller, hints, r),
         None => Ok(false),
     }
 }
@@ -233,21 +280,24 @@ fn see_to_started<R: Wait, D: Disk, E: Disk, T: Teller>(
 fn see_to_claimed<R: Wait, D: Disk, E: Disk, T: Teller>(
     rt: &R,
     board: &Board,
+    lanes: &Lanes<'_>,
     desk: &mut Desk<'_>,
     journal: &mut D,
     spool: &mut E,
     teller: &mut T,
-    started: &mut [Option<RequestId>],
+    hints: &mut Hints,
     place: PlaceId,
 ) -> Result<bool, RunFail>
     requires at_work { IsAtWork board.now desk.old (D.state journal.old) (E.state spool.old)
         (T.list teller.old) (T.takes teller.old) }
-    ensures { Resolves board.now (disks (D.state journal.old) (D.state journal.new)
+    requires filled { AreFilled lanes.now desk.old hints.old.pass }
+    ensures resolves { Resolves board.now (disks (D.state journal.old) (D.state journal.new)
         (E.state spool.old) (E.state spool.new)) (T.list teller.new) (T.takes teller.new)
         (T.may_lack teller.new) result desk.old desk.new }
+    ensures fills { Fills lanes.now result desk.old desk.new hints.new.pass }
 {
     match board.last_claim(place) {
-        Some(r) => see_to(rt, board, desk, journal, spool, teller, started, r),
+        Some(r) => see_to(rt, board, lanes, desk, journal, spool, teller, hints, r),
         None => Ok(false),
     }
 }
@@ -256,23 +306,26 @@ fn see_to_claimed<R: Wait, D: Disk, E: Disk, T: Teller>(
 fn see_to_places<R: Wait, D: Disk, E: Disk, T: Teller>(
     rt: &R,
     board: &Board,
+    lanes: &Lanes<'_>,
     desk: &mut Desk<'_>,
     journal: &mut D,
     spool: &mut E,
     teller: &mut T,
-    started: &mut [Option<RequestId>],
+    hints: &mut Hints,
 ) -> Result<bool, RunFail>
     requires at_work { IsAtWork board.now desk.old (D.state journal.old) (E.state spool.old)
         (T.list teller.old) (T.takes teller.old) }
-    ensures { Resolves board.now (disks (D.state journal.old) (D.state journal.new)
+    requires filled { AreFilled lanes.now desk.old hints.old.pass }
+    ensures resolves { Resolves board.now (disks (D.state journal.old) (D.state journal.new)
         (E.state spool.old) (E.state spool.new)) (T.list teller.new) (T.takes teller.new)
         (T.may_lack teller.new) result desk.old desk.new }
+    ensures fills { Fills lanes.now result desk.old desk.new hints.new.pass }
 {
     let mut any = false;
     for index in 0..place_count(desk.machine().plan()) {
         let place = PlaceId { index };
-        any = see_to_started(rt, board, desk, journal, spool, teller, started, place)? || any;
-        any = see_to_claimed(rt, board, desk, journal, spool, teller, started, place)? || any;
+        any = see_to_started(rt, board, lanes, desk, journal, spool, teller, hints, place)? || any;
+        any = see_to_claimed(rt, board, lanes, desk, journal, spool, teller, hints, place)? || any;
     }
     Ok(any)
 }
@@ -281,17 +334,20 @@ fn see_to_places<R: Wait, D: Disk, E: Disk, T: Teller>(
 fn see_to_all<R: Wait, D: Disk, E: Disk, T: Teller>(
     rt: &R,
     board: &Board,
+    lanes: &Lanes<'_>,
     desk: &mut Desk<'_>,
     journal: &mut D,
     spool: &mut E,
     teller: &mut T,
-    started: &mut [Option<RequestId>],
+    hints: &mut Hints,
 ) -> Result<bool, RunFail>
     requires at_work { IsAtWork board.now desk.old (D.state journal.old) (E.state spool.old)
         (T.list teller.old) (T.takes teller.old) }
-    ensures { Resolves board.now (disks (D.state journal.old) (D.state journal.new)
+    requires filled { AreFilled lanes.now desk.old hints.old.pass }
+    ensures resolves { Resolves board.now (disks (D.state journal.old) (D.state journal.new)
         (E.state spool.old) (E.state spool.new)) (T.list teller.new) (T.takes teller.new)
         (T.may_lack teller.new) result desk.old desk.new }
+    ensures fills { Fills lanes.now result desk.old desk.new hints.new.pass }
 {
     let plan = desk.machine().plan();
     let mut any = false;
@@ -299,11 +355,12 @@ fn see_to_all<R: Wait, D: Disk, E: Disk, T: Teller>(
         any = see_to(
             rt,
             board,
+            lanes,
             desk,
             journal,
             spool,
             teller,
-            started,
+            hints,
             request.number,
         )? || any;
     }
@@ -316,26 +373,29 @@ fn see_to_all<R: Wait, D: Disk, E: Disk, T: Teller>(
 fn wait_for_hands<R: Wait, D: Disk, E: Disk, T: Teller>(
     rt: &R,
     board: &Board,
+    lanes: &Lanes<'_>,
     desk: &mut Desk<'_>,
     journal: &mut D,
     spool: &mut E,
     teller: &mut T,
-    started: &mut [Option<RequestId>],
+    hints: &mut Hints,
 ) -> Result<(), RunFail>
     requires at_work { IsAtWork board.now desk.old (D.state journal.old) (E.state spool.old)
         (T.list teller.old) (T.takes teller.old) }
-    ensures { Resolves board.now (disks (D.state journal.old) (D.state journal.new)
+    requires filled { AreFilled lanes.now desk.old hints.old.pass }
+    ensures resolves { Resolves board.now (disks (D.state journal.old) (D.state journal.new)
         (E.state spool.old) (E.state spool.new)) (T.list teller.new) (T.takes teller.new)
         (T.may_lack teller.new) result desk.old desk.new }
+    ensures fills { Fills lanes.now result desk.old desk.new hints.new.pass }
 {
     for _ in 0..LOOKS {
         thread::yield_now();
-        if see_to_places(rt, board, desk, journal, spool, teller, started)? {
+        if see_to_places(rt, board, lanes, desk, journal, spool, teller, hints)? {
             return Ok(());
         }
     }
     let key = board.lead_bell().prepare_wait();
-    if see_to_all(rt, board, desk, journal, spool, teller, started)? {
+    if see_to_all(rt, board, lanes, desk, journal, spool, teller, hints)? {
         return Ok(());
     }
     key.wait(rt);
@@ -346,22 +406,34 @@ fn wait_for_hands<R: Wait, D: Disk, E: Disk, T: Teller>(
 fn turn<R: Wait, D: Disk, E: Disk, T: Teller>(
     rt: &R,
     board: &Board,
+    lanes: &Lanes<'_>,
     desk: &mut Desk<'_>,
     journal: &mut D,
     spool: &mut E,
     teller: &mut T,
-    started: &mut [Option<RequestId>],
+    hints: &mut Hints,
 ) -> Result<bool, RunFail>
     requires at_work { IsAtWork board.now desk.old (D.state journal.old) (E.state spool.old)
         (T.list teller.old) (T.takes teller.old) }
+    requires filled { AreFilled lanes.now desk.old hints.old.pass }
     ensures resolves { Resolves board.now (disks (D.state journal.old) (D.state journal.new)
         (E.state spool.old) (E.state spool.new)) (T.list teller.new) (T.takes teller.new)
         (T.may_lack teller.new) result desk.old desk.new }
+    ensures fills { Fills lanes.now result desk.old desk.new hints.new.pass }
     ensures finished { IfOk result (λ finished. IsTrue finished → Finished (plan_at desk.new)
         (readings_in desk.new.work) (list_at desk.new)) }
 {
-    settle(rt, board, desk, journal, spool, teller)?;
-    if see_to_places(rt, board, desk, journal, spool, teller, started)? {
+    settle(
+        rt,
+        board,
+        lanes,
+        desk,
+        journal,
+        spool,
+        teller,
+        &mut hints.pass,
+    )?;
+    if see_to_places(rt, board, lanes, desk, journal, spool, teller, hints)? {
         return Ok(false);
     }
     if take_reading(rt, board, desk, journal, spool, teller)? {
@@ -370,7 +442,7 @@ fn turn<R: Wait, D: Disk, E: Disk, T: Teller>(
     if desk.machine().at_rest() && desk.machine().next_reading().is_none() {
         return Ok(true);
     }
-    wait_for_hands(rt, board, desk, journal, spool, teller, started)?;
+    wait_for_hands(rt, board, lanes, desk, journal, spool, teller, hints)?;
     Ok(false)
 }
 
@@ -378,25 +450,37 @@ fn turn<R: Wait, D: Disk, E: Disk, T: Teller>(
 pub(crate) fn resolve<R: Wait, D: Disk, E: Disk, T: Teller>(
     rt: &R,
     board: &Board,
+    lanes: &Lanes<'_>,
     desk: &mut Desk<'_>,
     journal: &mut D,
     spool: &mut E,
     teller: &mut T,
-    started: &mut [Option<RequestId>],
+    hints: &mut Hints,
 ) -> Result<(), RunFail>
     requires at_work { IsAtWork board.now desk.old (D.state journal.old) (E.state spool.old)
         (T.list teller.old) (T.takes teller.old) }
+    requires filled { AreFilled lanes.now desk.old hints.old.pass }
     ensures resolves { Resolves board.now (disks (D.state journal.old) (D.state journal.new)
         (E.state spool.old) (E.state spool.new)) (T.list teller.new) (T.takes teller.new)
         (T.may_lack teller.new) result desk.old desk.new }
+    ensures fills { Fills lanes.now result desk.old desk.new hints.new.pass }
     ensures finished { OnOk result (Finished (plan_at desk.new) (readings_in desk.new.work)
         (list_at desk.new)) }
 {
     set_places(board, desk);
-    settle(rt, board, desk, journal, spool, teller)?;
+    settle(
+        rt,
+        board,
+        lanes,
+        desk,
+        journal,
+        spool,
+        teller,
+        &mut hints.pass,
+    )?;
     release_all(board, desk);
     for _ in rt.forever() {
-        if turn(rt, board, desk, journal, spool, teller, started)? {
+        if turn(rt, board, lanes, desk, journal, spool, teller, hints)? {
             return Ok(());
         }
     }

@@ -1,4 +1,4 @@
-ghost use Rattle.std.specs.Prelude.{◌≡◌, ◌⊎◌, ◌<◌, All, IfOk, IsErrOf, IsTrue, length, OnOk, vec_len};
+ghost use Rattle.std.specs.Prelude.{◌≡◌, ◌⊎◌, ◌<◌, [], All, IfOk, IsErrOf, IsTrue, length, OnOk, replicate, vec_len};
 ghost use Rattle.conc_types.specs.declared.event.RequestId.{RequestId};
 ghost use Rattle.conc_board_seats.specs.declared.views.LeadState.TheVariants as lead_state;
 ghost use Rattle.std.specs.Thread.{IsSync};
@@ -12,15 +12,19 @@ ghost use Rattle.conc_run_state.specs.Works.{list_in};
 ghost use Rattle.conc_run_state.specs.declared.error.RunFail.TheVariants as run_fail;
 ghost use Rattle.conc_run_steps.specs.Going.{WentOn};
 ghost use Rattle.conc_run_steps.specs.Steps.{IsReady, plan_in, readings_in};
-ghost use Rattle.conc_resolver_workers.specs.Crews.{Covers, IsFreeWorker, SamePlaces};
+ghost use Rattle.conc_board_lanes.specs.Lanes as lanes_spec;
+ghost use Rattle.conc_board_lanes.specs.Lanes.{IsLeadPassOf, puts_of};
+ghost use Rattle.conc_resolver_workers.specs.Crews.{Covers, HasPass, IsFreeWorker, SamePlaces};
+ghost use Rattle.conc_resolver_workers.specs.Filling.{AreFilled, Fills, HasPuts};
 ghost use Rattle.conc_resolver_workers.specs.Resolving.{IsAtWork, Resolves};
 ghost use Rattle.conc_run_steps.specs.Told.{IsTold, IsUntold};
 ghost use Rattle.conc_resolver_workers.specs.Runs.{AwaitsReport};
 
-use crate::boarding::withdraw_all;
+use crate::boarding::{put_waiting, withdraw_all};
 use crate::crew::{Worker, give_hands, hire, serve_all, take_in};
-use crate::resolving::resolve;
+use crate::resolving::{Hints, resolve};
 use conc_board::{Board, Lead};
+use conc_board_lanes::{Lanes, LeadPass};
 use conc_desk::Desk;
 use conc_disk::Disk;
 use conc_journal::Teller;
@@ -37,6 +41,8 @@ use std::thread::{Threads, join_mut};
 pub struct Ran<'p> {
     /// The work, whose parts stand for the list that was acknowledged.
     pub work: Work<'p>,
+    /// The pass with which the lanes of the run were filled. None only with want of memory.
+    pub puts: Option<LeadPass>,
     /// Whether the history is finished, or why it is not.
     pub answer: Result<(), RunFail>,
 }
@@ -46,21 +52,24 @@ pub struct Ran<'p> {
 fn direct<R: Wait, D: Disk, E: Disk, T: Teller>(
     rt: &R,
     board: &Board,
+    lanes: &Lanes<'_>,
     desk: &mut Desk<'_>,
     journal: &mut D,
     spool: &mut E,
     teller: &mut T,
-    started: &mut [Option<RequestId>],
+    hints: &mut Hints,
 ) -> Result<(), RunFail>
     requires at_work { IsAtWork board.now desk.old (D.state journal.old) (E.state spool.old)
         (T.list teller.old) (T.takes teller.old) }
+    requires filled { AreFilled lanes.now desk.old hints.old.pass }
     ensures resolves { Resolves board.now (disks (D.state journal.old) (D.state journal.new)
         (E.state spool.old) (E.state spool.new)) (T.list teller.new) (T.takes teller.new)
         (T.may_lack teller.new) result desk.old desk.new }
     ensures finished { OnOk result (Finished (plan_at desk.new) (readings_in desk.new.work)
         (list_at desk.new)) }
+    ensures fills { Fills lanes.now result desk.old desk.new hints.new.pass }
 {
-    let answer = resolve(rt, board, desk, journal, spool, teller, started);
+    let answer = resolve(rt, board, lanes, desk, journal, spool, teller, hints);
     withdraw_all(board, desk);
     desk.finish_all(board);
     answer
@@ -77,6 +86,7 @@ fn run_beside<
     rt: &R,
     alloc: Global,
     board: &Board,
+    lanes: &Lanes<'_>,
     plan: &Plan,
     desk: &mut Desk<'_>,
     crew: &mut [Worker],
@@ -84,10 +94,13 @@ fn run_beside<
     spool: &mut E,
     teller: &mut T,
     gate: &G,
-    started: &mut [Option<RequestId>],
+    hints: &mut Hints,
     answer: &mut Result<(), RunFail>,
 )
     requires plan { plan.now ≡ plan_of board.now }
+    requires lanes { lanes_spec.plan_of lanes.now ≡ plan.now }
+    requires filled { AreFilled lanes.now desk.old hints.old.pass }
+    requires passes { All (HasPass lanes.now) crew.old }
     requires at_work { IsAtWork board.now desk.old (D.state journal.old) (E.state spool.old)
         (T.list teller.old) (T.takes teller.old) }
     requires some { 0 < length crew.old }
@@ -97,37 +110,42 @@ fn run_beside<
         (T.may_lack teller.new) answer.new desk.old desk.new }
     ensures finished { OnOk answer.new (Finished (plan_at desk.new) (readings_in desk.new.work)
         (list_at desk.new)) }
+    ensures fills { Fills lanes.now answer.new desk.old desk.new hints.new.pass }
     ensures free { All (IsFreeWorker board.now) crew.new }
     ensures places { SamePlaces crew.old crew.new }
 {
     join_mut(
         rt,
         &mut ||
-            requires { IsSync R.row × (plan.now ≡ plan_of board.now) × (0 < length crew.now)
-                × All (IsFreeWorker board.now) crew.now }
+            requires { IsSync R.row × (plan.now ≡ plan_of board.now)
+                × (lanes_spec.plan_of lanes.now ≡ plan.now) × (0 < length crew.now)
+                × All (IsFreeWorker board.now) crew.now × All (HasPass lanes.now) crew.now }
             ensures { All (IsFreeWorker board.entry.now) crew.exit.now
                 × SamePlaces crew.entry.now crew.exit.now }
-        { serve_all(rt, alloc, board, plan, crew, gate) },
+        { serve_all(rt, alloc, board, plan, lanes, crew, gate) },
         &mut ||
             requires { IsAtWork board.now desk.now (D.state journal.now) (E.state spool.now)
-                (T.list teller.now) (T.takes teller.now) }
+                (T.list teller.now) (T.takes teller.now) × AreFilled lanes.now desk.now hints.now.pass }
             ensures { Resolves board.entry.now (disks (D.state journal.entry.now)
                 (D.state journal.exit.now) (E.state spool.entry.now) (E.state spool.exit.now))
                 (T.list teller.exit.now) (T.takes teller.exit.now) (T.may_lack teller.exit.now) answer.exit.now desk.entry.now
                 desk.exit.now
                 × OnOk answer.exit.now (Finished (plan_at desk.exit.now)
-                (readings_in desk.exit.now.work) (list_at desk.exit.now)) }
-        { *answer = direct(rt, board, desk, journal, spool, teller, started) },
+                (readings_in desk.exit.now.work) (list_at desk.exit.now))
+                × Fills lanes.entry.now answer.exit.now desk.entry.now desk.exit.now
+                hints.exit.now.pass }
+        { *answer = direct(rt, board, lanes, desk, journal, spool, teller, hints) },
     );
 }
 
-// What a run with workers needs beside its work: a board, its lead, the workers, and for each place the request that was started
-// there last.
-struct Means {
+// What a run with workers needs beside its work: a board, its lead, the lanes, the workers, and what the resolver keeps beside
+// its desk.
+struct Means<'p> {
     board: Board,
     lead: Lead,
+    lanes: Lanes<'p>,
     crew: Vec<Worker>,
-    started: Vec<Option<RequestId>>,
+    hints: Hints,
 }
 
 // How many workers a run has: no more than places, since one without a place has nothing to do.
@@ -144,31 +162,39 @@ fn crew_size(plan: &Plan, threads: u32) -> u32
 }
 
 // Takes all memory that the run needs but for reports.
-fn prepare(alloc: Global, plan: &Plan, threads: u32) -> Result<Means, NoMemory>
+fn prepare<'p>(alloc: Global, plan: &'p Plan, threads: u32) -> Result<Means<'p>, NoMemory>
     requires threads { 0 < threads }
     ensures board { IfOk result (λ means. plan_of means.board ≡ plan.now) }
     ensures lead { IfOk result (λ means. IsLeadOf means.board means.lead) }
     ensures lead_states { IfOk result (λ means. (r : RequestId)
         → lead_state_of means.lead r ≡ lead_state.NotLet) }
+    ensures lanes { IfOk result (λ means. lanes_spec.plan_of means.lanes ≡ plan.now) }
+    ensures pass { IfOk result (λ means. IsLeadPassOf means.lanes means.hints.pass) }
+    ensures empty { IfOk result (λ means. puts_of means.hints.pass
+        ≡ replicate (length plan.now.setup.managers) []) }
     ensures some { IfOk result (λ means. 0 < vec_len means.crew) }
     ensures free { IfOk result (λ means. All (IsFreeWorker means.board) means.crew.items) }
+    ensures passes { IfOk result (λ means. All (HasPass means.lanes) means.crew.items) }
     ensures covers { IfOk result (λ means. Covers plan.now means.lead means.crew.items) }
 {
+    let size = crew_size(plan, threads);
     let started = vec![in alloc; None; place_count(plan) as usize]?;
-    let mut crew = hire(alloc, plan, crew_size(plan, threads))?;
+    let (lanes, pass, passes) = Lanes::new(alloc, plan, size)?;
+    let mut crew = hire(alloc, plan, size, passes)?;
     let (board, mut lead) = Board::new(alloc, plan)?;
     give_hands(&board, &mut lead, crew.as_mut_slice());
     Ok(Means {
         board,
         lead,
+        lanes,
         crew,
-        started,
+        hints: Hints { pass, started },
     })
 }
 
 /// Goes on from the journal's list to the end of the history, with so many workers in threads of their own, but no more than
 /// there are places: the place with index `i` is served by the worker `i` modulo `threads`. Where no thread can be made they run one after another, and the call may
-/// not return. It takes the memory for the board and the workers before it writes anything; after that a report may find none, which
+/// not return. It takes the memory for the board, the lanes and the workers before it writes anything; after that a report may find none, which
 /// leaves its request without an end. With every answer the workers are taken in. The text of a report is on the spool's disk
 /// before its end is journaled, and an event is journaled before the machine takes it in, before it means anything to a worker, and
 /// before it is told.
@@ -202,6 +228,10 @@ pub fn run_with_workers<
     ensures told { OnOk result.answer (IsTold (T.list teller.new) (T.takes teller.new)
         (plan_in work.entry) (list_in result.work)) }
 
+    // What it put into the lanes.
+    ensures puts { HasPuts (plan_in work.entry) (list_in work.entry) (list_in result.work)
+        result.answer result.puts }
+
     // Why it ends before.
     ensures journal_fault { IsErrOf result.answer run_fail.JournalFault
         → Rose (D.state journal.old).faults (D.state journal.new).faults }
@@ -220,6 +250,7 @@ pub fn run_with_workers<
         Err(NoMemory) => {
             return Ran {
                 work,
+                puts: None,
                 answer: Err(RunFail::NoMemory),
             };
         }
@@ -227,15 +258,18 @@ pub fn run_with_workers<
     let Means {
         board,
         lead,
+        lanes,
         mut crew,
-        mut started,
+        mut hints,
     } = means;
     let mut desk = Desk::new(plan, lead, work);
+    put_waiting(rt, &lanes, &desk, &mut hints.pass);
     let mut answer = Ok(());
     run_beside(
         rt,
         alloc,
         &board,
+        &lanes,
         plan,
         &mut desk,
         crew.as_mut_slice(),
@@ -243,11 +277,16 @@ pub fn run_with_workers<
         spool,
         teller,
         gate,
-        started.as_mut_slice(),
+        &mut hints,
         &mut answer,
     );
     let (mut lead, work) = desk.into_parts();
     take_in(&board, &mut lead, crew);
     board.close(lead);
-    Ran { work, answer }
+    let Hints { pass, .. } = hints;
+    Ran {
+        work,
+        puts: Some(pass),
+        answer,
+    }
 }

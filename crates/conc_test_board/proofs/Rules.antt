@@ -21,8 +21,11 @@ use Rattle.conc_board.specs.declared.lead.Lead.{Lead}
 use Rattle.conc_board.specs.declared.lead.Looked.{Looked}
 use Rattle.conc_board.specs.declared.lead.Looked.TheVariants.{Free, Claimed, Running, Ended}
 use Rattle.conc_board.specs.Looks.{Looks}
-use Rattle.conc_board.specs.Seats.{Changes, LeavesLeadStates}
-use Rattle.conc_test_board.specs.Rounds.{IsSeen, OnlyOne}
+use Rattle.conc_board.specs.Seats.{Changes, LeavesLeadStates, lead_state_of}
+use Rattle.conc_board_lanes.specs.Lanes.{AreHandPasses, IsHandPassOf}
+use Rattle.conc_board_lanes.specs.declared.lanes.HandPass.{HandPass}
+use Rattle.conc_board_lanes.specs.declared.lanes.Lanes.{Lanes}
+use Rattle.conc_test_board.specs.Rounds.{AreBothLet, IsSeen, OnlyOne}
 
 -- ---- exclusion
 
@@ -136,3 +139,40 @@ three_have one two three rest a b c p small = dite (ℕ_discrete p.index 0)
 -- requests with two numbers are two
 pub two_requests : (r q : RequestId) → r.number ≢ q.number → r ≢ q
 two_requests r q other e = other (ap (λ (z : RequestId). z.number) e)
+
+-- ---- passes
+
+-- of passes the last is one, and so are the others
+passes_apart : (lanes : Lanes) (rest : List HandPass) (last : HandPass) → AreHandPasses lanes (rest ++ last ∷ []) → IsHandPassOf lanes last × AreHandPasses lanes rest
+unfolding AreHandPasses
+passes_apart lanes [] last are = (are.0, tt)
+passes_apart lanes (x ∷ rest) last are = let both = passes_apart lanes rest last are.1 in (both.0, (are.0, both.1))
+
+pub passes_last : (lanes : Lanes) (passes rest : List HandPass) (last : HandPass) → passes ≡ rest ++ last ∷ [] → AreHandPasses lanes passes → IsHandPassOf lanes last × AreHandPasses lanes rest
+passes_last lanes passes rest last e are = passes_apart lanes rest last (subst (AreHandPasses lanes) e are)
+
+-- ---- the requests 1 and 2
+
+abbrev one : RequestId
+one = record { number = 1 }
+
+abbrev two : RequestId
+two = record { number = 2 }
+
+pub two_not_one : two ≢ one
+two_not_one = two_requests two one (λ e. omega arith)
+
+-- a call on one of them that leaves it let leaves both so
+pub both_one : (board : Board) (old new : Lead) → AreBothLet board old → OnlyOne board one old new → IsLet (lead_state_of new one) → AreBothLet board new
+both_one board old new both only is = record { lead_of_board = only.lead; one = is; two = subst IsLet (sym (only.others two two_not_one)) both.two }
+
+pub both_two : (board : Board) (old new : Lead) → AreBothLet board old → OnlyOne board two old new → IsLet (lead_state_of new two) → AreBothLet board new
+both_two board old new both only is = record { lead_of_board = only.lead; one = subst IsLet (sym (only.others one (λ e. two_not_one (sym e)))) both.one; two = is }
+
+-- both are let out, and then a call on no request
+pub both_let : (board : Board) (first second last : Lead) → lead_state_of first one ≡ Let → OnlyOne board two first second → lead_state_of second two ≡ Let → LeavesLeadStates board second last → AreBothLet board last
+both_let board first second last is_one only is_two kept = record {
+  lead_of_board = kept.lead;
+  one = subst IsLet (sym (kept.lead_states.each one ∙ (only.others one (λ e. two_not_one (sym e)) ∙ is_one))) tt;
+  two = subst IsLet (sym (kept.lead_states.each two ∙ is_two)) tt;
+}

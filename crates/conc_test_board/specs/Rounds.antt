@@ -5,6 +5,7 @@ use Rattle.conc_types.specs.declared.event.RequestId.{RequestId}
 use Rattle.conc_board_seats.specs.declared.views.Doing.TheVariants.{Idle}
 use Rattle.conc_board_seats.specs.declared.views.LeadState.{LeadState}
 use Rattle.conc_board_seats.specs.declared.views.LeadState.TheVariants.{Seen}
+use Rattle.conc_board_seats.specs.LeadStates.{IsLet}
 use Rattle.conc_board_seats.specs.Places.{has}
 use Rattle.conc_board_seats.specs.Words.{IsPlace}
 use Rattle.conc_board.specs.declared.board.Board.{Board}
@@ -25,6 +26,12 @@ pub record IsFree (board : Board) (place : PlaceId) (hand : Hand) : Type 0 where
 pub record OnlyOne (board : Board) (r : RequestId) (old new : Lead) : Type 0 where
   pub lead : IsLeadOf board new
   pub others : (q : RequestId) → q ≢ r → lead_state_of new q ≡ lead_state_of old q
+
+-- the requests 1 and 2 are let out, and have no go
+pub record AreBothLet (board : Board) (lead : Lead) : Type 0 where
+  pub lead_of_board : IsLeadOf board lead
+  pub one : IsLet (lead_state_of lead (record { number = 1 }))
+  pub two : IsLet (lead_state_of lead (record { number = 2 }))
 
 -- where a claim was seen, the lead knows its place
 abbrev pub IsSeen : Looked → LeadState → Type 0

@@ -1,9 +1,11 @@
-//! Trials of the board by one thread, and what they ask of a lead.
+//! Trials of the board by one thread and by several, and what they ask of a lead and of workers.
 #![tactic(auto)]
 
 mod asking;
+mod crew;
 
 pub use asking::{excludes_none, let_out_if_apart, look_gone, look_let};
+pub use crew::{Three, Worker};
 
 #[cfg(test)]
 mod tests;

@@ -1,5 +1,6 @@
 mod board;
 mod gate;
+mod hints;
 mod lanes;
 mod rounds;
 mod workers;

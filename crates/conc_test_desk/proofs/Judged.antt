@@ -2,7 +2,6 @@
 use Rattle.std.proofs.Common.{◌≡◌, ◌++◌, [], ◌∷◌, Bool, true, false, List, reverse, Option, Some, refl, sym, ◌∙◌, ap, subst}
 use Rattle.conc_types.specs.declared.event.Event.{Event}
 use Rattle.conc_types.specs.declared.event.Event.TheVariants as event
-use Rattle.conc_types.specs.declared.event.RequestId.{RequestId}
 use Rattle.conc_types.specs.declared.script.Reading.{Reading}
 use Rattle.conc_law.specs.Kinds.{is_resume}
 use Rattle.conc_law.specs.Law.{is_lawful, Lawful, may_follow}
@@ -11,7 +10,7 @@ use Rattle.conc_machine.specs.StandsFor.{plan_of, readings_of, StandsFor}
 use Rattle.conc_machine.specs.declared.machine.Machine.{Machine}
 use Rattle.conc_resolver_choice.proofs.Pushes.{is_lawful-more}
 use Rattle.conc_run_steps.specs.Steps.{readings_in}
-use Rattle.conc_desk.specs.Desks.{IsLetAfter, IsLetIn, list_at, plan_at}
+use Rattle.conc_desk.specs.Desks.{list_at, plan_at}
 use Rattle.conc_desk.specs.State.{DeskState}
 use Rattle.conc_test_desk.specs.Driven.{IsPlain}
 
@@ -30,6 +29,3 @@ module _ (desk : DeskState) (machine : Machine) (is : machine ≡ desk.work.mach
       ap (λ (r : Option (List Reading)). may_follow (plan_of machine) r past e) (sym known) ∙ (sym (answers past stands) ∙ so) in
       ap (is_lawful (plan_at desk) readings) (reverse-push (list_at desk) e)
       ∙ is_lawful-more (plan_at desk) readings past e none lawful (subst (λ (m : Machine). may_follow (plan_of m) (Some readings) past e ≡ true) is may)
-
-  pub let_in : (r : RequestId) (ok : Bool) → ((past : List Event) → StandsFor machine past → ok ≡ true → IsLetAfter (plan_of machine) past r) → ok ≡ true → IsLetIn desk r
-  let_in r ok answers so = subst (λ (m : Machine). IsLetAfter (plan_of m) (reverse (list_at desk)) r) is (answers (reverse (list_at desk)) stands so)

@@ -1,3 +1,4 @@
+pub mod ManagerOf
 pub mod PlacesHad
 pub mod Reported
 pub mod StepsMade

@@ -1,9 +1,10 @@
-//! Workers at a board: each claims requests for its places, serves those that get the go, and leaves
-//! what came of them.
+//! Workers at a board: each claims requests for its places, the one that its lane names first, serves those that
+//! get the go, and leaves what came of them.
 #![tactic(auto)]
 
 mod laws;
 mod leaving;
+mod managers;
 mod serving;
 mod worker;
 mod working;

@@ -65,8 +65,8 @@ fn same<Rt: Abort, T: PartialEq + Debug + Copy>(rt: &Rt, found: T, want: T) {
 
 // ---- answers that have to come
 
-// A hand that does nothing, with this place of the lead's.
-fn hand_at(board: &Board, lead: &mut Lead, place: PlaceId) -> Hand
+/// A hand that does nothing, with this place of the lead's.
+pub(super) fn hand_at(board: &Board, lead: &mut Lead, place: PlaceId) -> Hand
     requires lead { IsLeadOf board.now lead.old }
     requires place { IsPlace (plan_of board.now) place }
     requires own { IsTrue (has (places_of_lead lead.old) place) }

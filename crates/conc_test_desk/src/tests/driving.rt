@@ -5,7 +5,7 @@ ghost use Rattle.conc_test_desk.specs.Driven.{IsDriven, IsPlain, room_at};
 
 use crate::Disks;
 use conc_board::{Board, Looked, Progress};
-use conc_resolver::{Desk, KeepFail, Kept, waits_to_start};
+use conc_resolver::{Desk, KeepFail, Kept};
 use conc_types::{Event, PlaceId, RequestId};
 use std::process::Abort;
 
@@ -46,7 +46,7 @@ pub(crate) fn release<Rt: Abort>(
         Progress::NotLet => {}
         _ => panic!(rt; "the request is on the board"),
     }
-    if !waits_to_start(desk.machine(), r) {
+    if !desk.machine().waits_to_start(r) {
         panic!(rt; "the request is not let");
     }
     desk.release(board, r);

@@ -22,7 +22,7 @@ pub loop-index-preserved : goal.loop-index-preserved
 loop-index-preserved c =
     let i = c.loop-index.invariant in let k = c.loop-index.index in let ws = c.loop-index.crew in let n = length c.args.crew.now in let plan = plan_of c.args.board.now in
     let x = c.index-crew-index.result in let y = c.index-crew-index-in-loop-index.result in let made = c.split-hand.ensures in
-    let worker : Worker = record { hand = Some c.split-hand.result; places = (get_or ws k y).places } in
+    let worker : Worker = record { hand = Some c.split-hand.result; pass = (get_or ws k y).pass; places = (get_or ws k y).places } in
     let below : k < n = c.loop-index-test.true in
     let here : k < length ws = omega (arith, below, i.long) in
     let same : get_or ws k x ≡ get_or ws k y = get_or_default ws k x y here in
@@ -48,6 +48,10 @@ loop-index-preserved c =
           (λ e. subst (λ (z : ℕ). places_had (get_or (set ws k worker) z d).hand ≡ (get_or (set ws k worker) z d).places.items) (sym e)
           (subst (λ (w : Worker). places_had w.hand ≡ w.places.items) (sym (now d)) (made.passed ∙ places)))
           (λ other. subst (λ (w : Worker). places_had w.hand ≡ w.places.items) (sym (get_or-set_other ws k j worker d other)) (i.own j d (omega (arith, small, other))));
+      passes = λ j d small. dite (ℕ_discrete j k)
+          (λ e. subst (λ (z : ℕ). (get_or (set ws k worker) z d).pass ≡ (get_or c.args.crew.now z d).pass) (sym e)
+          (ap (λ (w : Worker). w.pass) (now d) ∙ (i.passes k y below ∙ ap (λ (w : Worker). w.pass) (get_or_default c.args.crew.now k y d below))))
+          (λ other. ap (λ (w : Worker). w.pass) (get_or-set_other ws k j worker d other) ∙ i.passes j d small);
     }
 
 pub returns-clause-covers : goal.returns-clause-covers

@@ -1,12 +1,31 @@
-use Rattle.std.proofs.Common.{◌≡◌}
+use Rattle.std.proofs.Common.{◌≡◌, ◌∙◌}
 use Rattle.std.proofs.lemmas.Result.{err_from_is_err_and}
 use Rattle.conc_resolver_workers.proofs.Advancing.{after-err, after-ok, handed-on}
+use Rattle.conc_resolver_workers.proofs.Filled.{filled-quiet, fills-handed, partly-quiet}
 use Rattle.conc_resolver_workers.proofs.resolving.see_to.Goals as goal
 
-pub returns-in_err-settle : goal.returns-in_err-settle
-returns-in_err-settle g c =
-    let p = err_from_is_err_and c.from_residual-in_err-settle.result c.from_residual-in_err-settle.ensures.1 in
-    handed-on _ _ _ _ _ _ _ c.from_residual-in_err-settle.result p.0 c.in_err-settle.field-0.0 p.1 p.2 (after-err c.in_ok-any.ensures c.in_err-settle.ensures)
+pub settle-requires-clause-filled : goal.settle-requires-clause-filled
+settle-requires-clause-filled g c = filled-quiet c.args.lanes.now c.args.desk.now c.look_at.new.desk c.args.hints.now.pass c.requires.filled c.in_ok-any.ensures.adds
 
-pub returns : goal.returns
-returns g c = after-ok c.in_ok-any.ensures c.in_ok-settle.ensures
+pub returns-in_err-any-clause-fills : goal.returns-in_err-any-clause-fills
+returns-in_err-any-clause-fills g c =
+    let p = err_from_is_err_and c.from_residual.result c.from_residual.ensures.1 in
+    let quiet = c.in_err-any.ensures.adds in
+    fills-handed c.from_residual.result p.0 p.1 quiet.adds.begun_with (partly-quiet c.args.lanes.now c.args.desk.now c.look_at.new.desk c.args.hints.now.pass c.requires.filled quiet)
+
+pub returns-in_err-settle-clause-resolves : goal.returns-in_err-settle-clause-resolves
+returns-in_err-settle-clause-resolves g c =
+    let p = err_from_is_err_and c.from_residual-in_err-settle.result c.from_residual-in_err-settle.ensures.1 in
+    handed-on _ _ _ _ _ _ _ c.from_residual-in_err-settle.result p.0 c.in_err-settle.field-0.0 p.1 p.2 (after-err c.in_ok-any.ensures.resolves c.in_err-settle.ensures.resolves)
+
+pub returns-in_err-settle-clause-fills : goal.returns-in_err-settle-clause-fills
+returns-in_err-settle-clause-fills g c =
+    let p = err_from_is_err_and c.from_residual-in_err-settle.result c.from_residual-in_err-settle.ensures.1 in
+    let left = c.in_err-settle.ensures.fills in
+    fills-handed c.from_residual-in_err-settle.result p.0 p.1 (left.begun_with ∙ c.in_ok-any.ensures.adds.adds.begun_with) left.filled
+
+pub returns-clause-resolves : goal.returns-clause-resolves
+returns-clause-resolves g c = after-ok c.in_ok-any.ensures.resolves c.in_ok-settle.ensures.resolves
+
+pub returns-clause-fills : goal.returns-clause-fills
+returns-clause-fills g c = let left = c.in_ok-settle.ensures.fills in record { begun_with = left.begun_with ∙ c.in_ok-any.ensures.adds.adds.begun_with; filled = left.filled }

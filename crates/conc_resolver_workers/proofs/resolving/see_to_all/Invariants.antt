@@ -1,7 +1,12 @@
+use Rattle.std.proofs.Common.{◌≡◌}
 use Rattle.conc_run_state.specs.Disks.{disks}
+use Rattle.conc_resolver_workers.specs.Filling.{AreFilled}
 use Rattle.conc_resolver_workers.specs.Resolving.{Advances}
 use Rattle.conc_resolver_workers.proofs.resolving.see_to_all.Given as goal
 
 abbrev pub invariant-loop-request : goal.invariant-loop-request
-invariant-loop-request g l =
-    Advances l.board (disks (g.D.Disk.state l.initial.journal) (g.D.Disk.state l.journal) (g.E.Disk.state l.initial.spool) (g.E.Disk.state l.spool)) (g.T.Teller.list l.teller) (g.T.Teller.takes l.teller) l.initial.desk l.desk
+invariant-loop-request g l = record {
+  went : Advances l.board (disks (g.D.Disk.state l.initial.journal) (g.D.Disk.state l.journal) (g.E.Disk.state l.initial.spool) (g.E.Disk.state l.spool)) (g.T.Teller.list l.teller) (g.T.Teller.takes l.teller) l.initial.desk l.desk;
+  begun_with : l.desk.begun_with ≡ l.initial.desk.begun_with;
+  filled : AreFilled l.lanes l.desk l.hints.pass;
+}

@@ -1,9 +1,10 @@
-use Rattle.std.proofs.Common.{rules, ◌≡◌, ◌<◌, ◌++◌, ℕ, List, length, get_or, take, drop, sym, ◌∙◌, ap, subst, arith}
+use Rattle.std.proofs.Common.{rules, ◌≡◌, ◌<◌, ◌++◌, [], ℕ, List, length, get_or, take, drop, sym, ◌∙◌, ap, subst, arith}
 use Rattle.conc_types.specs.declared.plan.Plan.{Plan}
 use Rattle.conc_board.specs.declared.lead.Lead.{Lead}
 use Rattle.conc_board.specs.Seats.{places_of_lead, plan_of}
 use Rattle.conc_journal.specs.Journals.{state_of}
 use Rattle.conc_run_state.specs.Disks.{disks}
+use Rattle.conc_run_state.specs.Works.{list_in}
 use Rattle.conc_run_state.specs.declared.work.Work.{Work}
 use Rattle.conc_run_steps.specs.Going.{WentOn}
 use Rattle.conc_run_steps.specs.Steps.{plan_in, readings_in}
@@ -12,11 +13,21 @@ use Rattle.conc_resolver_workers.specs.Crews.{Covers, IsFreeWorker, SamePlaces}
 use Rattle.conc_resolver_workers.specs.declared.crew.Worker.{Worker}
 use Rattle.conc_resolver_workers.proofs.Advancing.{journal-by, places-by, sound-by, went-by}
 use Rattle.conc_resolver_workers.proofs.Crews.{covers-same, take-front}
+use Rattle.conc_board_lanes.specs.Puts.{lists_for}
+use Rattle.conc_board_lanes.proofs.Lists.{lists_for-none}
+use Rattle.conc_resolver_workers.proofs.Filled.{puts-by}
 use Rattle.conc_resolver_workers.proofs.running.run_with_workers.Goals as goal
 
 pub returns-in-Err-clause-went_on : goal.returns-in-Err-clause-went_on
 returns-in-Err-clause-went_on g c =
     went-still c.args.work (g.D.Disk.state c.args.journal.now) (g.E.Disk.state c.args.spool.now) c.requires.ready ((g.met.E.Disk g.world.𝓛 g.world.𝓜 g.world.𝓡 ((λ s x. x), (λ x. x), (λ x. x), λ x. x)).seen_is_left c.args.spool.now)
+
+-- ---- the lanes
+
+pub put_waiting-requires-clause-empty : goal.put_waiting-requires-clause-empty
+put_waiting-requires-clause-empty g c =
+    c.in-Ok.ensures.empty
+    ∙ (sym (lists_for-none c.plan-plan.result.now) ∙ ap (λ (p : Plan). lists_for p []) (c.plan-plan.ensures ∙ sym (ap (λ (w : Work). plan_in w) c.new-desk.ensures.work)))
 
 -- ---- the workers
 
@@ -58,3 +69,11 @@ returns-clause-sound g c = λ none.
     let answer = c.run_beside.new.answer in let resolved = c.run_beside.ensures.resolves in let parts = c.into_parts-lead.ensures.parts in
     ap (λ z. state_of z.1.journal) parts ∙ sound-by c.in-Ok.means.board (g.D.Disk.state c.args.journal.now) (g.D.Disk.state c.run_beside.new.journal) (g.E.Disk.state c.args.spool.now) (g.E.Disk.state c.run_beside.new.spool) (g.T.Teller.list c.run_beside.new.teller)
     (g.T.Teller.takes c.run_beside.new.teller) (g.T.Teller.may_lack c.run_beside.new.teller) c.new-desk.result c.run_beside.new.desk answer resolved none ∙ ap (λ (w : Work). state_of w.journal) c.new-desk.ensures.work
+
+-- ---- what it put
+
+pub returns-clause-puts : goal.returns-clause-puts
+returns-clause-puts g c =
+    let left = c.run_beside.ensures.fills in
+    puts-by c.run_beside.new.answer c.in-Ok.means.lanes (plan_in c.args.work) (list_in c.args.work) c.run_beside.new.desk c.run_beside.new.hints.pass c.into_parts-lead.result.1
+    (ap (λ z. z.1) c.into_parts-lead.ensures.parts) (c.in-Ok.ensures.lanes ∙ c.plan-plan.ensures) (left.begun_with ∙ c.new-desk.ensures.begun_with) left.filled
