@@ -1,10 +1,11 @@
 -- What a run has in hand, or why no life begins.
-use Rattle.std.proofs.Common.{◌≡◌, inl, inr, ℕ, ◌≤◌, List, Option, None, Result, Ok, Err, IfErr, IfOk, OnOk, sym, subst}
+use Rattle.std.proofs.Common.{◌≡◌, inl, inr, ℕ, ◌≤◌, List, [], Option, None, Result, Ok, Err, IfErr, IfOk, OnOk, sym, ap, subst}
+use Rattle.std.specs.Prelude.{unwrap_or}
 use Rattle.conc_types.specs.declared.event.Event.{Event}
 use Rattle.conc_types.specs.declared.plan.Plan.{Plan}
 use Rattle.conc_types.specs.declared.script.Reading.{Reading}
 use Rattle.conc_law.specs.Law.{LawfulSoFar}
-use Rattle.conc_disk.specs.Disk.{Reaches}
+use Rattle.conc_disk.specs.Disk.{DiskState, Reaches}
 use Rattle.conc_disk.specs.Left.{EachImage}
 use Rattle.conc_journal.specs.Journals.{FitsState, list_of, state_of}
 use Rattle.conc_journal.specs.Journals.{IsOn as JournalIsOn}
@@ -16,7 +17,7 @@ use Rattle.conc_run_state.specs.Causes.{HasCause}
 use Rattle.conc_run_state.specs.Handed.{Handed, IsFound}
 use Rattle.conc_run_state.specs.declared.error.HistoryFail.{HistoryFail}
 use Rattle.conc_run_open.specs.declared.examining.Examined.{Examined}
-use Rattle.conc_run_open.specs.Examined.{IsExamined, IsReady, MayStart}
+use Rattle.conc_run_open.specs.Examined.{IsExamined, IsInHand, IsReady, MayBegin, MayStart, readings_held}
 use Rattle.conc_run_open.specs.Extents.{counted}
 use Rattle.conc_run_open.specs.Refusals.{LacksRoom, CannotBegin, IsRefused}
 use Rattle.conc_run_open.proofs.Finding.{found-good, found-cannot_begin, HasFound}
@@ -52,10 +53,23 @@ prepared h opened spool (Ok examined) has long on state spool_on ready list_is s
     let so_far : LawfulSoFar h.plan opened.journal.events.items = subst (LawfulSoFar h.plan) list_is ready.so_far in
     record {
       found = subst (IsFound h) (sym list_is) (found-good h opened has so_far whole long);
-      ready = ready;
-      state = subst (MayStart h.digest) (sym state_is) (state whole);
-      journal_on =
-          subst (λ (s : JournalState). EachImage (FitsState s (list_of examined.journal)) h.disks.journal_after) (sym state_is)
-          (subst (λ (l : List Event). EachImage (FitsState (state_of opened.journal) l) h.disks.journal_after) (sym list_is) (on whole));
-      spool_on = subst (λ (s : Spool). SpoolIsOn s h.disks.spool_after) (sym spool_is) spool_on;
+      may_begin = record {
+        ready = ready;
+        state = subst (MayStart h.digest) (sym state_is) (state whole);
+        journal_on =
+            subst (λ (s : JournalState). EachImage (FitsState s (list_of examined.journal)) h.disks.journal_after) (sym state_is)
+            (subst (λ (l : List Event). EachImage (FitsState (state_of opened.journal) l) h.disks.journal_after) (sym list_is) (on whole));
+        spool_on = subst (λ (s : Spool). SpoolIsOn s h.disks.spool_after) (sym spool_is) spool_on;
+      };
     }
+
+-- what may begin may do so by the plan and the readings that the machine has
+in-hand : (plan : Plan) (readings : List Reading) (digest : List ℕ) (examined : Examined) (journal spool : DiskState) → MayBegin plan readings digest examined journal spool → IsInHand digest examined journal spool
+in-hand plan readings digest examined journal spool may =
+    let known : readings_held examined ≡ readings = ap (λ (o : Option (List Reading)). unwrap_or o []) may.ready.readings_are in
+    subst (λ (p : Plan). MayBegin p (readings_held examined) digest examined journal spool) (sym may.ready.plan_is)
+    (subst (λ (l : List Reading). MayBegin plan l digest examined journal spool) (sym known) may)
+
+pub prepared-in_hand : (h : Handed) (r : Result Examined HistoryFail) → IfOk r (IsExamined h) → IfOk r (λ examined. IsInHand h.digest examined h.disks.journal_after h.disks.spool_after)
+prepared-in_hand h (Err e) is = tt
+prepared-in_hand h (Ok examined) is = in-hand h.plan h.readings h.digest examined h.disks.journal_after h.disks.spool_after is.may_begin

@@ -1,7 +1,9 @@
 -- What a run has in hand before it writes.
-use Rattle.std.specs.Prelude.{◌≡◌, ◌⊎◌, List, ℕ, reverse, Some}
+use Rattle.std.specs.Prelude.{◌≡◌, ◌⊎◌, List, [], ℕ, reverse, Some, unwrap_or}
+use Rattle.conc_types.specs.declared.event.Event.{Event}
 use Rattle.conc_types.specs.declared.plan.Plan.{Plan}
 use Rattle.conc_types.specs.declared.script.Reading.{Reading}
+use Rattle.conc_disk.specs.Disk.{DiskState}
 use Rattle.conc_law.specs.Alone.{opening}
 use Rattle.conc_law.specs.Law.{LawfulSoFar}
 use Rattle.conc_law.specs.State.{used}
@@ -13,12 +15,16 @@ use Rattle.conc_journal.specs.declared.journal.JournalState.TheVariants.{Begun, 
 use Rattle.conc_restart.specs.Need.{need}
 use Rattle.conc_spool.specs.Spools.{used_of}
 use Rattle.conc_spool.specs.Spools.{IsOn as SpoolIsOn}
-use Rattle.conc_run_state.specs.Handed.{Handed, IsFound}
+use Rattle.conc_run_state.specs.Handed.{Handed, IsFound, IsUntouched}
 use Rattle.conc_run_open.specs.declared.examining.Examined.{Examined}
 
 -- it is begun with this digest, or not at all
 abbrev pub MayStart : List ℕ → JournalState → Type 0
 MayStart digest state = (state ≡ NotBegun) ⊎ (state ≡ Begun digest)
+
+-- the events found
+abbrev pub list_found : Examined → List Event
+list_found examined = list_of examined.journal
 
 -- The machine stands for the events found with the resume of the life that is to begin. The journal has the events alone,
 -- with room for a life.
@@ -30,10 +36,31 @@ pub record IsReady (plan : Plan) (readings : List Reading) (examined : Examined)
   pub room : room_of examined.journal ≡ need plan readings
   pub used_is : used_of examined.spool ≡ used (reverse (list_of examined.journal))
 
--- the same, of what was found on the disks
+-- what is in hand is ready, its journal is not begun, or begun with this digest, and both disks are on
+pub record MayBegin (plan : Plan) (readings : List Reading) (digest : List ℕ) (examined : Examined) (journal spool : DiskState) : Type 0 where
+  pub ready : IsReady plan readings examined
+  pub state : MayStart digest (state_of examined.journal)
+  pub journal_on : JournalIsOn examined.journal journal
+  pub spool_on : SpoolIsOn examined.spool spool
+
+-- such is what was found on the disks
 pub record IsExamined (h : Handed) (examined : Examined) : Type 0 where
   pub found : IsFound h (list_of examined.journal)
-  pub ready : IsReady h.plan h.readings examined
-  pub state : MayStart h.digest (state_of examined.journal)
-  pub journal_on : JournalIsOn examined.journal h.disks.journal_after
-  pub spool_on : SpoolIsOn examined.spool h.disks.spool_after
+  pub may_begin : MayBegin h.plan h.readings h.digest examined h.disks.journal_after h.disks.spool_after
+
+-- it was examined so, and nothing was written
+pub record WasExamined (h : Handed) (examined : Examined) : Type 0 where
+  pub is_examined : IsExamined h examined
+  pub untouched : IsUntouched h
+
+-- ---- by the machine's plan and readings
+
+abbrev pub plan_held : Examined → Plan
+plan_held examined = plan_of examined.machine
+
+-- none where the machine took none
+abbrev pub readings_held : Examined → List Reading
+readings_held examined = unwrap_or (readings_of examined.machine) []
+
+abbrev pub IsInHand : List ℕ → Examined → DiskState → DiskState → Type 0
+IsInHand digest examined journal spool = MayBegin (plan_held examined) (readings_held examined) digest examined journal spool

@@ -6,7 +6,7 @@ ghost use Rattle.conc_restart.specs.Need as spec;
 ghost use Rattle.conc_spool.specs.Spools.{used_of};
 ghost use Rattle.conc_run_state.specs.Causes.{HasCause};
 ghost use Rattle.conc_run_state.specs.Handed.{handed, IsUntouched};
-ghost use Rattle.conc_run_open.specs.Examined.{IsExamined, IsReady};
+ghost use Rattle.conc_run_open.specs.Examined.{IsExamined, IsInHand, IsReady, list_found};
 ghost use Rattle.conc_run_open.specs.Extents.{counted};
 ghost use Rattle.conc_run_open.specs.Refusals.{LacksRoom, CannotBegin};
 
@@ -25,10 +25,19 @@ use std::alloc::Global;
 /// What a run has in hand before it writes. The machine stands for the events found with the resume of
 /// the life that is to begin; the journal has the events alone, with room for a life.
 #[derive(Drop)]
-pub(crate) struct Examined<'p> {
+pub struct Examined<'p> {
     pub(crate) machine: Machine<'p>,
     pub(crate) journal: Journal,
     pub(crate) spool: Spool,
+}
+
+impl Examined<'_> {
+    /// The events found.
+    pub fn events(&self) -> &[Event]
+        ensures { result.now ≡ list_found self.now }
+    {
+        self.journal.events()
+    }
 }
 
 // Takes room for one more life, where the journal can have as much.
@@ -105,7 +114,7 @@ fn prepare<'p>(
 
 /// Opens and judges what stands on the disks of a run, and takes all memory that its life needs. It
 /// writes nothing.
-pub(crate) fn examine<'p, D: Disk, E: Disk>(
+pub fn examine<'p, D: Disk, E: Disk>(
     alloc: Global,
     plan: &'p Plan,
     readings: &Readings,
@@ -116,6 +125,8 @@ pub(crate) fn examine<'p, D: Disk, E: Disk>(
     ensures examined { IfOk result (IsExamined
         (handed plan.now readings.now digest.now (D.state journal.old) (D.state journal.new)
         (E.state spool.old) (E.state spool.new))) }
+    ensures in_hand { IfOk result (λ examined. IsInHand digest.now examined (D.state journal.new)
+        (E.state spool.new)) }
     ensures cause { IfErr result (HasCause
         (handed plan.now readings.now digest.now (D.state journal.old) (D.state journal.new)
         (E.state spool.old) (E.state spool.new))) }

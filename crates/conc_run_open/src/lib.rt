@@ -1,4 +1,4 @@
-//! What stands on the disks of a run, opened and judged: the beginning of a life, the list of its journal, and
+//! What stands on the disks of a run, opened and judged: what a life needs, its beginning, the list of its journal, and
 //! the text of a report.
 #![tactic(auto)]
 
@@ -13,6 +13,7 @@ mod starting;
 mod text;
 
 pub use error::TextFail;
+pub use examining::{Examined, examine};
 pub use listing::read_list;
-pub use opening::open;
+pub use opening::{Begun, begin, open};
 pub use text::read_text;

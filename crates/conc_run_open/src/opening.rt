@@ -1,16 +1,91 @@
-ghost use Rattle.std.specs.Prelude.{◌⊎◌, IfErr, IfOk, IsFalse, OnErr};
+ghost use Rattle.std.specs.Prelude.{◌≡◌, ◌⊎◌, ◌<◌, IfErr, IfOk, IfSome, IsFalse, IsNone, List, OnErr, Some};
 ghost use Rattle.conc_disk.specs.Disk.{Stays};
 ghost use Rattle.conc_disk.specs.Left.{LeavesOnly};
+ghost use Rattle.conc_journal.specs.Journals.{IsOn, list_of, room_of, state_of};
+ghost use Rattle.conc_journal.specs.Receipts.{IsNextOf};
+ghost use Rattle.conc_outside.specs.Counts.{Rose};
+ghost use Rattle.conc_types.specs.declared.plan.Plan.{Plan};
+ghost use Rattle.conc_types.specs.declared.script.Reading.{Reading};
+ghost use Rattle.conc_types.specs.declared.script.Readings.{Readings};
 ghost use Rattle.conc_run_state.specs.Causes.{HasCause, is_journal_fault};
 ghost use Rattle.conc_run_state.specs.Handed.{handed, IsUntouched};
+ghost use Rattle.conc_run_state.specs.Works.{AreReady, list_in};
+ghost use Rattle.conc_run_state.specs.declared.error.HistoryFail.TheVariants as history_fail;
+ghost use Rattle.conc_run_state.specs.declared.error.DiskName.TheVariants as disk_name;
+ghost use Rattle.conc_run_open.specs.Examined.{MayBegin, MayStart, WasExamined, list_found};
 ghost use Rattle.conc_run_open.specs.Opening.{IsBegun, IsGivenUp};
 
 use crate::examining::{Examined, examine};
 use crate::starting::start;
 use conc_disk::{Disk, DiskFault};
+use conc_journal::Receipt;
 use conc_run_state::{DiskName, HistoryFail, Work};
 use conc_types::{Plan, Readings};
 use std::alloc::Global;
+
+/// A life that is begun.
+#[derive(Drop)]
+pub struct Begun<'p> {
+    pub work: Work<'p>,
+    /// The receipt of the resume, where one was added.
+    pub resumed: Option<Receipt>,
+}
+
+/// Begins the life of what was examined: it writes the header where no journal was begun, and adds a
+/// resume where events were found, and hands out its receipt. The spool's disk is only lent.
+pub fn begin<'p, D: Disk, E: Disk>(
+    examined: Examined<'p>,
+    digest: &[u8; 32],
+    journal: &mut D,
+    spool: &E,
+) -> Result<Begun<'p>, HistoryFail>
+    requires state { MayStart digest.now (state_of examined.journal) }
+    requires room { 0 < room_of examined.journal }
+    requires on { IsOn examined.journal (D.state journal.old) }
+
+    // Of what was found on disks that stood so, whatever they were before.
+    ensures begun { (plan : Plan) (readings : Readings) (before : D) (texts : E) → WasExamined
+        (handed plan readings digest.now (D.state before) (D.state journal.old) (E.state texts)
+        (E.state spool.now)) examined.entry
+        → IfOk result (λ begun. IsBegun (handed plan readings digest.now (D.state before)
+        (D.state journal.new) (E.state texts) (E.state spool.now)) begun.work) }
+    ensures given_up { (plan : Plan) (readings : Readings) (before : D) (texts : E) → WasExamined
+        (handed plan readings digest.now (D.state before) (D.state journal.old) (E.state texts)
+        (E.state spool.now)) examined.entry
+        → OnErr result (IsGivenUp (handed plan readings digest.now (D.state before)
+        (D.state journal.new) (E.state texts) (E.state spool.now))) }
+
+    // Of what is in hand.
+    ensures ready { (plan : Plan) (readings : List Reading) → MayBegin plan readings digest.now
+        examined.entry (D.state journal.old) (E.state spool.now)
+        → IfOk result (λ begun. AreReady plan readings begun.work (D.state journal.new)
+        (E.state spool.now)) }
+    ensures resumed { IfOk result (λ begun. IfSome begun.resumed
+        (IsNextOf (Some (list_found examined.entry)) (λ list. list ≡ list_in begun.work))) }
+    ensures still { IfOk result (λ begun. IsNone begun.resumed
+        → list_in begun.work ≡ list_found examined.entry) }
+    ensures cause { IfErr result (λ fail. fail ≡ history_fail.DiskFault disk_name.Journal) }
+    ensures fault { OnErr result (Rose (D.state journal.old).faults (D.state journal.new).faults) }
+{
+    let Examined {
+        machine,
+        journal: mut list,
+        spool: texts,
+    } = examined;
+    match start(&mut list, journal, digest) {
+        Ok(resumed) => Ok(Begun {
+            work: Work {
+                machine,
+                journal: list,
+                spool: texts,
+            },
+            resumed,
+        }),
+        Err(DiskFault) => Err(HistoryFail::DiskFault {
+            disk: DiskName::Journal,
+        }),
+    }
+}
 
 /// Opens the journal and the spool of a run of this plan with these readings, whose input has this
 /// digest, and begins a life: it writes the header where no journal was begun, and adds a resume where
@@ -48,19 +123,7 @@ pub fn open<'p, D: Disk, E: Disk>(
     ensures spool_survives { LeavesOnly (E.state spool.old).may_leave (E.state spool.old)
         (E.state spool.new) }
 {
-    let Examined {
-        machine,
-        journal: mut list,
-        spool: texts,
-    } = examine(alloc, plan, readings, digest, journal, spool)?;
-    match start(&mut list, journal, digest) {
-        Ok(()) => Ok(Work {
-            machine,
-            journal: list,
-            spool: texts,
-        }),
-        Err(DiskFault) => Err(HistoryFail::DiskFault {
-            disk: DiskName::Journal,
-        }),
-    }
+    let examined = examine(alloc, plan, readings, digest, journal, spool)?;
+    let Begun { work, .. } = begin(examined, digest, journal, spool)?;
+    Ok(work)
 }

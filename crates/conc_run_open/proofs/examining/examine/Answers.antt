@@ -5,7 +5,7 @@ use Rattle.conc_disk.specs.Disk.{Reaches}
 use Rattle.conc_run_state.specs.Handed.{handed}
 use Rattle.conc_run_open.specs.Extents.{counted}
 use Rattle.conc_run_open.proofs.Finding.{found-unreadable}
-use Rattle.conc_run_open.proofs.Preparing.{prepared, prepared-cause}
+use Rattle.conc_run_open.proofs.Preparing.{prepared, prepared-cause, prepared-in_hand}
 use Rattle.conc_run_open.proofs.examining.examine.Goals as goal
 
 pub returns-in_err-texts-clause-cause : goal.returns-in_err-texts-clause-cause
@@ -33,3 +33,8 @@ returns-clause-cause g c =
     let found = c.in_ok-opened.ensures in
     prepared-cause h c.in_ok-opened.opened c.prepare.result (record { own = found.own; found = found.found })
     (subst (λ (l : List Event). Reaches spool (counted l)) c.events.ensures c.in_ok-texts.ensures.long) c.prepare.ensures.cannot_begin
+
+pub returns-clause-in_hand : goal.returns-clause-in_hand
+returns-clause-in_hand g c =
+    let h = handed c.args.plan.now c.args.readings.now c.args.digest.now (g.D.Disk.state c.args.journal.now) (g.D.Disk.state c.open_own.new.disk) (g.E.Disk.state c.args.spool.now) (g.E.Disk.state c.open_texts.new.disk) in
+    prepared-in_hand h c.prepare.result (returns-clause-examined g c)

@@ -3,6 +3,15 @@ use Rattle.conc_journal.specs.declared.journal.JournalState.TheVariants.{Begun}
 use Rattle.conc_run_open.proofs.Resuming.{header-left, header-now, is-begun, not-empty, resume-failed, resume-left, resume-there}
 use Rattle.conc_run_open.proofs.starting.start.Goals as goal
 
+pub returns-in_err-begin-clause-survives : goal.returns-in_err-begin-clause-survives
+returns-in_err-begin-clause-survives g c =
+    header-left c.args.digest.now c.args.journal.now.events.items (g.D.Disk.state c.args.disk.now) (g.D.Disk.state c.begin.new.disk) (sym c.begin.ensures.list ∙ c.begin.ensures.empty) c.begin.ensures.survives
+
+pub returns-in_err-begin-clause-now : goal.returns-in_err-begin-clause-now
+returns-in_err-begin-clause-now g c =
+    header-now c.begin.result c.args.digest.now c.args.journal.now.events.items c.begin.new.self.events.items c.begin.new.self.state (g.D.Disk.state c.begin.new.disk) c.begin.ensures.begun c.begin.ensures.failed c.begin.ensures.list c.begin.ensures.empty
+    c.begin.ensures.on
+
 pub returns-then-not-takes_events-clause-survives : goal.returns-then-not-takes_events-clause-survives
 returns-then-not-takes_events-clause-survives g c =
     header-left c.args.digest.now c.args.journal.now.events.items (g.D.Disk.state c.args.disk.now) (g.D.Disk.state c.begin.new.disk) (sym c.begin.ensures.list ∙ c.begin.ensures.empty) c.begin.ensures.survives
