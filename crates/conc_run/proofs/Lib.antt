@@ -6,3 +6,5 @@ pub mod Same
 pub mod Ran
 pub mod Failing
 pub mod Next
+pub mod Telling
+pub mod Untold

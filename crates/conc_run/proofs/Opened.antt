@@ -1,5 +1,5 @@
 -- What is left where no life was begun.
-use Rattle.std.proofs.Common.{◌≡◌, ◌⊎◌, inl, inr, ℕ, true, false, List, [], Option, None, Some, IfSome, IsFalse, IsTrue, refl, sym, ◌∙◌, ap, append-nil, arith}
+use Rattle.std.proofs.Common.{◌≡◌, ◌⊎◌, inl, inr, ℕ, true, false, List, [], Option, None, Some, IfSome, IsFalse, IsTrue, refl, sym, ◌∙◌, ap, subst, append-nil, arith}
 use Rattle.std.proofs.lemmas.Bool.{cases_Bool}
 use Rattle.std.proofs.lemmas.Option.{IfSome_then, slice_get_within}
 use Rattle.conc_types.specs.declared.event.Event.{Event}
@@ -10,6 +10,7 @@ use Rattle.conc_journal.specs.Opens.{events_of}
 use Rattle.conc_law.specs.Alone.{opening}
 use Rattle.conc_law.specs.Law.{Lawful, LawfulSoFar}
 use Rattle.conc_law.proofs.AloneHistory.{opening-lawful}
+use Rattle.conc_outside.specs.Counts.{Rose}
 use Rattle.conc_run_open.specs.Opening.{IsGivenUp}
 use Rattle.conc_run_state.specs.Causes.{HasCause, is_journal_fault, is_refusal}
 use Rattle.conc_run_state.specs.Handed.{Handed, IsUntouched}
@@ -85,8 +86,8 @@ refused-before (history_fail.DiskFault disk_name.Journal) is = cc is
 refused-before history_fail.NoMemory is = refl
 
 -- where nothing was written
-pub cut-untouched : (threads : ℕ) (h : Handed) (e : HistoryFail) → HasCause h e → IsUntouched h → IsCutShort threads h e
-cut-untouched threads h e cause is =
+pub cut-untouched : (threads : ℕ) (untold : List Event → List Event → Type 0) (h : Handed) (e : HistoryFail) → HasCause h e → IsUntouched h → IsCutShort threads untold h e
+cut-untouched threads untold h e cause is =
     let found : List Event = found-in h.disks.journal_before.seen in
     record {
       cause = cause;
@@ -100,9 +101,9 @@ cut-untouched threads h e cause is =
     }
 
 -- the journal's disk failed while the life was begun
-cut-given_up : (threads : ℕ) (h : Handed) (e : HistoryFail) → HasCause h e → is_journal_fault e ≡ true → (IsFalse (is_journal_fault e) → IsUntouched h) → IsGivenUp h → ((list : List Event) → Lawful h.plan h.readings list → LawfulSoFar h.plan list)
-    → LeavesOnly h.disks.spool_before.may_leave h.disks.spool_before h.disks.spool_after → IsCutShort threads h e
-cut-given_up threads h e cause fault quiet s to_so_far survives = record {
+cut-given_up : (threads : ℕ) (untold : List Event → List Event → Type 0) (h : Handed) (e : HistoryFail) → HasCause h e → is_journal_fault e ≡ true → (IsFalse (is_journal_fault e) → IsUntouched h) → IsGivenUp h → ((list : List Event) → Lawful h.plan h.readings list → LawfulSoFar h.plan list)
+    → LeavesOnly h.disks.spool_before.may_leave h.disks.spool_before h.disks.spool_after → IsCutShort threads untold h e
+cut-given_up threads untold h e cause fault quiet s to_so_far survives = record {
   cause = cause;
   untouched = λ refusal. quiet (refused-before e refusal);
   found = s.found;
@@ -114,10 +115,17 @@ cut-given_up threads h e cause fault quiet s to_so_far survives = record {
 }
 
 -- the beginning of a life was given up
-pub cut-opening : (threads : ℕ) (h : Handed) (e : HistoryFail) → HasCause h e → (IsFalse (is_journal_fault e) → IsUntouched h) → IsUntouched h ⊎ IsGivenUp h → ((list : List Event) → Lawful h.plan h.readings list → LawfulSoFar h.plan list)
-    → LeavesOnly h.disks.spool_before.may_leave h.disks.spool_before h.disks.spool_after → IsCutShort threads h e
-cut-opening threads h e cause quiet (inl is) to_so_far survives = cut-untouched threads h e cause is
-cut-opening threads h e cause quiet (inr s) to_so_far survives = elim (cases_Bool (is_journal_fault e)) [
-  | inl fault ↦ cut-given_up threads h e cause fault quiet s to_so_far survives
-  | inr none ↦ cut-untouched threads h e cause (quiet none)
+pub cut-opening : (threads : ℕ) (untold : List Event → List Event → Type 0) (h : Handed) (e : HistoryFail) → HasCause h e → (IsFalse (is_journal_fault e) → IsUntouched h) → IsUntouched h ⊎ IsGivenUp h → ((list : List Event) → Lawful h.plan h.readings list → LawfulSoFar h.plan list)
+    → LeavesOnly h.disks.spool_before.may_leave h.disks.spool_before h.disks.spool_after → IsCutShort threads untold h e
+cut-opening threads untold h e cause quiet (inl is) to_so_far survives = cut-untouched threads untold h e cause is
+cut-opening threads untold h e cause quiet (inr s) to_so_far survives = elim (cases_Bool (is_journal_fault e)) [
+  | inl fault ↦ cut-given_up threads untold h e cause fault quiet s to_so_far survives
+  | inr none ↦ cut-untouched threads untold h e cause (quiet none)
 ]
+
+-- the journal's disk failed, where it was examined before
+pub cut-begin : (threads : ℕ) (untold : List Event → List Event → Type 0) (h : Handed) (e : HistoryFail) → e ≡ history_fail.DiskFault disk_name.Journal → Rose h.disks.journal_before.faults h.disks.journal_after.faults → IsGivenUp h
+    → ((list : List Event) → Lawful h.plan h.readings list → LawfulSoFar h.plan list) → LeavesOnly h.disks.spool_before.may_leave h.disks.spool_before h.disks.spool_after → IsCutShort threads untold h e
+cut-begin threads untold h e is rose s to_so_far survives =
+    let fault : is_journal_fault e ≡ true = ap (λ (f : HistoryFail). is_journal_fault f) is in
+    cut-given_up threads untold h e (subst (λ (f : HistoryFail). HasCause h f) (sym is) rose) fault (λ none. let two : true ≡ false = sym fault ∙ none in absurd (cc)) s to_so_far survives

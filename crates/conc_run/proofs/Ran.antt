@@ -1,5 +1,5 @@
 -- What is left where a life was begun and the run went on.
-use Rattle.std.proofs.Common.{◌≡◌, inr, ℕ, ◌≤◌, List, reverse, Some, IfSome, IsFalse, IsTrue, sym, ◌∙◌, ap, subst, arith}
+use Rattle.std.proofs.Common.{◌≡◌, ◌≢◌, ◌⊎◌, inr, ℕ, ◌≤◌, List, reverse, Some, IfSome, IsFalse, IsTrue, sym, ◌∙◌, ap, subst, arith}
 use Rattle.std.proofs.lemmas.Option.{IfSome_then}
 use Rattle.conc_types.specs.declared.event.Event.{Event}
 use Rattle.conc_disk.specs.Disk.{DiskState, SeenFollows, Stays}
@@ -11,6 +11,8 @@ use Rattle.conc_law.specs.Alone.{Alone, opening}
 use Rattle.conc_law.specs.Law.{Finished, Lawful, LawfulSoFar}
 use Rattle.conc_law.specs.State.{used}
 use Rattle.conc_run_open.specs.Opening.{IsBegun}
+use Rattle.conc_resolver_alone.specs.Runs.{LacksMemory}
+use Rattle.conc_resolver_workers.specs.Runs.{AwaitsReport}
 use Rattle.conc_run_state.specs.Causes.{HasCause, is_journal_fault, is_refusal}
 use Rattle.conc_run_state.specs.Disks.{disks}
 use Rattle.conc_run_steps.specs.Going.{WentOn}
@@ -23,7 +25,7 @@ use Rattle.conc_run_state.specs.Works.{list_in, longest_in, with_pending}
 use Rattle.conc_run_state.specs.declared.error.HistoryFail.{HistoryFail}
 use Rattle.conc_run_state.specs.declared.error.HistoryFail.TheVariants as history_fail
 use Rattle.conc_run_state.specs.declared.work.Work.{Work}
-use Rattle.conc_run.specs.Whole.{HasLeft, HasNow, IsCutShort, IsFinished, LacksMemoryThere}
+use Rattle.conc_run.specs.Whole.{HasLeft, HasNow, IsCutShort, IsFinished}
 use Rattle.conc_run_state.proofs.Prefixes.{prefix-twice}
 use Rattle.conc_run.proofs.Lists.{prefix-acknowledged, prefix-with_pending, stored-opening, used-opening, used-prefix}
 use Rattle.conc_run.proofs.Same.{HasLaw, same-result}
@@ -101,6 +103,10 @@ module _ (threads : ℕ) (h : Handed) (journal spool : DiskState) (old new : Wor
   goes-acknowledged : state_of new.journal ≡ state_of old.journal → GoesOn h.plan h.readings (opening begun.found) (list_in new)
   goes-acknowledged same = subst (λ (l : List Event). GoesOn h.plan h.readings (opening begun.found) l) (longest-acknowledged same) goes-on
 
+  -- what was acknowledged has the opening
+  pub begins-acknowledged : state_of new.journal ≡ state_of old.journal → IsPrefix (opening begun.found) (list_in new)
+  begins-acknowledged same = let going = goes-acknowledged same in (going.added, going.all)
+
   is-alone : state_of new.journal ≡ state_of old.journal → Finished h.plan h.readings (list_in new) → threads ≡ 0 → Alone h.plan h.readings begun.found (list_in new)
   is-alone same finished none =
       let going = goes-acknowledged same in record {
@@ -127,10 +133,11 @@ module _ (threads : ℕ) (h : Handed) (journal spool : DiskState) (old new : Wor
   }
 
   -- the run ended before its history was finished
-  pub cut-run : (e : HistoryFail) → HasCause h e → (IsTrue (is_refusal e) → IsUntouched h) → (IsFalse (is_journal_fault e) → state_of new.journal ≡ state_of old.journal)
+  pub cut-run : (untold : List Event → List Event → Type 0) (e : HistoryFail) → HasCause h e → (IsTrue (is_refusal e) → IsUntouched h) → (IsFalse (is_journal_fault e) → state_of new.journal ≡ state_of old.journal)
       → ((list : List Event) → Lawful h.plan h.readings list → LawfulSoFar h.plan list) → Stays h.disks.spool_before spool → LeavesOnly h.disks.spool_before.may_leave h.disks.spool_before spool
-      → (e ≡ history_fail.NoMemory → LacksMemoryThere threads h begun.found (list_in new)) → IsCutShort threads h e
-  cut-run e cause untouched sound to_so_far stays survives memory = record {
+      → (e ≡ history_fail.NoMemory → (threads ≡ 0 → untold begun.found (list_in new) ⊎ LacksMemory h.plan h.readings (list_in new)))
+      → (e ≡ history_fail.NoMemory → (threads ≢ 0 → untold begun.found (list_in new) ⊎ ((list_in new ≡ opening begun.found) ⊎ AwaitsReport h.plan (list_in new)))) → IsCutShort threads untold h e
+  cut-run untold e cause untouched sound to_so_far stays survives memory_alone memory_beside = record {
     cause = cause;
     untouched = untouched;
     found = begun.found;
@@ -138,5 +145,9 @@ module _ (threads : ℕ) (h : Handed) (journal spool : DiskState) (old new : Wor
     last = longest_in new;
     left = left-run to_so_far stays survives;
     whole = λ quiet. longest-acknowledged (sound quiet);
-    memory = λ lacks. inr (memory lacks);
+    memory = λ lacks. inr (record {
+      begins = begins-acknowledged (sound (ap (λ (s : HistoryFail). is_journal_fault s) lacks));
+      alone = memory_alone lacks;
+      beside = memory_beside lacks;
+    });
   }

@@ -71,16 +71,29 @@ pub record IsFinished (threads : ℕ) (h : Handed) (list : List Event) : Type 0 
   pub stored : (from : ℕ) → IfSome h.disks.spool_before.seen (AreStored h.plan from found) → EachImage (AreStored h.plan from list) h.disks.spool_after
   pub left : HasLeft threads h found list list
 
--- Where a run may find no memory once something is written. Without threads it is at the report of the end that comes next;
--- with threads before any event past the resume, or at the report of a request that runs.
-pub record LacksMemoryThere (threads : ℕ) (h : Handed) (found acknowledged : List Event) : Type 0 where
-  pub alone : threads ≡ 0 → LacksMemory h.plan h.readings acknowledged
-  pub beside : threads ≢ 0 → (acknowledged ≡ opening found) ⊎ AwaitsReport h.plan acknowledged
+-- an event was added that was not told: `told` is what was told, and it has the events found
+pub record WasNotTold (found list : List Event) : Type 0 where
+  pub told : List Event
+  pub begins : IsPrefix found told
+  pub event : Event
+  pub list_is : list ≡ told ++ event ∷ []
+
+-- where the telling to so many watchers may find no memory: at an event that the journal already has
+abbrev pub LacksToTell : ℕ → List Event → List Event → Type 0
+LacksToTell watchers found list = (watchers ≢ 0) × WasNotTold found list
+
+-- Where a run may find no memory once something is written: a life is begun. Its teller may find none where `untold` holds of
+-- the list found and the acknowledged one. Without threads it is else at the report of the end that comes next; with threads
+-- before any event past the resume, or at the report of a request that runs.
+pub record LacksMemoryThere (threads : ℕ) (untold : List Event → List Event → Type 0) (h : Handed) (found acknowledged : List Event) : Type 0 where
+  pub begins : IsPrefix (opening found) acknowledged
+  pub alone : threads ≡ 0 → untold found acknowledged ⊎ LacksMemory h.plan h.readings acknowledged
+  pub beside : threads ≢ 0 → untold found acknowledged ⊎ ((acknowledged ≡ opening found) ⊎ AwaitsReport h.plan acknowledged)
 
 -- The run did not begin, or ended before its history was finished. Where it was refused nothing was written. Where it found no
 -- memory nothing was written either, or the list that it left is one after which it may find none. But for a fault of the
 -- journal's disk that disk has the list that was acknowledged.
-pub record IsCutShort (threads : ℕ) (h : Handed) (s : HistoryFail) : Type 0 where
+pub record IsCutShort (threads : ℕ) (untold : List Event → List Event → Type 0) (h : Handed) (s : HistoryFail) : Type 0 where
   pub cause : HasCause h s
   pub untouched : IsTrue (is_refusal s) → IsUntouched h
   pub found : List Event
@@ -88,4 +101,4 @@ pub record IsCutShort (threads : ℕ) (h : Handed) (s : HistoryFail) : Type 0 wh
   pub last : List Event
   pub left : HasLeft threads h found acknowledged last
   pub whole : IsFalse (is_journal_fault s) → last ≡ acknowledged
-  pub memory : s ≡ history_fail.NoMemory → IsUntouched h ⊎ LacksMemoryThere threads h found acknowledged
+  pub memory : s ≡ history_fail.NoMemory → IsUntouched h ⊎ LacksMemoryThere threads untold h found acknowledged

@@ -2,8 +2,11 @@
 //! it to the end of the history. The functions of `laws` have empty bodies; their contracts are laws.
 #![tactic(auto)]
 
+mod error;
+mod going;
 mod laws;
 mod whole;
 
+pub use going::go_on;
 pub use laws::{what_a_crash_leaves_is_good, what_is_good_is_not_refused};
 pub use whole::{run_on_threads, run_plan};

@@ -1,42 +1,22 @@
-ghost use Rattle.std.specs.Prelude.{◌≡◌, ◌<◌, IfErr, IfOk};
+ghost use Rattle.std.specs.Prelude.{◌<◌, IfErr, IfOk};
 ghost use Rattle.conc_run_state.specs.Handed.{handed};
 ghost use Rattle.conc_run_state.specs.Works.{list_in};
-ghost use Rattle.conc_run.specs.Whole.{IsCutShort, IsFinished};
-ghost use Rattle.conc_run_state.specs.declared.error.RunFail.TheVariants as run_fail;
-ghost use Rattle.conc_run_state.specs.declared.error.HistoryFail.TheVariants as history_fail;
-ghost use Rattle.conc_run_state.specs.declared.error.DiskName.TheVariants as disk_name;
+ghost use Rattle.conc_run.specs.Whole.{IsCutShort, IsFinished, LacksToTell};
 
+use crate::error::history_fail_of;
+use crate::going::go_on;
 use conc_disk::Disk;
 use conc_journal::Silent;
 use conc_law::lawful_is_lawful_so_far;
 use conc_law_sameness::table_of_alone;
 use conc_outside_gate::Gate;
 use conc_resolver_alone::run_alone;
-use conc_resolver_workers::{Ran, run_with_workers};
-use conc_run_open::open;
-use conc_run_state::{DiskName, HistoryFail, RunFail, Work};
+use conc_run_open::{examine, open};
+use conc_run_state::{HistoryFail, Work};
 use conc_types::{Plan, Readings};
 use std::alloc::Global;
 use std::sync::Wait;
 use std::thread::Threads;
-
-// Why a run ended.
-fn history_fail_of(fail: RunFail) -> HistoryFail
-    ensures journal { fail ≡ run_fail.JournalFault
-        → result ≡ history_fail.DiskFault disk_name.Journal }
-    ensures spool { fail ≡ run_fail.SpoolFault → result ≡ history_fail.DiskFault disk_name.Spool }
-    ensures memory { fail ≡ run_fail.NoMemory → result ≡ history_fail.NoMemory }
-{
-    match fail {
-        RunFail::JournalFault => HistoryFail::DiskFault {
-            disk: DiskName::Journal,
-        },
-        RunFail::SpoolFault => HistoryFail::DiskFault {
-            disk: DiskName::Spool,
-        },
-        RunFail::NoMemory => HistoryFail::NoMemory,
-    }
-}
 
 /// Runs a plan with these readings, whose input has this digest, over a journal and a spool, without
 /// workers, from what stands there to the end of the history. All refusals come before anything is
@@ -53,7 +33,7 @@ pub fn run_plan<'p, D: Disk, E: Disk>(
     ensures finished { IfOk result (λ work. IsFinished 0
         (handed plan.now readings.now digest.now (D.state journal.old) (D.state journal.new)
         (E.state spool.old) (E.state spool.new)) (list_in work)) }
-    ensures cut_short { IfErr result (IsCutShort 0
+    ensures cut_short { IfErr result (IsCutShort 0 (LacksToTell 0)
         (handed plan.now readings.now digest.now (D.state journal.old) (D.state journal.new)
         (E.state spool.old) (E.state spool.new))) }
 {
@@ -84,20 +64,20 @@ pub fn run_on_threads<'p, R: Threads + Wait + Sync, D: Disk + Send, E: Disk + Se
     ensures finished { IfOk result (λ work. IsFinished threads
         (handed plan.now readings.now digest.now (D.state journal.old) (D.state journal.new)
         (E.state spool.old) (E.state spool.new)) (list_in work)) }
-    ensures cut_short { IfErr result (IsCutShort threads
+    ensures cut_short { IfErr result (IsCutShort threads (LacksToTell 0)
         (handed plan.now readings.now digest.now (D.state journal.old) (D.state journal.new)
         (E.state spool.old) (E.state spool.new))) }
 {
-    lawful_is_lawful_so_far();
-    table_of_alone();
-    let work = open(alloc, plan, readings, digest, journal, spool)?;
-    let Ran {
-        work: ended,
-        answer,
-        ..
-    } = run_with_workers(rt, alloc, work, journal, spool, &mut Silent, gate, threads);
-    match answer {
-        Ok(()) => Ok(ended),
-        Err(cause) => Err(history_fail_of(cause)),
-    }
+    let examined = examine(alloc, plan, readings, digest, journal, spool)?;
+    go_on(
+        rt,
+        alloc,
+        examined,
+        digest,
+        journal,
+        spool,
+        &mut Silent,
+        gate,
+        threads,
+    )
 }

@@ -1,4 +1,4 @@
-use Rattle.std.proofs.Common.{◌≡◌, Result, Ok, Err, refl, sym, ◌∙◌, ap, true, false}
+use Rattle.std.proofs.Common.{◌≡◌, inr, Result, Ok, Err, refl, sym, ◌∙◌, ap, true, false}
 use Rattle.std.proofs.lemmas.Result.{err_from_is_err_and}
 use Rattle.conc_law.specs.Law.{Finished}
 use Rattle.conc_run_state.specs.Causes.{is_journal_fault}
@@ -12,6 +12,7 @@ use Rattle.conc_run_state.specs.declared.error.HistoryFail.{HistoryFail}
 use Rattle.conc_resolver_alone.specs.Runs.{LacksMemory}
 use Rattle.conc_run_steps.specs.Going.{WentOn}
 use Rattle.conc_run_steps.proofs.Underway.{by-same}
+use Rattle.conc_run.specs.Whole.{LacksToTell}
 use Rattle.conc_run.proofs.Opened.{cut-opening}
 use Rattle.conc_run.proofs.Ran.{cut-run, finished-run}
 use Rattle.conc_run.proofs.Failing.{rose-since, failure-cause, failure-late, failure-memory}
@@ -29,7 +30,7 @@ returns-in_err-work-clause-cut_short g c =
     let p = err_from_is_err_and c.from_residual.result c.from_residual.ensures.1 in
     let h : Handed = handed c.args.plan.now c.args.readings.now c.args.digest.now (g.D.Disk.state c.args.journal.now) (g.D.Disk.state c.open.new.journal) (g.E.Disk.state c.args.spool.now) (g.E.Disk.state c.open.new.spool) in
     rw (p.1, p.2)
-    (cut-opening 0 h c.in_err-work.field-0.0 c.in_err-work.ensures.cause c.in_err-work.ensures.untouched c.in_err-work.ensures.given_up (c.lawful_is_lawful_so_far.ensures c.args.plan.now c.args.readings.now)
+    (cut-opening 0 (LacksToTell 0) h c.in_err-work.field-0.0 c.in_err-work.ensures.cause c.in_err-work.ensures.untouched c.in_err-work.ensures.given_up (c.lawful_is_lawful_so_far.ensures c.args.plan.now c.args.readings.now)
     c.open.ensures.spool_survives)
 
 pub returns-in-Ok-clause-finished : goal.returns-in-Ok-clause-finished
@@ -65,7 +66,7 @@ returns-clause-cut_short g c =
     cut-run 0 h begun-on spool-begun work new begun
     (by-same h.plan h.readings work tied.plan_is tied.readings_are (λ plan readings. WentOn plan readings (disks begun-on after spool-begun spool-after) work new) c.run_alone.ensures.went_on)
     (λ _. by-same h.plan h.readings work tied.plan_is tied.readings_are (λ plan readings. GoesOnAlone plan readings (list_in work) (longest_in new)) c.run_alone.ensures.alone)
-    c.history_fail_of.result
+    (LacksToTell 0) c.history_fail_of.result
     (failure-cause h c.in-Err.fail c.history_fail_of.result made.journal made.spool made.memory
     (λ is. rose-since before.faults begun-on.faults after.faults begun.left.faults (c.in-Err.ensures.journal_fault (cc)))
     (λ is. (begun.taken.is_found.own, rose-since spool-before.faults spool-begun.faults spool-after.faults c.open.ensures.spool_survives.faults (c.in-Err.ensures.spool_fault (cc)))))
@@ -75,9 +76,7 @@ returns-clause-cut_short g c =
     let two : true ≡ false = sym (ap (λ (s : HistoryFail). is_journal_fault s) (made.journal fail)) ∙ quiet in
     apart two))
     (c.lawful_is_lawful_so_far.ensures c.args.plan.now c.args.readings.now) c.open.ensures.spool c.open.ensures.spool_survives
-    (λ lacks.
+    (λ lacks none.
     let fail : c.in-Err.fail ≡ run_fail.NoMemory = failure-memory c.in-Err.fail c.history_fail_of.result made.journal made.spool lacks in
-    record {
-      alone = λ _. by-same h.plan h.readings work tied.plan_is tied.readings_are (λ plan readings. LacksMemory plan readings (list_in new)) (c.in-Err.ensures.memory (ap (λ (f : RunFail). Err f) fail));
-      beside = λ some. absurd (some refl);
-    })
+    inr (by-same h.plan h.readings work tied.plan_is tied.readings_are (λ plan readings. LacksMemory plan readings (list_in new)) (c.in-Err.ensures.memory (ap (λ (f : RunFail). Err f) fail))))
+    (λ lacks some. absurd (some refl))

@@ -1,0 +1,39 @@
+-- A teller is told of the resume.
+use Rattle.std.proofs.Common.{◌≡◌, List, Option, None, Some, IfSome, refl, sym, subst}
+use Rattle.std.specs.Prelude.{◌↔◌, IsNone, IsSome}
+use Rattle.conc_types.specs.declared.event.Event.{Event}
+use Rattle.conc_types.specs.declared.plan.Plan.{Plan}
+use Rattle.conc_journal.specs.Receipts.{event_of, IsNextOf, list_with}
+use Rattle.conc_journal.specs.declared.receipt.Receipt.{Receipt}
+use Rattle.conc_law.specs.Law.{LawfulSoFar}
+use Rattle.conc_run_steps.specs.Told.{IsTold, IsUntold}
+use Rattle.conc_run_steps.proofs.Telling.{next-of, told-more}
+use Rattle.conc_run.specs.Telling.{list_resumed}
+
+-- what a teller that stands at the events found may be told
+pub resume-next : (resumed : Option Receipt) (told : Option (List Event)) (takes : List Event → Type 0) (plan : Plan) (found list : List Event) → IsTold told takes plan found → LawfulSoFar plan list
+    → IfSome resumed (IsNextOf (Some found) (λ l. l ≡ list)) → IfSome resumed (IsNextOf told takes)
+resume-next None told takes plan found list is past next = tt
+resume-next (Some receipt) told takes plan found list is past next = next-of told takes plan found list receipt is past next
+
+-- with the resume it was told all
+pub resume-told : (resumed : Option Receipt) (told : Option (List Event)) (takes : List Event → Type 0) (plan : Plan) (found list : List Event) → IsTold told takes plan found
+    → IfSome resumed (IsNextOf (Some found) (λ l. l ≡ list)) → (IsNone resumed → list ≡ found) → IsTold (list_resumed resumed told) takes plan list
+resume-told None told takes plan found list is next still = subst (λ (l : List Event). IsTold told takes plan l) (sym (still refl)) is
+resume-told (Some receipt) told takes plan found list is next still = told-more told (list_with receipt told) takes takes plan found list is (λ events. (λ x. x, λ x. x)) receipt refl next.1
+
+-- it was told all, and stands so still
+pub told-still : (told told' : Option (List Event)) (takes takes' : List Event → Type 0) (plan : Plan) (list : List Event) → told' ≡ told → ((events : List Event) → takes' events ↔ takes events) → IsTold told takes plan list
+    → IsTold told' takes' plan list
+told-still told told' takes takes' plan list same still is = record {
+  at = subst (λ (t : Option (List Event)). IfSome t (λ l. l ≡ list)) (sym same) is.at;
+  takes_all = λ events past. (still events).1 (is.takes_all events past);
+}
+
+-- it was not told of the resume
+pub resume-untold : (resumed : Option Receipt) (told told' : Option (List Event)) (takes : List Event → Type 0) (plan : Plan) (list : List Event) → IsSome resumed → told' ≡ told → IsTold (list_resumed resumed told) takes plan list → IsUntold told' list
+resume-untold None told told' takes plan list some same is = cc some
+resume-untold (Some receipt) told told' takes plan list some same is = subst (λ (t : Option (List Event)). IsUntold t list) (sym same) (go told is.at) where
+  go : (t : Option (List Event)) → IfSome (list_with receipt t) (λ l. l ≡ list) → IsUntold t list
+  go None at = tt
+  go (Some l) at = (event_of receipt, sym at)
