@@ -1,6 +1,6 @@
 -- A teller is told of the resume.
 use Rattle.std.proofs.Common.{◌≡◌, List, Option, None, Some, IfSome, refl, sym, subst}
-use Rattle.std.specs.Prelude.{◌↔◌, IsNone, IsSome}
+use Rattle.std.specs.Prelude.{IsNone, IsSome}
 use Rattle.conc_types.specs.declared.event.Event.{Event}
 use Rattle.conc_types.specs.declared.plan.Plan.{Plan}
 use Rattle.conc_journal.specs.Receipts.{event_of, IsNextOf, list_with}
@@ -21,14 +21,6 @@ pub resume-told : (resumed : Option Receipt) (told : Option (List Event)) (takes
     → IfSome resumed (IsNextOf (Some found) (λ l. l ≡ list)) → (IsNone resumed → list ≡ found) → IsTold (list_resumed resumed told) takes plan list
 resume-told None told takes plan found list is next still = subst (λ (l : List Event). IsTold told takes plan l) (sym (still refl)) is
 resume-told (Some receipt) told takes plan found list is next still = told-more told (list_with receipt told) takes takes plan found list is (λ events. (λ x. x, λ x. x)) receipt refl next.1
-
--- it was told all, and stands so still
-pub told-still : (told told' : Option (List Event)) (takes takes' : List Event → Type 0) (plan : Plan) (list : List Event) → told' ≡ told → ((events : List Event) → takes' events ↔ takes events) → IsTold told takes plan list
-    → IsTold told' takes' plan list
-told-still told told' takes takes' plan list same still is = record {
-  at = subst (λ (t : Option (List Event)). IfSome t (λ l. l ≡ list)) (sym same) is.at;
-  takes_all = λ events past. (still events).1 (is.takes_all events past);
-}
 
 -- it was not told of the resume
 pub resume-untold : (resumed : Option Receipt) (told told' : Option (List Event)) (takes : List Event → Type 0) (plan : Plan) (list : List Event) → IsSome resumed → told' ≡ told → IsTold (list_resumed resumed told) takes plan list → IsUntold told' list

@@ -1,5 +1,5 @@
 -- What a run begins with.
-use Rattle.std.proofs.Common.{◌≡◌, ℕ, ◌+◌, ◌<◌, List, length, reverse, Result, Ok, Err, IfOk, OnErr, OnOk, sym, ◌∙◌, ap, subst, arith, length-append}
+use Rattle.std.proofs.Common.{◌≡◌, ℕ, ◌+◌, List, length, reverse, sym, ◌∙◌, ap, subst, arith, length-append}
 use Rattle.conc_types.specs.declared.event.Event.{Event}
 use Rattle.conc_types.specs.declared.plan.Plan.{Plan}
 use Rattle.conc_types.specs.declared.script.Reading.{Reading}
@@ -22,7 +22,7 @@ use Rattle.conc_run_state.specs.Works.{AreReady}
 use Rattle.conc_run_state.specs.declared.work.Work.{Work}
 use Rattle.conc_run_open.specs.declared.examining.Examined.{Examined}
 use Rattle.conc_run_open.specs.Examined.{IsExamined, MayBegin, WasExamined}
-use Rattle.conc_run_open.specs.Opening.{HasOpening, IsBegun, IsGivenUp, LeavesOpening, StillStored}
+use Rattle.conc_run_open.specs.Opening.{IsBegun, IsGivenUp, LeavesOpening, StillStored}
 use Rattle.conc_run_open.proofs.Counting.{end-within}
 use Rattle.conc_run_open.proofs.Lives.{disk-stored, opening-lawful, opening-lives, opening-used}
 use Rattle.conc_run_open.proofs.Surviving.{opening-left, texts-stay}

@@ -1,7 +1,7 @@
 ghost use Rattle.std.specs.Prelude.{◌≡◌, ◌⊎◌, ◌<◌, IfErr, IfOk, IfSome, IsFalse, IsNone, List, OnErr, Some};
 ghost use Rattle.conc_disk.specs.Disk.{Stays};
 ghost use Rattle.conc_disk.specs.Left.{LeavesOnly};
-ghost use Rattle.conc_journal.specs.Journals.{IsOn, list_of, room_of, state_of};
+ghost use Rattle.conc_journal.specs.Journals.{IsOn, room_of, state_of};
 ghost use Rattle.conc_journal.specs.Receipts.{IsNextOf};
 ghost use Rattle.conc_outside.specs.Counts.{Rose};
 ghost use Rattle.conc_types.specs.declared.plan.Plan.{Plan};

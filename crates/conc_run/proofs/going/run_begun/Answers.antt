@@ -1,10 +1,10 @@
-use Rattle.std.proofs.Common.{◌≡◌, inr, sym, subst}
+use Rattle.std.proofs.Common.{inr}
 use Rattle.conc_run_state.specs.Works.{list_in, longest_in}
 use Rattle.conc_run_steps.specs.Steps.{plan_in, readings_in}
 use Rattle.conc_run_steps.proofs.Going.{sound-longest}
 use Rattle.conc_run_steps.proofs.Underway.{went-still}
 use Rattle.conc_resolver_alone.proofs.Following.{follows-none}
-use Rattle.conc_run.proofs.Telling.{resume-untold, told-still}
+use Rattle.conc_run.proofs.Telling.{resume-untold}
 use Rattle.conc_run.proofs.going.run_begun.Goals as goal
 
 -- ---- the resume was not told

@@ -1,4 +1,4 @@
-use Rattle.std.proofs.Common.{◌≡◌, ℕ, Result, Ok, Err, IfErr, None, IsTrue, sym, true, false}
+use Rattle.std.proofs.Common.{◌≡◌, ℕ, Result, Ok, Err, IfErr, None, sym, true, false}
 use Rattle.std.proofs.lemmas.Result.{err_from_is_err_and}
 use Rattle.conc_run_state.specs.Handed.{handed, Handed}
 use Rattle.conc_run_state.specs.declared.error.HistoryFail.{HistoryFail}
