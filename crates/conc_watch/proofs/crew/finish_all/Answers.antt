@@ -1,0 +1,27 @@
+use Rattle.std.proofs.Common.{◌≡◌, ◌∙◌, ◌∷◌, ◌++◌, [], List, length, sym, subst, arith, length-append}
+use Rattle.std.proofs.lemmas.Iterator.Adapters.{YieldsList-from_vec}
+use Rattle.std.proofs.lemmas.Iterator.Consumers.{YieldsList-turn}
+use Rattle.std.proofs.lemmas.List.Elements.{All-push, All-same}
+use Rattle.conc_types.specs.declared.event.Event.{Event}
+use Rattle.conc_types.specs.declared.plan.Plan.{Plan}
+use Rattle.conc_view.specs.Told.{whole_of}
+use Rattle.conc_watch.specs.Looks.{plan_in, Watches}
+use Rattle.conc_watch.specs.Watches.{IsWatch}
+use Rattle.conc_watch.proofs.crew.finish_all.Goals as goal
+
+pub loop-watcher-preserved : goal.loop-watcher-preserved
+loop-watcher-preserved g c =
+    let i = c.loop-watcher.invariant in let all = c.args.looks in let gives = c.into_iter-watcher-iterator.ensures.into_iter_gives in
+    let watcher = c.in-Some.watcher in let got = c.finish.result in let told = whole_of c.args.told.now in
+    let yields = YieldsList-from_vec {s = c.into_iter-watcher-iterator.result} all.items gives.0 (omega (arith, gives.1, all.ok)) in
+    let turn = YieldsList-turn yields c.loop-watcher.yielded c.loop-watcher.watcher-iterator c.loop-watcher.yielded_by c.next.result c.next.new.self watcher c.in-Some.is
+    c.next.ensures.steps in record {
+      count = omega (arith, i.count, c.in_ok-push.ensures.len, length-append c.loop-watcher.yielded (watcher ∷ []));
+      watches = λ plan each.
+          let own : plan_in watcher ≡ plan = subst (Watches plan) (sym turn.1) (each (length c.loop-watcher.yielded) watcher turn.0) in
+          let made : IsWatch plan told got.items =
+          subst (λ (p : Plan). IsWatch p told got.items) own (subst (λ (h : List Event). IsWatch (plan_in watcher) h got.items) i.told c.finish.ensures.watch) in
+          All-same (λ v. IsWatch plan told v.items) c.push.new.self.items (c.loop-watcher.kept.items ++ got ∷ []) c.in_ok-push.ensures.items
+          (All-push (λ v. IsWatch plan told v.items) c.loop-watcher.kept.items got (i.watches plan each) made);
+      told = c.finish.ensures.told ∙ i.told;
+    }

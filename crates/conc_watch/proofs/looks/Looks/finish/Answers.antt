@@ -1,0 +1,13 @@
+use Rattle.std.proofs.Common.{List, subst, sym}
+use Rattle.conc_view.specs.Told.{whole_of}
+use Rattle.conc_view.specs.Watcher.{seen_by, watched_plan}
+use Rattle.conc_view.specs.declared.watcher.Snapshot.{Snapshot}
+use Rattle.conc_watch.specs.Watches.{IsWatch}
+use Rattle.conc_watch.proofs.Kept.{kept_whole}
+use Rattle.conc_watch.proofs.looks.Looks.finish.Goals as goal
+
+pub returns-clause-watch : goal.returns-clause-watch
+returns-clause-watch g c =
+    let looks = c.args.self in let told = whole_of c.args.told.now in let made = c.look_at_whole-snapshot.ensures in
+    subst (λ (kept : List Snapshot). IsWatch (watched_plan looks.watcher) told kept) (sym c.keep.ensures.kept)
+    (kept_whole (watched_plan looks.watcher) (seen_by looks.watcher) told looks.kept.items c.look_at_whole-snapshot.result looks.looks looks.few made.begins made.length made.counts)

@@ -1,0 +1,26 @@
+-- What a watcher with its looks has.
+use Rattle.std.specs.Prelude.{◌≡◌, List}
+use mathlib.Core.List.{IsPrefix}
+use Rattle.conc_types.specs.declared.event.Event.{Event}
+use Rattle.conc_types.specs.declared.plan.Plan.{Plan}
+use Rattle.conc_view.specs.Watcher.{seen_by, watched_plan}
+use Rattle.conc_view.specs.declared.naming.Naming.{Ghosts}
+use Rattle.conc_watch.specs.declared.looks.Looks.{Looks}
+
+module _ {J : Type 0} {names : Ghosts J} where
+  -- the plan that it watches
+  abbrev pub plan_in : Looks J names → Plan
+  plan_in looks = watched_plan looks.watcher
+
+  -- the events that it has seen
+  abbrev pub seen_in : Looks J names → List Event
+  seen_in looks = seen_by looks.watcher
+
+  -- it watches this plan
+  abbrev pub Watches : Plan → Looks J names → Type 0
+  Watches plan looks = plan_in looks ≡ plan
+
+  -- it watches what it watched, and has seen what it had seen, and maybe more
+  pub record Goes (before after : Looks J names) : Type 0 where
+    pub plan : plan_in after ≡ plan_in before
+    pub begins : IsPrefix (seen_in before) (seen_in after)

@@ -1,0 +1,40 @@
+-- What a watcher keeps of its looks.
+use Rattle.std.specs.Prelude.{◌≡◌, ◌<◌, ◌≤◌, ◌-◌, ◌++◌, ◌∷◌, [], ℕ, Bool, true, List, All, AllPairs, length, nat_lt, slice_get, slice_index_or, take, if◌then◌else◌}
+use Rattle.std.specs.Option.{option_map_or}
+use Rattle.conc_types.specs.declared.event.Event.{Event}
+use Rattle.conc_types.specs.declared.plan.Plan.{Plan}
+use Rattle.conc_view.specs.Counts.{counts_of}
+use Rattle.conc_view.specs.declared.watcher.Snapshot.{Snapshot}
+
+-- the snapshot is that of the first events of this list, as many as its length says
+pub record IsLookAt (plan : Plan) (events : List Event) (s : Snapshot) : Type 0 where
+  pub within : s.length ≤ length events
+  pub counts : s.counts ≡ counts_of plan (take s.length events)
+
+-- each snapshot is longer than those before it
+abbrev pub Rises : List Snapshot → Type 0
+Rises kept = AllPairs (λ (before after : Snapshot). before.length < after.length) kept
+
+-- what a watcher kept of a history: 1 to 64 snapshots, each right, each longer than those before it, and the last one
+-- that of the whole history
+pub record IsWatch (plan : Plan) (history : List Event) (kept : List Snapshot) : Type 0 where
+  pub some : 0 < length kept
+  pub few : length kept ≤ 64
+  pub looks : All (IsLookAt plan history) kept
+  pub rising : Rises kept
+  pub whole : (d : Snapshot) → (slice_index_or kept (length kept - 1) d).length ≡ length history
+
+-- ---- before the end
+
+-- each of these is a snapshot of this list, and longer than those before it
+pub record AreLooks (plan : Plan) (events : List Event) (kept : List Snapshot) : Type 0 where
+  pub looks : All (IsLookAt plan events) kept
+  pub rising : Rises kept
+
+-- the snapshot is longer than the last one of these, or there is none
+abbrev pub is_longer : List Snapshot → Snapshot → Bool
+is_longer kept s = option_map_or (λ (last : Snapshot). nat_lt last.length s.length) (slice_get kept (length kept - 1)) true
+
+-- these and the snapshot, where it is longer than the last one or there is none
+abbrev pub with_look : List Snapshot → Snapshot → List Snapshot
+with_look kept s = if is_longer kept s then kept ++ s ∷ [] else kept
