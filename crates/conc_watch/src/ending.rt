@@ -32,7 +32,7 @@ impl Ending {
     }
 
     /// Sleeps for some time, and no longer than until the run is over.
-    pub(crate) fn nap<R: Wait>(&self, rt: &R, time: Duration) {
+    pub fn nap<R: Wait>(&self, rt: &R, time: Duration) {
         self.word.park_timeout(rt, 0, time);
     }
 }

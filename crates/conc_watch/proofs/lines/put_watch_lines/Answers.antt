@@ -1,5 +1,4 @@
-use Rattle.std.proofs.Common.{◌++◌, ◌+◌, ◌∙◌, List, ap, arith}
-use Rattle.conc_view.specs.declared.watcher.Snapshot.{Snapshot}
+use Rattle.std.proofs.Common.{◌∙◌, ap, arith}
 use Rattle.conc_watch.proofs.Lined.{text_more}
 use Rattle.conc_watch.proofs.lines.put_watch_lines.Goals as goal
 

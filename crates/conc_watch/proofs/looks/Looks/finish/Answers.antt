@@ -9,5 +9,5 @@ use Rattle.conc_watch.proofs.looks.Looks.finish.Goals as goal
 pub returns-clause-watch : goal.returns-clause-watch
 returns-clause-watch g c =
     let looks = c.args.self in let told = whole_of c.args.told.now in let made = c.look_at_whole-snapshot.ensures in
-    subst (λ (kept : List Snapshot). IsWatch (watched_plan looks.watcher) told kept) (sym c.keep.ensures.kept)
+    subst (λ (kept : List Snapshot). IsWatch (watched_plan looks.watcher) told kept) (sym {A = List Snapshot} c.keep.ensures.kept)
     (kept_whole (watched_plan looks.watcher) (seen_by looks.watcher) told looks.kept.items c.look_at_whole-snapshot.result looks.looks looks.few made.begins made.length made.counts)
