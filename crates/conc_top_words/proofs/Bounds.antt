@@ -7,7 +7,7 @@ use Rattle.conc_types.specs.Decimals.{decimal_value}
 use Rattle.conc_types.specs.Words.{is_between}
 use Rattle.conc_top_words.specs.declared.command.Command.{Command}
 use Rattle.conc_top_words.specs.declared.command.Command.TheVariants as command
-use Rattle.conc_top_words.specs.Words.{AreWithin, check_of, command_named, command_of, is, is_file, is_zero_or_absent, make_of, number_between, output_of, plan_of, run_among, run_said, Said, said, size_of, status_of, threads_of}
+use Rattle.conc_top_words.specs.Words.{AreWithin, check_of, command_named, command_of, is, is_file, make_of, number_between, output_of, plan_of, run_among, run_said, Said, said, size_of, status_of, threads_of, watchers_of}
 
 abbrev IsWithin : Option Command → Type 0
 IsWithin command = IfSome command AreWithin
@@ -59,29 +59,32 @@ status-within (a ∷ b ∷ c ∷ words) = tt
 
 -- ---- commands with numbers
 
-among-within : (n : ℕ) (files : List (List ℕ)) → n ≤ 32 → IsWithin (run_among n files)
-among-within n [] few = tt
-among-within n (a ∷ []) few = tt
-among-within n (a ∷ b ∷ []) few = tt
-among-within n (a ∷ b ∷ c ∷ []) few = then-within _ (command.Run a b c n) few
-among-within n (a ∷ b ∷ c ∷ d ∷ files) few = tt
+among-within : (n w : ℕ) (files : List (List ℕ)) → n ≤ 32 → w ≤ 8 → IsWithin (run_among n w files)
+among-within n w [] few few' = tt
+among-within n w (a ∷ []) few few' = tt
+among-within n w (a ∷ b ∷ []) few few' = tt
+among-within n w (a ∷ b ∷ c ∷ []) few few' = then-within _ (command.Run a b c n w) (few, few')
+among-within n w (a ∷ b ∷ c ∷ d ∷ files) few few' = tt
 
 threads-within : (threads : List (List ℕ)) → IfSome (threads_of threads) (Between 0 32)
 threads-within [] = (omega arith, omega arith)
 threads-within (v ∷ []) = number-between 0 32 v
 threads-within (v ∷ u ∷ threads) = tt
 
-run-some : (o : Option ℕ) (files : List (List ℕ)) → IfSome o (Between 0 32) → IsWithin (option_and_then (λ n. run_among n files) o)
-run-some None files within = tt
-run-some (Some n) files within = among-within n files within.1
+watchers-within : (watch : List (List ℕ)) → IfSome (watchers_of watch) (Between 0 8)
+watchers-within [] = (omega arith, omega arith)
+watchers-within (v ∷ []) = number-between 0 8 v
+watchers-within (v ∷ u ∷ watch) = tt
 
-run-if : (b : Bool) (threads files : List (List ℕ)) → IsWithin (if b then option_and_then (λ n. run_among n files) (threads_of threads) else None)
-run-if true threads files = run-some (threads_of threads) files (threads-within threads)
-run-if false threads files = tt
+run-some : (threads watchers : Option ℕ) (files : List (List ℕ)) → IfSome threads (Between 0 32) → IfSome watchers (Between 0 8)
+    → IsWithin (option_and_then (λ n. option_and_then (λ w. run_among n w files) watchers) threads)
+run-some None watchers files few few' = tt
+run-some (Some n) None files few few' = tt
+run-some (Some n) (Some w) files few few' = among-within n w files few.1 few'.1
 
 said-within : (s : Option Said) → IsWithin (option_and_then run_said s)
 said-within None = tt
-said-within (Some s) = run-if (is_zero_or_absent s.watch) s.threads s.files
+said-within (Some s) = run-some (threads_of s.threads) (watchers_of s.watch) s.files (threads-within s.threads) (watchers-within s.watch)
 
 output-some : (setup script : List ℕ) (o : Option ℕ) → IfSome o (Between 1 4294967295)
     → IsWithin (option_map (λ r. command.Output setup script r) (option_map (λ n. record { number = n }) o))

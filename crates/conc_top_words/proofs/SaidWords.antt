@@ -5,7 +5,7 @@ use Rattle.std.proofs.lemmas.List.{append-nil, length-map, nil_from_length}
 use Rattle.std.specs.Prelude.{if◌then◌else◌, codes}
 use Rattle.conc_top_words.specs.declared.command.Command.{Command}
 use Rattle.conc_top_words.specs.Saying.{before}
-use Rattle.conc_top_words.specs.Words.{behind, is, is_positional, is_zero, run_among, run_said, nothing_said, said, Said, said_by, said_by_threads, said_by_watch, takes_next, threads_of, with_file, with_option, with_threads, with_watch}
+use Rattle.conc_top_words.specs.Words.{behind, is, is_positional, run_among, run_said, nothing_said, said, Said, said_by, said_by_threads, said_by_watch, takes_next, threads_of, watchers_of, with_file, with_option, with_threads, with_watch}
 
 -- a word that is no option before its value
 pub said-first : (word : List ℕ) (rest : List (List ℕ)) → takes_next word ≡ false → said (word ∷ rest) ≡ said_by word (said rest)
@@ -177,30 +177,31 @@ said-few (suc n) (word ∷ next ∷ words) fits s e =
 
 -- ---- what is no command line
 
-none-if : (b : Bool) (o : Option Command) → o ≡ None → (if b then o else None) ≡ None
-none-if true o none = none
-none-if false o none = refl
+among-none : (n w : ℕ) (files : List (List ℕ)) → 3 < length files → run_among n w files ≡ None
+among-none n w [] many = refl
+among-none n w (x ∷ []) many = refl
+among-none n w (x ∷ y ∷ []) many = refl
+among-none n w (x ∷ y ∷ z ∷ []) many = absurd (omega (arith, many))
+among-none n w (x ∷ y ∷ z ∷ v ∷ files) many = refl
 
-among-none : (n : ℕ) (files : List (List ℕ)) → 3 < length files → run_among n files ≡ None
-among-none n [] many = refl
-among-none n (x ∷ []) many = refl
-among-none n (x ∷ y ∷ []) many = refl
-among-none n (x ∷ y ∷ z ∷ []) many = absurd (omega (arith, many))
-among-none n (x ∷ y ∷ z ∷ w ∷ files) many = refl
+-- the run that both options give, if they give numbers
+abbrev among : Option ℕ → Option ℕ → List (List ℕ) → Option Command
+among threads watchers files = option_and_then (λ n. option_and_then (λ w. run_among n w files) watchers) threads
 
-among-some-none : (o : Option ℕ) (files : List (List ℕ)) → 3 < length files → option_and_then (λ n. run_among n files) o ≡ None
-among-some-none None files many = refl
-among-some-none (Some n) files many = among-none n files many
+among-some-none : (n : ℕ) (watchers : Option ℕ) (files : List (List ℕ)) → 3 < length files → among (Some n) watchers files ≡ None
+among-some-none n None files many = refl
+among-some-none n (Some w) files many = among-none n w files many
 
-threads-few : (threads files : List (List ℕ)) → 5 < 2 * length threads + length files → option_and_then (λ n. run_among n files) (threads_of threads) ≡ None
-threads-few [] files many = among-none 4 files (omega (arith, many))
-threads-few (v ∷ []) files many = among-some-none (threads_of (v ∷ [])) files (omega (arith, many))
-threads-few (v ∷ u ∷ threads) files many = refl
+watch-few : (threads : Option ℕ) (watch files : List (List ℕ)) → 5 < 2 * length watch + length files → among threads (watchers_of watch) files ≡ None
+watch-few None watch files many = refl
+watch-few (Some n) [] files many = among-none n 0 files (omega (arith, many))
+watch-few (Some n) (w ∷ []) files many = among-some-none n (watchers_of (w ∷ [])) files (omega (arith, many))
+watch-few (Some n) (w ∷ x ∷ watch) files many = refl
 
 run-few : (threads watch files : List (List ℕ)) → 7 < 2 * length threads + 2 * length watch + length files → run_said (record { threads = threads; watch = watch; files = files }) ≡ None
-run-few threads [] files many = threads-few threads files (omega (arith, many))
-run-few threads (w ∷ []) files many = none-if (is_zero w) _ (threads-few threads files (omega (arith, many)))
-run-few threads (w ∷ x ∷ watch) files many = refl
+run-few [] watch files many = watch-few (threads_of []) watch files (omega (arith, many))
+run-few (v ∷ []) watch files many = watch-few (threads_of (v ∷ [])) watch files (omega (arith, many))
+run-few (v ∷ u ∷ threads) watch files many = refl
 
 said-by-many : (words : List (List ℕ)) (o : Option Said) → said words ≡ o → 7 < length words → option_and_then run_said o ≡ None
 said-by-many words None e many = refl

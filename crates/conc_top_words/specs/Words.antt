@@ -1,5 +1,5 @@
 -- The words of the command line: what command they are.
-use Rattle.std.specs.Prelude.{◌≤◌, ⊤, ℕ, Bool, false, true, not, ◌&&◌, ◌||◌, ◌==◌, if◌then◌else◌, List, [], ◌∷◌, codes, drop, length, nat_eq, Option, None, Some}
+use Rattle.std.specs.Prelude.{◌≤◌, ⊤, ℕ, Bool, not, ◌&&◌, ◌||◌, if◌then◌else◌, List, [], ◌∷◌, codes, drop, length, nat_eq, Option, None, Some}
 use Rattle.std.specs.Bool.{then_some}
 use Rattle.std.specs.List.{starts_with}
 use Rattle.std.specs.Option.{option_and_then, option_map}
@@ -7,7 +7,7 @@ use Rattle.std.specs.Str.{bytes_eq}
 use Rattle.conc_types.specs.declared.event.RequestId.{RequestId}
 use Rattle.conc_types.specs.Decimals.{decimal_value}
 use Rattle.conc_types.specs.Texts.{is_name}
-use Rattle.conc_types.specs.Words.{is_between, is_empty, some_and}
+use Rattle.conc_types.specs.Words.{is_between, is_empty}
 use Rattle.conc_top_words.specs.declared.command.Command.{Command}
 use Rattle.conc_top_words.specs.declared.command.Command.TheVariants as command
 
@@ -90,7 +90,8 @@ said (word ∷ next ∷ words) =
 -- ---- `run`
 
 -- It alone has options, anywhere behind it, each of the two names at most once: `--threads N` or `--threads=N`, where N is a
--- decimal from 0 to 32, and 4 where it is not given, and `--watch W` or `--watch=W`, where W is 0: no run has watchers.
+-- decimal from 0 to 32, and 4 where it is not given, and `--watch W` or `--watch=W`, where W is a decimal from 0 to 8, and 0
+-- where it is not given.
 
 -- how many threads a run has: the default where the option is not given, and its value where it is given once
 abbrev pub threads_of : List (List ℕ) → Option ℕ
@@ -98,31 +99,25 @@ threads_of [] = Some 4
 threads_of (value ∷ []) = number_between 0 32 value
 threads_of _ = None
 
-abbrev pub is_zero : List ℕ → Bool
-is_zero word = some_and (λ n. n == 0) (decimal_value word)
+-- how many watchers it has: none where the option is not given, and its value where it is given once
+abbrev pub watchers_of : List (List ℕ) → Option ℕ
+watchers_of [] = Some 0
+watchers_of (value ∷ []) = number_between 0 8 value
+watchers_of _ = None
 
--- the option is given once, and as 0
-abbrev pub is_zero_once : List (List ℕ) → Bool
-is_zero_once (value ∷ []) = is_zero value
-is_zero_once _ = false
-
--- the same, or it is not given
-abbrev pub is_zero_or_absent : List (List ℕ) → Bool
-is_zero_or_absent [] = true
-is_zero_or_absent values = is_zero_once values
-
--- three files with names, and so many threads
-abbrev pub run_among : ℕ → List (List ℕ) → Option Command
-run_among threads (setup ∷ script ∷ clock ∷ []) =
-    then_some (is_name setup && (is_name script && is_name clock)) (command.Run setup script clock threads)
-run_among threads _ = None
+-- three files with names, and so many threads and watchers
+abbrev pub run_among : ℕ → ℕ → List (List ℕ) → Option Command
+run_among threads watchers (setup ∷ script ∷ clock ∷ []) =
+    then_some (is_name setup && (is_name script && is_name clock)) (command.Run setup script clock threads watchers)
+run_among threads watchers _ = None
 
 abbrev pub run_said : Said → Option Command
 run_said s =
-    if is_zero_or_absent s.watch then option_and_then (λ threads. run_among threads s.files) (threads_of s.threads)
-    else None
+    option_and_then
+    (λ threads. option_and_then (λ watchers. run_among threads watchers s.files) (watchers_of s.watch))
+    (threads_of s.threads)
 
--- `SETUP SCRIPT CLOCK`, and anywhere among them `--threads N` and `--watch 0`, each once or not at all
+-- `SETUP SCRIPT CLOCK`, and anywhere among them `--threads N` and `--watch W`, each once or not at all
 abbrev pub run_of : List (List ℕ) → Option Command
 run_of words = option_and_then run_said (said words)
 
@@ -173,9 +168,9 @@ unfoldable pub command_of : List (List ℕ) → Option Command
 command_of [] = None
 command_of (name ∷ words) = command_named name words
 
--- a run has 0 to 32 threads, a request is numbered from 1, and 1 to 4,000 submissions are made
+-- a run has 0 to 32 threads and 0 to 8 watchers, a request is numbered from 1, and 1 to 4,000 submissions are made
 abbrev pub AreWithin : Command → Type 0
-AreWithin (command.Run setup script clock threads) = threads ≤ 32
+AreWithin (command.Run setup script clock threads watchers) = (threads ≤ 32) × (watchers ≤ 8)
 AreWithin (command.Output setup script request) = 1 ≤ request.number
 AreWithin (command.Make seed size) = (1 ≤ size) × (size ≤ 4000)
 AreWithin _ = ⊤

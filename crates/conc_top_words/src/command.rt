@@ -10,7 +10,7 @@ use std::alloc::Global;
 /// A command, with what the words behind it say.
 #[derive(Drop)]
 pub enum Command {
-    /// `run SETUP SCRIPT CLOCK`, without watchers.
+    /// `run SETUP SCRIPT CLOCK`, with the options `--threads N` and `--watch W`.
     Run {
         setup: Name,
         script: Name,
@@ -18,6 +18,9 @@ pub enum Command {
 
         /// How many worker threads there are: 0 for a run without workers.
         threads: u32,
+
+        /// How many watchers look at the run: 0 for a run without watchers.
+        watchers: u32,
     },
     /// `plan SETUP SCRIPT`.
     Plan {
@@ -171,8 +174,8 @@ fn read_named(alloc: Global, name: &[u8], words: &[String]) -> Result<Option<Com
 
 /// The command that these words give, and what they say behind it.
 ///
-/// It is None exactly where they give none. A run has 0 to 32 threads, a request is numbered from 1,
-/// and 1 to 4,000 submissions are made. `NoMemory` tells that there was no memory.
+/// It is None exactly where they give none. A run has 0 to 32 threads and 0 to 8 watchers, a request
+/// is numbered from 1, and 1 to 4,000 submissions are made. `NoMemory` tells that there was no memory.
 #[tactic(auto, unfolding(crate::specs::Words::command_of))]
 pub fn read_command(alloc: Global, words: &[String]) -> Result<Option<Command>, NoMemory>
     ensures read { IfOk result (λ command. command ≡ command_of (map string_bytes words.now)) }

@@ -7,7 +7,7 @@ ghost use Rattle.conc_top_words.specs.Words.{nothing_said, run_of};
 
 use crate::Command;
 use crate::words::{is, is_positional, number_between, own_name};
-use conc_types::{NoMemory, is_name, read_decimal};
+use conc_types::{NoMemory, is_name};
 use std::alloc::Global;
 
 /// How many worker threads a run has where it is not said.
@@ -15,6 +15,9 @@ const DEFAULT_THREADS: u32 = 4;
 
 /// How many worker threads a run has at most.
 const MOST_THREADS: u32 = 32;
+
+/// How many watchers a run has at most.
+const MOST_WATCHERS: u32 = 8;
 
 // How many words stand behind `run` at most.
 const MOST_WORDS: usize = 7;
@@ -153,36 +156,27 @@ fn threads_of(values: &[&[u8]]) -> Option<u32>
     }
 }
 
-fn is_zero(word: &[u8]) -> bool
-    ensures { result ≡ spec.is_zero word.now }
-{
-    match read_decimal(word) {
-        Some(number) => number == 0,
-        None => false,
-    }
-}
-
-// Whether the option is given once, and as 0.
-fn is_zero_once(values: &[&[u8]]) -> bool
-    ensures { result ≡ spec.is_zero_once (map (λ w. w.now) values.now) }
+// How many watchers the option gives: as many as its value says, or none where it is not given.
+fn watchers_of(values: &[&[u8]]) -> Option<u32>
+    ensures { result ≡ spec.watchers_of (map (λ w. w.now) values.now) }
 {
     match values {
-        [value] => is_zero(value),
-        _ => false,
+        [] => Some(0),
+        [value] => number_between(0, MOST_WATCHERS, value),
+        _ => None,
     }
 }
 
-// The same, or whether it is not given.
-fn is_zero_or_absent(values: &[&[u8]]) -> bool
-    ensures { result ≡ spec.is_zero_or_absent (map (λ w. w.now) values.now) }
-{
-    values.is_empty() || is_zero_once(values)
-}
-
-// A run with so many threads, where these files are the names of its setup, its script and its clock.
-fn run_among(alloc: Global, threads: u32, files: &[&[u8]]) -> Result<Option<Command>, NoMemory>
+// A run with so many threads and watchers, where these files are the names of its setup, its script
+// and its clock.
+fn run_among(
+    alloc: Global,
+    threads: u32,
+    watchers: u32,
+    files: &[&[u8]],
+) -> Result<Option<Command>, NoMemory>
     ensures { IfOk result (λ command. command
-        ≡ spec.run_among threads (map (λ w. w.now) files.now)) }
+        ≡ spec.run_among threads watchers (map (λ w. w.now) files.now)) }
 {
     let [setup, script, clock] = files else {
         return Ok(None);
@@ -195,23 +189,25 @@ fn run_among(alloc: Global, threads: u32, files: &[&[u8]]) -> Result<Option<Comm
         script: own_name(alloc, script)?,
         clock: own_name(alloc, clock)?,
         threads,
+        watchers,
     }))
 }
 
 fn run_said(alloc: Global, said: &Said<'_>) -> Result<Option<Command>, NoMemory>
     ensures { IfOk result (λ command. command ≡ spec.run_said (shown said.now)) }
 {
-    if !is_zero_or_absent(said.watch.as_slice()) {
+    let Some(threads) = threads_of(said.threads.as_slice()) else {
         return Ok(None);
-    }
-    match threads_of(said.threads.as_slice()) {
-        Some(threads) => run_among(alloc, threads, said.files.as_slice()),
-        None => Ok(None),
-    }
+    };
+    let Some(watchers) = watchers_of(said.watch.as_slice()) else {
+        return Ok(None);
+    };
+    run_among(alloc, threads, watchers, said.files.as_slice())
 }
 
 /// The run that these words behind `run` ask for: `SETUP SCRIPT CLOCK`, and anywhere among them
-/// `--threads N`, with N from 0 to 32, and `--watch 0`, each of the two once or not at all.
+/// `--threads N`, with N from 0 to 32, and `--watch W`, with W from 0 to 8, each of the two once or
+/// not at all.
 pub(crate) fn read_run(alloc: Global, words: &[String]) -> Result<Option<Command>, NoMemory>
     ensures { IfOk result (λ command. command ≡ run_of (map string_bytes words.now)) }
 {

@@ -5,28 +5,40 @@ use std::process::Abort;
 use std::test::Fail;
 
 // Lines that begin with `run` and whose words, with a blank between two of them, are a command, and how
-// many threads it has.
-static RUNS: [(&str, u32); 20] = [
-    ("run a.toml a.csv a.clock", 4),
-    ("run a.toml a.csv a.clock --watch 0", 4),
-    ("run --watch=0 a.toml a.csv a.clock", 4),
-    ("run a.toml a.csv a.clock --threads 0", 0),
-    ("run --threads 0 a.toml a.csv a.clock", 0),
-    ("run a.toml --threads=0 a.csv --watch=0 a.clock", 0),
-    ("run a.toml --watch 0 a.csv a.clock --threads 0", 0),
-    ("run --watch=0 --threads=0 a.toml a.csv a.clock", 0),
-    ("run --threads 0 --watch 0 a.toml a.csv a.clock", 0),
-    ("run a.toml a.csv --threads 0 a.clock", 0),
-    ("run a.toml a.csv a.clock --threads=0 --watch 0", 0),
-    ("run a.toml a.csv a.clock --threads 1", 1),
-    ("run a.toml a.csv a.clock --threads 4", 4),
-    ("run a.toml --threads 4 a.csv a.clock", 4),
-    ("run --threads=7 a.toml a.csv a.clock", 7),
-    ("run a.toml a.csv --threads=10 a.clock", 10),
-    ("run a.toml a.csv a.clock --threads 31", 31),
-    ("run a.toml a.csv a.clock --threads 32", 32),
-    ("run a.toml a.csv a.clock --threads=32", 32),
-    ("run --threads 32 a.toml a.csv --watch 0 a.clock", 32),
+// many threads and how many watchers it has.
+static RUNS: [(&str, (u32, u32)); 32] = [
+    ("run a.toml a.csv a.clock", (4, 0)),
+    ("run a.toml a.csv a.clock --watch 0", (4, 0)),
+    ("run --watch=0 a.toml a.csv a.clock", (4, 0)),
+    ("run a.toml a.csv a.clock --threads 0", (0, 0)),
+    ("run --threads 0 a.toml a.csv a.clock", (0, 0)),
+    ("run a.toml --threads=0 a.csv --watch=0 a.clock", (0, 0)),
+    ("run a.toml --watch 0 a.csv a.clock --threads 0", (0, 0)),
+    ("run --watch=0 --threads=0 a.toml a.csv a.clock", (0, 0)),
+    ("run --threads 0 --watch 0 a.toml a.csv a.clock", (0, 0)),
+    ("run a.toml a.csv --threads 0 a.clock", (0, 0)),
+    ("run a.toml a.csv a.clock --threads=0 --watch 0", (0, 0)),
+    ("run a.toml a.csv a.clock --threads 1", (1, 0)),
+    ("run a.toml a.csv a.clock --threads 4", (4, 0)),
+    ("run a.toml --threads 4 a.csv a.clock", (4, 0)),
+    ("run --threads=7 a.toml a.csv a.clock", (7, 0)),
+    ("run a.toml a.csv --threads=10 a.clock", (10, 0)),
+    ("run a.toml a.csv a.clock --threads 31", (31, 0)),
+    ("run a.toml a.csv a.clock --threads 32", (32, 0)),
+    ("run a.toml a.csv a.clock --threads=32", (32, 0)),
+    ("run --threads 32 a.toml a.csv --watch 0 a.clock", (32, 0)),
+    ("run a.toml a.csv a.clock --watch 1", (4, 1)),
+    ("run --watch 1 a.toml a.csv a.clock", (4, 1)),
+    ("run a.toml --watch=2 a.csv a.clock", (4, 2)),
+    ("run a.toml a.csv --watch 7 a.clock", (4, 7)),
+    ("run a.toml a.csv a.clock --watch 8", (4, 8)),
+    ("run a.toml a.csv a.clock --watch=8", (4, 8)),
+    ("run --watch=8 a.toml a.csv a.clock", (4, 8)),
+    ("run a.toml a.csv a.clock --threads 4 --watch 2", (4, 2)),
+    ("run a.toml a.csv a.clock --watch 2 --threads 4", (4, 2)),
+    ("run --threads=0 a.toml a.csv a.clock --watch=1", (0, 1)),
+    ("run a.toml --watch 8 a.csv --threads 1 a.clock", (1, 8)),
+    ("run --watch=8 --threads=32 a.toml a.csv a.clock", (32, 8)),
 ];
 
 // Such lines that are no command.
@@ -61,15 +73,38 @@ const NO_RUNS: &str = concat!(
     "run --threads a.toml a.csv a.clock\n",
     "run a.toml a.csv --threads a.clock 4\n",
     "run a.toml a.csv a.clock --threads --watch=0\n",
-    // A number of watchers that is not 0, no decimal, or none.
-    "run a.toml a.csv a.clock --watch 1\n",
-    "run a.toml a.csv a.clock --threads 0 --watch 1\n",
-    "run a.toml a.csv a.clock --threads 0 --watch=8\n",
+    // A number of watchers that is not from 0 to 8, no decimal, or none.
+    "run a.toml a.csv a.clock --watch 9\n",
+    "run a.toml a.csv a.clock --watch=9\n",
+    "run --watch 9 a.toml a.csv a.clock\n",
+    "run a.toml --watch=9 a.csv a.clock\n",
     "run a.toml a.csv a.clock --threads 0 --watch=9\n",
+    "run a.toml a.csv a.clock --watch 9 --threads 4\n",
+    "run a.toml a.csv a.clock --watch 10\n",
+    "run a.toml a.csv a.clock --watch 80\n",
+    "run a.toml a.csv a.clock --watch 4294967296\n",
+    "run a.toml a.csv a.clock --watch 4294967297\n",
+    "run a.toml a.csv a.clock --watch 18446744073709551617\n",
     "run a.toml a.csv a.clock --threads 4 --watch 00\n",
+    "run a.toml a.csv a.clock --watch 01\n",
+    "run a.toml a.csv a.clock --watch=08\n",
+    "run a.toml a.csv a.clock --watch -0\n",
+    "run a.toml a.csv a.clock --watch=-1\n",
+    "run a.toml a.csv a.clock --watch +1\n",
+    "run a.toml a.csv a.clock --watch 1.0\n",
+    "run a.toml a.csv a.clock --watch 1,\n",
+    "run a.toml a.csv a.clock --watch=0x1\n",
+    "run a.toml a.csv a.clock --watch one\n",
+    "run a.toml a.csv a.clock --watch==1\n",
+    "run a.toml a.csv a.clock --watch\n",
+    "run a.toml a.csv a.clock --watch=\n",
+    "run a.toml a.csv a.clock --watch \n",
     "run a.toml a.csv a.clock --threads 0 --watch\n",
     "run a.toml a.csv a.clock --threads 0 --watch=\n",
     "run a.toml a.csv a.clock --watch --threads=0\n",
+    "run a.toml a.csv a.clock --watch --threads 0\n",
+    "run --watch a.toml a.csv a.clock\n",
+    "run a.toml a.csv --watch a.clock 1\n",
     // An option twice.
     "run a.toml a.csv a.clock --threads 0 --threads 0\n",
     "run a.toml a.csv a.clock --threads 4 --threads 4\n",
@@ -77,6 +112,11 @@ const NO_RUNS: &str = concat!(
     "run --threads 4 a.toml a.csv a.clock --threads 32\n",
     "run a.toml a.csv a.clock --threads=0 --threads 0\n",
     "run a.toml a.csv a.clock --watch 0 --watch 0\n",
+    "run a.toml a.csv a.clock --watch 1 --watch 1\n",
+    "run a.toml a.csv a.clock --watch=8 --watch=8\n",
+    "run --watch 1 a.toml a.csv a.clock --watch 0\n",
+    "run --watch=0 a.toml --watch 1 a.csv a.clock\n",
+    "run a.toml a.csv a.clock --threads 4 --watch 1 --watch=2\n",
     "run a.toml a.csv a.clock --threads 0 --watch 0 --watch 0\n",
     "run a.toml a.csv a.clock --threads 0 --watch=0 --watch=0\n",
     // Other options.
@@ -88,18 +128,27 @@ const NO_RUNS: &str = concat!(
     "run a.toml a.csv a.clock --THREADS 0\n",
     "run a.toml a.csv a.clock --threads0\n",
     "run a.toml a.csv a.clock --threads4\n",
+    "run a.toml a.csv a.clock -watch 1\n",
+    "run a.toml a.csv a.clock --watc 1\n",
+    "run a.toml a.csv a.clock --WATCH 1\n",
+    "run a.toml a.csv a.clock --watch1\n",
     "run a.toml a.csv a.clock --watches=0 --threads=0\n",
+    "run a.toml a.csv a.clock --watches=1\n",
+    "run a.toml a.csv a.clock --watchers 1\n",
     // Another number of files, or a word that names none.
     "run a.toml a.csv\n",
     "run a.toml a.csv --threads 4\n",
+    "run a.toml a.csv --watch 1\n",
     "run a.toml a.csv --threads 0\n",
     "run a.toml --threads 0\n",
     "run --threads 0\n",
+    "run --threads 4 --watch 1\n",
     "run\n",
     "run a.toml a.csv a.clock t.csv\n",
     "run a.toml a.csv a.clock 4\n",
     "run a.toml a.csv a.clock t.csv --threads 0\n",
     "run a.toml a.csv a.clock t.csv --threads 4 --watch 0\n",
+    "run a.toml a.csv a.clock t.csv --watch 1\n",
     "run a.toml a.csv  --threads 0\n",
     "run  a.csv a.clock --threads 0\n",
     "run a.toml a.csv - --threads 0\n",
@@ -130,11 +179,13 @@ const NO_COMMANDS: &str = concat!(
     "plan s\n",
     "plan s r c\n",
     "plan s r --threads 0\n",
+    "plan s --watch=1\n",
     "plan s \n",
     "plan s -r\n",
     "check s r c\n",
     "check s r c h h\n",
     "check s r c --threads=0\n",
+    "check s r --watch 1\n",
     "status s\n",
     "status s r 1\n",
     "status s --watch=0\n",
@@ -152,6 +203,7 @@ const NO_COMMANDS: &str = concat!(
     "make 1 4001\n",
     "make -1 2\n",
     "make 1 --threads=0\n",
+    "make 1 2 --watch=1\n",
     "plan\n",
     "Plan s r\n",
     "plans s r\n",
@@ -180,11 +232,17 @@ fn are<Rt: Abort>(rt: &Rt, alloc: Global, lines: &str, want: bool) -> Result<(),
     Ok(())
 }
 
-// How many threads the run has that a line gives, if it gives one.
-fn threads_of(alloc: Global, line: &str) -> Result<Option<u32>, Fail> {
+// How many threads and how many watchers the run has that a line gives, if it gives one.
+fn counts_of(alloc: Global, line: &str) -> Result<Option<(u32, u32)>, Fail> {
     let words = words_of(alloc, line)?;
     match read_command(alloc, words.as_slice())? {
-        Some(Command::Run { threads, .. }) => Ok(Some(threads)),
+        Some(
+            Command::Run {
+                threads,
+                watchers,
+                ..
+            },
+        ) => Ok(Some((threads, watchers))),
         _ => Ok(None),
     }
 }
@@ -192,7 +250,7 @@ fn threads_of(alloc: Global, line: &str) -> Result<Option<u32>, Fail> {
 #[test]
 fn options_of_a_run_stand_anywhere_behind_it(rt: HostRuntime) -> Result<(), Fail> {
     for (line, want) in RUNS {
-        same_at(&rt, threads_of(rt.alloc(), line)?, Some(want), line);
+        same_at(&rt, counts_of(rt.alloc(), line)?, Some(want), line);
     }
     are(&rt, rt.alloc(), NO_RUNS, false)
 }
