@@ -5,6 +5,7 @@ mod exits;
 mod files;
 mod journals;
 mod threads;
+mod watching;
 mod worked;
 
 use examples::check_examples;
@@ -13,6 +14,7 @@ use files::FILES;
 use journals::{AFTER_A_FAULT, JOURNALS};
 use std::test::Fail;
 use threads::{ANY_THREADS, THREADS, check_two_at_once};
+use watching::WATCHED;
 use worked::{check_histories, check_runs, check_runs_on_threads};
 
 #[test]
@@ -49,7 +51,7 @@ fn worked_histories_and_changed_ones_are_judged(rt: HostRuntime) -> Result<(), F
 
 #[test]
 fn calls_end_as_the_examples_say(rt: HostRuntime) -> Result<(), Fail> {
-    for examples in [FILES, EXITS] {
+    for examples in [FILES, EXITS, WATCHED] {
         check_examples(&rt, rt.alloc(), examples)?;
     }
     Ok(())

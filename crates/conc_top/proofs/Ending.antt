@@ -1,5 +1,5 @@
 -- How a run ends, from what its parts say.
-use Rattle.std.proofs.Common.{◌≡◌, inl, inr, ℕ, List, None, Option, Some, refl, subst}
+use Rattle.std.proofs.Common.{◌≡◌, inl, inr, ℕ, ◌++◌, List, [], None, Option, Some, refl, subst}
 use Rattle.std.specs.Prelude.{IfSome}
 use Rattle.conc_types.specs.declared.event.Event.{Event}
 use Rattle.conc_law.specs.Law.{Lawful, LawfulSoFar}
@@ -13,8 +13,10 @@ use Rattle.conc_run_state.specs.declared.error.HistoryFail.TheVariants as histor
 use Rattle.conc_top.specs.declared.exit.Exit.{Exit}
 use Rattle.conc_top.specs.declared.exit.Exit.TheVariants as exit
 use Rattle.conc_top.specs.Printing.{Prints, Sunk, TookNothing}
-use Rattle.conc_run.specs.Whole.{IsCutShort, IsFinished}
-use Rattle.conc_top.specs.Runs.{IsHistory, RunEnds}
+use Rattle.conc_run.specs.Whole.{IsCutShort, IsFinished, LacksToTell}
+use Rattle.conc_types.specs.declared.plan.Plan.{Plan}
+use Rattle.conc_watch.specs.Watches.{AreWatchLines, watch_text}
+use Rattle.conc_top.specs.Runs.{IsHistory, IsRunText, RunEnds}
 use Rattle.conc_top.specs.Ways.{exit_for}
 
 -- what a read gives is of this kind where each image is
@@ -24,13 +26,13 @@ read-of kind None may_leave each left = tt
 read-of kind (Some bytes) may_leave each left = each bytes left
 
 -- a run that was cut short, and wrote nothing
-pub cut-ends : (threads : ℕ) (h : Handed) (sink : Sunk) (s : HistoryFail) → IsCutShort threads h s → TookNothing sink → RunEnds threads h sink (exit_for h.digest s)
-cut-ends threads h sink history_fail.NotJournal cut nothing = (cut, nothing)
-cut-ends threads h sink (history_fail.OtherInput found) cut nothing = (cut, refl, nothing)
-cut-ends threads h sink (history_fail.Unlawful number) cut nothing = (cut, nothing)
-cut-ends threads h sink (history_fail.JournalFull len needed) cut nothing = (cut, nothing)
-cut-ends threads h sink (history_fail.DiskFault disk) cut nothing = (cut, nothing)
-cut-ends threads h sink history_fail.NoMemory cut nothing = (inl cut, nothing)
+pub cut-ends : (threads watchers : ℕ) (h : Handed) (sink : Sunk) (s : HistoryFail) → IsCutShort threads (LacksToTell watchers) h s → TookNothing sink → RunEnds threads watchers h sink (exit_for h.digest s)
+cut-ends threads watchers h sink history_fail.NotJournal cut nothing = (cut, nothing)
+cut-ends threads watchers h sink (history_fail.OtherInput found) cut nothing = ((cut, nothing), refl)
+cut-ends threads watchers h sink (history_fail.Unlawful number) cut nothing = (cut, nothing)
+cut-ends threads watchers h sink (history_fail.JournalFull len needed) cut nothing = (cut, nothing)
+cut-ends threads watchers h sink (history_fail.DiskFault disk) cut nothing = (cut, nothing)
+cut-ends threads watchers h sink history_fail.NoMemory cut nothing = inl (cut, nothing)
 
 -- the run is finished, and its journal tells what its images have
 pub history-of : (threads : ℕ) (h : Handed) (history : List Event) → IsFinished threads h history → (Lawful h.plan h.readings history → LawfulSoFar h.plan history)
@@ -44,23 +46,32 @@ history-of threads h history finished so_far apart left = record {
   read = read-of (IsJournal h.digest history) h.disks.journal_after.seen h.disks.journal_after.may_leave finished.journal left;
 }
 
--- a history that was finished, and of which these events were printed
-pub history-ends : (threads : ℕ) (h : Handed) (sink : Sunk) (history printed : List Event) (end : Exit) → printed ≡ history → IsHistory threads h history
-    → Prints (λ text. text ≡ text_of h.plan printed) sink end → RunEnds threads h sink end
-history-ends threads h sink history printed end same is prints = ends end (subst (λ (l : List Event). Prints (λ text. text ≡ text_of h.plan l) sink end) same prints) where
-  ends : (end : Exit) → Prints (λ text. text ≡ text_of h.plan history) sink end → RunEnds threads h sink end
-  ends exit.Done wrote = (history, is, subst (λ (t : List ℕ). Took sink.before.taken sink.after.taken t) wrote.1 wrote.2)
-  ends exit.WriteFault wrote = (history, is, subst (λ (t : List ℕ). TookPrefix sink.before.taken sink.after.taken t) wrote.1 wrote.2, wrote.3)
-  ends exit.NoMemory wrote = (inr (history, is), wrote)
-  ends exit.Usage wrote = absurd wrote
-  ends exit.ClockFault wrote = absurd wrote
-  ends (exit.Refused refusal name) wrote = absurd wrote
-  ends (exit.Absent name) wrote = absurd wrote
-  ends (exit.ReadFault name) wrote = absurd wrote
-  ends (exit.DiskFault disk) wrote = absurd wrote
-  ends exit.NotJournal wrote = absurd wrote
-  ends (exit.OtherInput found given) wrote = absurd wrote
-  ends (exit.JournalFull len needed) wrote = absurd wrote
-  ends (exit.Unlawful number) wrote = absurd wrote
-  ends (exit.NotLawful line) wrote = absurd wrote
-  ends (exit.NotEnded number) wrote = absurd wrote
+-- without watchers there are no lines
+pub no-lines : (plan : Plan) (history : List Event) → AreWatchLines plan history 0 (watch_text 1 [])
+no-lines plan history = record { kept = []; count = refl; each = tt; text_is = refl }
+
+-- a history that was finished, and whose text was printed with these lines behind it
+pub history-ends : (threads watchers : ℕ) (h : Handed) (sink : Sunk) (history printed : List Event) (lines : List ℕ) (end : Exit) → printed ≡ history → IsHistory threads h history → AreWatchLines h.plan history watchers lines
+    → Prints (λ text. text ≡ text_of h.plan printed ++ lines) sink end → RunEnds threads watchers h sink end
+history-ends threads watchers h sink history printed lines end same is watched prints =
+    ends end (subst (λ (l : List Event). Prints (λ text. text ≡ text_of h.plan l ++ lines) sink end) same prints)
+  where
+    run-text : (text : List ℕ) → text ≡ text_of h.plan history ++ lines → IsRunText h.plan watchers history text
+    run-text text equal = record { lines = lines; watched = watched; text_is = equal }
+
+    ends : (end : Exit) → Prints (λ text. text ≡ text_of h.plan history ++ lines) sink end → RunEnds threads watchers h sink end
+    ends exit.Done wrote = (history, is, (wrote.0, run-text wrote.0 wrote.1, wrote.2))
+    ends exit.WriteFault wrote = (history, is, (wrote.0, run-text wrote.0 wrote.1, wrote.2), wrote.3)
+    ends exit.NoMemory wrote = inr ((history, is), wrote)
+    ends exit.Usage wrote = absurd wrote
+    ends exit.ClockFault wrote = absurd wrote
+    ends (exit.Refused refusal name) wrote = absurd wrote
+    ends (exit.Absent name) wrote = absurd wrote
+    ends (exit.ReadFault name) wrote = absurd wrote
+    ends (exit.DiskFault disk) wrote = absurd wrote
+    ends exit.NotJournal wrote = absurd wrote
+    ends (exit.OtherInput found given) wrote = absurd wrote
+    ends (exit.JournalFull len needed) wrote = absurd wrote
+    ends (exit.Unlawful number) wrote = absurd wrote
+    ends (exit.NotLawful line) wrote = absurd wrote
+    ends (exit.NotEnded number) wrote = absurd wrote

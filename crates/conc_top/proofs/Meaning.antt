@@ -129,7 +129,7 @@ check-earlier plan readings name old mid new sink (exit.NotEnded number) later h
 -- no memory to read the words
 pub no-memory : (asked : Option Command) (a : Around) (d : Disks) → TookNothing a.sink → AreUntouched d → Means asked a d exit.NoMemory
 no-memory None a d nothing left = (nothing, left)
-no-memory (Some (command.Run setup script clock threads)) a d nothing left = inr (nothing, left)
+no-memory (Some (command.Run setup script clock threads watchers)) a d nothing left = inr (nothing, left)
 no-memory (Some (command.Plan setup script)) a d nothing left = (inr nothing, left)
 no-memory (Some (command.Check setup script clock history)) a d nothing left = (inr nothing, left)
 no-memory (Some (command.Status setup script)) a d nothing left = (inr nothing, left)
@@ -140,9 +140,10 @@ no-memory (Some (command.Make seed size)) a d nothing left = (nothing, left)
 pub asked-is : (read : Option Command) (found is : Command) (words : List (List ℕ)) → read ≡ command_of words → read ≡ Some found → found ≡ is → Some is ≡ command_of words
 asked-is read found is words of some same = ap (λ c. Some c) (sym same) ∙ (sym some ∙ of)
 
--- a run that is asked for without threads
-pub plain-run : (setup script clock : List ℕ) (threads : ℕ) (asked : Option Command) (a : Around) (d : Disks) (end : Exit) → Some (command.Run setup script clock threads) ≡ asked → IsPlain asked
-    → AnswersRun 0 (named setup script (Some clock)) a d end → MeansRun asked a d end
-plain-run setup script clock threads asked a d end is plain answers =
-    let none : threads ≡ 0 = subst IsPlain (sym is) plain in
-    subst (λ o. MeansRun o a d end) is (subst (λ n. AnswersRun n (named setup script (Some clock)) a d end) (sym none) answers)
+-- a run that is asked for without threads and watchers
+pub plain-run : (setup script clock : List ℕ) (threads watchers : ℕ) (asked : Option Command) (a : Around) (d : Disks) (end : Exit) → Some (command.Run setup script clock threads watchers) ≡ asked → IsPlain asked
+    → AnswersRun 0 0 (named setup script (Some clock)) a d end → MeansRun asked a d end
+plain-run setup script clock threads watchers asked a d end is plain answers =
+    let none : (threads ≡ 0) × (watchers ≡ 0) = subst IsPlain (sym is) plain in
+    let names = named setup script (Some clock) in
+    subst (λ o. MeansRun o a d end) is (subst (λ n. AnswersRun n watchers names a d end) (sym none.0) (subst (λ w. AnswersRun 0 w names a d end) (sym none.1) answers))

@@ -77,10 +77,10 @@ judging_in a names history run = record {
 
 -- ---- commands
 
--- with so many threads
-abbrev pub AnswersRun : ℕ → Names → Around → Disks → Exit → Type 0
-AnswersRun threads names a d end =
-    ((run : HasRun a names) × RunEnds threads (handed_in a names d run) a.sink end) ⊎ (IsUnplanned names a end × AreUntouched d)
+-- with so many threads and watchers
+abbrev pub AnswersRun : ℕ → ℕ → Names → Around → Disks → Exit → Type 0
+AnswersRun threads watchers names a d end =
+    ((run : HasRun a names) × RunEnds threads watchers (handed_in a names d run) a.sink end) ⊎ (IsUnplanned names a end × AreUntouched d)
 
 abbrev pub AnswersPlan : Names → Around → Exit → Type 0
 AnswersPlan names a end = ((p : HasPlan a names) × Prints (λ text. text ≡ listing p.plan) a.sink end) ⊎ IsUnplanned names a end

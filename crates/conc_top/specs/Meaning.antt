@@ -23,7 +23,7 @@ IsNoCommand sink _ = ⊥
 -- what an exit means for the command that the words ask for. No command but a run writes to the disks
 abbrev pub Means : Option Command → Around → Disks → Exit → Type 0
 Means None a d end = IsNoCommand a.sink end × AreUntouched d
-Means (Some (command.Run setup script clock threads)) a d end = AnswersRun threads (named setup script (Some clock)) a d end
+Means (Some (command.Run setup script clock threads watchers)) a d end = AnswersRun threads watchers (named setup script (Some clock)) a d end
 Means (Some (command.Plan setup script)) a d end = AnswersPlan (named setup script None) a end × AreUntouched d
 Means (Some (command.Check setup script clock history)) a d end =
     AnswersCheck (named setup script (Some clock)) history a end × AreUntouched d
@@ -60,12 +60,12 @@ AreAnswered words end old new =
 -- ---- one command: words that ask for anything else are Usage
 
 abbrev pub MeansRun : Option Command → Around → Disks → Exit → Type 0
-MeansRun (Some (command.Run setup script clock threads)) a d end = AnswersRun threads (named setup script (Some clock)) a d end
+MeansRun (Some (command.Run setup script clock threads watchers)) a d end = AnswersRun threads watchers (named setup script (Some clock)) a d end
 MeansRun _ a d end = IsNoCommand a.sink end × AreUntouched d
 
--- the words ask for no run, or for one without threads
+-- the words ask for no run, or for one without threads and watchers
 abbrev pub IsPlain : Option Command → Type 0
-IsPlain (Some (command.Run setup script clock threads)) = threads ≡ 0
+IsPlain (Some (command.Run setup script clock threads watchers)) = (threads ≡ 0) × (watchers ≡ 0)
 IsPlain _ = ⊤
 
 abbrev pub MeansPlan : Option Command → Around → Exit → Type 0

@@ -1,6 +1,7 @@
 -- How a run ends whose files are accepted.
-use Rattle.std.specs.Prelude.{◌≡◌, ◌⊎◌, ℕ, List, length, IfSome}
+use Rattle.std.specs.Prelude.{◌≡◌, ◌⊎◌, ℕ, ◌++◌, List, length, IfSome}
 use Rattle.conc_types.specs.declared.event.Event.{Event}
+use Rattle.conc_types.specs.declared.plan.Plan.{Plan}
 use Rattle.conc_law.specs.Alone.{opening}
 use Rattle.conc_law.specs.Ends.{AreReported}
 use Rattle.conc_law.specs.Law.{Finished, Lawful}
@@ -9,11 +10,13 @@ use Rattle.conc_law.specs.Text.{text_of}
 use Rattle.conc_journal_image.specs.Image.{IsJournal}
 use Rattle.conc_outside.specs.Counts.{Rose}
 use Rattle.conc_outside.specs.Taken.{Took, TookPrefix}
-use Rattle.conc_run.specs.Whole.{IsCutShort, IsFinished}
+use Rattle.conc_run.specs.Whole.{IsCutShort, IsFinished, LacksToTell}
 use Rattle.conc_run_state.specs.Handed.{Handed}
+use Rattle.conc_run_state.specs.declared.error.HistoryFail.{HistoryFail}
 use Rattle.conc_run_state.specs.declared.error.HistoryFail.TheVariants as history_fail
 use Rattle.conc_top.specs.declared.exit.Exit.{Exit}
 use Rattle.conc_top.specs.declared.exit.Exit.TheVariants as exit
+use Rattle.conc_watch.specs.Watches.{AreWatchLines}
 use Rattle.conc_top.specs.Printing.{Sunk, TookNothing}
 
 -- This is the history of the run with so many threads. From what was found it goes on lawfully, and without threads as the run
@@ -28,19 +31,30 @@ pub record IsHistory (threads : ℕ) (h : Handed) (history : List Event) : Type 
   pub reported : AreReported h.plan (length (opening finished.found)) history
   pub read : IfSome h.disks.journal_after.seen (IsJournal h.digest history)
 
--- what each exit says of the run with so many threads and of the output. After a history that was finished its text may find no memory.
-abbrev pub RunEnds : ℕ → Handed → Sunk → Exit → Type 0
-RunEnds threads h sink exit.Done =
-    (history : List Event) × IsHistory threads h history × Took sink.before.taken sink.after.taken (text_of h.plan history)
-RunEnds threads h sink exit.WriteFault =
-    (history : List Event) × IsHistory threads h history × TookPrefix sink.before.taken sink.after.taken (text_of h.plan history)
-    × Rose sink.before.faults sink.after.faults
-RunEnds threads h sink exit.NoMemory =
-    (IsCutShort threads h history_fail.NoMemory ⊎ ((history : List Event) × IsHistory threads h history)) × TookNothing sink
-RunEnds threads h sink (exit.DiskFault disk) = IsCutShort threads h (history_fail.DiskFault disk) × TookNothing sink
-RunEnds threads h sink exit.NotJournal = IsCutShort threads h history_fail.NotJournal × TookNothing sink
-RunEnds threads h sink (exit.OtherInput found given) =
-    IsCutShort threads h (history_fail.OtherInput found) × (given ≡ h.digest) × TookNothing sink
-RunEnds threads h sink (exit.JournalFull len needed) = IsCutShort threads h (history_fail.JournalFull len needed) × TookNothing sink
-RunEnds threads h sink (exit.Unlawful number) = IsCutShort threads h (history_fail.Unlawful number) × TookNothing sink
-RunEnds threads h sink _ = ⊥
+-- the text of a history, and behind it the lines of so many watchers
+pub record IsRunText (plan : Plan) (watchers : ℕ) (history : List Event) (text : List ℕ) : Type 0 where
+  pub lines : List ℕ
+  pub watched : AreWatchLines plan history watchers lines
+  pub text_is : text ≡ text_of plan history ++ lines
+
+-- the run did not begin, or ended before its history was finished, and nothing was printed
+abbrev pub EndsEarly : ℕ → ℕ → Handed → Sunk → HistoryFail → Type 0
+EndsEarly threads watchers h sink fail = IsCutShort threads (LacksToTell watchers) h fail × TookNothing sink
+
+-- What each exit says of the run with so many threads and watchers, and of the output. After a history that was finished its text
+-- may find no memory.
+abbrev pub RunEnds : ℕ → ℕ → Handed → Sunk → Exit → Type 0
+RunEnds threads watchers h sink exit.Done =
+    (history : List Event) × IsHistory threads h history × ((text : List ℕ) × IsRunText h.plan watchers history text × Took sink.before.taken sink.after.taken text)
+RunEnds threads watchers h sink exit.WriteFault =
+    (history : List Event) × IsHistory threads h history
+    × ((text : List ℕ) × IsRunText h.plan watchers history text × TookPrefix sink.before.taken sink.after.taken text) × Rose sink.before.faults sink.after.faults
+RunEnds threads watchers h sink exit.NoMemory =
+    EndsEarly threads watchers h sink history_fail.NoMemory ⊎ (((history : List Event) × IsHistory threads h history) × TookNothing sink)
+RunEnds threads watchers h sink (exit.DiskFault disk) = EndsEarly threads watchers h sink (history_fail.DiskFault disk)
+RunEnds threads watchers h sink exit.NotJournal = EndsEarly threads watchers h sink history_fail.NotJournal
+RunEnds threads watchers h sink (exit.OtherInput found given) =
+    EndsEarly threads watchers h sink (history_fail.OtherInput found) × (given ≡ h.digest)
+RunEnds threads watchers h sink (exit.JournalFull len needed) = EndsEarly threads watchers h sink (history_fail.JournalFull len needed)
+RunEnds threads watchers h sink (exit.Unlawful number) = EndsEarly threads watchers h sink (history_fail.Unlawful number)
+RunEnds threads watchers h sink _ = ⊥

@@ -61,17 +61,19 @@ pub fn run<
                     script,
                     clock: file,
                     threads,
+                    watchers,
                 },
             ),
         ) => run_files(
             rt, alloc, shelf, out, journal, spool, clock, gate, setup, script, file, threads,
+            watchers,
         ),
         Ok(_) => Exit::Usage,
         Err(NoMemory) => Exit::NoMemory,
     }
 }
 
-/// Does `run SETUP SCRIPT CLOCK --threads 0`, as `conc` says. It takes no handle, and returns.
+/// Does `run SETUP SCRIPT CLOCK --threads 0`, without watchers, as `conc` says. It takes no handle, and returns.
 pub fn run_plain<F: Shelf, O: Sink, D: Disk, E: Disk, C: Clock>(
     alloc: Global,
     words: &[String],

@@ -1,4 +1,4 @@
-ghost use Rattle.std.specs.Prelude.{◌≡◌, ◌<◌, Some};
+ghost use Rattle.std.specs.Prelude.{◌≡◌, ◌++◌, ◌<◌, ◌≤◌, IfOk, map, Some};
 ghost use Rattle.conc_law.specs.Text.{text_of};
 ghost use Rattle.conc_outside.specs.Files.{IsLater};
 ghost use Rattle.conc_top_inputs.specs.Given.{named};
@@ -7,6 +7,7 @@ ghost use Rattle.conc_run_state.specs.Handed.{handed};
 ghost use Rattle.conc_top.specs.Answers.{AnswersRun, around};
 ghost use Rattle.conc_top.specs.Printing.{Prints, sunk};
 ghost use Rattle.conc_top.specs.Runs.{RunEnds};
+ghost use Rattle.conc_watch.specs.Watches.{watch_text};
 
 use crate::Exit;
 use crate::printing::{exit_for, write_text};
@@ -17,20 +18,45 @@ use conc_outside::{Shelf, Sink};
 use conc_outside_clock::Clock;
 use conc_outside_gate::Gate;
 use conc_run::{run_on_threads, run_plan};
+use conc_run_watched::{Watched, run_watched};
 use conc_top_inputs::{Accepted, accept_timed};
 use conc_types::{Event, Name, NoMemory, Plan, Readings};
+use conc_view::Snapshot;
+use conc_watch::put_watch_lines;
 use std::alloc::Global;
 use std::sync::Wait;
 use std::thread::Threads;
 
 // ---- a plan
 
-// Prints the whole of a history.
-fn print_history<O: Sink>(alloc: Global, plan: &Plan, history: &[Event], out: &mut O) -> Exit
-    ensures { Prints (λ text. text ≡ text_of plan.now history.now)
+// The whole of a history, and behind it the lines of watchers.
+fn history_text(
+    alloc: Global,
+    plan: &Plan,
+    history: &[Event],
+    kept: &[Vec<Snapshot>],
+) -> Result<Vec<u8>, NoMemory>
+    ensures { IfOk result (λ text. text.items ≡ text_of plan.now history.now
+        ++ watch_text 1 (map (λ k. k.items) kept.now)) }
+{
+    let mut text = put_history(alloc, plan, history)?;
+    put_watch_lines(&mut text, kept)?;
+    Ok(text)
+}
+
+// Prints the whole of a history, and behind it the lines of watchers.
+fn print_history<O: Sink>(
+    alloc: Global,
+    plan: &Plan,
+    history: &[Event],
+    kept: &[Vec<Snapshot>],
+    out: &mut O,
+) -> Exit
+    ensures { Prints (λ text. text ≡ text_of plan.now history.now
+        ++ watch_text 1 (map (λ k. k.items) kept.now))
         (sunk (O.state out.old) (O.state out.new)) result }
 {
-    match put_history(alloc, plan, history) {
+    match history_text(alloc, plan, history, kept) {
         Ok(text) => write_text(&text, out),
         Err(NoMemory) => Exit::NoMemory,
     }
@@ -47,7 +73,7 @@ fn run_and_print<O: Sink, D: Disk, E: Disk>(
     journal: &mut D,
     spool: &mut E,
 ) -> Exit
-    ensures { RunEnds 0 (handed plan.now readings.now digest.now (D.state journal.old)
+    ensures { RunEnds 0 0 (handed plan.now readings.now digest.now (D.state journal.old)
         (D.state journal.new) (E.state spool.old) (E.state spool.new))
         (sunk (O.state out.old) (O.state out.new)) result }
 {
@@ -57,7 +83,7 @@ fn run_and_print<O: Sink, D: Disk, E: Disk>(
         Ok(work) => work,
         Err(fail) => return exit_for(fail, digest),
     };
-    print_history(alloc, plan, work.journal.events(), out)
+    print_history(alloc, plan, work.journal.events(), &[], out)
 }
 
 // Runs the plan with so many threads over its journal and its spool, and prints the whole history once it
@@ -81,7 +107,7 @@ fn run_threads_and_print<
     threads: u32,
 ) -> Exit
     requires { 0 < threads }
-    ensures { RunEnds threads (handed plan.now readings.now digest.now (D.state journal.old)
+    ensures { RunEnds threads 0 (handed plan.now readings.now digest.now (D.state journal.old)
         (D.state journal.new) (E.state spool.old) (E.state spool.new))
         (sunk (O.state out.old) (O.state out.new)) result }
 {
@@ -94,7 +120,46 @@ fn run_threads_and_print<
         Ok(work) => work,
         Err(fail) => return exit_for(fail, digest),
     };
-    print_history(alloc, plan, work.journal.events(), out)
+    print_history(alloc, plan, work.journal.events(), &[], out)
+}
+
+// Runs the plan with so many threads, beside so many watchers, over its journal and its spool, and prints the
+// whole history and what they saw of it once it is finished.
+fn run_watched_and_print<
+    Rt: Threads + Wait + Sync,
+    O: Sink,
+    D: Disk + Send,
+    E: Disk + Send,
+    G: Gate + Sync,
+>(
+    rt: &Rt,
+    alloc: Global,
+    plan: &Plan,
+    readings: &Readings,
+    digest: &[u8; 32],
+    out: &mut O,
+    journal: &mut D,
+    spool: &mut E,
+    gate: &G,
+    threads: u32,
+    watchers: u32,
+) -> Exit
+    requires some { 0 < watchers }
+    requires few { watchers ≤ 8 }
+    ensures { RunEnds threads watchers (handed plan.now readings.now digest.now
+        (D.state journal.old) (D.state journal.new) (E.state spool.old) (E.state spool.new))
+        (sunk (O.state out.old) (O.state out.new)) result }
+{
+    lawful_is_lawful_so_far();
+    no_overlap();
+    let ran = run_watched(
+        rt, alloc, plan, readings, digest, journal, spool, gate, threads, watchers,
+    );
+    let Watched { work, kept } = match ran {
+        Ok(watched) => watched,
+        Err(fail) => return exit_for(fail, digest),
+    };
+    print_history(alloc, plan, work.journal.events(), kept.as_slice(), out)
 }
 
 // ---- files
@@ -112,7 +177,7 @@ pub(crate) fn run_files_plain<F: Shelf, O: Sink, D: Disk, E: Disk, C: Clock>(
     script: Name,
     file: Name,
 ) -> Exit
-    ensures answers { AnswersRun 0 (named setup script (Some file))
+    ensures answers { AnswersRun 0 0 (named setup script (Some file))
         (around (F.state shelf.old) (F.state shelf.new) (C.state clock.old) (C.state clock.new)
         (sunk (O.state out.old) (O.state out.new)))
         (disks (D.state journal.old) (D.state journal.new) (E.state spool.old) (E.state spool.new))
@@ -127,8 +192,9 @@ pub(crate) fn run_files_plain<F: Shelf, O: Sink, D: Disk, E: Disk, C: Clock>(
     run_and_print(alloc, plan, &readings, digest, out, journal, spool)
 }
 
-/// Runs the plan of the files with these names with so many threads over its journal and its spool, and
-/// prints the whole history once it is finished. Without threads it is run without workers.
+/// Runs the plan of the files with these names with so many threads, beside so many watchers, over its
+/// journal and its spool, and prints the whole history and what they saw of it once it is finished. Without
+/// threads it is run without workers.
 pub(crate) fn run_files<
     Rt: Threads + Wait + Sync,
     F: Shelf,
@@ -150,15 +216,17 @@ pub(crate) fn run_files<
     script: Name,
     file: Name,
     threads: u32,
+    watchers: u32,
 ) -> Exit
-    ensures answers { AnswersRun threads (named setup script (Some file))
+    requires few { watchers ≤ 8 }
+    ensures answers { AnswersRun threads watchers (named setup script (Some file))
         (around (F.state shelf.old) (F.state shelf.new) (C.state clock.old) (C.state clock.new)
         (sunk (O.state out.old) (O.state out.new)))
         (disks (D.state journal.old) (D.state journal.new) (E.state spool.old) (E.state spool.new))
         result }
     ensures later { IsLater (F.state shelf.old) (F.state shelf.new) }
 {
-    if threads == 0 {
+    if threads == 0 && watchers == 0 {
         return run_files_plain(
             alloc, shelf, out, journal, spool, clock, setup, script, file,
         );
@@ -168,7 +236,12 @@ pub(crate) fn run_files<
         Err(fail) => return Exit::from(fail),
     };
     let (Accepted { plan, digest }, readings) = &given;
-    run_threads_and_print(
-        rt, alloc, plan, readings, digest, out, journal, spool, gate, threads,
+    if watchers == 0 {
+        return run_threads_and_print(
+            rt, alloc, plan, readings, digest, out, journal, spool, gate, threads,
+        );
+    }
+    run_watched_and_print(
+        rt, alloc, plan, readings, digest, out, journal, spool, gate, threads, watchers,
     )
 }

@@ -23,10 +23,12 @@ use std::thread::Threads;
 ///
 /// - `run SETUP SCRIPT CLOCK` opens the journal and the spool, goes on from the journal's list to the end of
 ///   a history that the files give, and writes the text of the whole history into the sink. The options
-///   `--threads N` and `--watch 0`, also written with `=`, may stand anywhere behind `run`, each at most
+///   `--threads N` and `--watch W`, also written with `=`, may stand anywhere behind `run`, each at most
 ///   once, and either may be left out. The workers have N threads, from 0 to 32, and 4 where N is not given;
 ///   each goes through `gate` between the permit for a request and its report. With 0 there are no workers,
-///   and the files and the journal's list give one history.
+///   and the files and the journal's list give one history. W watchers, from 0 to 8, and none where W is not
+///   given, look at the history while it grows, each in a thread of its own; behind the text stand the lines
+///   of what each saw.
 /// - `plan SETUP SCRIPT` writes the listing of the plan that the files give.
 /// - `check SETUP SCRIPT CLOCK HISTORY` judges the text of a history, its events and its table, by the plan
 ///   and, for its last life, the readings of the files, and writes how many events it has and whether it
@@ -80,8 +82,10 @@ pub fn conc<
             script,
             clock: file,
             threads,
+            watchers,
         } => run_files(
             rt, alloc, shelf, out, journal, spool, clock, gate, setup, script, file, threads,
+            watchers,
         ),
         Command::Plan { setup, script } => list_files(alloc, shelf, out, setup, script),
         Command::Check {

@@ -37,16 +37,16 @@ use Rattle.conc_top_laws.proofs.Accepting.{gives-one}
 
 -- ---- a run
 
-module _ (threads : ℕ) (h : Handed) (sink : Sunk) (fits : FitsRun h) (journal_quiet : IsQuiet h.disks.journal_before.faults h.disks.journal_after.faults) (spool_quiet : IsQuiet h.disks.spool_before.faults h.disks.spool_after.faults)
+module _ (threads watchers : ℕ) (h : Handed) (sink : Sunk) (fits : FitsRun h) (journal_quiet : IsQuiet h.disks.journal_before.faults h.disks.journal_after.faults) (spool_quiet : IsQuiet h.disks.spool_before.faults h.disks.spool_after.faults)
     (sink_quiet : IsQuiet sink.before.faults sink.after.faults) where
-  pub run-done : (end : Exit) → RunEnds threads h sink end → IsDone end
+  pub run-done : (end : Exit) → RunEnds threads watchers h sink end → IsDone end
   run-done exit.Done is = inl refl
   run-done exit.NoMemory is = inr refl
   run-done exit.WriteFault is = absurd (sink_quiet is.3)
   run-done (exit.DiskFault disk_name.Journal) is = absurd (journal_quiet is.0.cause)
   run-done (exit.DiskFault disk_name.Spool) is = absurd (spool_quiet is.0.cause.1)
   run-done exit.NotJournal is = absurd (refuses-for_room h fits.image fits.texts fits.fit fits.journal fits.spool history_fail.NotJournal is.0.cause)
-  run-done (exit.OtherInput found given) is = absurd (refuses-for_room h fits.image fits.texts fits.fit fits.journal fits.spool (history_fail.OtherInput found) is.0.cause)
+  run-done (exit.OtherInput found given) is = absurd (refuses-for_room h fits.image fits.texts fits.fit fits.journal fits.spool (history_fail.OtherInput found) is.0.0.cause)
   run-done (exit.Unlawful number) is = absurd (refuses-for_room h fits.image fits.texts fits.fit fits.journal fits.spool (history_fail.Unlawful number) is.0.cause)
   run-done (exit.JournalFull len needed) is =
       let full = refuses-for_room h fits.image fits.texts fits.fit fits.journal fits.spool (history_fail.JournalFull len needed) is.0.cause in

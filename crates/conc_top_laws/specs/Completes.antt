@@ -17,10 +17,10 @@ abbrev pub IsDone : Exit → Type 0
 IsDone end = (end ≡ exit.Done) ⊎ (end ≡ exit.NoMemory)
 
 -- Where the exit means what the contract of the call says, the files are accepted, no count rises, and the disks fit what the
--- files give, the command is done. A run is so with each number of threads.
-abbrev pub RunCompletes : List ℕ → List ℕ → List ℕ → ℕ → Around → Disks → Exit → Type 0
-RunCompletes setup script clock threads a d end =
-    Means (Some (command.Run setup script clock threads)) a d end → HasAccepted a (named setup script (Some clock)) → IsQuietAround a → AreQuietDisks d
+-- files give, the command is done. A run is so with each number of threads and of watchers.
+abbrev pub RunCompletes : List ℕ → List ℕ → List ℕ → ℕ → ℕ → Around → Disks → Exit → Type 0
+RunCompletes setup script clock threads watchers a d end =
+    Means (Some (command.Run setup script clock threads watchers)) a d end → HasAccepted a (named setup script (Some clock)) → IsQuietAround a → AreQuietDisks d
     → ((run : HasRun a (named setup script (Some clock))) → FitsRun (handed_in a (named setup script (Some clock)) d run)) → IsDone end
 
 abbrev pub PlanCompletes : List ℕ → List ℕ → Around → Disks → Exit → Type 0

@@ -10,13 +10,14 @@ use conc_disk::Disk;
 use conc_outside::{Shelf, Sink};
 use conc_outside_clock::Clock;
 
-/// `run` finishes the history and prints it, with any number of threads, where the journal is that of
-/// its files or not begun, none of its records is bad, and it has room for one more life.
+/// `run` finishes the history and prints it, with any number of threads and of watchers, where the
+/// journal is that of its files or not begun, none of its records is bad, and it has room for one more
+/// life.
 pub fn run_completes<F: Shelf, O: Sink, D: Disk, E: Disk, C: Clock>()
     ensures { (shelf shelf_after : F) (out out_after : O) (journal journal_after : D)
         (spool spool_after : E) (clock clock_after : C) (setup script file : List ℕ)
-        (threads : ℕ) (end : Exit) →
-        RunCompletes setup script file threads
+        (threads watchers : ℕ) (end : Exit) →
+        RunCompletes setup script file threads watchers
         (around (F.state shelf) (F.state shelf_after) (C.state clock) (C.state clock_after)
         (sunk (O.state out) (O.state out_after)))
         (disks (D.state journal) (D.state journal_after) (E.state spool) (E.state spool_after))

@@ -1,9 +1,12 @@
 -- A watcher that looks again and again.
-use Rattle.std.proofs.Common.{◌≡◌, ◌++◌, [], List, refl, sym, ◌∙◌, ap, append_assoc}
+use Rattle.std.proofs.Common.{◌≡◌, ◌<◌, ◌++◌, [], ℕ, List, refl, sym, ◌∙◌, ap, append_assoc, arith, length}
 use Rattle.std.proofs.lemmas.List.{append-nil}
 use mathlib.Core.List.{IsPrefix}
 use Rattle.conc_view.specs.declared.naming.Naming.{Ghosts}
+use Rattle.conc_types.specs.declared.plan.Plan.{Plan}
+use Rattle.conc_watch.specs.Crews.{AreWatching, StillWatch}
 use Rattle.conc_watch.specs.Looks.{Goes, plan_in, seen_in}
+use Rattle.conc_watch.specs.declared.crew.Watchers.{Watchers}
 use Rattle.conc_watch.specs.declared.looks.Looks.{Looks}
 
 -- what begins a beginning begins the whole
@@ -20,4 +23,11 @@ module _ {J : Type 0} {names : Ghosts J} where
   goes_more first before after went plan begins = record {
     plan = plan ∙ went.plan;
     begins = prefix_on (seen_in first) (seen_in before) (seen_in after) went.begins begins;
+  }
+
+  -- watchers that watch what they watched watch the plan still
+  pub still_watching : (plan : Plan) (count : ℕ) (before after : Watchers J names) → StillWatch before after → AreWatching plan count before → AreWatching plan count after
+  still_watching plan count before after still watching = record {
+    long = still.long ∙ watching.long;
+    watches = λ i d inside. let within : i < length before.looks.items = omega (arith, inside, still.long) in still.each i d within ∙ watching.watches i d within;
   }

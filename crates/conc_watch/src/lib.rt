@@ -7,7 +7,7 @@ mod keeping;
 mod lines;
 mod looks;
 
-pub use crew::{finish_all, watch_all};
+pub use crew::Watchers;
 pub use ending::Ending;
 pub use lines::put_watch_lines;
 pub use looks::Looks;

@@ -22,6 +22,7 @@
 //! - `ends NUMBER`: this status and, where the lines are not empty, with the line that tells the exit. A call whose status is not 0
 //!   printed nothing.
 //! - `prints`: the lines are its output, where a `*` stands for any byte. `prints-lines COUNT`: so many lines.
+//! - `watched COUNT`: its output is the lines, a history, and behind it lines of so many watchers (`is_watched`).
 //! - `judged`: a check of its output over the same files answers with the lines.
 //! - `journal-length COUNT`: so many bytes in the journal. `journal-at PLACE`: the bytes that the lines make stand there.
 //! - `spool-text`: the lines are what the spool has.
@@ -29,6 +30,7 @@
 
 use super::bytes::{change_bytes, number_of, text_of};
 use super::call::{Ended, Fails, Given, NO_FAILS, call};
+use super::watching::is_watched;
 use std::alloc::Global;
 use std::process::Abort;
 use std::sync::Wait;
@@ -143,6 +145,18 @@ fn is_judged<Rt: Threads + Wait + Sync>(
     Ok(ended.number == 0 && ended.text.as_slice() == lines.as_bytes())
 }
 
+// Whether a call printed these lines, which are a history, and behind them lines of so many watchers.
+fn has_watched(alloc: Global, ended: &Ended, lines: &str, watchers: u64) -> Result<bool, Fail> {
+    let Ok(text) = str::from_utf8(&ended.text) else {
+        return Ok(false);
+    };
+    let history = text_of(alloc, lines)?;
+    Ok(match text.strip_prefix(history.as_str()) {
+        Some(behind) => behind.starts_with("watch ") && is_watched(text, watchers),
+        None => false,
+    })
+}
+
 // Whether the last call ended with what a step says; None where it is no such step.
 fn is_met<Rt: Abort + Threads + Wait + Sync>(
     rt: &Rt,
@@ -160,6 +174,7 @@ fn is_met<Rt: Abort + Threads + Wait + Sync>(
                 && (ended.number == 0 || ended.text.is_empty())
         }
         "prints" => is_like(&text_of(alloc, lines)?, &ended.text),
+        "watched" => has_watched(alloc, ended, lines, number_of(rt, rest))?,
         "judged" => is_judged(rt, alloc, example, lines)?,
         "prints-lines" => {
             let count = ended.text.iter().filter(|byte| **byte == b'\n').count();

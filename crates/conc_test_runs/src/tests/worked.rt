@@ -1,6 +1,7 @@
 use super::bytes::number_of;
 use super::call::{Given, NO_FAILS, call};
 use super::examples::RUN;
+use super::watching::is_watched;
 use conc_test_worked::{LIVES, MANAGERS, MONTH_END, PLAIN, SETS, Worked, worked_of};
 use std::alloc::Global;
 use std::process::Abort;
@@ -53,15 +54,17 @@ pub(crate) fn check_runs<Rt: Abort + Threads + Wait + Sync>(
     Ok(())
 }
 
-// Runs over the files of an example with 4 threads print a history that the check calls finished. It has as many
-// lines as the example's.
+// A run over the files of an example with these words prints a history that the check calls finished, and behind
+// it lines of so many watchers.
 fn check_run_on_threads<Rt: Abort + Threads + Wait + Sync>(
     rt: &Rt,
     alloc: Global,
     worked: Worked<'_>,
+    words: &str,
+    watchers: u64,
 ) -> Result<(), Fail> {
     let given = Given {
-        words: "run a.toml a.csv a.clock --threads 4",
+        words,
         ..given_of(worked)
     };
     let ended = call(rt, alloc, given, &[], &[])?;
@@ -69,9 +72,16 @@ fn check_run_on_threads<Rt: Abort + Threads + Wait + Sync>(
     let history = str::from_utf8(&ended.text)?;
     let (events, _) = history.split_once("--\n").expect(rt, history);
     let count = events.lines().count();
+    assert!(rt; is_watched(history, watchers), "{history}");
     let answer = format!(in alloc; "lawful {count} finished")?;
     check_answer(rt, alloc, worked, history, &answer)
 }
+
+// Words of runs on threads, and how many watchers each has.
+const ON_THREADS: [(&str, u64); 2] = [
+    ("run a.toml a.csv a.clock --threads 4", 0),
+    ("run a.toml a.csv a.clock --threads 4 --watch 2", 2),
+];
 
 pub(crate) fn check_runs_on_threads<Rt: Abort + Threads + Wait + Sync>(
     rt: &Rt,
@@ -79,7 +89,10 @@ pub(crate) fn check_runs_on_threads<Rt: Abort + Threads + Wait + Sync>(
 ) -> Result<(), Fail> {
     for examples in [PLAIN, SETS, MANAGERS, MONTH_END] {
         for example in examples.split("=====\n") {
-            check_run_on_threads(rt, alloc, worked_of(example).expect(rt, example))?;
+            let worked = worked_of(example).expect(rt, example);
+            for (words, watchers) in ON_THREADS {
+                check_run_on_threads(rt, alloc, worked, words, watchers)?;
+            }
         }
     }
     Ok(())

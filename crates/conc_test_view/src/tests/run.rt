@@ -21,7 +21,7 @@ use conc_types::{
     Event, Extent, Moment, Outcome, Phase, PlaceId, Plan, ReadFail, RequestId, Seq, Status,
 };
 use conc_view::{Naming, Opened, Publisher, Snapshot, Told, Watcher, new_view};
-use conc_watch::{Looks, finish_all, put_watch_lines};
+use conc_watch::{Watchers, put_watch_lines};
 use std::alloc::Global;
 use std::process::Abort;
 use std::sync::Wait;
@@ -233,11 +233,7 @@ fn last_lines<J: Naming>(
     watchers: Vec<Watcher<'_, J>>,
     told: &mut Told<J>,
 ) -> Result<Vec<u8>, Fail> {
-    let mut looks = Vec::new(alloc);
-    for watcher in watchers {
-        looks.push(Looks::new(alloc, watcher)?)?;
-    }
-    let kept = finish_all(alloc, looks, told)?;
+    let kept = Watchers::new(alloc, watchers)?.finish(told);
     let mut text = Vec::new(alloc);
     put_watch_lines(&mut text, &kept)?;
     Ok(text)

@@ -15,5 +15,5 @@ returns-in-Ok-Some-Run-clause-means g c =
     let d = disks (g.D.Disk.state c.args.journal.now) (g.D.Disk.state c.run_files_plain.new.journal) (g.E.Disk.state c.args.spool.now) (g.E.Disk.state c.run_files_plain.new.spool) in
     let run = c.in-Ok-Some-Run in
     let words = map string_bytes c.args.words.now in
-    let asked = asked-is run.field-0 run.field-0-0 (command.Run run.setup run.script run.file run.field-0-0-3) words run.ensures.read run.field-0-is run.field-0-0-is in
-    plain-run run.setup run.script run.file run.field-0-0-3 (command_of words) a d c.run_files_plain.result asked c.requires.plain c.run_files_plain.ensures.answers
+    let asked = asked-is run.field-0 run.field-0-0 (command.Run run.setup run.script run.file run.field-0-0-3 run.field-0-0-4) words run.ensures.read run.field-0-is run.field-0-0-is in
+    plain-run run.setup run.script run.file run.field-0-0-3 run.field-0-0-4 (command_of words) a d c.run_files_plain.result asked c.requires.plain c.run_files_plain.ensures.answers

@@ -1,9 +1,10 @@
-use Rattle.std.proofs.Common.{refl, subst, sym}
+use Rattle.std.proofs.Common.{[], refl, subst, sym}
 use Rattle.conc_run_state.specs.Handed.{handed}
 use Rattle.conc_run_state.specs.Works.{list_in}
 use Rattle.conc_top.specs.Printing.{sunk}
 use Rattle.conc_top.specs.Runs.{RunEnds}
-use Rattle.conc_top.proofs.Ending.{cut-ends, history-ends, history-of}
+use Rattle.conc_top.proofs.Ending.{cut-ends, history-ends, history-of, no-lines}
+use Rattle.conc_watch.specs.Watches.{watch_text}
 use Rattle.conc_top.proofs.running.run_and_print.Goals as goal
 
 pub returns-in-Err : goal.returns-in-Err
@@ -12,7 +13,7 @@ returns-in-Err g c =
     let spool = g.E.Disk.state in
     let h = handed c.args.plan.now c.args.readings.now c.args.digest.now (journal c.args.journal.now) (journal c.run_plan.new.journal) (spool c.args.spool.now) (spool c.run_plan.new.spool) in
     let sink = sunk (g.O.Sink.state c.args.out.now) (g.O.Sink.state c.args.out.now) in
-    subst (RunEnds 0 h sink) (sym c.exit_for.ensures) (cut-ends 0 h sink c.in-Err.fail c.in-Err.ensures.cut_short refl)
+    subst (RunEnds 0 0 h sink) (sym c.exit_for.ensures) (cut-ends 0 0 h sink c.in-Err.fail c.in-Err.ensures.cut_short refl)
 
 pub returns : goal.returns
 returns g c =
@@ -23,7 +24,7 @@ returns g c =
     let h = handed plan readings c.args.digest.now (journal c.args.journal.now) (journal c.run_plan.new.journal) (spool c.args.spool.now) (spool c.run_plan.new.spool) in
     let sink = sunk (g.O.Sink.state c.args.out.now) (g.O.Sink.state c.print_history.new.out) in
     let history = list_in c.in-Ok.work in
-    history-ends 0 h sink history c.events.result.now c.print_history.result c.events.ensures
+    history-ends 0 0 h sink history c.events.result.now (watch_text 1 []) c.print_history.result c.events.ensures
     (history-of 0 h history c.in-Ok.ensures.finished (c.lawful_is_lawful_so_far.ensures plan readings history) (c.no_overlap.ensures plan history)
     (g.met.D.Disk.seen_is_left c.run_plan.new.journal))
-    c.print_history.ensures
+    (no-lines plan history) c.print_history.ensures
