@@ -1,5 +1,5 @@
 -- How a run ends, from what its parts say.
-use Rattle.std.proofs.Common.{◌≡◌, inl, inr, ℕ, ◌++◌, List, [], None, Option, Some, refl, subst}
+use Rattle.std.proofs.Common.{◌≡◌, arith, inl, inr, ℕ, ◌++◌, List, [], None, Option, Some, refl, subst}
 use Rattle.std.specs.Prelude.{IfSome}
 use Rattle.conc_types.specs.declared.event.Event.{Event}
 use Rattle.conc_law.specs.Law.{Lawful, LawfulSoFar}
@@ -15,7 +15,7 @@ use Rattle.conc_top.specs.declared.exit.Exit.TheVariants as exit
 use Rattle.conc_top.specs.Printing.{Prints, Sunk, TookNothing}
 use Rattle.conc_run.specs.Whole.{IsCutShort, IsFinished, LacksToTell}
 use Rattle.conc_types.specs.declared.plan.Plan.{Plan}
-use Rattle.conc_watch.specs.Watches.{AreWatchLines, watch_text}
+use Rattle.conc_watch.specs.Lines.{AreWatchLines, watch_text}
 use Rattle.conc_top.specs.Runs.{IsHistory, IsRunText, RunEnds}
 use Rattle.conc_top.specs.Ways.{exit_for}
 
@@ -48,7 +48,7 @@ history-of threads h history finished so_far apart left = record {
 
 -- without watchers there are no lines
 pub no-lines : (plan : Plan) (history : List Event) → AreWatchLines plan history 0 (watch_text 1 [])
-no-lines plan history = record { kept = []; count = refl; each = tt; text_is = refl }
+no-lines plan history = record { kept = []; count = refl; each = λ i d inside. absurd (omega (arith, inside)); text_is = refl }
 
 -- a history that was finished, and whose text was printed with these lines behind it
 pub history-ends : (threads watchers : ℕ) (h : Handed) (sink : Sunk) (history printed : List Event) (lines : List ℕ) (end : Exit) → printed ≡ history → IsHistory threads h history → AreWatchLines h.plan history watchers lines

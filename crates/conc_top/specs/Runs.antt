@@ -16,7 +16,7 @@ use Rattle.conc_run_state.specs.declared.error.HistoryFail.{HistoryFail}
 use Rattle.conc_run_state.specs.declared.error.HistoryFail.TheVariants as history_fail
 use Rattle.conc_top.specs.declared.exit.Exit.{Exit}
 use Rattle.conc_top.specs.declared.exit.Exit.TheVariants as exit
-use Rattle.conc_watch.specs.Watches.{AreWatchLines}
+use Rattle.conc_watch.specs.Lines.{AreWatchLines}
 use Rattle.conc_top.specs.Printing.{Sunk, TookNothing}
 
 -- This is the history of the run with so many threads. From what was found it goes on lawfully, and without threads as the run

@@ -7,7 +7,7 @@ ghost use Rattle.conc_run_state.specs.Handed.{handed};
 ghost use Rattle.conc_top.specs.Answers.{AnswersRun, around};
 ghost use Rattle.conc_top.specs.Printing.{Prints, sunk};
 ghost use Rattle.conc_top.specs.Runs.{RunEnds};
-ghost use Rattle.conc_watch.specs.Watches.{watch_text};
+ghost use Rattle.conc_watch.specs.Lines.{watch_text};
 
 use crate::Exit;
 use crate::printing::{exit_for, write_text};

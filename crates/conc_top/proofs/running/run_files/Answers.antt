@@ -1,6 +1,6 @@
-use Rattle.std.proofs.Common.{Some, refl, subst, sym, inl, inr}
+use Rattle.std.proofs.Common.{ℕ, List, Some, refl, subst, sym, inl, inr}
 use Rattle.conc_top_inputs.specs.Given.{named}
-use Rattle.conc_run_state.specs.Handed.{handed}
+use Rattle.conc_run_state.specs.Handed.{Handed, handed}
 use Rattle.conc_run_state.specs.Disks.{disks}
 use Rattle.conc_top.specs.Answers.{AnswersRun, around, IsUnplanned}
 use Rattle.conc_top.specs.Printing.{sunk}
@@ -8,26 +8,40 @@ use Rattle.conc_top.specs.Runs.{RunEnds}
 use Rattle.conc_top.proofs.Meaning.{unplanned, untouched}
 use Rattle.conc_top.proofs.running.run_files.Goals as goal
 
-pub returns-then-threads-eq0-clause-answers : goal.returns-then-threads-eq0-clause-answers
-returns-then-threads-eq0-clause-answers g c =
+pub returns-then-watchers-eq0-clause-answers : goal.returns-then-watchers-eq0-clause-answers
+returns-then-watchers-eq0-clause-answers g c =
     let names = named c.args.setup c.args.script (Some c.args.file) in
     let a = around (g.F.Shelf.state c.args.shelf.now) (g.F.Shelf.state c.run_files_plain.new.shelf) (g.C.Clock.state c.args.clock.now) (g.C.Clock.state c.run_files_plain.new.clock)
     (sunk (g.O.Sink.state c.args.out.now) (g.O.Sink.state c.run_files_plain.new.out)) in
     let d = disks (g.D.Disk.state c.args.journal.now) (g.D.Disk.state c.run_files_plain.new.journal) (g.E.Disk.state c.args.spool.now) (g.E.Disk.state c.run_files_plain.new.spool) in
-    subst (λ n. AnswersRun n names a d c.run_files_plain.result) (sym c.if-threads-eq0.true) c.run_files_plain.ensures.answers
+    subst (λ n. AnswersRun n c.args.watchers names a d c.run_files_plain.result) (sym c.if-threads-eq0.true)
+    (subst (λ w. AnswersRun 0 w names a d c.run_files_plain.result) (sym c.if-watchers-eq0.true) c.run_files_plain.ensures.answers)
+
+pub returns-then-watchers-eq0-2-clause-answers : goal.returns-then-watchers-eq0-2-clause-answers
+returns-then-watchers-eq0-2-clause-answers g c =
+    let given = c.in-Ok.ensures.ok in
+    let journal = g.D.Disk.state in
+    let spool = g.E.Disk.state in
+    let sink = sunk (g.O.Sink.state c.args.out.now) (g.O.Sink.state c.run_threads_and_print.new.out) in
+    let h : List ℕ → Handed = λ digest. handed c.in-Ok.given.0.plan c.in-Ok.given.1 digest (journal c.args.journal.now) (journal c.run_threads_and_print.new.journal) (spool c.args.spool.now) (spool c.run_threads_and_print.new.spool) in
+    inl (
+      record { plan = c.in-Ok.given.0.plan; readings = c.in-Ok.given.1; accepted = given.accepts },
+      subst (λ digest. RunEnds c.args.threads c.args.watchers (h digest) sink c.run_threads_and_print.result) given.digest
+          (subst (λ w. RunEnds c.args.threads w (h c.in-Ok.given.0.digest) sink c.run_threads_and_print.result) (sym c.if-watchers-eq0-2.true) c.run_threads_and_print.ensures),
+    )
 
 pub returns-clause-answers : goal.returns-clause-answers
 returns-clause-answers g c =
     let given = c.in-Ok.ensures.ok in
     let journal = g.D.Disk.state in
     let spool = g.E.Disk.state in
-    let sink = sunk (g.O.Sink.state c.args.out.now) (g.O.Sink.state c.run_threads_and_print.new.out) in
+    let sink = sunk (g.O.Sink.state c.args.out.now) (g.O.Sink.state c.run_watched_and_print.new.out) in
     inl (
       record { plan = c.in-Ok.given.0.plan; readings = c.in-Ok.given.1; accepted = given.accepts },
       subst
-          (λ digest. RunEnds c.args.threads (handed c.in-Ok.given.0.plan c.in-Ok.given.1 digest (journal c.args.journal.now) (journal c.run_threads_and_print.new.journal)
-          (spool c.args.spool.now) (spool c.run_threads_and_print.new.spool)) sink c.run_threads_and_print.result)
-          given.digest c.run_threads_and_print.ensures,
+          (λ digest. RunEnds c.args.threads c.args.watchers (handed c.in-Ok.given.0.plan c.in-Ok.given.1 digest (journal c.args.journal.now) (journal c.run_watched_and_print.new.journal)
+          (spool c.args.spool.now) (spool c.run_watched_and_print.new.spool)) sink c.run_watched_and_print.result)
+          given.digest c.run_watched_and_print.ensures,
     )
 
 pub returns-in-Err-clause-answers : goal.returns-in-Err-clause-answers

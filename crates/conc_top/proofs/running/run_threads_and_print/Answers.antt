@@ -4,7 +4,7 @@ use Rattle.conc_run_state.specs.Works.{list_in}
 use Rattle.conc_top.specs.Printing.{sunk}
 use Rattle.conc_top.specs.Runs.{RunEnds}
 use Rattle.conc_top.proofs.Ending.{cut-ends, history-ends, history-of, no-lines}
-use Rattle.conc_watch.specs.Watches.{watch_text}
+use Rattle.conc_watch.specs.Lines.{watch_text}
 use Rattle.conc_top.proofs.running.run_threads_and_print.Goals as goal
 
 pub returns-in-Err : goal.returns-in-Err

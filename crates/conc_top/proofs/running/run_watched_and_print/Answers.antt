@@ -4,7 +4,7 @@ use Rattle.conc_run_state.specs.Works.{list_in}
 use Rattle.conc_top.specs.Printing.{sunk}
 use Rattle.conc_top.specs.Runs.{RunEnds}
 use Rattle.conc_top.proofs.Ending.{cut-ends, history-ends, history-of}
-use Rattle.conc_watch.specs.Watches.{watch_text}
+use Rattle.conc_watch.specs.Lines.{watch_text}
 use Rattle.conc_top.proofs.running.run_watched_and_print.Goals as goal
 
 pub returns-in-Err : goal.returns-in-Err
@@ -24,7 +24,7 @@ returns g c =
     let h = handed plan readings c.args.digest.now (journal c.args.journal.now) (journal c.run_watched-ran.new.journal) (spool c.args.spool.now) (spool c.run_watched-ran.new.spool) in
     let sink = sunk (g.O.Sink.state c.args.out.now) (g.O.Sink.state c.print_history.new.out) in
     let history = list_in c.in-Ok.watched.work in
-    history-ends c.args.threads c.args.watchers h sink history c.events.result.now (watch_text 1 (map (λ k. k.items) c.in-Ok.watched.kept.items)) c.print_history.result c.events.ensures
+    history-ends c.args.threads c.args.watchers h sink history c.events.result.now (watch_text 1 (map (λ k. k.items) c.as_slice.result.now)) c.print_history.result c.events.ensures
     (history-of c.args.threads h history c.in-Ok.ensures.finished (c.lawful_is_lawful_so_far.ensures plan readings history) (c.no_overlap.ensures plan history)
     ((g.met.D.Disk g.world.𝓛 g.world.𝓜 g.world.𝓡 ((λ s x. x), (λ x. x), (λ x. x), λ x. x)).seen_is_left c.run_watched-ran.new.journal))
-    c.in-Ok.ensures.watched c.print_history.ensures
+    (rw c.as_slice.ensures.value c.in-Ok.ensures.watched) c.print_history.ensures
