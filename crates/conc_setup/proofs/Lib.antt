@@ -4,4 +4,5 @@ pub mod Goods
 pub mod Kept
 pub mod Looked
 pub mod Outcomes
+pub mod Passes
 pub mod Proven

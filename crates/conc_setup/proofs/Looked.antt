@@ -23,7 +23,10 @@ use Rattle.conc_types.specs.Texts.{is_text}
 use Rattle.conc_types.specs.Words.{are_distinct, is_between, none_or}
 use Rattle.conc_setup_fields.specs.Arrays.{all_good}
 use Rattle.conc_setup_fields.specs.Kinds.{both, or_kind}
+use Rattle.conc_setup_fields.specs.Reads.{both_read, read_as}
+use Rattle.conc_setup_fields.specs.declared.fail.FieldFail.{FieldFail}
 use Rattle.conc_setup_fields.specs.declared.values.ShortText.{ShortText}
+use Rattle.conc_setup_fields.proofs.Combined.{IsRead, both-read, both_read-ok, read_as-is}
 use Rattle.conc_setup_entries.specs.declared.raw.RawEntry.{RawEntry}
 use Rattle.conc_setup_entries.specs.declared.raw.RawManager.{RawManager}
 use Rattle.conc_setup_entries.specs.declared.raw.RawRule.{RawRule}
@@ -148,18 +151,11 @@ module _ (programs : List Program) (raw : RawManager) (manager : Manager) (e : r
       let excluded : IsTrue (list_all (names_program programs) manager.exclude) = rw same.3 exclude in
       and_from _ _ included excluded
 
-pub manager-resolved : (programs : List Program) (raw : RawManager) (include exclude : Result (List Rule) RefusalKind) (rules : List Rule × List Rule) (manager : Manager)
-    → include ≡ all_good (map (resolved_rule programs) raw.include) → exclude ≡ all_good (map (resolved_rule programs) raw.exclude)
-    → both include exclude ≡ Ok rules → to_manager raw rules ≡ Ok manager → Ok manager ≡ resolved_manager programs raw
+pub manager-resolved : (programs : List Program) (raw : RawManager) (rules : List Rule × List Rule) (manager : Manager)
+    → Ok rules ≡ both (all_good (map (resolved_rule programs) raw.include)) (all_good (map (resolved_rule programs) raw.exclude))
+    → to_manager raw rules ≡ Ok manager → Ok manager ≡ resolved_manager programs raw
 unfolding resolved_manager
-manager-resolved programs raw include exclude rules manager i e both_ok made = rw (← i, ← e, both_ok) (sym made)
-
--- the least kind of what is wrong with its rules is that of the manager
-pub manager-refused : (programs : List Program) (raw : RawManager) (include exclude : Result (List Rule) RefusalKind) (kind : RefusalKind)
-    → include ≡ all_good (map (resolved_rule programs) raw.include) → exclude ≡ all_good (map (resolved_rule programs) raw.exclude)
-    → both include exclude ≡ Err kind → Err kind ≡ resolved_manager programs raw
-unfolding resolved_manager
-manager-refused programs raw include exclude kind i e wrong = rw (← i, ← e, wrong) refl
+manager-resolved programs raw rules manager right made = rw (← right) (sym made)
 
 -- ---- stages
 
@@ -184,7 +180,7 @@ stage_with-same raw links members stage e =
     (ap (λ (s : Stage). s.name) (sym p.1), ap (λ (s : Stage). s.links) (sym p.1), ap (λ (s : Stage). s.members) (sym p.1))
 
 -- the parts of a stage are right each by itself
-pub parts-ok : (success warning error : Result (Option ℕ) RefusalKind) (members : Result (List ℕ) RefusalKind) (parts : StageParts) → both success (both warning (both error members)) ≡ Ok parts
+parts-ok : (success warning error : Result (Option ℕ) RefusalKind) (members : Result (List ℕ) RefusalKind) (parts : StageParts) → both success (both warning (both error members)) ≡ Ok parts
     → (success ≡ Ok parts.0) × (warning ≡ Ok parts.1.0) × (error ≡ Ok parts.1.1.0) × (members ≡ Ok parts.1.1.1)
 parts-ok success warning error members parts e =
     let first = both-ok success (both warning (both error members)) parts.0 parts.1 e in
@@ -192,20 +188,15 @@ parts-ok success warning error members parts e =
     let third = both-ok error members parts.1.1.0 parts.1.1.1 second.1 in
     (first.0, second.0, third.0, third.1)
 
-pub stage-resolved : (programs : List Program) (stages : List RawStage) (at : ℕ) (raw : RawStage) (success warning error : Result (Option ℕ) RefusalKind) (members : Result (List ℕ) RefusalKind) (parts : StageParts) (stage : Stage)
-    → success ≡ if_named (link_of stages at) raw.on_success → warning ≡ if_named (link_of stages at) raw.on_warning → error ≡ if_named (link_of stages at) raw.on_error
-    → members ≡ all_good (map (program_of programs) raw.members.list)
-    → both success (both warning (both error members)) ≡ Ok parts → to_stage raw parts ≡ Ok stage → Ok stage ≡ resolved_stage programs stages (at, raw)
-unfolding resolved_stage
-stage-resolved programs stages at raw success warning error members parts stage s w e m both_ok made = rw (← s, ← w, ← e, ← m, both_ok) (sym made)
+-- what is looked up of a stage
+abbrev pub looked : (programs : List Program) (stages : List RawStage) (at : ℕ) (raw : RawStage) → Result StageParts RefusalKind
+looked programs stages at raw =
+    both (if_named (link_of stages at) raw.on_success) (both (if_named (link_of stages at) raw.on_warning) (both (if_named (link_of stages at) raw.on_error) (all_good (map (program_of programs) raw.members.list))))
 
--- the least kind of what is wrong with its names is that of the stage
-pub stage-refused : (programs : List Program) (stages : List RawStage) (at : ℕ) (raw : RawStage) (success warning error : Result (Option ℕ) RefusalKind) (members : Result (List ℕ) RefusalKind) (kind : RefusalKind)
-    → success ≡ if_named (link_of stages at) raw.on_success → warning ≡ if_named (link_of stages at) raw.on_warning → error ≡ if_named (link_of stages at) raw.on_error
-    → members ≡ all_good (map (program_of programs) raw.members.list)
-    → both success (both warning (both error members)) ≡ Err kind → Err kind ≡ resolved_stage programs stages (at, raw)
+pub stage-resolved : (programs : List Program) (stages : List RawStage) (at : ℕ) (raw : RawStage) (parts : StageParts) (stage : Stage)
+    → Ok parts ≡ looked programs stages at raw → to_stage raw parts ≡ Ok stage → Ok stage ≡ resolved_stage programs stages (at, raw)
 unfolding resolved_stage
-stage-refused programs stages at raw success warning error members kind s w e m wrong = rw (← s, ← w, ← e, ← m, wrong) refl
+stage-resolved programs stages at raw parts stage right made = rw (← right) (sym made)
 
 module _ (programs : List Program) (stages : List RawStage) (at : ℕ) (raw : RawStage) (stage : Stage) (e : resolved_stage programs stages (at, raw) ≡ Ok stage) where
   abbrev look : Option (List ℕ) → Result (Option ℕ) RefusalKind
@@ -240,6 +231,22 @@ module _ (programs : List Program) (stages : List RawStage) (at : ℕ) (raw : Ra
       let warning = if_named-ok (link_of stages at) leads (link-kept stages at) raw.on_warning stage-parts.0.1.0 stage-each.1 in
       let error = if_named-ok (link_of stages at) leads (link-kept stages at) raw.on_error stage-parts.0.1.1.0 stage-each.2 in
       rw stage-same.1 (and_from _ _ success (and_from _ _ warning (and_from _ _ error refl)))
+
+-- the parts of a stage are read each by itself
+pub parts-read : (success warning error : Result (Option ℕ) FieldFail) (members : Result (List ℕ) FieldFail) (parts : StageParts) → both_read success (both_read warning (both_read error members)) ≡ Ok parts
+    → (success ≡ Ok parts.0) × (warning ≡ Ok parts.1.0) × (error ≡ Ok parts.1.1.0) × (members ≡ Ok parts.1.1.1)
+parts-read success warning error members parts e =
+    let first = both_read-ok success (both_read warning (both_read error members)) parts.0 parts.1 e in
+    let second = both_read-ok warning (both_read error members) parts.1.0 parts.1.1 first.1 in
+    let third = both_read-ok error members parts.1.1.0 parts.1.1.1 second.1 in
+    (first.0, second.0, third.0, third.1)
+
+pub looked-read : (programs : List Program) (stages : List RawStage) (at : ℕ) (raw : RawStage) (success warning error : Result (Option ℕ) FieldFail) (members : Result (List ℕ) FieldFail)
+    → success ≡ read_as (if_named (link_of stages at) raw.on_success) → warning ≡ read_as (if_named (link_of stages at) raw.on_warning) → error ≡ read_as (if_named (link_of stages at) raw.on_error)
+    → IsRead members (all_good (map (program_of programs) raw.members.list))
+    → IsRead (both_read success (both_read warning (both_read error members))) (looked programs stages at raw)
+looked-read programs stages at raw success warning error members s w e m =
+    rw (s, w, e) (both-read _ _ _ _ (read_as-is _) (both-read _ _ _ _ (read_as-is _) (both-read _ _ _ _ (read_as-is _) m)))
 
 -- ---- sets
 

@@ -4,6 +4,8 @@ use Rattle.std.specs.Prelude.{IfOk, IsTrue}
 use Rattle.conc_types.specs.declared.kind.RefusalKind.{RefusalKind}
 use Rattle.conc_setup_fields.specs.Arrays.{all_good, goods, lesser, unless, worst}
 use Rattle.conc_setup_fields.specs.Kinds.{both, good, judged, or_kind, proven}
+use Rattle.conc_setup_fields.specs.declared.fail.FieldFail.{FieldFail}
+use Rattle.conc_setup_fields.proofs.Combined.{IsRead}
 use Rattle.conc_setup.proofs.Each.{each_count}
 
 pub judged-ok : {A B : Type 0} (f : A → Result B RefusalKind) (r : Result A RefusalKind) (b : B) → judged f r ≡ Ok b → (a : A) × (r ≡ Ok a) × (f a ≡ Ok b)
@@ -51,6 +53,6 @@ all_good-ok rs values e =
     goods-all rs p.0 ∙ ap (λ (xs : List _). map Ok xs) p.1
 
 -- there are as many values as there were items
-pub good_count : {A B : Type 0} (f : A → Result B RefusalKind) (xs : List A) (r : Result (List B) RefusalKind) → r ≡ all_good (map f xs) → IfOk r (λ ys. length ys ≡ length xs)
+pub good_count : {A B : Type 0} (f : A → Result B RefusalKind) (xs : List A) (r : Result (List B) FieldFail) → IsRead r (all_good (map f xs)) → IfOk r (λ ys. length ys ≡ length xs)
 good_count f xs (Ok ys) e = each_count f xs ys (all_good-ok (map f xs) ys (sym e))
-good_count f xs (Err k) e = tt
+good_count f xs (Err e) h = tt

@@ -1,7 +1,7 @@
 ghost use Rattle.std.specs.Prelude.{◌≡◌, IfOk, Option};
 ghost use Rattle.std.specs.Option.{option_map};
 ghost use Rattle.conc_setup_fields.specs.Fields as fields_spec;
-ghost use Rattle.conc_setup_fields.specs.Kinds.{judged};
+ghost use Rattle.conc_setup_fields.specs.Reads.{IfRead, judged_read};
 ghost use Rattle.conc_setup.specs.Documents as spec;
 ghost use Rattle.toml.specs.Parse.{parse_document};
 ghost use Rattle.toml.specs.View.{table_view, view};
@@ -12,8 +12,8 @@ use conc_setup_entries::{
     EntryForm, ManagerForm, ProgramForm, RawEntry, RawManager, RawSet, SetForm,
 };
 use conc_setup_fields::{
-    ArrayForm, Counted, Form, Judged, NameForm, beside, both, counted, default, keys_kind,
-    no_values, read_all,
+    ArrayForm, Counted, FieldFail, Form, Judged, NameForm, beside, both, counted, default,
+    keys_kind, no_values, read_all,
 };
 use conc_types::{Name, NoMemory, Program, RefusalKind};
 use std::alloc::Global;
@@ -34,13 +34,10 @@ impl<F: Form, const MOST: usize> Form for EntriesForm<F, MOST> {
     ghost form = { spec.entries_in MOST F.form };
 
     #[tactic(auto, unfolding(crate::specs::Documents::entries_in))]
-    fn read(
-        alloc: Global,
-        value: &Value,
-    ) -> Result<Judged<Counted<Judged<F::Out>, 0, MOST>>, NoMemory> {
+    fn read(alloc: Global, value: &Value) -> Result<Counted<Judged<F::Out>, 0, MOST>, FieldFail> {
         match value.as_array() {
-            None => Ok(Err(RefusalKind::WrongKind)),
-            Some(items) => Ok(counted(read_all::<F>(alloc, items)?)),
+            None => Err(FieldFail::Refused(RefusalKind::WrongKind)),
+            Some(items) => Ok(counted(read_all::<F>(alloc, items)?)?),
         }
     }
 }
@@ -89,43 +86,39 @@ type DocumentParts = (
     (Programs, (Entries, (Managers, Sets))),
 );
 
-fn to_document(parts: Judged<DocumentParts>) -> Judged<Document>
-    ensures { result ≡ judged spec.to_document parts }
+fn to_document(parts: Result<DocumentParts, FieldFail>) -> Result<Document, FieldFail>
+    ensures { result ≡ judged_read spec.to_document parts }
 {
-    match parts {
-        Ok((tables, (programs, (entries, (managers, sets))))) => {
-            document_of_parts(tables, programs, entries, managers, sets)
-        }
-        Err(kind) => Err(kind),
-    }
+    let (tables, (programs, (entries, (managers, sets)))) = parts?;
+    Ok(document_of_parts(tables, programs, entries, managers, sets)?)
 }
 
 #[tactic(auto, unfolding(crate::specs::Documents::document_of))]
-fn document_of(alloc: Global, file: &Table) -> Result<Judged<Document>, NoMemory>
-    ensures { IfOk result (λ r. r ≡ spec.document_of (table_view file.now)) }
+fn document_of(alloc: Global, file: &Table) -> Result<Document, FieldFail>
+    ensures { IfRead result (λ r. r ≡ spec.document_of (table_view file.now)) }
 {
-    let tables = default::<ArrayForm<NameForm, 0, 64>>(alloc, no_values(alloc), file, "tables")?;
+    let tables = default::<ArrayForm<NameForm, 0, 64>>(alloc, no_values(alloc), file, "tables");
     let programs = default::<EntriesForm<ProgramForm, 1024>>(
         alloc,
         no_values(alloc),
         file,
         "program",
-    )?;
+    );
     let entries = default::<EntriesForm<EntryForm, 4096>>(
         alloc,
         no_values(alloc),
         file,
         "incompatible",
-    )?;
+    );
     let managers = default::<EntriesForm<ManagerForm, 64>>(
         alloc,
         no_values(alloc),
         file,
         "manager",
-    )?;
-    let sets = default::<EntriesForm<SetForm, 256>>(alloc, no_values(alloc), file, "set")?;
+    );
+    let sets = default::<EntriesForm<SetForm, 256>>(alloc, no_values(alloc), file, "set");
     let document = to_document(both(tables, both(programs, both(entries, both(managers, sets)))));
-    Ok(beside(top_keys(file), document))
+    beside(top_keys(file), document)
 }
 
 // The table that a text is, if it is TOML.
@@ -157,16 +150,16 @@ fn table_in(alloc: Global, bytes: &[u8]) -> Result<Option<Table>, NoMemory>
 /// as a whole: more than 67,108,864 bytes; bytes that are not TOML; a key that the top level does not
 /// list; something else than an array under one of its keys; a table's name that is none; more of
 /// something than its limit allows; and more than 64 places, counted over the managers with which
-/// nothing is wrong.
+/// nothing is wrong. Where memory lacks there is neither.
 #[tactic(auto, unfolding(crate::specs::Documents::document_in))]
-pub(crate) fn document_in(alloc: Global, bytes: &[u8]) -> Result<Judged<Document>, NoMemory>
-    ensures { IfOk result (λ r. r ≡ spec.document_in bytes.now) }
+pub(crate) fn document_in(alloc: Global, bytes: &[u8]) -> Result<Document, FieldFail>
+    ensures { IfRead result (λ r. r ≡ spec.document_in bytes.now) }
 {
     if bytes.len() > MOST_BYTES {
-        return Ok(Err(RefusalKind::TooMany));
+        return Err(FieldFail::Refused(RefusalKind::TooMany));
     }
     match table_in(alloc, bytes)? {
-        None => Ok(Err(RefusalKind::NotToml)),
+        None => Err(FieldFail::Refused(RefusalKind::NotToml)),
         Some(file) => document_of(alloc, &file),
     }
 }

@@ -1,25 +1,23 @@
 ghost use Rattle.std.specs.Prelude.{◌≡◌};
-ghost use Rattle.conc_setup_fields.specs.Kinds.{good};
+ghost use Rattle.conc_setup_fields.specs.Reads.{IfRead, good_read};
 ghost use Rattle.conc_setup.specs.ThirdPass as spec;
 
 use crate::resolve::{Items, Resolve, item_of};
 use conc_setup_entries::RawEntry;
-use conc_setup_fields::{Judged, both};
-use conc_types::{Entry, Item, NoMemory};
+use conc_setup_fields::{FieldFail, both};
+use conc_types::{Entry, Item};
 use std::alloc::Global;
 
-fn to_entry(raw: &RawEntry, items: Judged<(Item, Item)>) -> Judged<Entry>
-    ensures { result ≡ good (spec.to_entry raw.now) items }
+fn to_entry(raw: &RawEntry, items: Result<(Item, Item), FieldFail>) -> Result<Entry, FieldFail>
+    ensures { result ≡ good_read (spec.to_entry raw.now) items }
 {
-    match items {
-        Ok((owner, other)) => Ok(Entry {
-            owner,
-            other,
-            scope: raw.scope,
-            reach: raw.reach,
-        }),
-        Err(kind) => Err(kind),
-    }
+    let (owner, other) = items?;
+    Ok(Entry {
+        owner,
+        other,
+        scope: raw.scope,
+        reach: raw.reach,
+    })
 }
 
 impl Resolve for RawEntry {
@@ -28,9 +26,9 @@ impl Resolve for RawEntry {
     ghost resolved = { spec.resolved_entry };
 
     #[tactic(auto, unfolding(crate::specs::ThirdPass::resolved_entry))]
-    fn resolve(&self, _alloc: Global, items: &Items) -> Result<Judged<Entry>, NoMemory> {
+    fn resolve(&self, _alloc: Global, items: &Items) -> Result<Entry, FieldFail> {
         let owner = item_of(items, &self.owner);
         let other = item_of(items, &self.other);
-        Ok(to_entry(self, both(owner, other)))
+        to_entry(self, both(owner, other))
     }
 }

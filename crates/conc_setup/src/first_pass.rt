@@ -1,9 +1,12 @@
-ghost use Rattle.std.specs.Prelude.{◌≡◌, IfOk, Option};
+ghost use Rattle.std.specs.Prelude.{◌≡◌, IfErr, IfOk, Ok, Option};
+ghost use Rattle.std.specs.Result.{result_err};
+ghost use Rattle.conc_types.specs.declared.refusal.FileKind.TheVariants as file;
+ghost use Rattle.conc_types.specs.Faults.{IsFailure};
 ghost use Rattle.conc_setup.specs.FirstPass as spec;
 
-use crate::raw::{Document, Fault, RawSetup};
+use crate::raw::{Document, Fault, RawSetup, refused};
 use conc_setup_fields::{first_wrong, goods};
-use conc_types::NoMemory;
+use conc_types::{NoMemory, ReadFail};
 use std::alloc::Global;
 
 // The first entry that is wrong, with the least kind of what is wrong with it.
@@ -33,18 +36,16 @@ fn accepted(alloc: Global, document: Document) -> Result<RawSetup, NoMemory>
     })
 }
 
-/// The setup, if each entry is right by itself. Else the first entry that is not, and the least kind
-/// of what is wrong with it.
+/// The setup, if each entry is right by itself. Else the file is refused for the first entry that is
+/// not, and the least kind of what is wrong with it. Where memory lacks there is neither.
 #[tactic(auto, unfolding(crate::specs::FirstPass::first_pass))]
-pub(crate) fn first_pass(
-    alloc: Global,
-    document: Document,
-) -> Result<Result<RawSetup, Fault>, NoMemory>
-    ensures value { IfOk result (λ r. r ≡ spec.first_pass document) }
-    ensures few { IfOk result (λ r. IfOk r spec.IsFew) }
+pub(crate) fn first_pass(alloc: Global, document: Document) -> Result<RawSetup, ReadFail>
+    ensures value { IfOk result (λ raw. spec.first_pass document ≡ Ok raw) }
+    ensures fault { IfErr result (IsFailure file.Setup (result_err (spec.first_pass document))) }
+    ensures few { IfOk result spec.IsFew }
 {
     match wrong_entry(&document) {
-        Some(fault) => Ok(Err(fault)),
-        None => Ok(Ok(accepted(alloc, document)?)),
+        Some(fault) => Err(refused(fault)),
+        None => Ok(accepted(alloc, document)?),
     }
 }

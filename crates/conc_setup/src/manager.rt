@@ -1,12 +1,13 @@
 ghost use Rattle.std.specs.Prelude.{◌≡◌, ◌≤◌, ◌+◌, IfOk, IsTrue, Ok, length};
 ghost use Rattle.std.specs.Option.{option_map};
 ghost use Rattle.conc_types.specs.Fields.{is_rule};
+ghost use Rattle.conc_setup_fields.specs.Reads.{IfRead};
 ghost use Rattle.conc_setup.specs.ThirdPass as spec;
 
 use crate::copies::{copy_of_name, copy_of_text};
 use crate::resolve::{Items, Resolve, program_of, resolve_good};
 use conc_setup_entries::{RawManager, RawRule};
-use conc_setup_fields::{Judged, both};
+use conc_setup_fields::{FieldFail, Judged, both};
 use conc_types::{Manager, Name, NoMemory, Rule, Seq};
 use std::alloc::Global;
 
@@ -15,10 +16,7 @@ fn program_if_named(items: &Items, name: &Option<Name>) -> Judged<Option<u32>>
 {
     match name {
         None => Ok(None),
-        Some(name) => match program_of(items, name) {
-            Ok(place) => Ok(Some(place)),
-            Err(kind) => Err(kind),
-        },
+        Some(name) => Ok(Some(program_of(items, name)?)),
     }
 }
 
@@ -42,11 +40,9 @@ impl Resolve for RawRule {
     ghost resolved = { λ programs sets raw. spec.resolved_rule programs raw };
 
     #[tactic(auto, unfolding(crate::specs::ThirdPass::resolved_rule))]
-    fn resolve(&self, alloc: Global, items: &Items) -> Result<Judged<Rule>, NoMemory> {
-        match program_if_named(items, &self.program) {
-            Ok(program) => Ok(Ok(rule_for(alloc, program, self)?)),
-            Err(kind) => Ok(Err(kind)),
-        }
+    fn resolve(&self, alloc: Global, items: &Items) -> Result<Rule, FieldFail> {
+        let program = program_if_named(items, &self.program)?;
+        Ok(rule_for(alloc, program, self)?)
     }
 }
 
@@ -75,12 +71,10 @@ impl Resolve for RawManager {
     ghost resolved = { λ programs sets raw. spec.resolved_manager programs raw };
 
     #[tactic(auto, unfolding(crate::specs::ThirdPass::resolved_manager))]
-    fn resolve(&self, alloc: Global, items: &Items) -> Result<Judged<Manager>, NoMemory> {
-        let include = resolve_good(alloc, items, self.include.as_slice())?;
-        let exclude = resolve_good(alloc, items, self.exclude.as_slice())?;
-        match both(include, exclude) {
-            Ok((include, exclude)) => Ok(Ok(manager_with(alloc, self, include, exclude)?)),
-            Err(kind) => Ok(Err(kind)),
-        }
+    fn resolve(&self, alloc: Global, items: &Items) -> Result<Manager, FieldFail> {
+        let included = resolve_good(alloc, items, self.include.as_slice());
+        let excluded = resolve_good(alloc, items, self.exclude.as_slice());
+        let (include, exclude) = both(included, excluded)?;
+        Ok(manager_with(alloc, self, include, exclude)?)
     }
 }

@@ -2,12 +2,13 @@ ghost use Rattle.std.specs.Prelude.{◌≡◌, ◌≤◌, IfOk, List, Result, le
 ghost use Rattle.conc_types.specs.declared.kind.RefusalKind.{RefusalKind};
 ghost use Rattle.conc_types.specs.declared.program.Program.{Program};
 ghost use Rattle.conc_setup_fields.specs.Arrays as arrays_spec;
+ghost use Rattle.conc_setup_fields.specs.Reads.{IfRead, read_as};
 ghost use Rattle.conc_setup_entries.specs.declared.raw.RawSet.{RawSet};
 ghost use Rattle.conc_setup.specs.ThirdPass as spec;
 
 use crate::names::place_of;
 use conc_setup_entries::RawSet;
-use conc_setup_fields::{Judged, all_good};
+use conc_setup_fields::{FieldFail, Judged, all_good};
 use conc_types::{Item, Name, NoMemory, Program, RefusalKind, Seq};
 use std::alloc::Global;
 
@@ -32,14 +33,14 @@ pub(crate) fn program_of(items: &Items, name: &Name) -> Judged<u32>
 
 /// The program or set with this name.
 #[tactic(auto, unfolding(crate::specs::ThirdPass::item_of))]
-pub(crate) fn item_of(items: &Items, name: &Name) -> Judged<Item>
-    ensures { result ≡ spec.item_of items.now.programs.now items.now.sets.now name.now }
+pub(crate) fn item_of(items: &Items, name: &Name) -> Result<Item, FieldFail>
+    ensures { result ≡ read_as (spec.item_of items.now.programs.now items.now.sets.now name.now) }
 {
     match place_of(items.programs, name) {
         Some(place) => Ok(Item::Program(place as u32)),
         None => match place_of(items.sets, name) {
             Some(place) => Ok(Item::Set(place as u32)),
-            None => Err(RefusalKind::UnknownName),
+            None => Err(FieldFail::Refused(RefusalKind::UnknownName)),
         },
     }
 }
@@ -51,10 +52,9 @@ pub(crate) trait Resolve {
 
     ghost resolved: { List Program → List RawSet → Self → Result Self.Out RefusalKind };
 
-    /// The value with places, or the least kind of what is wrong with a name. Where memory lacks there
-    /// is neither.
-    fn resolve(&self, alloc: Global, items: &Items) -> Result<Judged<Self::Out>, NoMemory>
-        ensures { IfOk result (λ r. r ≡ resolved items.now.programs.now items.now.sets.now
+    /// The value with places, or the least kind of what is wrong with a name, unless memory lacks.
+    fn resolve(&self, alloc: Global, items: &Items) -> Result<Self::Out, FieldFail>
+        ensures { IfRead result (λ r. r ≡ resolved items.now.programs.now items.now.sets.now
             self.now) };
 }
 
@@ -63,8 +63,8 @@ impl Resolve for Name {
 
     ghost resolved = { λ programs sets name. spec.program_of programs name };
 
-    fn resolve(&self, _alloc: Global, items: &Items) -> Result<Judged<u32>, NoMemory> {
-        Ok(program_of(items, self))
+    fn resolve(&self, _alloc: Global, items: &Items) -> Result<u32, FieldFail> {
+        Ok(program_of(items, self)?)
     }
 }
 
@@ -79,21 +79,26 @@ pub(crate) fn resolve_all<T: Resolve>(
 {
     let mut all = Vec::new(alloc);
     for value in values {
-        all.push(value.resolve(alloc, items)?)?;
+        match value.resolve(alloc, items) {
+            Ok(resolved) => all.push(Ok(resolved))?,
+            Err(FieldFail::Refused(kind)) => all.push(Err(kind))?,
+            Err(FieldFail::NoMemory) => return Err(NoMemory),
+        }
     }
     Ok(Seq::from_vec(all))
 }
 
-/// What the values are made into, or the least kind of what is wrong with one of them.
+/// What the values are made into, or the least kind of what is wrong with one of them, unless memory
+/// lacks.
 pub(crate) fn resolve_good<T: Resolve>(
     alloc: Global,
     items: &Items,
     values: &[T],
-) -> Result<Judged<Seq<T::Out>>, NoMemory>
-    ensures value { IfOk result (λ r. r
+) -> Result<Seq<T::Out>, FieldFail>
+    ensures value { IfRead result (λ r. r
         ≡ arrays_spec.all_good (map (T.resolved items.now.programs.now items.now.sets.now)
         values.now)) }
-    ensures count { IfOk result (λ r. IfOk r (λ all. length all ≡ length values.now)) }
+    ensures count { IfOk result (λ all. length all ≡ length values.now) }
 {
     let all = resolve_all(alloc, items, values)?;
     all_good(alloc, all)

@@ -3,6 +3,7 @@ ghost use Rattle.std.specs.List.{enumerate_from, list_all};
 ghost use Rattle.conc_types.specs.Fields.{are_links};
 ghost use Rattle.conc_types.specs.Sets.{are_stages};
 ghost use Rattle.conc_types.specs.Words.{is_between, none_or};
+ghost use Rattle.conc_setup_fields.specs.Reads.{IfRead, read_as};
 ghost use Rattle.conc_setup.specs.SecondPass.{has_distinct_stages};
 ghost use Rattle.conc_setup.specs.ThirdPass as spec;
 
@@ -10,7 +11,7 @@ use crate::copies::copy_of_name;
 use crate::names::place_of;
 use crate::resolve::{Items, resolve_good};
 use conc_setup_entries::{RawSet, RawStage};
-use conc_setup_fields::{Judged, all_good, both};
+use conc_setup_fields::{FieldFail, Judged, all_good, both};
 use conc_types::{Name, NoMemory, RefusalKind, Seq, SetDef, Stage};
 use std::alloc::Global;
 
@@ -32,17 +33,18 @@ fn link_of(stages: &[RawStage], at: usize, name: &Name) -> Judged<u32>
     }
 }
 
-fn link_if_named(stages: &[RawStage], at: usize, name: &Option<Name>) -> Judged<Option<u32>>
+fn link_if_named(
+    stages: &[RawStage],
+    at: usize,
+    name: &Option<Name>,
+) -> Result<Option<u32>, FieldFail>
     requires { length stages.now ≤ 64 }
-    ensures value { result ≡ spec.if_named (spec.link_of stages.now at) name.now }
+    ensures value { result ≡ read_as (spec.if_named (spec.link_of stages.now at) name.now) }
     ensures near { IfOk result (λ link. IsTrue (none_or (λ place. nat_lt place 64) link)) }
 {
     match name {
         None => Ok(None),
-        Some(name) => match link_of(stages, at, name) {
-            Ok(place) => Ok(Some(place)),
-            Err(kind) => Err(kind),
-        },
+        Some(name) => Ok(Some(link_of(stages, at, name)?)),
     }
 }
 
@@ -73,22 +75,18 @@ fn resolve_stage(
     stages: &[RawStage],
     at: usize,
     stage: &RawStage,
-) -> Result<Judged<Stage>, NoMemory>
+) -> Result<Stage, FieldFail>
     requires { length stages.now ≤ 64 }
-    ensures { IfOk result (λ r. r ≡ spec.resolved_stage items.now.programs.now stages.now
+    ensures { IfRead result (λ r. r ≡ spec.resolved_stage items.now.programs.now stages.now
         (at, stage.now)) }
 {
     let success = link_if_named(stages, at, &stage.on_success);
     let warning = link_if_named(stages, at, &stage.on_warning);
     let error = link_if_named(stages, at, &stage.on_error);
-    let members = resolve_good(alloc, items, stage.members.list.as_slice())?;
-    match both(success, both(warning, both(error, members))) {
-        Ok((success, (warning, (error, members)))) => {
-            let links = [success, warning, error];
-            Ok(Ok(stage_with(alloc, stage, links, members)?))
-        }
-        Err(kind) => Ok(Err(kind)),
-    }
+    let members = resolve_good(alloc, items, stage.members.list.as_slice());
+    let parts = both(success, both(warning, both(error, members)));
+    let (success, (warning, (error, members))) = parts?;
+    Ok(stage_with(alloc, stage, [success, warning, error], members)?)
 }
 
 fn resolve_stages(
@@ -102,7 +100,11 @@ fn resolve_stages(
 {
     let mut all = Vec::new(alloc);
     for (at, stage) in stages.iter().enumerate() {
-        all.push(resolve_stage(alloc, items, stages, at, stage)?)?;
+        match resolve_stage(alloc, items, stages, at, stage) {
+            Ok(resolved) => all.push(Ok(resolved))?,
+            Err(FieldFail::Refused(kind)) => all.push(Err(kind))?,
+            Err(FieldFail::NoMemory) => return Err(NoMemory),
+        }
     }
     Ok(Seq::from_vec(all))
 }
@@ -117,15 +119,13 @@ fn set_with(alloc: Global, name: &Name, stages: Seq<Stage>) -> Result<SetDef, No
 }
 
 #[tactic(auto, unfolding(crate::specs::ThirdPass::resolved_set))]
-fn resolve_set(alloc: Global, items: &Items, set: &RawSet) -> Result<Judged<SetDef>, NoMemory>
+fn resolve_set(alloc: Global, items: &Items, set: &RawSet) -> Result<SetDef, FieldFail>
     requires { IsTrue (has_distinct_stages set.now) }
-    ensures { IfOk result (λ r. r ≡ spec.resolved_set items.now.programs.now set.now) }
+    ensures { IfRead result (λ r. r ≡ spec.resolved_set items.now.programs.now set.now) }
 {
     let all = resolve_stages(alloc, items, set.stages.list.as_slice())?;
-    match all_good(alloc, all)? {
-        Ok(stages) => Ok(Ok(set_with(alloc, &set.name, stages)?)),
-        Err(kind) => Ok(Err(kind)),
-    }
+    let stages = all_good(alloc, all)?;
+    Ok(set_with(alloc, &set.name, stages)?)
 }
 
 /// What each of the sets is made into, in their order. No two stages of a set have one name.
@@ -139,7 +139,11 @@ pub(crate) fn resolve_sets(
 {
     let mut all = Vec::new(alloc);
     for set in sets {
-        all.push(resolve_set(alloc, items, set)?)?;
+        match resolve_set(alloc, items, set) {
+            Ok(resolved) => all.push(Ok(resolved))?,
+            Err(FieldFail::Refused(kind)) => all.push(Err(kind))?,
+            Err(FieldFail::NoMemory) => return Err(NoMemory),
+        }
     }
     Ok(Seq::from_vec(all))
 }

@@ -1,5 +1,6 @@
-ghost use Rattle.std.specs.Prelude.{◌≡◌, IfErr, IfOk, Ok, Result};
-ghost use Rattle.conc_types.specs.declared.refusal.FileKind.TheVariants as kind;
+ghost use Rattle.std.specs.Prelude.{◌≡◌, IfErr, IfOk, Ok};
+ghost use Rattle.std.specs.Result.{result_err};
+ghost use Rattle.conc_types.specs.declared.refusal.FileKind.TheVariants as file;
 ghost use Rattle.conc_types.specs.Faults.{IsFailure};
 ghost use Rattle.conc_setup.specs.FirstPass as first_pass_spec;
 ghost use Rattle.conc_setup.specs.FirstPass.{IsFew};
@@ -11,45 +12,37 @@ ghost use Rattle.conc_setup.specs.ThirdPass as third_pass_spec;
 
 use crate::document::document_in;
 use crate::first_pass::first_pass;
-use crate::raw::{Document, Fault, RawSetup};
+use crate::raw::{Document, RawSetup, refused};
 use crate::second_pass::second_pass;
 use crate::third_pass::third_pass;
-use conc_types::{FileKind, NoMemory, ReadFail, Setup};
+use conc_setup_fields::FieldFail;
+use conc_types::{ReadFail, Setup};
 use std::alloc::Global;
 
 // What the second and the third pass make of a setup.
 #[tactic(auto, unfolding(crate::specs::SecondPass::second_pass))]
-fn pass_names(alloc: Global, raw: RawSetup) -> Result<Result<Setup, Fault>, NoMemory>
+fn pass_names(alloc: Global, raw: RawSetup) -> Result<Setup, ReadFail>
     requires { IsFew raw }
-    ensures { IfOk result (λ r. r ≡ passed third_pass_spec.third_pass
-        (second_pass_spec.second_pass raw)) }
+    ensures value { IfOk result (λ setup. passed third_pass_spec.third_pass
+        (second_pass_spec.second_pass raw) ≡ Ok setup) }
+    ensures fault { IfErr result (IsFailure file.Setup (result_err (passed third_pass_spec.third_pass
+        (second_pass_spec.second_pass raw)))) }
 {
     match second_pass(&raw) {
-        Some(fault) => Ok(Err(fault)),
+        Some(fault) => Err(refused(fault)),
         None => third_pass(alloc, raw),
     }
 }
 
 // What the three passes make of a document.
-fn pass_all(alloc: Global, document: Document) -> Result<Result<Setup, Fault>, NoMemory>
-    ensures { IfOk result (λ r. r ≡ passed third_pass_spec.third_pass
-        (passed second_pass_spec.second_pass (first_pass_spec.first_pass document))) }
+fn pass_all(alloc: Global, document: Document) -> Result<Setup, ReadFail>
+    ensures value { IfOk result (λ setup. passed third_pass_spec.third_pass
+        (passed second_pass_spec.second_pass (first_pass_spec.first_pass document)) ≡ Ok setup) }
+    ensures fault { IfErr result (IsFailure file.Setup (result_err (passed third_pass_spec.third_pass
+        (passed second_pass_spec.second_pass (first_pass_spec.first_pass document))))) }
 {
-    match first_pass(alloc, document)? {
-        Ok(raw) => pass_names(alloc, raw),
-        Err(fault) => Ok(Err(fault)),
-    }
-}
-
-// The setup, or the first fault of the file.
-#[tactic(auto, unfolding(crate::specs::Setups::setup_in))]
-fn setup_in(alloc: Global, bytes: &[u8]) -> Result<Result<Setup, Fault>, NoMemory>
-    ensures { IfOk result (λ r. r ≡ setups_spec.setup_in bytes.now) }
-{
-    match document_in(alloc, bytes)? {
-        Ok(document) => pass_all(alloc, document),
-        Err(kind) => Ok(Err((0, kind))),
-    }
+    let raw = first_pass(alloc, document)?;
+    pass_names(alloc, raw)
 }
 
 /// The setup that a file says: a TOML document with the array `tables` of the names of files, and the
@@ -66,12 +59,14 @@ fn setup_in(alloc: Global, bytes: &[u8]) -> Result<Result<Setup, Fault>, NoMemor
 /// by themselves on line 0; one for names that stand twice (`Duplicate`); and one for names that are not
 /// there (`UnknownName`) and links to the same or an earlier stage (`BackLink`). Where memory lacks
 /// there is neither a setup nor a refusal.
+#[tactic(auto, unfolding(crate::specs::Setups::setup_in))]
 pub fn read_setup(alloc: Global, bytes: &[u8]) -> Result<Setup, ReadFail>
     ensures value { IfOk result (λ setup. setups_spec.setup_in bytes.now ≡ Ok setup) }
-    ensures fault { IfErr result (IsFailure kind.Setup (fault_in bytes.now)) }
+    ensures fault { IfErr result (IsFailure file.Setup (fault_in bytes.now)) }
 {
-    match setup_in(alloc, bytes)? {
-        Ok(setup) => Ok(setup),
-        Err((line, kind)) => Err(ReadFail::refused(FileKind::Setup, line, kind)),
+    match document_in(alloc, bytes) {
+        Ok(document) => pass_all(alloc, document),
+        Err(FieldFail::Refused(kind)) => Err(refused((0, kind))),
+        Err(FieldFail::NoMemory) => Err(ReadFail::NoMemory),
     }
 }

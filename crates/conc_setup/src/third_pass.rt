@@ -1,14 +1,17 @@
-ghost use Rattle.std.specs.Prelude.{◌≡◌, IfOk, IsTrue, Ok, None, Option};
+ghost use Rattle.std.specs.Prelude.{◌≡◌, IfErr, IfOk, IsTrue, Ok, None, Option};
+ghost use Rattle.std.specs.Result.{result_err};
+ghost use Rattle.conc_types.specs.declared.refusal.FileKind.TheVariants as file;
+ghost use Rattle.conc_types.specs.Faults.{IsFailure};
 ghost use Rattle.conc_types.specs.Setups.{are_named, are_references};
 ghost use Rattle.conc_setup.specs.FirstPass.{IsFew};
 ghost use Rattle.conc_setup.specs.SecondPass.{name_again};
 ghost use Rattle.conc_setup.specs.ThirdPass as spec;
 
-use crate::raw::{Fault, RawSetup};
+use crate::raw::{Fault, RawSetup, refused};
 use crate::resolve::{Items, resolve_all};
 use crate::set::resolve_sets;
 use conc_setup_fields::{Counted, Judged, first_wrong, goods};
-use conc_types::{Entry, Manager, Name, NoMemory, Program, Seq, SetDef, Setup};
+use conc_types::{Entry, Manager, Name, NoMemory, Program, ReadFail, Seq, SetDef, Setup};
 use std::alloc::Global;
 
 /// The entries of a setup with what they refer to, each with the least kind of what is wrong with it.
@@ -94,17 +97,19 @@ fn accepted(alloc: Global, raw: RawSetup, resolved: Resolved) -> Result<Setup, N
 }
 
 /// The setup with places in its lists in the stead of names, if each name is there and each link leads
-/// to a later stage. Else the first line of which this is not so, and the least kind of what is wrong
-/// with it. No name stands twice where it may not.
+/// to a later stage. Else the file is refused for the first line of which this is not so, and the least
+/// kind of what is wrong with it. Where memory lacks there is neither. No name stands twice where it may
+/// not.
 #[tactic(auto, unfolding(crate::specs::ThirdPass::third_pass))]
-pub(crate) fn third_pass(alloc: Global, raw: RawSetup) -> Result<Result<Setup, Fault>, NoMemory>
+pub(crate) fn third_pass(alloc: Global, raw: RawSetup) -> Result<Setup, ReadFail>
     requires few { IsFew raw }
     requires named { name_again raw ≡ None }
-    ensures { IfOk result (λ r. r ≡ spec.third_pass raw) }
+    ensures value { IfOk result (λ setup. spec.third_pass raw ≡ Ok setup) }
+    ensures fault { IfErr result (IsFailure file.Setup (result_err (spec.third_pass raw))) }
 {
     let resolved = resolve_each(alloc, &raw)?;
     match wrong_name(&raw, &resolved) {
-        Some(fault) => Ok(Err(fault)),
-        None => Ok(Ok(accepted(alloc, raw, resolved)?)),
+        Some(fault) => Err(refused(fault)),
+        None => Ok(accepted(alloc, raw, resolved)?),
     }
 }

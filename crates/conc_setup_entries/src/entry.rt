@@ -1,12 +1,14 @@
-ghost use Rattle.std.specs.Prelude.{◌≡◌, IfOk, List, ℕ};
+ghost use Rattle.std.specs.Prelude.{◌≡◌, List, ℕ};
 ghost use Rattle.conc_setup_fields.specs.Fields as fields_spec;
-ghost use Rattle.conc_setup_fields.specs.Kinds.{good};
+ghost use Rattle.conc_setup_fields.specs.Reads.{IfRead, good_read};
 ghost use Rattle.conc_setup_entries.specs.Entries as spec;
 ghost use Rattle.toml.specs.View.{table_view, view};
 
 use crate::RawEntry;
-use conc_setup_fields::{Form, Judged, NameForm, beside, both, default, keys_kind, required};
-use conc_types::{Name, NoMemory, Reach, RefusalKind, Scope};
+use conc_setup_fields::{
+    FieldFail, Form, Judged, NameForm, beside, both, default, keys_kind, required,
+};
+use conc_types::{Name, Reach, RefusalKind, Scope};
 use std::alloc::Global;
 use toml::{Table, Value};
 
@@ -30,10 +32,10 @@ impl Form for ScopeForm {
 
     ghost form = { spec.scope_in };
 
-    fn read(_alloc: Global, value: &Value) -> Result<Judged<Scope>, NoMemory> {
+    fn read(_alloc: Global, value: &Value) -> Result<Scope, FieldFail> {
         match value.as_str() {
-            None => Ok(Err(RefusalKind::WrongKind)),
-            Some(word) => Ok(scope_of(word)),
+            None => Err(FieldFail::Refused(RefusalKind::WrongKind)),
+            Some(word) => Ok(scope_of(word)?),
         }
     }
 }
@@ -58,10 +60,10 @@ impl Form for ReachForm {
 
     ghost form = { spec.reach_in };
 
-    fn read(_alloc: Global, value: &Value) -> Result<Judged<Reach>, NoMemory> {
+    fn read(_alloc: Global, value: &Value) -> Result<Reach, FieldFail> {
         match value.as_str() {
-            None => Ok(Err(RefusalKind::WrongKind)),
-            Some(word) => Ok(reach_of(word)),
+            None => Err(FieldFail::Refused(RefusalKind::WrongKind)),
+            Some(word) => Ok(reach_of(word)?),
         }
     }
 }
@@ -72,30 +74,28 @@ fn entry_keys(table: &Table) -> Option<RefusalKind>
     keys_kind(&["program", "with", "scope", "type"], table)
 }
 
-fn to_entry(parts: Judged<(Name, (Name, (Scope, Reach)))>) -> Judged<RawEntry>
-    ensures { result ≡ good spec.to_entry parts }
+fn to_entry(parts: Result<(Name, (Name, (Scope, Reach))), FieldFail>) -> Result<RawEntry, FieldFail>
+    ensures { result ≡ good_read spec.to_entry parts }
 {
-    match parts {
-        Ok((owner, (other, (scope, reach)))) => Ok(RawEntry {
-            owner,
-            other,
-            scope,
-            reach,
-        }),
-        Err(kind) => Err(kind),
-    }
+    let (owner, (other, (scope, reach))) = parts?;
+    Ok(RawEntry {
+        owner,
+        other,
+        scope,
+        reach,
+    })
 }
 
 #[tactic(auto, unfolding(crate::specs::Entries::entry_of))]
-fn entry_of(alloc: Global, table: &Table) -> Result<Judged<RawEntry>, NoMemory>
-    ensures { IfOk result (λ r. r ≡ spec.entry_of (table_view table.now)) }
+fn entry_of(alloc: Global, table: &Table) -> Result<RawEntry, FieldFail>
+    ensures { IfRead result (λ r. r ≡ spec.entry_of (table_view table.now)) }
 {
-    let owner = required::<NameForm>(alloc, table, "program")?;
-    let other = required::<NameForm>(alloc, table, "with")?;
-    let scope = default::<ScopeForm>(alloc, Scope::Program, table, "scope")?;
-    let reach = default::<ReachForm>(alloc, Reach::Domain, table, "type")?;
+    let owner = required::<NameForm>(alloc, table, "program");
+    let other = required::<NameForm>(alloc, table, "with");
+    let scope = default::<ScopeForm>(alloc, Scope::Program, table, "scope");
+    let reach = default::<ReachForm>(alloc, Reach::Domain, table, "type");
     let entry = to_entry(both(owner, both(other, both(scope, reach))));
-    Ok(beside(entry_keys(table), entry))
+    beside(entry_keys(table), entry)
 }
 
 /// An entry of the incompatibilities: a table of the array `incompatible`, with the names of two
@@ -109,9 +109,9 @@ impl Form for EntryForm {
     ghost form = { spec.entry_in };
 
     #[tactic(auto, unfolding(crate::specs::Entries::entry_in))]
-    fn read(alloc: Global, value: &Value) -> Result<Judged<RawEntry>, NoMemory> {
+    fn read(alloc: Global, value: &Value) -> Result<RawEntry, FieldFail> {
         match value.as_table() {
-            None => Ok(Err(RefusalKind::WrongKind)),
+            None => Err(FieldFail::Refused(RefusalKind::WrongKind)),
             Some(table) => entry_of(alloc, table),
         }
     }

@@ -1,6 +1,6 @@
-ghost use Rattle.std.specs.Prelude.{◌≡◌, ◌<◌, ◌^◌, IfOk, List, length, ℕ};
+ghost use Rattle.std.specs.Prelude.{◌≡◌, ◌<◌, ◌^◌, List, length, ℕ};
 ghost use Rattle.conc_setup_fields.specs.Fields as fields_spec;
-ghost use Rattle.conc_setup_fields.specs.Kinds.{judged};
+ghost use Rattle.conc_setup_fields.specs.Reads.{IfRead, judged_read};
 ghost use Rattle.conc_setup_entries.specs.Managers as spec;
 ghost use Rattle.toml.specs.View.{table_view, view};
 
@@ -8,10 +8,10 @@ use crate::rule::RuleForm;
 use crate::shift::ShiftForm;
 use crate::{RawManager, RawRule};
 use conc_setup_fields::{
-    ArrayForm, Counted, Form, Judged, ListForm, NameForm, beside, both, default, keys_kind,
-    no_values, required,
+    ArrayForm, Counted, FieldFail, Form, Judged, ListForm, NameForm, beside, both, default,
+    keys_kind, no_values, required,
 };
-use conc_types::{Name, NoMemory, RefusalKind, Seq, Shift};
+use conc_types::{Name, RefusalKind, Seq, Shift};
 use std::alloc::Global;
 use toml::{Table, Value};
 
@@ -43,35 +43,33 @@ fn manager_of_few(
 
 type ManagerParts = (Name, (Seq<RawRule>, (Seq<RawRule>, Counted<Shift, 0, 64>)));
 
-fn to_manager(parts: Judged<ManagerParts>) -> Judged<RawManager>
-    ensures { result ≡ judged spec.to_manager parts }
+fn to_manager(parts: Result<ManagerParts, FieldFail>) -> Result<RawManager, FieldFail>
+    ensures { result ≡ judged_read spec.to_manager parts }
 {
-    match parts {
-        Ok((name, (include, (exclude, shifts)))) => manager_of_few(name, include, exclude, shifts),
-        Err(kind) => Err(kind),
-    }
+    let (name, (include, (exclude, shifts))) = parts?;
+    Ok(manager_of_few(name, include, exclude, shifts)?)
 }
 
 #[tactic(auto, unfolding(crate::specs::Managers::manager_of))]
-fn manager_of(alloc: Global, table: &Table) -> Result<Judged<RawManager>, NoMemory>
-    ensures { IfOk result (λ r. r ≡ spec.manager_of (table_view table.now)) }
+fn manager_of(alloc: Global, table: &Table) -> Result<RawManager, FieldFail>
+    ensures { IfRead result (λ r. r ≡ spec.manager_of (table_view table.now)) }
 {
-    let name = required::<NameForm>(alloc, table, "name")?;
+    let name = required::<NameForm>(alloc, table, "name");
     let include = default::<ListForm<RuleForm>>(
         alloc,
         Seq::from_vec(Vec::new(alloc)),
         table,
         "include",
-    )?;
+    );
     let exclude = default::<ListForm<RuleForm>>(
         alloc,
         Seq::from_vec(Vec::new(alloc)),
         table,
         "exclude",
-    )?;
-    let shifts = default::<ArrayForm<ShiftForm, 0, 64>>(alloc, no_values(alloc), table, "shift")?;
+    );
+    let shifts = default::<ArrayForm<ShiftForm, 0, 64>>(alloc, no_values(alloc), table, "shift");
     let manager = to_manager(both(name, both(include, both(exclude, shifts))));
-    Ok(beside(manager_keys(table), manager))
+    beside(manager_keys(table), manager)
 }
 
 /// A manager: a table of the array `manager`. More than 64 rules, those that include and those that
@@ -84,9 +82,9 @@ impl Form for ManagerForm {
     ghost form = { spec.manager_in };
 
     #[tactic(auto, unfolding(crate::specs::Managers::manager_in))]
-    fn read(alloc: Global, value: &Value) -> Result<Judged<RawManager>, NoMemory> {
+    fn read(alloc: Global, value: &Value) -> Result<RawManager, FieldFail> {
         match value.as_table() {
-            None => Ok(Err(RefusalKind::WrongKind)),
+            None => Err(FieldFail::Refused(RefusalKind::WrongKind)),
             Some(table) => manager_of(alloc, table),
         }
     }

@@ -1,14 +1,14 @@
-ghost use Rattle.std.specs.Prelude.{◌≡◌, IfOk, List, ℕ};
+ghost use Rattle.std.specs.Prelude.{◌≡◌, List, ℕ};
 ghost use Rattle.conc_setup_fields.specs.Fields as fields_spec;
-ghost use Rattle.conc_setup_fields.specs.Kinds.{good};
+ghost use Rattle.conc_setup_fields.specs.Reads.{IfRead, good_read};
 ghost use Rattle.conc_setup_entries.specs.Programs as spec;
 ghost use Rattle.toml.specs.View.{table_view, view};
 
 use conc_setup_fields::{
-    ArrayForm, Counted, Form, Judged, NameForm, ShortText, TextForm, TruthForm, WholeForm, beside,
-    both, default, keys_kind, no_text, no_values, optional, required,
+    ArrayForm, Counted, FieldFail, Form, Judged, NameForm, ShortText, TextForm, TruthForm,
+    WholeForm, beside, both, default, keys_kind, no_text, no_values, optional, required,
 };
-use conc_types::{Filter, Job, Name, NoMemory, Program, RefusalKind, Test};
+use conc_types::{Filter, Job, Name, Program, RefusalKind, Test};
 use std::alloc::Global;
 use toml::{Table, Value};
 
@@ -38,10 +38,10 @@ impl Form for TestForm {
 
     ghost form = { spec.test_in };
 
-    fn read(_alloc: Global, value: &Value) -> Result<Judged<Test>, NoMemory> {
+    fn read(_alloc: Global, value: &Value) -> Result<Test, FieldFail> {
         match value.as_str() {
-            None => Ok(Err(RefusalKind::WrongKind)),
-            Some(word) => Ok(test_of(word)),
+            None => Err(FieldFail::Refused(RefusalKind::WrongKind)),
+            Some(word) => Ok(test_of(word)?),
         }
     }
 }
@@ -62,24 +62,22 @@ fn filter_with(column: Name, test: Test, value: ShortText<200>) -> Filter
     }
 }
 
-fn to_filter(parts: Judged<(Name, (Test, ShortText<200>))>) -> Judged<Filter>
-    ensures { result ≡ good spec.to_filter parts }
+fn to_filter(parts: Result<(Name, (Test, ShortText<200>)), FieldFail>) -> Result<Filter, FieldFail>
+    ensures { result ≡ good_read spec.to_filter parts }
 {
-    match parts {
-        Ok((column, (test, value))) => Ok(filter_with(column, test, value)),
-        Err(kind) => Err(kind),
-    }
+    let (column, (test, value)) = parts?;
+    Ok(filter_with(column, test, value))
 }
 
 #[tactic(auto, unfolding(crate::specs::Programs::filter_of))]
-fn filter_of(alloc: Global, table: &Table) -> Result<Judged<Filter>, NoMemory>
-    ensures { IfOk result (λ r. r ≡ spec.filter_of (table_view table.now)) }
+fn filter_of(alloc: Global, table: &Table) -> Result<Filter, FieldFail>
+    ensures { IfRead result (λ r. r ≡ spec.filter_of (table_view table.now)) }
 {
-    let column = required::<NameForm>(alloc, table, "column")?;
-    let test = required::<TestForm>(alloc, table, "test")?;
-    let value = required::<TextForm<200>>(alloc, table, "value")?;
+    let column = required::<NameForm>(alloc, table, "column");
+    let test = required::<TestForm>(alloc, table, "test");
+    let value = required::<TextForm<200>>(alloc, table, "value");
     let filter = to_filter(both(column, both(test, value)));
-    Ok(beside(filter_keys(table), filter))
+    beside(filter_keys(table), filter)
 }
 
 /// A filter of a program's rows.
@@ -91,9 +89,9 @@ impl Form for FilterForm {
     ghost form = { spec.filter_in };
 
     #[tactic(auto, unfolding(crate::specs::Programs::filter_in))]
-    fn read(alloc: Global, value: &Value) -> Result<Judged<Filter>, NoMemory> {
+    fn read(alloc: Global, value: &Value) -> Result<Filter, FieldFail> {
         match value.as_table() {
-            None => Ok(Err(RefusalKind::WrongKind)),
+            None => Err(FieldFail::Refused(RefusalKind::WrongKind)),
             Some(table) => filter_of(alloc, table),
         }
     }
@@ -127,37 +125,28 @@ type JobParts = (
     ),
 );
 
-fn to_job(parts: Judged<JobParts>) -> Judged<Job>
-    ensures { result ≡ good spec.to_job parts }
+fn to_job(parts: Result<JobParts, FieldFail>) -> Result<Job, FieldFail>
+    ensures { result ≡ good_read spec.to_job parts }
 {
-    match parts {
-        Ok((table, (filters, (group, (sum, (warn_over, error_over)))))) => {
-            Ok(job_with(table, filters, group, sum, warn_over, error_over))
-        }
-        Err(kind) => Err(kind),
-    }
+    let (table, (filters, (group, (sum, (warn_over, error_over))))) = parts?;
+    Ok(job_with(table, filters, group, sum, warn_over, error_over))
 }
 
 #[tactic(auto, unfolding(crate::specs::Programs::job_of))]
-fn job_of(alloc: Global, table: &Table) -> Result<Judged<Job>, NoMemory>
-    ensures { IfOk result (λ r. r ≡ spec.job_of (table_view table.now)) }
+fn job_of(alloc: Global, table: &Table) -> Result<Job, FieldFail>
+    ensures { IfRead result (λ r. r ≡ spec.job_of (table_view table.now)) }
 {
-    let name = required::<NameForm>(alloc, table, "table")?;
-    let filters = default::<ArrayForm<FilterForm, 0, 16>>(
-        alloc,
-        no_values(alloc),
-        table,
-        "filter",
-    )?;
-    let group = optional::<NameForm>(alloc, table, "group")?;
-    let sum = optional::<NameForm>(alloc, table, "sum")?;
-    let warn_over = optional::<WholeForm>(alloc, table, "warn_over")?;
-    let error_over = optional::<WholeForm>(alloc, table, "error_over")?;
+    let name = required::<NameForm>(alloc, table, "table");
+    let filters = default::<ArrayForm<FilterForm, 0, 16>>(alloc, no_values(alloc), table, "filter");
+    let group = optional::<NameForm>(alloc, table, "group");
+    let sum = optional::<NameForm>(alloc, table, "sum");
+    let warn_over = optional::<WholeForm>(alloc, table, "warn_over");
+    let error_over = optional::<WholeForm>(alloc, table, "error_over");
     let parts = both(
         name,
         both(filters, both(group, both(sum, both(warn_over, error_over)))),
     );
-    Ok(to_job(parts))
+    to_job(parts)
 }
 
 fn program_keys(table: &Table) -> Option<RefusalKind>
@@ -204,27 +193,23 @@ fn program_with(
 
 type ProgramParts = (Name, (ShortText<80>, (bool, (bool, (bool, Job)))));
 
-fn to_program(parts: Judged<ProgramParts>) -> Judged<Program>
-    ensures { result ≡ good spec.to_program parts }
+fn to_program(parts: Result<ProgramParts, FieldFail>) -> Result<Program, FieldFail>
+    ensures { result ≡ good_read spec.to_program parts }
 {
-    match parts {
-        Ok((name, (request_type, (enabled, (run_alone, (restart, job)))))) => {
-            Ok(program_with(name, request_type, enabled, run_alone, restart, job))
-        }
-        Err(kind) => Err(kind),
-    }
+    let (name, (request_type, (enabled, (run_alone, (restart, job))))) = parts?;
+    Ok(program_with(name, request_type, enabled, run_alone, restart, job))
 }
 
 #[tactic(auto, unfolding(crate::specs::Programs::program_of))]
-fn program_of(alloc: Global, table: &Table) -> Result<Judged<Program>, NoMemory>
-    ensures { IfOk result (λ r. r ≡ spec.program_of (table_view table.now)) }
+fn program_of(alloc: Global, table: &Table) -> Result<Program, FieldFail>
+    ensures { IfRead result (λ r. r ≡ spec.program_of (table_view table.now)) }
 {
-    let name = required::<NameForm>(alloc, table, "name")?;
-    let request_type = default::<TextForm<80>>(alloc, no_text(alloc), table, "type")?;
-    let enabled = default::<TruthForm>(alloc, true, table, "enabled")?;
-    let run_alone = default::<TruthForm>(alloc, false, table, "run_alone")?;
-    let restart = default::<TruthForm>(alloc, false, table, "restart")?;
-    let job = job_of(alloc, table)?;
+    let name = required::<NameForm>(alloc, table, "name");
+    let request_type = default::<TextForm<80>>(alloc, no_text(alloc), table, "type");
+    let enabled = default::<TruthForm>(alloc, true, table, "enabled");
+    let run_alone = default::<TruthForm>(alloc, false, table, "run_alone");
+    let restart = default::<TruthForm>(alloc, false, table, "restart");
+    let job = job_of(alloc, table);
     let parts = both(
         name,
         both(
@@ -232,7 +217,7 @@ fn program_of(alloc: Global, table: &Table) -> Result<Judged<Program>, NoMemory>
             both(enabled, both(run_alone, both(restart, job))),
         ),
     );
-    Ok(beside(program_keys(table), to_program(parts)))
+    beside(program_keys(table), to_program(parts))
 }
 
 /// A program: a table of the array `program`, with the table that its requests report on. Without
@@ -246,9 +231,9 @@ impl Form for ProgramForm {
     ghost form = { spec.program_in };
 
     #[tactic(auto, unfolding(crate::specs::Programs::program_in))]
-    fn read(alloc: Global, value: &Value) -> Result<Judged<Program>, NoMemory> {
+    fn read(alloc: Global, value: &Value) -> Result<Program, FieldFail> {
         match value.as_table() {
-            None => Ok(Err(RefusalKind::WrongKind)),
+            None => Err(FieldFail::Refused(RefusalKind::WrongKind)),
             Some(table) => program_of(alloc, table),
         }
     }

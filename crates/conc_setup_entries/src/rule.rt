@@ -1,14 +1,14 @@
-ghost use Rattle.std.specs.Prelude.{◌≡◌, IfOk, List, Option, ℕ};
+ghost use Rattle.std.specs.Prelude.{◌≡◌, List, Option, ℕ};
 ghost use Rattle.conc_setup_fields.specs.Fields as fields_spec;
-ghost use Rattle.conc_setup_fields.specs.Kinds.{judged};
+ghost use Rattle.conc_setup_fields.specs.Reads.{IfRead, judged_read};
 ghost use Rattle.conc_setup_entries.specs.Rules as spec;
 ghost use Rattle.toml.specs.View.{table_view, view};
 
 use crate::RawRule;
 use conc_setup_fields::{
-    Form, Judged, NameForm, ShortText, TextForm, beside, both, keys_kind, optional,
+    FieldFail, Form, Judged, NameForm, ShortText, TextForm, beside, both, keys_kind, optional,
 };
-use conc_types::{Name, NoMemory, RefusalKind};
+use conc_types::{Name, RefusalKind};
 use std::alloc::Global;
 use toml::{Table, Value};
 
@@ -38,24 +38,22 @@ fn rule_that_names(
 
 type RuleParts = (Option<Name>, (Option<ShortText<80>>, Option<Name>));
 
-fn to_rule(parts: Judged<RuleParts>) -> Judged<RawRule>
-    ensures { result ≡ judged spec.to_rule parts }
+fn to_rule(parts: Result<RuleParts, FieldFail>) -> Result<RawRule, FieldFail>
+    ensures { result ≡ judged_read spec.to_rule parts }
 {
-    match parts {
-        Ok((program, (request_type, user))) => rule_that_names(program, request_type, user),
-        Err(kind) => Err(kind),
-    }
+    let (program, (request_type, user)) = parts?;
+    Ok(rule_that_names(program, request_type, user)?)
 }
 
 #[tactic(auto, unfolding(crate::specs::Rules::rule_of))]
-fn rule_of(alloc: Global, table: &Table) -> Result<Judged<RawRule>, NoMemory>
-    ensures { IfOk result (λ r. r ≡ spec.rule_of (table_view table.now)) }
+fn rule_of(alloc: Global, table: &Table) -> Result<RawRule, FieldFail>
+    ensures { IfRead result (λ r. r ≡ spec.rule_of (table_view table.now)) }
 {
-    let program = optional::<NameForm>(alloc, table, "program")?;
-    let request_type = optional::<TextForm<80>>(alloc, table, "type")?;
-    let user = optional::<NameForm>(alloc, table, "user")?;
+    let program = optional::<NameForm>(alloc, table, "program");
+    let request_type = optional::<TextForm<80>>(alloc, table, "type");
+    let user = optional::<NameForm>(alloc, table, "user");
     let rule = to_rule(both(program, both(request_type, user)));
-    Ok(beside(rule_keys(table), rule))
+    beside(rule_keys(table), rule)
 }
 
 /// A specialization rule of a manager. One that names nothing is `Missing`.
@@ -67,9 +65,9 @@ impl Form for RuleForm {
     ghost form = { spec.rule_in };
 
     #[tactic(auto, unfolding(crate::specs::Rules::rule_in))]
-    fn read(alloc: Global, value: &Value) -> Result<Judged<RawRule>, NoMemory> {
+    fn read(alloc: Global, value: &Value) -> Result<RawRule, FieldFail> {
         match value.as_table() {
-            None => Ok(Err(RefusalKind::WrongKind)),
+            None => Err(FieldFail::Refused(RefusalKind::WrongKind)),
             Some(table) => rule_of(alloc, table),
         }
     }

@@ -1,15 +1,15 @@
-ghost use Rattle.std.specs.Prelude.{◌≡◌, IfOk, List, Option, ℕ};
+ghost use Rattle.std.specs.Prelude.{◌≡◌, List, Option, ℕ};
 ghost use Rattle.conc_setup_fields.specs.Fields as fields_spec;
-ghost use Rattle.conc_setup_fields.specs.Kinds.{good};
+ghost use Rattle.conc_setup_fields.specs.Reads.{IfRead, good_read};
 ghost use Rattle.conc_setup_entries.specs.Sets as spec;
 ghost use Rattle.toml.specs.View.{table_view, view};
 
 use crate::{RawSet, RawStage};
 use conc_setup_fields::{
-    ArrayForm, Counted, Form, Judged, NameForm, TruthForm, beside, both, default, keys_kind,
+    ArrayForm, Counted, FieldFail, Form, NameForm, TruthForm, beside, both, default, keys_kind,
     optional, required,
 };
-use conc_types::{Name, NoMemory, RefusalKind};
+use conc_types::{Name, RefusalKind};
 use std::alloc::Global;
 use toml::{Table, Value};
 
@@ -40,37 +40,35 @@ type StageParts = (
     ),
 );
 
-fn to_stage(parts: Judged<StageParts>) -> Judged<RawStage>
-    ensures { result ≡ good spec.to_stage parts }
+fn to_stage(parts: Result<StageParts, FieldFail>) -> Result<RawStage, FieldFail>
+    ensures { result ≡ good_read spec.to_stage parts }
 {
-    match parts {
-        Ok((name, (critical, (on_success, (on_warning, (on_error, members)))))) => Ok(RawStage {
-            name,
-            critical,
-            on_success,
-            on_warning,
-            on_error,
-            members,
-        }),
-        Err(kind) => Err(kind),
-    }
+    let (name, (critical, (on_success, (on_warning, (on_error, members))))) = parts?;
+    Ok(RawStage {
+        name,
+        critical,
+        on_success,
+        on_warning,
+        on_error,
+        members,
+    })
 }
 
 #[tactic(auto, unfolding(crate::specs::Sets::stage_of))]
-fn stage_of(alloc: Global, table: &Table) -> Result<Judged<RawStage>, NoMemory>
-    ensures { IfOk result (λ r. r ≡ spec.stage_of (table_view table.now)) }
+fn stage_of(alloc: Global, table: &Table) -> Result<RawStage, FieldFail>
+    ensures { IfRead result (λ r. r ≡ spec.stage_of (table_view table.now)) }
 {
-    let name = required::<NameForm>(alloc, table, "name")?;
-    let critical = default::<TruthForm>(alloc, false, table, "critical")?;
-    let success = optional::<NameForm>(alloc, table, "on_success")?;
-    let warning = optional::<NameForm>(alloc, table, "on_warning")?;
-    let error = optional::<NameForm>(alloc, table, "on_error")?;
-    let members = required::<ArrayForm<NameForm, 1, 64>>(alloc, table, "members")?;
+    let name = required::<NameForm>(alloc, table, "name");
+    let critical = default::<TruthForm>(alloc, false, table, "critical");
+    let success = optional::<NameForm>(alloc, table, "on_success");
+    let warning = optional::<NameForm>(alloc, table, "on_warning");
+    let error = optional::<NameForm>(alloc, table, "on_error");
+    let members = required::<ArrayForm<NameForm, 1, 64>>(alloc, table, "members");
     let parts = both(
         name,
         both(critical, both(success, both(warning, both(error, members)))),
     );
-    Ok(beside(stage_keys(table), to_stage(parts)))
+    beside(stage_keys(table), to_stage(parts))
 }
 
 /// A stage of a set, with 1 to 64 members.
@@ -82,9 +80,9 @@ impl Form for StageForm {
     ghost form = { spec.stage_in };
 
     #[tactic(auto, unfolding(crate::specs::Sets::stage_in))]
-    fn read(alloc: Global, value: &Value) -> Result<Judged<RawStage>, NoMemory> {
+    fn read(alloc: Global, value: &Value) -> Result<RawStage, FieldFail> {
         match value.as_table() {
-            None => Ok(Err(RefusalKind::WrongKind)),
+            None => Err(FieldFail::Refused(RefusalKind::WrongKind)),
             Some(table) => stage_of(alloc, table),
         }
     }
@@ -96,22 +94,20 @@ fn set_keys(table: &Table) -> Option<RefusalKind>
     keys_kind(&["name", "stage"], table)
 }
 
-fn to_set(parts: Judged<(Name, Counted<RawStage, 1, 64>)>) -> Judged<RawSet>
-    ensures { result ≡ good spec.to_set parts }
+fn to_set(parts: Result<(Name, Counted<RawStage, 1, 64>), FieldFail>) -> Result<RawSet, FieldFail>
+    ensures { result ≡ good_read spec.to_set parts }
 {
-    match parts {
-        Ok((name, stages)) => Ok(RawSet { name, stages }),
-        Err(kind) => Err(kind),
-    }
+    let (name, stages) = parts?;
+    Ok(RawSet { name, stages })
 }
 
 #[tactic(auto, unfolding(crate::specs::Sets::set_of))]
-fn set_of(alloc: Global, table: &Table) -> Result<Judged<RawSet>, NoMemory>
-    ensures { IfOk result (λ r. r ≡ spec.set_of (table_view table.now)) }
+fn set_of(alloc: Global, table: &Table) -> Result<RawSet, FieldFail>
+    ensures { IfRead result (λ r. r ≡ spec.set_of (table_view table.now)) }
 {
-    let name = required::<NameForm>(alloc, table, "name")?;
-    let stages = required::<ArrayForm<StageForm, 1, 64>>(alloc, table, "stage")?;
-    Ok(beside(set_keys(table), to_set(both(name, stages))))
+    let name = required::<NameForm>(alloc, table, "name");
+    let stages = required::<ArrayForm<StageForm, 1, 64>>(alloc, table, "stage");
+    beside(set_keys(table), to_set(both(name, stages)))
 }
 
 /// A request set: a table of the array `set`. No stage is `OutOfRange`, as is a stage without a
@@ -124,9 +120,9 @@ impl Form for SetForm {
     ghost form = { spec.set_in };
 
     #[tactic(auto, unfolding(crate::specs::Sets::set_in))]
-    fn read(alloc: Global, value: &Value) -> Result<Judged<RawSet>, NoMemory> {
+    fn read(alloc: Global, value: &Value) -> Result<RawSet, FieldFail> {
         match value.as_table() {
-            None => Ok(Err(RefusalKind::WrongKind)),
+            None => Err(FieldFail::Refused(RefusalKind::WrongKind)),
             Some(table) => set_of(alloc, table),
         }
     }

@@ -1,14 +1,16 @@
-ghost use Rattle.std.specs.Prelude.{◌≡◌, IfOk, List, Option, ℕ};
+ghost use Rattle.std.specs.Prelude.{◌≡◌, List, Option, ℕ};
 ghost use Rattle.conc_setup_fields.specs.Fields as fields_spec;
-ghost use Rattle.conc_setup_fields.specs.Kinds.{judged};
+ghost use Rattle.conc_setup_fields.specs.Reads.{IfRead, judged_read};
 ghost use Rattle.conc_setup_entries.specs.Shifts as spec;
 ghost use Rattle.conc_types.specs.Fields as types_fields_spec;
 ghost use Rattle.conc_types.specs.Words.{none_or};
 ghost use Rattle.toml.specs.View.{table_view, view};
 
 use crate::shift_values::{DateForm, DaysForm, PlacesForm, TimeForm};
-use conc_setup_fields::{Form, Judged, beside, both, default, keys_kind, optional, required};
-use conc_types::{NoMemory, RefusalKind, Shift};
+use conc_setup_fields::{
+    FieldFail, Form, Judged, beside, both, default, keys_kind, optional, required,
+};
+use conc_types::{RefusalKind, Shift};
 use std::alloc::Global;
 use toml::{Table, Value};
 
@@ -68,25 +70,25 @@ fn shift_of_parts(
 
 type ShiftParts = (Option<u32>, (u8, (Option<u32>, (Option<u32>, u32))));
 
-fn to_shift(parts: Judged<ShiftParts>) -> Judged<Shift>
-    ensures { result ≡ judged spec.to_shift parts }
+fn to_shift(parts: Result<ShiftParts, FieldFail>) -> Result<Shift, FieldFail>
+    ensures { result ≡ judged_read spec.to_shift parts }
 {
     let (date, (days, (from, (to, places)))) = parts?;
     let times = times_of(from, to)?;
-    shift_of_parts(date, days, places, times)
+    Ok(shift_of_parts(date, days, places, times)?)
 }
 
 #[tactic(auto, unfolding(crate::specs::Shifts::shift_of))]
-fn shift_of(alloc: Global, table: &Table) -> Result<Judged<Shift>, NoMemory>
-    ensures { IfOk result (λ r. r ≡ spec.shift_of (table_view table.now)) }
+fn shift_of(alloc: Global, table: &Table) -> Result<Shift, FieldFail>
+    ensures { IfRead result (λ r. r ≡ spec.shift_of (table_view table.now)) }
 {
-    let date = optional::<DateForm>(alloc, table, "date")?;
-    let days = default::<DaysForm>(alloc, 0, table, "days")?;
-    let from = optional::<TimeForm>(alloc, table, "from")?;
-    let to = optional::<TimeForm>(alloc, table, "to")?;
-    let places = required::<PlacesForm>(alloc, table, "places")?;
+    let date = optional::<DateForm>(alloc, table, "date");
+    let days = default::<DaysForm>(alloc, 0, table, "days");
+    let from = optional::<TimeForm>(alloc, table, "from");
+    let to = optional::<TimeForm>(alloc, table, "to");
+    let places = required::<PlacesForm>(alloc, table, "places");
     let shift = to_shift(both(date, both(days, both(from, both(to, places)))));
-    Ok(beside(shift_keys(table), shift))
+    beside(shift_keys(table), shift)
 }
 
 /// A work shift of a manager. A date beside days is `BadShift`, as is a first time without a last
@@ -99,9 +101,9 @@ impl Form for ShiftForm {
     ghost form = { spec.shift_in };
 
     #[tactic(auto, unfolding(crate::specs::Shifts::shift_in))]
-    fn read(alloc: Global, value: &Value) -> Result<Judged<Shift>, NoMemory> {
+    fn read(alloc: Global, value: &Value) -> Result<Shift, FieldFail> {
         match value.as_table() {
-            None => Ok(Err(RefusalKind::WrongKind)),
+            None => Err(FieldFail::Refused(RefusalKind::WrongKind)),
             Some(table) => shift_of(alloc, table),
         }
     }

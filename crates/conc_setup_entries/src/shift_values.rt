@@ -1,12 +1,12 @@
 ghost use Rattle.std.specs.Prelude.{◌≡◌, ◌≤◌, ◌==◌, ◌<◌, IfOk, IfSome, List, Option, Result, ℕ};
-ghost use Rattle.conc_setup_fields.specs.Kinds.{judged};
+ghost use Rattle.conc_setup_fields.specs.Reads.{IfRead};
 ghost use Rattle.conc_setup_entries.specs.Shifts as spec;
 ghost use Rattle.conc_types.specs.Words as words_spec;
 ghost use Rattle.toml.specs.View.{view};
 
-use conc_setup_fields::{Form, Judged, ListForm, WholeForm};
+use conc_setup_fields::{FieldFail, Form, Judged, ListForm, WholeForm};
 use conc_time::read_moment;
-use conc_types::{NoMemory, RefusalKind, Seq};
+use conc_types::{NoMemory, RefusalKind};
 use std::alloc::Global;
 use toml::Value;
 
@@ -24,12 +24,12 @@ fn read_day(alloc: Global, bytes: &[u8]) -> Result<Option<u32>, NoMemory>
     }
 }
 
-fn date_of(alloc: Global, bytes: &[u8]) -> Result<Judged<u32>, NoMemory>
-    ensures { IfOk result (λ r. r ≡ spec.date_of bytes.now) }
+fn date_of(alloc: Global, bytes: &[u8]) -> Result<u32, FieldFail>
+    ensures { IfRead result (λ r. r ≡ spec.date_of bytes.now) }
 {
     match read_day(alloc, bytes)? {
-        None => Ok(Err(RefusalKind::BadShift)),
-        Some(day) => Ok(Ok(day)),
+        None => Err(FieldFail::Refused(RefusalKind::BadShift)),
+        Some(day) => Ok(day),
     }
 }
 
@@ -41,9 +41,9 @@ impl Form for DateForm {
 
     ghost form = { spec.date_in };
 
-    fn read(alloc: Global, value: &Value) -> Result<Judged<u32>, NoMemory> {
+    fn read(alloc: Global, value: &Value) -> Result<u32, FieldFail> {
         match value.as_str() {
-            None => Ok(Err(RefusalKind::WrongKind)),
+            None => Err(FieldFail::Refused(RefusalKind::WrongKind)),
             Some(text) => date_of(alloc, text.as_bytes()),
         }
     }
@@ -91,10 +91,10 @@ impl Form for TimeForm {
 
     ghost form = { spec.time_in };
 
-    fn read(_alloc: Global, value: &Value) -> Result<Judged<u32>, NoMemory> {
+    fn read(_alloc: Global, value: &Value) -> Result<u32, FieldFail> {
         match value.as_str() {
-            None => Ok(Err(RefusalKind::WrongKind)),
-            Some(text) => Ok(time_of(text.as_bytes())),
+            None => Err(FieldFail::Refused(RefusalKind::WrongKind)),
+            Some(text) => Ok(time_of(text.as_bytes())?),
         }
     }
 }
@@ -129,10 +129,10 @@ impl Form for DayForm {
 
     ghost form = { spec.day_in };
 
-    fn read(_alloc: Global, value: &Value) -> Result<Judged<u8>, NoMemory> {
+    fn read(_alloc: Global, value: &Value) -> Result<u8, FieldFail> {
         match value.as_str() {
-            None => Ok(Err(RefusalKind::WrongKind)),
-            Some(word) => Ok(day_of(word)),
+            None => Err(FieldFail::Refused(RefusalKind::WrongKind)),
+            Some(word) => Ok(day_of(word)?),
         }
     }
 }
@@ -179,15 +179,6 @@ fn days_of(days: &[u8]) -> Judged<u8>
     }
 }
 
-fn to_days(days: Judged<Seq<u8>>) -> Judged<u8>
-    ensures { result ≡ judged spec.days_of days }
-{
-    match days {
-        Ok(days) => days_of(days.as_slice()),
-        Err(kind) => Err(kind),
-    }
-}
-
 /// Days of the week, of which none stands twice, as one bit for each, the lowest for Monday. No day
 /// is `BadShift`, as is a day twice.
 pub(crate) struct DaysForm;
@@ -198,23 +189,19 @@ impl Form for DaysForm {
     ghost form = { spec.days_in };
 
     #[tactic(auto, unfolding(crate::specs::Shifts::days_in))]
-    fn read(alloc: Global, value: &Value) -> Result<Judged<u8>, NoMemory> {
-        Ok(to_days(ListForm::<DayForm>::read(alloc, value)?))
+    fn read(alloc: Global, value: &Value) -> Result<u8, FieldFail> {
+        let days = ListForm::<DayForm>::read(alloc, value)?;
+        Ok(days_of(days.as_slice())?)
     }
 }
 
-fn places_of(count: Judged<u64>) -> Judged<u32>
-    ensures { result ≡ judged spec.places_of count }
+fn places_of(count: u64) -> Judged<u32>
+    ensures { result ≡ spec.places_of count }
 {
-    match count {
-        Ok(count) => {
-            if count <= 64 {
-                Ok(count as u32)
-            } else {
-                Err(RefusalKind::OutOfRange)
-            }
-        }
-        Err(kind) => Err(kind),
+    if count <= 64 {
+        Ok(count as u32)
+    } else {
+        Err(RefusalKind::OutOfRange)
     }
 }
 
@@ -226,7 +213,8 @@ impl Form for PlacesForm {
 
     ghost form = { spec.places_in };
 
-    fn read(alloc: Global, value: &Value) -> Result<Judged<u32>, NoMemory> {
-        Ok(places_of(WholeForm::read(alloc, value)?))
+    fn read(alloc: Global, value: &Value) -> Result<u32, FieldFail> {
+        let count = WholeForm::read(alloc, value)?;
+        Ok(places_of(count)?)
     }
 }

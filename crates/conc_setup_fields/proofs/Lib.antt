@@ -1,3 +1,4 @@
+pub mod Combined
 pub mod FirstWrong
 pub mod Items
 pub mod Known

@@ -3,3 +3,4 @@ pub mod Faults
 pub mod Fields
 pub mod Forms
 pub mod Kinds
+pub mod Reads

@@ -1,10 +1,11 @@
 ghost use Rattle.std.specs.Prelude.{◌≡◌, IfOk};
 ghost use Rattle.conc_setup_fields.specs.Arrays as spec;
 ghost use Rattle.conc_setup_fields.specs.Arrays.{array_in, list_in};
+ghost use Rattle.conc_setup_fields.specs.Reads.{IfRead};
 ghost use Rattle.toml.specs.View.{array_view, view};
 
 use crate::lines::{goods, worst};
-use crate::{Counted, Form, Judged};
+use crate::{Counted, FieldFail, Form, Judged};
 use conc_types::{NoMemory, RefusalKind, Seq};
 use std::alloc::Global;
 use std::marker::PhantomData;
@@ -16,18 +17,22 @@ pub fn read_all<F: Form>(alloc: Global, items: &Vec<Value>) -> Result<Seq<Judged
 {
     let mut all = Vec::new(alloc);
     for item in items {
-        all.push(F::read(alloc, item)?)?;
+        match F::read(alloc, item) {
+            Ok(value) => all.push(Ok(value))?,
+            Err(FieldFail::Refused(kind)) => all.push(Err(kind))?,
+            Err(FieldFail::NoMemory) => return Err(NoMemory),
+        }
     }
     Ok(Seq::from_vec(all))
 }
 
 /// All the values, or the least kind of what is wrong with one of them.
-pub fn all_good<T: Drop>(alloc: Global, all: Seq<Judged<T>>) -> Result<Judged<Seq<T>>, NoMemory>
-    ensures { IfOk result (λ r. r ≡ spec.all_good all) }
+pub fn all_good<T: Drop>(alloc: Global, all: Seq<Judged<T>>) -> Result<Seq<T>, FieldFail>
+    ensures { IfRead result (λ r. r ≡ spec.all_good all) }
 {
     match worst(all.as_slice()) {
-        None => Ok(Ok(goods(alloc, all)?)),
-        Some(kind) => Ok(Err(kind)),
+        None => Ok(goods(alloc, all)?),
+        Some(kind) => Err(FieldFail::Refused(kind)),
     }
 }
 
@@ -57,8 +62,8 @@ pub fn counted<T: Drop, const FEW: usize, const MOST: usize>(
     }
 }
 
-fn list_of<F: Form>(alloc: Global, items: &Vec<Value>) -> Result<Judged<Seq<F::Out>>, NoMemory>
-    ensures { IfOk result (λ r. r ≡ spec.list_of F.form (array_view items.now)) }
+fn list_of<F: Form>(alloc: Global, items: &Vec<Value>) -> Result<Seq<F::Out>, FieldFail>
+    ensures { IfRead result (λ r. r ≡ spec.list_of F.form (array_view items.now)) }
 {
     let all = read_all::<F>(alloc, items)?;
     all_good(alloc, all)
@@ -76,9 +81,9 @@ impl<F: Form> Form for ListForm<F> {
     ghost form = { list_in F.form };
 
     #[tactic(auto, unfolding(crate::specs::Arrays::list_in))]
-    fn read(alloc: Global, value: &Value) -> Result<Judged<Seq<F::Out>>, NoMemory> {
+    fn read(alloc: Global, value: &Value) -> Result<Seq<F::Out>, FieldFail> {
         match value.as_array() {
-            None => Ok(Err(RefusalKind::WrongKind)),
+            None => Err(FieldFail::Refused(RefusalKind::WrongKind)),
             Some(items) => list_of::<F>(alloc, items),
         }
     }
@@ -97,10 +102,8 @@ impl<F: Form, const FEW: usize, const MOST: usize> Form for ArrayForm<F, FEW, MO
     ghost form = { array_in FEW MOST F.form };
 
     #[tactic(auto, unfolding(crate::specs::Arrays::array_in))]
-    fn read(alloc: Global, value: &Value) -> Result<Judged<Counted<F::Out, FEW, MOST>>, NoMemory> {
-        match ListForm::<F>::read(alloc, value)? {
-            Ok(list) => Ok(counted(list)),
-            Err(kind) => Ok(Err(kind)),
-        }
+    fn read(alloc: Global, value: &Value) -> Result<Counted<F::Out, FEW, MOST>, FieldFail> {
+        let list = ListForm::<F>::read(alloc, value)?;
+        Ok(counted(list)?)
     }
 }

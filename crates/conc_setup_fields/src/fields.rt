@@ -1,10 +1,11 @@
-ghost use Rattle.std.specs.Prelude.{◌≡◌, IfOk, option_map};
+ghost use Rattle.std.specs.Prelude.{◌≡◌, option_map};
 ghost use Rattle.conc_setup_fields.specs.Fields as spec;
+ghost use Rattle.conc_setup_fields.specs.Reads.{IfRead};
 ghost use Rattle.toml.specs.Data.{get_member};
 ghost use Rattle.toml.specs.View.{table_view, view};
 
-use crate::{Form, Judged};
-use conc_types::{NoMemory, RefusalKind};
+use crate::{FieldFail, Form};
+use conc_types::RefusalKind;
 use std::alloc::Global;
 use toml::{Table, Value};
 
@@ -18,16 +19,12 @@ pub fn field<'a>(table: &'a Table, key: &str) -> Option<&'a Value>
 
 /// The value of a key that has to be there: `Missing` where it is not, and else what the form makes
 /// of it.
-pub fn required<F: Form>(
-    alloc: Global,
-    table: &Table,
-    key: &str,
-) -> Result<Judged<F::Out>, NoMemory>
-    ensures { IfOk result (λ r. r ≡ spec.required F.form
+pub fn required<F: Form>(alloc: Global, table: &Table, key: &str) -> Result<F::Out, FieldFail>
+    ensures { IfRead result (λ r. r ≡ spec.required F.form
         (get_member key.now (table_view table.now))) }
 {
     match field(table, key) {
-        None => Ok(Err(RefusalKind::Missing)),
+        None => Err(FieldFail::Refused(RefusalKind::Missing)),
         Some(value) => F::read(alloc, value),
     }
 }
@@ -37,16 +34,13 @@ pub fn optional<F: Form>(
     alloc: Global,
     table: &Table,
     key: &str,
-) -> Result<Judged<Option<F::Out>>, NoMemory>
-    ensures { IfOk result (λ r. r ≡ spec.optional F.form
+) -> Result<Option<F::Out>, FieldFail>
+    ensures { IfRead result (λ r. r ≡ spec.optional F.form
         (get_member key.now (table_view table.now))) }
 {
     match field(table, key) {
-        None => Ok(Ok(None)),
-        Some(value) => match F::read(alloc, value)? {
-            Ok(read) => Ok(Ok(Some(read))),
-            Err(k) => Ok(Err(k)),
-        },
+        None => Ok(None),
+        Some(value) => Ok(Some(F::read(alloc, value)?)),
     }
 }
 
@@ -56,12 +50,12 @@ pub fn default<F: Form>(
     otherwise: F::Out,
     table: &Table,
     key: &str,
-) -> Result<Judged<F::Out>, NoMemory>
-    ensures { IfOk result (λ r. r ≡ spec.default otherwise F.form
+) -> Result<F::Out, FieldFail>
+    ensures { IfRead result (λ r. r ≡ spec.default otherwise F.form
         (get_member key.now (table_view table.now))) }
 {
     match field(table, key) {
-        None => Ok(Ok(otherwise)),
+        None => Ok(otherwise),
         Some(value) => F::read(alloc, value),
     }
 }

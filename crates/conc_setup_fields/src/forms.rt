@@ -1,12 +1,13 @@
-ghost use Rattle.std.specs.Prelude.{◌≡◌, IfOk, List, Option, Result};
+ghost use Rattle.std.specs.Prelude.{◌≡◌, List, Option, Result};
 ghost use Rattle.conc_types.specs.declared.kind.RefusalKind.{RefusalKind};
 ghost use Rattle.conc_setup_fields.specs.Forms as spec;
+ghost use Rattle.conc_setup_fields.specs.Reads.{IfRead};
 ghost use Rattle.conc_setup_fields.specs.Forms.{name_in, text_in, truth_in, whole_in};
 ghost use Rattle.toml.specs.Data.{Data};
 ghost use Rattle.toml.specs.View.{view};
 
-use crate::{Judged, ShortText};
-use conc_types::{Name, NoMemory, RefusalKind, Seq, is_name, is_text};
+use crate::{FieldFail, Judged, ShortText};
+use conc_types::{Name, RefusalKind, Seq, is_name, is_text};
 use std::alloc::Global;
 use toml::Value;
 
@@ -18,23 +19,22 @@ pub trait Form {
 
     ghost form: { Data → Result Self.Out RefusalKind };
 
-    /// What the value is read as, or the least kind of the rules that it breaks. Where memory lacks
-    /// there is neither.
-    fn read(alloc: Global, value: &Value) -> Result<Judged<Self::Out>, NoMemory>
-        ensures { IfOk result (λ r. r ≡ form (view value.now)) };
+    /// What the value is read as, or the least kind of the rules that it breaks, unless memory lacks.
+    fn read(alloc: Global, value: &Value) -> Result<Self::Out, FieldFail>
+        ensures { IfRead result (λ r. r ≡ form (view value.now)) };
 }
 
 /// A name: a string of 1 to 80 bytes without control bytes, which are those below 32 and 127. Another
 /// string is `OutOfRange`.
 pub struct NameForm;
 
-fn name_of(alloc: Global, bytes: &[u8]) -> Result<Judged<Name>, NoMemory>
-    ensures { IfOk result (λ r. r ≡ spec.name_of bytes.now) }
+fn name_of(alloc: Global, bytes: &[u8]) -> Result<Name, FieldFail>
+    ensures { IfRead result (λ r. r ≡ spec.name_of bytes.now) }
 {
     if is_name(bytes) {
-        Ok(Ok(Name::from_vec(bytes.to_vec(alloc)?)))
+        Ok(Name::from_vec(bytes.to_vec(alloc)?))
     } else {
-        Ok(Err(RefusalKind::OutOfRange))
+        Err(FieldFail::Refused(RefusalKind::OutOfRange))
     }
 }
 
@@ -43,9 +43,9 @@ impl Form for NameForm {
 
     ghost form = { name_in };
 
-    fn read(alloc: Global, value: &Value) -> Result<Judged<Name>, NoMemory> {
+    fn read(alloc: Global, value: &Value) -> Result<Name, FieldFail> {
         match value.as_str() {
-            None => Ok(Err(RefusalKind::WrongKind)),
+            None => Err(FieldFail::Refused(RefusalKind::WrongKind)),
             Some(text) => name_of(alloc, text.as_bytes()),
         }
     }
@@ -63,17 +63,14 @@ pub fn no_text<const MOST: usize>(alloc: Global) -> ShortText<MOST>
     }
 }
 
-fn text_of<const MOST: usize>(
-    alloc: Global,
-    bytes: &[u8],
-) -> Result<Judged<ShortText<MOST>>, NoMemory>
-    ensures { IfOk result (λ r. r ≡ spec.text_of MOST bytes.now) }
+fn text_of<const MOST: usize>(alloc: Global, bytes: &[u8]) -> Result<ShortText<MOST>, FieldFail>
+    ensures { IfRead result (λ r. r ≡ spec.text_of MOST bytes.now) }
 {
     if is_text(MOST, bytes) {
         let text = Seq::from_vec(bytes.to_vec(alloc)?);
-        Ok(Ok(ShortText { text }))
+        Ok(ShortText { text })
     } else {
-        Ok(Err(RefusalKind::OutOfRange))
+        Err(FieldFail::Refused(RefusalKind::OutOfRange))
     }
 }
 
@@ -82,9 +79,9 @@ impl<const MOST: usize> Form for TextForm<MOST> {
 
     ghost form = { text_in MOST };
 
-    fn read(alloc: Global, value: &Value) -> Result<Judged<ShortText<MOST>>, NoMemory> {
+    fn read(alloc: Global, value: &Value) -> Result<ShortText<MOST>, FieldFail> {
         match value.as_str() {
-            None => Ok(Err(RefusalKind::WrongKind)),
+            None => Err(FieldFail::Refused(RefusalKind::WrongKind)),
             Some(text) => text_of(alloc, text.as_bytes()),
         }
     }
@@ -107,8 +104,8 @@ impl Form for TruthForm {
 
     ghost form = { truth_in };
 
-    fn read(_alloc: Global, value: &Value) -> Result<Judged<bool>, NoMemory> {
-        Ok(read_truth(value))
+    fn read(_alloc: Global, value: &Value) -> Result<bool, FieldFail> {
+        Ok(read_truth(value)?)
     }
 }
 
@@ -139,7 +136,7 @@ impl Form for WholeForm {
 
     ghost form = { whole_in };
 
-    fn read(_alloc: Global, value: &Value) -> Result<Judged<u64>, NoMemory> {
-        Ok(read_whole(value))
+    fn read(_alloc: Global, value: &Value) -> Result<u64, FieldFail> {
+        Ok(read_whole(value)?)
     }
 }

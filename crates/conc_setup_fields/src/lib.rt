@@ -3,6 +3,7 @@
 #![tactic(auto)]
 
 mod arrays;
+mod fail;
 mod fields;
 mod forms;
 mod keys;
@@ -11,6 +12,7 @@ mod lines;
 mod values;
 
 pub use arrays::{ArrayForm, ListForm, all_good, counted, no_values, read_all};
+pub use fail::FieldFail;
 pub use fields::{default, field, optional, required};
 pub use forms::{Form, NameForm, TextForm, TruthForm, WholeForm, no_text};
 pub use keys::keys_kind;
