@@ -17,10 +17,10 @@ use Rattle.conc_run_state.specs.declared.error.RunFail.TheVariants as run_fail
 use Rattle.conc_run_state.specs.declared.work.Work.{Work}
 use Rattle.conc_run_steps.specs.Going.{IsUnderway, WentOn}
 use Rattle.conc_run_steps.specs.Steps.{plan_in, readings_in}
-use Rattle.conc_run_steps.proofs.Underway.{underway-more, underway-still, went-further}
+use Rattle.conc_run_steps.proofs.Underway.{by-first, underway-more, underway-still, went-further, went-still}
 use Rattle.conc_desk.specs.Desks.{IsAt, list_at, MovesOne, plan_at}
 use Rattle.conc_desk.specs.State.{DeskState}
-use Rattle.conc_resolver_workers.specs.Resolving.{Advances, Halts, IsAtWork, Resolves, StaysAt}
+use Rattle.conc_resolver_workers.specs.Resolving.{Advances, Concludes, Halts, IsAtWork, Resolves, StaysAt}
 use Rattle.conc_resolver_workers.specs.Runs.{AwaitsReport}
 use Rattle.conc_run_steps.specs.Told.{IsTold, IsUntold}
 
@@ -143,39 +143,53 @@ pub by-answer : {T : Type 0} (board : Board) (journal journal' spool spool' : Di
 by-answer board journal journal' spool spool' told takes lacks old new answer other same h =
     subst (λ a. Resolves board (disks journal journal' spool spool') told takes lacks a old new) (sym same) h
 
--- ---- what an answer says, whichever it is
+-- ---- what a whole run comes to
 
-module _ {T : Type 0} (board : Board) (journal journal' spool spool' : DiskState) (told : Option (List Event)) (takes : List Event → Type 0) (lacks : Bool) (old new : DeskState) where
-  pub went-by : (answer : Result T RunFail) → Resolves board (disks journal journal' spool spool') told takes lacks answer old new
-      → WentOn (plan_in old.work) (readings_in old.work) (disks journal journal' spool spool') old.work new.work
-  went-by (Ok x) h = h.under.went
-  went-by (Err fail) h = h.went
+-- one that goes on, by what its steps came to
+pub concludes-begun : (board : Board) (journal journal' spool spool' : DiskState) (told : Option (List Event)) (takes : List Event → Type 0) (lacks : Bool) (old new : DeskState) (answer : Result Unit RunFail)
+    → Resolves board (disks journal journal' spool spool') told takes lacks answer old new → OnOk answer (Finished (plan_at new) (readings_in new.work) (list_at new))
+    → Concludes board (disks journal journal' spool spool') told takes lacks answer old new
+concludes-begun board journal journal' spool spool' told takes lacks old new (Ok x) h is_finished =
+    let went = h.under.went in record {
+      at = h.at;
+      places = h.places;
+      went = went;
+      finished = by-first old.work new.work (disks journal journal' spool spool') went (λ plan readings. Finished plan readings (list_in new.work)) is_finished;
+      is_told = by-first old.work new.work (disks journal journal' spool spool') went (λ plan readings. IsTold told takes plan (list_in new.work)) h.is_told;
+      journal_fault = λ is. cc;
+      spool_fault = λ is. cc;
+      memory = λ is. cc;
+      sound = λ none. h.under.state;
+    }
+concludes-begun board journal journal' spool spool' told takes lacks old new (Err fail) h is_finished = record {
+  at = h.at;
+  places = h.places;
+  went = h.went;
+  finished = tt;
+  is_told = tt;
+  journal_fault = λ is. h.journal_fault (let e : fail ≡ run_fail.JournalFault = cc in e);
+  spool_fault = λ is. h.spool_fault (let e : fail ≡ run_fail.SpoolFault = cc in e);
+  memory = λ is.
+      inr (by-first old.work new.work (disks journal journal' spool spool') h.went (λ plan readings. AwaitsReport plan (list_in new.work) ⊎ ((lacks ≡ true) × IsUntold told (list_in new.work)))
+      (h.memory (let e : fail ≡ run_fail.NoMemory = cc in e)));
+  sound = λ none. h.sound (λ is. none (ap (λ e. Err e) is));
+}
 
-  pub places-by : (answer : Result T RunFail) → Resolves board (disks journal journal' spool spool') told takes lacks answer old new → places_of_lead new.lead ≡ places_of_lead old.lead
-  places-by (Ok x) h = h.places
-  places-by (Err fail) h = h.places
-
-  pub at-by : (answer : Result T RunFail) → Resolves board (disks journal journal' spool spool') told takes lacks answer old new → IsAt board new
-  at-by (Ok x) h = h.at
-  at-by (Err fail) h = h.at
-
-  pub journal-by : (answer : Result T RunFail) → Resolves board (disks journal journal' spool spool') told takes lacks answer old new → answer ≡ Err run_fail.JournalFault → Rose journal.faults journal'.faults
-  journal-by (Ok x) h is = cc
-  journal-by (Err fail) h is = h.journal_fault (let e : fail ≡ run_fail.JournalFault = cc in e)
-
-  pub spool-by : (answer : Result T RunFail) → Resolves board (disks journal journal' spool spool') told takes lacks answer old new → answer ≡ Err run_fail.SpoolFault → Rose spool.faults spool'.faults
-  spool-by (Ok x) h is = cc
-  spool-by (Err fail) h is = h.spool_fault (let e : fail ≡ run_fail.SpoolFault = cc in e)
-
-  pub memory-by : (answer : Result T RunFail) → Resolves board (disks journal journal' spool spool') told takes lacks answer old new → answer ≡ Err run_fail.NoMemory
-      → AwaitsReport (plan_at new) (list_at new) ⊎ ((lacks ≡ true) × IsUntold told (list_at new))
-  memory-by (Ok x) h is = cc
-  memory-by (Err fail) h is = h.memory (let e : fail ≡ run_fail.NoMemory = cc in e)
-
-  pub sound-by : (answer : Result T RunFail) → Resolves board (disks journal journal' spool spool') told takes lacks answer old new → (answer ≡ Err run_fail.JournalFault → ⊥)
-      → state_of new.work.journal ≡ state_of old.work.journal
-  sound-by (Ok x) h none = h.under.state
-  sound-by (Err fail) h none = h.sound (λ is. none (ap (λ e. Err e) is))
+-- one that does not begin
+pub concludes-unbegun : (board : Board) (journal spool : DiskState) (told : Option (List Event)) (takes : List Event → Type 0) (lacks : Bool) (old new : DeskState) → IsAtWork board old journal spool told takes
+    → IfSome spool.seen spool.may_leave → StaysAt board old new → Concludes board (disks journal journal spool spool) told takes lacks (Err run_fail.NoMemory) old new
+concludes-unbegun board journal spool told takes lacks old new at_work left stays =
+    let went : WentOn (plan_in old.work) (readings_in old.work) (disks journal journal spool spool) old.work old.work = went-still old.work journal spool at_work.ready left in record {
+      at = stays.at;
+      places = stays.places;
+      went = subst (λ (w : Work). WentOn (plan_in old.work) (readings_in old.work) (disks journal journal spool spool) old.work w) (sym stays.same.work) went;
+      finished = tt;
+      is_told = tt;
+      journal_fault = λ is. cc;
+      spool_fault = λ is. cc;
+      memory = λ is. inl (ap (λ (w : Work). list_in w) stays.same.work);
+      sound = λ none. ap (λ (w : Work). state_of w.journal) stays.same.work;
+    }
 
 -- a history that is finished is so after a step on the board alone
 pub finished-still : {T : Type 0} {board : Board} {mid new : DeskState} (answer : Result T RunFail) → OnOk answer (Finished (plan_at mid) (readings_in mid.work) (list_at mid)) → StaysAt board mid new

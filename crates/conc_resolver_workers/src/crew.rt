@@ -8,6 +8,7 @@ ghost use Rattle.conc_board_lanes.specs.Lanes.{AreHandPasses};
 ghost use Rattle.conc_board_lanes.specs.declared.lanes.Lanes.{Lanes};
 ghost use Rattle.conc_resolver_workers.specs.Crews.{AreDealt, Covers, HasPass, IsFree, IsFreeWorker, places_had, SamePasses, SamePlaces};
 
+use crate::arrivals::Arrivals;
 use conc_board::{Board, Hand, Lead};
 use conc_board_lanes::{HandPass, Lanes};
 use conc_outside_gate::Gate;
@@ -91,13 +92,14 @@ pub(crate) fn give_hands(board: &Board, lead: &mut Lead, crew: &mut [Worker])
     }
 }
 
-// Serves the worker's places until all is finished.
+// Tells that the worker is here, and serves its places until all is finished.
 fn serve<R: Wait, G: Gate>(
     rt: &R,
     alloc: Global,
     board: &Board,
     plan: &Plan,
     lanes: &Lanes<'_>,
+    arrivals: &Arrivals,
     worker: &mut Worker,
     gate: &G,
 )
@@ -108,6 +110,7 @@ fn serve<R: Wait, G: Gate>(
     ensures free { IsFreeWorker board.now worker.new }
     ensures places { places_had worker.new.hand ≡ places_had worker.old.hand }
 {
+    arrivals.arrive();
     let Some(hand) = worker.hand.take() else {
         unreachable!()
     };
@@ -125,13 +128,14 @@ fn serve<R: Wait, G: Gate>(
     worker.hand = Some(hand);
 }
 
-/// Each worker serves its places in a thread of its own, until all is finished.
+/// Each worker serves its places in a thread of its own, until all is finished. It arrives before it serves.
 pub(crate) fn serve_all<R: Threads + Wait + Sync, G: Gate + Sync>(
     rt: &R,
     alloc: Global,
     board: &Board,
     plan: &Plan,
     lanes: &Lanes<'_>,
+    arrivals: &Arrivals,
     crew: &mut [Worker],
     gate: &G,
 )
@@ -153,7 +157,7 @@ pub(crate) fn serve_all<R: Threads + Wait + Sync, G: Gate + Sync>(
                 × IsFreeWorker board.now worker.now × HasPass lanes.now worker.now }
             ensures { IsFreeWorker board.entry.now worker.exit.now
                 × (places_had worker.exit.now.hand ≡ places_had worker.entry.now.hand) }
-        { serve(rt, alloc, board, plan, lanes, worker, gate) },
+        { serve(rt, alloc, board, plan, lanes, arrivals, worker, gate) },
     );
 }
 

@@ -2,6 +2,7 @@
 //! its desk, event by event.
 #![tactic(auto)]
 
+mod arrivals;
 mod boarding;
 mod crew;
 mod logging;

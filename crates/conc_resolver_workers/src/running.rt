@@ -3,7 +3,7 @@ ghost use Rattle.conc_types.specs.declared.event.RequestId.{RequestId};
 ghost use Rattle.conc_board_seats.specs.declared.views.LeadState.TheVariants as lead_state;
 ghost use Rattle.std.specs.Thread.{IsSync};
 ghost use Rattle.conc_board.specs.Seats.{IsLeadOf, lead_state_of, plan_of};
-ghost use Rattle.conc_desk.specs.Desks.{list_at, plan_at};
+ghost use Rattle.conc_desk.specs.Desks.{IsAt, list_at, plan_at};
 ghost use Rattle.conc_journal.specs.Journals.{state_of};
 ghost use Rattle.conc_law.specs.Law.{Finished};
 ghost use Rattle.conc_outside.specs.Counts.{Rose};
@@ -16,10 +16,11 @@ ghost use Rattle.conc_board_lanes.specs.Lanes as lanes_spec;
 ghost use Rattle.conc_board_lanes.specs.Lanes.{IsLeadPassOf, puts_of};
 ghost use Rattle.conc_resolver_workers.specs.Crews.{Covers, HasPass, IsFreeWorker, SamePlaces};
 ghost use Rattle.conc_resolver_workers.specs.Filling.{AreFilled, Fills, HasPuts};
-ghost use Rattle.conc_resolver_workers.specs.Resolving.{IsAtWork, Resolves};
+ghost use Rattle.conc_resolver_workers.specs.Resolving.{Concludes, IsAtWork, Resolves, StaysAt};
 ghost use Rattle.conc_run_steps.specs.Told.{IsTold, IsUntold};
 ghost use Rattle.conc_resolver_workers.specs.Runs.{AwaitsReport};
 
+use crate::arrivals::Arrivals;
 use crate::boarding::{put_waiting, withdraw_all};
 use crate::crew::{Worker, give_hands, hire, serve_all, take_in};
 use crate::resolving::{Hints, resolve};
@@ -47,8 +48,16 @@ pub struct Ran<'p> {
     pub answer: Result<(), RunFail>,
 }
 
-// Goes on to the end of the history. With every answer it then takes each request back that no hand serves, and tells the hands that
-// there is no more to come.
+// Takes each request back that no hand serves, and tells the hands that there is no more to come.
+fn dismiss(board: &Board, desk: &mut Desk<'_>)
+    requires at { IsAt board.now desk.old }
+    ensures { StaysAt board.now desk.old desk.new }
+{
+    withdraw_all(board, desk);
+    desk.finish_all(board);
+}
+
+// Goes on to the end of the history. With every answer it then dismisses the hands.
 fn direct<R: Wait, D: Disk, E: Disk, T: Teller>(
     rt: &R,
     board: &Board,
@@ -70,9 +79,37 @@ fn direct<R: Wait, D: Disk, E: Disk, T: Teller>(
     ensures fills { Fills lanes.now result desk.old desk.new hints.new.pass }
 {
     let answer = resolve(rt, board, lanes, desk, journal, spool, teller, hints);
-    withdraw_all(board, desk);
-    desk.finish_all(board);
+    dismiss(board, desk);
     answer
+}
+
+// Directs the workers once all of them are here. Where they do not come in time it leaves the work as it is, and dismisses those
+// that come.
+fn direct_crew<R: Wait, D: Disk, E: Disk, T: Teller>(
+    rt: &R,
+    board: &Board,
+    lanes: &Lanes<'_>,
+    arrivals: &Arrivals,
+    workers: usize,
+    desk: &mut Desk<'_>,
+    journal: &mut D,
+    spool: &mut E,
+    teller: &mut T,
+    hints: &mut Hints,
+) -> Result<(), RunFail>
+    requires at_work { IsAtWork board.now desk.old (D.state journal.old) (E.state spool.old)
+        (T.list teller.old) (T.takes teller.old) }
+    requires filled { AreFilled lanes.now desk.old hints.old.pass }
+    ensures concludes { Concludes board.now (disks (D.state journal.old) (D.state journal.new)
+        (E.state spool.old) (E.state spool.new)) (T.list teller.new) (T.takes teller.new)
+        (T.may_lack teller.new) result desk.old desk.new }
+    ensures fills { Fills lanes.now result desk.old desk.new hints.new.pass }
+{
+    if !arrivals.are_all_here(rt, workers) {
+        dismiss(board, desk);
+        return Err(RunFail::NoMemory);
+    }
+    direct(rt, board, lanes, desk, journal, spool, teller, hints)
 }
 
 // The workers beside the resolver, until all is finished.
@@ -105,15 +142,15 @@ fn run_beside<
         (T.list teller.old) (T.takes teller.old) }
     requires some { 0 < length crew.old }
     requires free { All (IsFreeWorker board.now) crew.old }
-    ensures resolves { Resolves board.now (disks (D.state journal.old) (D.state journal.new)
+    ensures concludes { Concludes board.now (disks (D.state journal.old) (D.state journal.new)
         (E.state spool.old) (E.state spool.new)) (T.list teller.new) (T.takes teller.new)
         (T.may_lack teller.new) answer.new desk.old desk.new }
-    ensures finished { OnOk answer.new (Finished (plan_at desk.new) (readings_in desk.new.work)
-        (list_at desk.new)) }
     ensures fills { Fills lanes.now answer.new desk.old desk.new hints.new.pass }
     ensures free { All (IsFreeWorker board.now) crew.new }
     ensures places { SamePlaces crew.old crew.new }
 {
+    let arrivals = Arrivals::new();
+    let workers = crew.len();
     join_mut(
         rt,
         &mut ||
@@ -122,19 +159,22 @@ fn run_beside<
                 × All (IsFreeWorker board.now) crew.now × All (HasPass lanes.now) crew.now }
             ensures { All (IsFreeWorker board.entry.now) crew.exit.now
                 × SamePlaces crew.entry.now crew.exit.now }
-        { serve_all(rt, alloc, board, plan, lanes, crew, gate) },
+        { serve_all(rt, alloc, board, plan, lanes, &arrivals, crew, gate) },
         &mut ||
             requires { IsAtWork board.now desk.now (D.state journal.now) (E.state spool.now)
-                (T.list teller.now) (T.takes teller.now) × AreFilled lanes.now desk.now hints.now.pass }
-            ensures { Resolves board.entry.now (disks (D.state journal.entry.now)
+                (T.list teller.now) (T.takes teller.now)
+                × AreFilled lanes.now desk.now hints.now.pass }
+            ensures { Concludes board.entry.now (disks (D.state journal.entry.now)
                 (D.state journal.exit.now) (E.state spool.entry.now) (E.state spool.exit.now))
-                (T.list teller.exit.now) (T.takes teller.exit.now) (T.may_lack teller.exit.now) answer.exit.now desk.entry.now
-                desk.exit.now
-                × OnOk answer.exit.now (Finished (plan_at desk.exit.now)
-                (readings_in desk.exit.now.work) (list_at desk.exit.now))
+                (T.list teller.exit.now) (T.takes teller.exit.now) (T.may_lack teller.exit.now)
+                answer.exit.now desk.entry.now desk.exit.now
                 × Fills lanes.entry.now answer.exit.now desk.entry.now desk.exit.now
                 hints.exit.now.pass }
-        { *answer = direct(rt, board, lanes, desk, journal, spool, teller, hints) },
+        {
+            *answer = direct_crew(
+                rt, board, lanes, &arrivals, workers, desk, journal, spool, teller, hints,
+            );
+        },
     );
 }
 
@@ -193,11 +233,12 @@ fn prepare<'p>(alloc: Global, plan: &'p Plan, threads: u32) -> Result<Means<'p>,
 }
 
 /// Goes on from the journal's list to the end of the history, with so many workers in threads of their own, but no more than
-/// there are places: the place with index `i` is served by the worker `i` modulo `threads`. Where no thread can be made they run one after another, and the call may
-/// not return. It takes the memory for the board, the lanes and the workers before it writes anything; after that a report may find none, which
-/// leaves its request without an end. With every answer the workers are taken in. The text of a report is on the spool's disk
-/// before its end is journaled, and an event is journaled before the machine takes it in, before it means anything to a worker, and
-/// before it is told.
+/// there are places: the place with index `i` is served by the worker `i` modulo `threads`. It takes the memory for the board,
+/// the lanes and the workers before it writes anything, and begins only when all workers have: where not all of them begin within
+/// ten seconds, as where a thread cannot be made, it answers `NoMemory`, and nothing was added to the list. After that a report
+/// may find no memory, which leaves its request without an end. With every answer the workers are taken in. The text of a report
+/// is on the spool's disk before its end is journaled, and an event is journaled before the machine takes it in, before it means
+/// anything to a worker, and before it is told.
 pub fn run_with_workers<
     'p,
     R: Threads + Wait + Sync,

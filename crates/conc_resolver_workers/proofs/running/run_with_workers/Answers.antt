@@ -1,17 +1,20 @@
-use Rattle.std.proofs.Common.{rules, ◌≡◌, ◌<◌, ◌++◌, [], ℕ, List, length, get_or, take, drop, sym, ◌∙◌, ap, subst, arith}
+use Rattle.std.proofs.Common.{rules, ◌≡◌, ◌⊎◌, ◌<◌, ◌++◌, [], true, ℕ, List, length, get_or, take, drop, sym, ◌∙◌, ap, subst, arith}
+use Rattle.std.specs.Prelude.{OnOk}
 use Rattle.conc_types.specs.declared.plan.Plan.{Plan}
 use Rattle.conc_board.specs.declared.lead.Lead.{Lead}
 use Rattle.conc_board.specs.Seats.{places_of_lead, plan_of}
 use Rattle.conc_journal.specs.Journals.{state_of}
+use Rattle.conc_law.specs.Law.{Finished}
 use Rattle.conc_run_state.specs.Disks.{disks}
 use Rattle.conc_run_state.specs.Works.{list_in}
 use Rattle.conc_run_state.specs.declared.work.Work.{Work}
 use Rattle.conc_run_steps.specs.Going.{WentOn}
 use Rattle.conc_run_steps.specs.Steps.{plan_in, readings_in}
+use Rattle.conc_run_steps.specs.Told.{IsTold, IsUntold}
 use Rattle.conc_run_steps.proofs.Underway.{went-still}
 use Rattle.conc_resolver_workers.specs.Crews.{Covers, IsFreeWorker, SamePlaces}
+use Rattle.conc_resolver_workers.specs.Runs.{AwaitsReport}
 use Rattle.conc_resolver_workers.specs.declared.crew.Worker.{Worker}
-use Rattle.conc_resolver_workers.proofs.Advancing.{journal-by, places-by, sound-by, went-by}
 use Rattle.conc_resolver_workers.proofs.Crews.{covers-same, take-front}
 use Rattle.conc_board_lanes.specs.Puts.{lists_for}
 use Rattle.conc_board_lanes.proofs.Lists.{lists_for-none}
@@ -45,8 +48,7 @@ take_in-requires-clause-covers g c =
     let same : SamePlaces ws us = search (rules, c.run_beside.ensures.places) in
     let count : length us ≡ c.in-Ok.means.crew.len = omega (arith, same.long, c.in-Ok.means.crew.ok) in
     let front : us ≡ take c.in-Ok.means.crew.len (us ++ drop (length us) ws) = sym (take-front us (drop (length us) ws)) ∙ ap (λ (n : ℕ). take n (us ++ drop (length us) ws)) count in
-    let places = ap (λ z. places_of_lead z.0) c.into_parts-lead.ensures.parts ∙ places-by c.in-Ok.means.board (g.D.Disk.state c.args.journal.now) (g.D.Disk.state c.run_beside.new.journal) (g.E.Disk.state c.args.spool.now) (g.E.Disk.state c.run_beside.new.spool) (g.T.Teller.list c.run_beside.new.teller)
-    (g.T.Teller.takes c.run_beside.new.teller) (g.T.Teller.may_lack c.run_beside.new.teller) c.new-desk.result c.run_beside.new.desk c.run_beside.new.answer c.run_beside.ensures.resolves ∙ ap (λ (l : Lead). places_of_lead l) c.new-desk.ensures.lead in
+    let places = ap (λ z. places_of_lead z.0) c.into_parts-lead.ensures.parts ∙ c.run_beside.ensures.concludes.places ∙ ap (λ (l : Lead). places_of_lead l) c.new-desk.ensures.lead in
     let covers = subst (λ (p : Plan). Covers p c.in-Ok.means.lead ws) (sym c.in-Ok.ensures.board) c.in-Ok.ensures.covers in
     subst (λ (l : List Worker). Covers (plan_of c.in-Ok.means.board) lead' l) front
     (covers-same (plan_of c.in-Ok.means.board) c.in-Ok.means.lead lead' ws us places same covers)
@@ -55,20 +57,35 @@ take_in-requires-clause-covers g c =
 
 pub returns-clause-went_on : goal.returns-clause-went_on
 returns-clause-went_on g c =
-    let answer = c.run_beside.new.answer in let resolved = c.run_beside.ensures.resolves in let parts = c.into_parts-lead.ensures.parts in
-    let j = g.D.Disk.state c.args.journal.now in let j' = g.D.Disk.state c.run_beside.new.journal in let s = g.E.Disk.state c.args.spool.now in let s' = g.E.Disk.state c.run_beside.new.spool in
-    subst (λ (z : Work × Work). WentOn (plan_in z.0) (readings_in z.0) (disks j j' s s') z.0 z.1) (λ i. (c.new-desk.ensures.work i, sym (ap (λ z. z.1) parts) i)) (went-by c.in-Ok.means.board (g.D.Disk.state c.args.journal.now) (g.D.Disk.state c.run_beside.new.journal) (g.E.Disk.state c.args.spool.now) (g.E.Disk.state c.run_beside.new.spool) (g.T.Teller.list c.run_beside.new.teller)
-    (g.T.Teller.takes c.run_beside.new.teller) (g.T.Teller.may_lack c.run_beside.new.teller) c.new-desk.result c.run_beside.new.desk answer resolved)
+    let d = disks (g.D.Disk.state c.args.journal.now) (g.D.Disk.state c.run_beside.new.journal) (g.E.Disk.state c.args.spool.now) (g.E.Disk.state c.run_beside.new.spool) in
+    subst (λ (z : Work × Work). WentOn (plan_in z.0) (readings_in z.0) d z.0 z.1) (λ i. (c.new-desk.ensures.work i, sym (ap (λ z. z.1) c.into_parts-lead.ensures.parts) i)) c.run_beside.ensures.concludes.went
+
+pub returns-clause-finished : goal.returns-clause-finished
+returns-clause-finished g c =
+    subst (λ (z : Work × Work). OnOk c.run_beside.new.answer (Finished (plan_in z.0) (readings_in z.0) (list_in z.1)))
+    (λ i. (c.new-desk.ensures.work i, sym (ap (λ z. z.1) c.into_parts-lead.ensures.parts) i)) c.run_beside.ensures.concludes.finished
+
+pub returns-clause-told : goal.returns-clause-told
+returns-clause-told g c =
+    let told = g.T.Teller.list c.run_beside.new.teller in let takes = g.T.Teller.takes c.run_beside.new.teller in
+    subst (λ (z : Work × Work). OnOk c.run_beside.new.answer (IsTold told takes (plan_in z.0) (list_in z.1)))
+    (λ i. (c.new-desk.ensures.work i, sym (ap (λ z. z.1) c.into_parts-lead.ensures.parts) i)) c.run_beside.ensures.concludes.is_told
 
 pub returns-clause-journal_fault : goal.returns-clause-journal_fault
-returns-clause-journal_fault g c = λ is. journal-by c.in-Ok.means.board (g.D.Disk.state c.args.journal.now) (g.D.Disk.state c.run_beside.new.journal) (g.E.Disk.state c.args.spool.now) (g.E.Disk.state c.run_beside.new.spool) (g.T.Teller.list c.run_beside.new.teller)
-    (g.T.Teller.takes c.run_beside.new.teller) (g.T.Teller.may_lack c.run_beside.new.teller) c.new-desk.result c.run_beside.new.desk c.run_beside.new.answer c.run_beside.ensures.resolves is
+returns-clause-journal_fault g c = λ is. c.run_beside.ensures.concludes.journal_fault is
+
+pub returns-clause-spool_fault : goal.returns-clause-spool_fault
+returns-clause-spool_fault g c = λ is. c.run_beside.ensures.concludes.spool_fault is
+
+pub returns-clause-memory : goal.returns-clause-memory
+returns-clause-memory g c = λ is.
+    let told = g.T.Teller.list c.run_beside.new.teller in let lacks = g.T.Teller.may_lack c.run_beside.new.teller in
+    subst (λ (z : Work × Work). (list_in z.1 ≡ list_in z.0) ⊎ (AwaitsReport (plan_in z.0) (list_in z.1) ⊎ ((lacks ≡ true) × IsUntold told (list_in z.1))))
+    (λ i. (c.new-desk.ensures.work i, sym (ap (λ z. z.1) c.into_parts-lead.ensures.parts) i)) (c.run_beside.ensures.concludes.memory is)
 
 pub returns-clause-sound : goal.returns-clause-sound
 returns-clause-sound g c = λ none.
-    let answer = c.run_beside.new.answer in let resolved = c.run_beside.ensures.resolves in let parts = c.into_parts-lead.ensures.parts in
-    ap (λ z. state_of z.1.journal) parts ∙ sound-by c.in-Ok.means.board (g.D.Disk.state c.args.journal.now) (g.D.Disk.state c.run_beside.new.journal) (g.E.Disk.state c.args.spool.now) (g.E.Disk.state c.run_beside.new.spool) (g.T.Teller.list c.run_beside.new.teller)
-    (g.T.Teller.takes c.run_beside.new.teller) (g.T.Teller.may_lack c.run_beside.new.teller) c.new-desk.result c.run_beside.new.desk answer resolved none ∙ ap (λ (w : Work). state_of w.journal) c.new-desk.ensures.work
+    ap (λ z. state_of z.1.journal) c.into_parts-lead.ensures.parts ∙ c.run_beside.ensures.concludes.sound none ∙ ap (λ (w : Work). state_of w.journal) c.new-desk.ensures.work
 
 -- ---- what it put
 
