@@ -2,16 +2,20 @@ mod bytes;
 mod call;
 mod examples;
 mod exits;
+mod faults;
 mod files;
 mod journals;
+mod kinds;
 mod threads;
 mod watching;
 mod worked;
 
 use examples::check_examples;
 use exits::EXITS;
+use faults::{check_crashes_of_journal, check_crashes_of_spool, check_cuts, check_faults};
 use files::FILES;
 use journals::{AFTER_A_FAULT, JOURNALS};
+use kinds::KINDS;
 use std::test::Fail;
 use threads::{ANY_THREADS, THREADS, check_two_at_once};
 use watching::WATCHED;
@@ -51,7 +55,7 @@ fn worked_histories_and_changed_ones_are_judged(rt: HostRuntime) -> Result<(), F
 
 #[test]
 fn calls_end_as_the_examples_say(rt: HostRuntime) -> Result<(), Fail> {
-    for examples in [FILES, EXITS, WATCHED] {
+    for examples in [FILES, KINDS, EXITS, WATCHED] {
         check_examples(&rt, rt.alloc(), examples)?;
     }
     Ok(())
@@ -76,4 +80,28 @@ fn after_a_fault_of_a_disk_the_next_run_goes_on(rt: HostRuntime) -> Result<(), F
         check_examples(&rt, alloc, &AFTER_A_FAULT.replace(alloc, "CALL", &number)?)?;
     }
     Ok(())
+}
+
+#[test]
+fn after_a_crash_in_each_call_of_the_journal_the_next_run_goes_on(
+    rt: HostRuntime,
+) -> Result<(), Fail> {
+    check_crashes_of_journal(&rt, rt.alloc())
+}
+
+#[test]
+fn after_a_crash_in_each_call_of_the_spool_the_next_run_goes_on(
+    rt: HostRuntime,
+) -> Result<(), Fail> {
+    check_crashes_of_spool(&rt, rt.alloc())
+}
+
+#[test]
+fn after_each_single_fault_the_next_run_goes_on(rt: HostRuntime) -> Result<(), Fail> {
+    check_faults(&rt, rt.alloc())
+}
+
+#[test]
+fn a_journal_cut_anywhere_is_told(rt: HostRuntime) -> Result<(), Fail> {
+    check_cuts(&rt, rt.alloc())
 }

@@ -26,13 +26,16 @@ fn are_distinct(files: &[(Name, Vec<u8>)]) -> bool
     }
 }
 
-/// A file of a shelf; None where the name is no name.
-pub fn file_of(alloc: Global, name: &str, text: &str) -> Result<Option<(Name, Vec<u8>)>, NoMemory> {
+/// A file of a shelf with these bytes; None where the name is no name.
+pub fn file_of(
+    alloc: Global,
+    name: &str,
+    bytes: Vec<u8>,
+) -> Result<Option<(Name, Vec<u8>)>, NoMemory> {
     let name = name.as_bytes().to_vec(alloc)?;
     if !is_name(&name) {
         return Ok(None);
     }
-    let bytes = text.as_bytes().to_vec(alloc)?;
     Ok(Some((Name::from_vec(name), bytes)))
 }
 

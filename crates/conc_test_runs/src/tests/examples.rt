@@ -4,14 +4,18 @@
 //! What is given, until it is given anew; before that it is `SETUP`, no record, `CLOCK` and `TABLE`:
 //!
 //! - `setup`, `script`, `clock`, `table`: the lines are the file `a.toml`, the records of `a.csv`, `a.clock`, or
-//!   `t.csv`. Where a line ends with `\` it has no LF, `\r` is CR, and a line behind `COUNT times: ` stands so often.
+//!   `t.csv`. Where a line ends with `\` it has no LF, `\r` is CR, `\xff` the byte 255, and a line behind `COUNT times: ` stands so often.
+//!   `whole-script` is `a.csv` without the header that else stands before its records.
 //! - `clock-file NAME`: the clock's file has this name in the place of `a.clock`.
 //! - `moment`: the clock of the system gives 2025-03-03T10:10:01 once a call. Else it gives none.
 //!
 //! What is given to the next call alone:
 //!
 //! - `fails read NUMBER`: this read of a file fails, of those that find one, counted from 0; and so do the write of the output behind
-//!   `fails write`, and the call of a disk behind `fails journal` and `fails spool`.
+//!   `fails write`, and the call of a disk behind `fails journal` and `fails spool`; behind `fails spool-from` that call and all later
+//!   ones.
+//! - `crash journal CALL CHOICE`, `crash spool CALL CHOICE`: a crash within this call of the disk, counted from 0, leaves the image with
+//!   this number of those that it may leave.
 //! - `journal`, `spool`: the lines change what the disk has (`change_bytes`). The disks have no byte before the first call, and
 //!   then what the last one left.
 //!
@@ -27,9 +31,12 @@
 //! - `journal-length COUNT`: so many bytes in the journal. `journal-at PLACE`: the bytes that the lines make stand there.
 //! - `spool-text`: the lines are what the spool has.
 //! - `disks-stay`: both disks have what the call found.
+//! - `goes-on`: the journal begins with the records that the call found in it.
+//! - `starts-once`: no request that ended in its output starts again.
+//! - `finished`: a check of its output over the same files calls it lawful and finished.
 
 use super::bytes::{change_bytes, number_of, text_of};
-use super::call::{Ended, Fails, Given, NO_FAILS, call};
+use super::call::{Crashes, Ended, Fails, Given, NO_CRASHES, NO_FAILS, call};
 use super::watching::is_watched;
 use std::alloc::Global;
 use std::process::Abort;
@@ -61,6 +68,7 @@ pub(crate) const RUN: &str = "run a.toml a.csv a.clock --threads 0";
 struct Example<'a> {
     given: Given<'a>,
     stayed: bool,
+    went_on: bool,
     ended: Ended,
 }
 
@@ -70,14 +78,17 @@ fn begun(alloc: Global) -> Example<'static> {
             words: RUN,
             setup: SETUP,
             records: "",
+            has_header: true,
             clock_file: "a.clock",
             clock: CLOCK,
             table: TABLE,
             history: None,
             has_moment: false,
             fails: NO_FAILS,
+            crashes: NO_CRASHES,
         },
         stayed: true,
+        went_on: true,
         ended: Ended {
             number: 0,
             text: Vec::new(alloc),
@@ -86,6 +97,43 @@ fn begun(alloc: Global) -> Example<'static> {
             spool: Vec::new(alloc),
         },
     }
+}
+
+// Whether a journal has the header and each record, behind an open gate, that was found in it.
+fn goes_on(found: &[u8], journal: &[u8]) -> bool {
+    if found.get(64) != Some(&1) {
+        return true;
+    }
+    for (place, record) in found.chunks(32).enumerate() {
+        if place > 1 && record.first() != Some(&1) {
+            break;
+        }
+        let from = place.saturating_mul(32);
+        if journal.get(from..from.saturating_add(record.len())) != Some(record) {
+            return false;
+        }
+    }
+    true
+}
+
+// Whether no request starts behind a line that ends it.
+fn starts_once(alloc: Global, text: &str) -> Result<bool, Fail> {
+    let mut starts = Vec::new(alloc);
+    for line in text.lines() {
+        if starts
+            .iter()
+            .any(|start: &String| line.starts_with(start.as_str()))
+        {
+            return Ok(false);
+        }
+        if let Some((number, _)) = line
+            .strip_prefix("end ")
+            .and_then(|end| end.split_once(' '))
+        {
+            starts.push(format!(in alloc; "start {number} ")?)?;
+        }
+    }
+    Ok(true)
 }
 
 fn do_call<Rt: Abort + Threads + Wait + Sync>(
@@ -97,8 +145,10 @@ fn do_call<Rt: Abort + Threads + Wait + Sync>(
     let ended = call(rt, alloc, example.given, &found.journal, &found.spool)?;
     example.stayed = ended.journal.as_slice() == found.journal.as_slice()
         && ended.spool.as_slice() == found.spool.as_slice();
+    example.went_on = goes_on(&found.journal, &ended.journal);
     example.ended = ended;
     example.given.fails = NO_FAILS;
+    example.given.crashes = NO_CRASHES;
     Ok(())
 }
 
@@ -110,9 +160,24 @@ fn fail(rt: &impl Abort, fails: &mut Fails, what: &str) {
         "read" => fails.read = number,
         "write" => fails.write = number,
         "journal" => fails.journal = number,
+        "spool" => fails.spool = number,
+        _ => {
+            assert_eq!(rt; word, "spool-from");
+            fails.spool_from = number;
+        }
+    }
+}
+
+// Has a crash come within a call of a disk.
+fn crash(rt: &impl Abort, crashes: &mut Crashes, what: &str) {
+    let (word, numbers) = what.split_once(' ').expect(rt, what);
+    let (call, choice) = numbers.split_once(' ').expect(rt, what);
+    let place = (number_of(rt, call), number_of(rt, choice));
+    match word {
+        "journal" => crashes.journal = place,
         _ => {
             assert_eq!(rt; word, "spool");
-            fails.spool = number;
+            crashes.spool = place;
         }
     }
 }
@@ -143,6 +208,18 @@ fn is_judged<Rt: Threads + Wait + Sync>(
     };
     let ended = call(rt, alloc, given, &[], &[])?;
     Ok(ended.number == 0 && ended.text.as_slice() == lines.as_bytes())
+}
+
+// Whether a check of what the last call printed calls it lawful and finished.
+fn is_finished<Rt: Threads + Wait + Sync>(
+    rt: &Rt,
+    alloc: Global,
+    example: &Example<'_>,
+) -> Result<bool, Fail> {
+    let text = str::from_utf8(&example.ended.text)?;
+    let count = text.lines().take_while(|line| *line != "--").count();
+    let answer = format!(in alloc; "lawful {count} finished\n")?;
+    is_judged(rt, alloc, example, &answer)
 }
 
 // Whether a call printed these lines, which are a history, and behind them lines of so many watchers.
@@ -191,6 +268,9 @@ fn is_met<Rt: Abort + Threads + Wait + Sync>(
         }
         "spool-text" => ended.spool.as_slice() == lines.as_bytes(),
         "disks-stay" => example.stayed,
+        "goes-on" => example.went_on,
+        "starts-once" => starts_once(alloc, str::from_utf8(&ended.text)?)?,
+        "finished" => is_finished(rt, alloc, example)?,
         _ => return Ok(None),
     }))
 }
@@ -207,11 +287,16 @@ fn take<'a, Rt: Abort + Threads + Wait + Sync>(
     match word {
         "setup" => example.given.setup = lines,
         "script" => example.given.records = lines,
+        "whole-script" => {
+            example.given.records = lines;
+            example.given.has_header = false;
+        }
         "clock" => example.given.clock = lines,
         "table" => example.given.table = lines,
         "clock-file" => example.given.clock_file = rest,
         "moment" => example.given.has_moment = true,
         "fails" => fail(rt, &mut example.given.fails, rest),
+        "crash" => crash(rt, &mut example.given.crashes, rest),
         "journal" => change_bytes(rt, alloc, &mut example.ended.journal, lines)?,
         "spool" => change_bytes(rt, alloc, &mut example.ended.spool, lines)?,
         "run" => {
@@ -227,12 +312,12 @@ fn take<'a, Rt: Abort + Threads + Wait + Sync>(
     Ok(())
 }
 
-// Does each step of an example.
-fn check_example<Rt: Abort + Threads + Wait + Sync>(
+// Does each step of an example, and gives what its last call ended with.
+pub(crate) fn check_example<Rt: Abort + Threads + Wait + Sync>(
     rt: &Rt,
     alloc: Global,
     text: &str,
-) -> Result<(), Fail> {
+) -> Result<Ended, Fail> {
     let (shows, steps) = text.split_once("\n== ").expect(rt, text);
     let mut example = begun(alloc);
     for step in steps.split("== ") {
@@ -251,7 +336,7 @@ fn check_example<Rt: Abort + Threads + Wait + Sync>(
             None => take(rt, alloc, &mut example, step, lines)?,
         }
     }
-    Ok(())
+    Ok(example.ended)
 }
 
 pub(crate) fn check_examples<Rt: Abort + Threads + Wait + Sync>(
@@ -260,7 +345,7 @@ pub(crate) fn check_examples<Rt: Abort + Threads + Wait + Sync>(
     examples: &str,
 ) -> Result<(), Fail> {
     for example in examples.split("=====\n") {
-        check_example(rt, alloc, example)?;
+        let _ = check_example(rt, alloc, example)?;
     }
     Ok(())
 }

@@ -1,4 +1,4 @@
-use super::call::{Given, NO_FAILS, call_through};
+use super::call::{Given, NO_CRASHES, NO_FAILS, call_through};
 use conc_outside_gate::PairGate;
 use conc_types::RequestId;
 use std::alloc::Global;
@@ -151,12 +151,14 @@ program = [{ name = "P", table = "t.csv", group = "k", sum = "v" }]
 manager = [{ name = "M", shift = [{ places = 2 }] }]
 "#,
     records: "2025-03-03T09:00:00,submit,P,ann,,,,\n2025-03-03T09:00:00,submit,P,ann,,,,\n",
+    has_header: true,
     clock_file: "a.clock",
     clock: "2025-03-03T09:00:00\n",
     table: "k,v\na,10\nb,20\na,5\n",
     history: None,
     has_moment: false,
     fails: NO_FAILS,
+    crashes: NO_CRASHES,
 };
 
 // So often a worker at the gate yields its thread before it gives the other one up.

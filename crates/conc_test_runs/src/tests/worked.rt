@@ -1,5 +1,5 @@
 use super::bytes::number_of;
-use super::call::{Given, NO_FAILS, call};
+use super::call::{Given, NO_CRASHES, NO_FAILS, call};
 use super::examples::RUN;
 use super::watching::is_watched;
 use conc_test_worked::{LIVES, MANAGERS, MONTH_END, PLAIN, SETS, Worked, worked_of};
@@ -15,12 +15,14 @@ fn given_of<'a>(worked: Worked<'a>) -> Given<'a> {
         words: RUN,
         setup: worked.setup,
         records: worked.records,
+        has_header: true,
         clock_file: "a.clock",
         clock: worked.clock,
         table: worked.table,
         history: None,
         has_moment: false,
         fails: NO_FAILS,
+        crashes: NO_CRASHES,
     }
 }
 
