@@ -251,7 +251,7 @@ def running_in(events):
     for event in events:
         if event.word == "start":
             running.add(event.first)
-        elif event.word == "end":
+        elif event.word in ("end", "interrupt"):
             running.discard(event.first)
     return sorted(running)
 
@@ -269,7 +269,7 @@ def judge_begin(left, lines):
     count = len(left.events)
     begin = ["resume", *(f"interrupt {request}" for request in running_in(left.events))]
     demand(lines[count : count + len(begin)] == begin, f"behind event {count} does not stand {', '.join(begin)}")
-    demand(lines.count("resume") == 1, "there is more than one resume")
+    demand(lines[count:].count("resume") == 1, f"behind event {count} stands more than one resume")
 
 
 def judge_next(left, kept, text, whole):
@@ -315,6 +315,25 @@ def stop_and_go_on_in_threads(program, folder, delay, whole, others):
         judge_begin(left, lines)
     check(program, folder, text, len(lines))
     return left, kept, took
+
+
+def go_on(program, folder, threads, makers, known):
+    """Demands that the next run goes on from what was left, and loses nothing. Gives how many events were left."""
+    left = read_kept(folder)
+    judge_reports(left, makers, known)
+    text = run(words_of(program, threads), folder)
+    kept, lines = read_kept(folder), event_lines(text)
+    count = len(left.events)
+    judge_lines(kept, lines, {})
+    demand(kept.events[:count] == left.events, "the history does not begin with the events that were left")
+    ended = {event.first for event in left.events if event.word == "end"}
+    again = [event.first for event in kept.events[count:] if event.word == "start" and event.first in ended]
+    demand(not again, f"requests {again} start again")
+    if count > 0:
+        judge_begin(left, lines)
+    judge_reports(kept, makers, known)
+    check(program, folder, text, len(lines))
+    return count
 
 
 def stop_often(example, room, changed, duration, stop_one):
