@@ -2,3 +2,4 @@ pub mod Ties
 pub mod After
 pub mod Named
 pub mod Apart
+pub mod Stopping

@@ -1,5 +1,5 @@
 -- Requests that are named by their numbers.
-use Rattle.std.proofs.Common.{◌≡◌, ℕ, ◌+◌, ◌-◌, ◌≤◌, true, false, List, length, Option, None, Some, if◌then◌else◌, Bor, refl, sym, ◌∙◌, ap, arith, eq-eqb, inl, inr, is_some, suc, zero}
+use Rattle.std.proofs.Common.{◌≡◌, ℕ, ◌+◌, ◌≤◌, true, false, List, length, Option, None, Some, if◌then◌else◌, Bor, refl, sym, ◌∙◌, ap, arith, eq-eqb, inl, inr, is_some, suc, zero}
 use mathlib.Core.Logic.{dite}
 use native.Mathlib.Decide.{ℕ_discrete}
 use Rattle.std.specs.Option.{option_copied}

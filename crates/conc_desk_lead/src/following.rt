@@ -5,7 +5,7 @@ ghost use Rattle.conc_types.specs.declared.event.RequestId.{RequestId};
 ghost use Rattle.conc_board.specs.Seats.{IsLeadOf, lead_state_of, places_of_lead, plan_of};
 ghost use Rattle.conc_board_seats.specs.Words.{IsRequest};
 ghost use Rattle.conc_board_seats.specs.declared.views.LeadState.TheVariants as lead_state;
-ghost use Rattle.conc_desk_lead.specs.Following.{Follows, SameBut, TakenBack, ToldToStop};
+ghost use Rattle.conc_desk_lead.specs.Following.{Follows, SameBut, StopsWhatRuns, TakenBack, ToldToStop};
 
 use conc_board::{Board, Lead, Progress};
 use conc_law_effects::act;
@@ -33,6 +33,7 @@ fn tell_to_stop(board: &Board, lead: &mut Lead, plan: &Plan, r: RequestId)
     requires plan { plan.now ≡ plan_of board.now }
     ensures lead { IsLeadOf board.now lead.new }
     ensures lead_state { ToldToStop (lead_state_of lead.old r) (lead_state_of lead.new r) }
+    ensures stops { StopsWhatRuns (lead_state_of lead.old r) r lead.old lead.new }
     ensures others { SameBut r lead.old lead.new }
 {
     if plan.request(r).is_none() {

@@ -2,8 +2,8 @@
 use Rattle.std.proofs.Common.{◌≡◌, ◌<◌, ◌≤◌, ◌+◌, ◌-◌, ◌++◌, ◌∷◌, [], ℕ, Bool, true, false, if◌then◌else◌, List, length, get_or, take, refl, sym, ◌∙◌, ap, subst, arith, length-append}
 use Rattle.std.specs.Prelude.{nat_lt}
 use Rattle.std.specs.Option.{option_map_or}
-use Rattle.std.proofs.lemmas.Bool.{ltb-true, ltb-false}
-use Rattle.std.proofs.lemmas.List.{take-append-le, take_all}
+use Rattle.std.proofs.lemmas.Bool.{le-ltb, lt-ltb, ltb-true, ltb-false}
+use Rattle.std.proofs.lemmas.List.{append-nil, take-append-le, take_all}
 use Rattle.std.proofs.lemmas.List.Elements.{All-push}
 use Rattle.std.proofs.lemmas.List.Quantifiers.{all_pairs_push}
 use Rattle.std.proofs.lemmas.Option.{slice_get-get_or}
@@ -16,7 +16,7 @@ use Rattle.conc_types.specs.declared.plan.Plan.{Plan}
 use Rattle.conc_view.specs.Counts.{counts_of}
 use Rattle.conc_view.specs.declared.watcher.Snapshot.{Snapshot}
 use Rattle.conc_view.proofs.Beginnings.{prefix_whole}
-use Rattle.conc_watch.specs.Watches.{AreLooks, is_longer, IsLookAt, IsWatch, Rises, with_look}
+use Rattle.conc_watch.specs.Watches.{AreLooks, AreUpToDate, ComesOfLook, is_longer, IsLookAt, IsWatch, Rises, with_early_look, with_look}
 
 -- ---- one snapshot
 
@@ -159,6 +159,46 @@ pub kept_whole : (plan : Plan) (before history : List Event) (kept : List Snapsh
     → IsPrefix before history → s.length ≡ length history → s.counts ≡ counts_of plan history → IsWatch plan history (with_look kept s)
 kept_whole plan before history kept s are few begins long counts =
     watch_of plan history kept s (kept_later plan before history kept begins are) few long counts
+
+-- ---- before the end
+
+-- while fewer than 63 are kept, one more look may be kept; then none
+pub early_kept : (kept : List Snapshot) (s : Snapshot) → length kept < 63 → with_early_look kept s ≡ with_look kept s
+early_kept kept s few = ap (λ (b : Bool). if b then with_look kept s else kept) (lt-ltb (length kept) 63 few)
+
+pub early_passed : (kept : List Snapshot) (s : Snapshot) → 63 ≤ length kept → with_early_look kept s ≡ kept
+early_passed kept s many = ap (λ (b : Bool). if b then with_look kept s else kept) (le-ltb (length kept) 63 many)
+
+begins_by : (kept : List Snapshot) (s : Snapshot) (b : Bool) → IsPrefix kept (if b then kept ++ s ∷ [] else kept)
+begins_by kept s true = (s ∷ [], refl)
+begins_by kept s false = ([], append-nil kept)
+
+early_by : (kept : List Snapshot) (s : Snapshot) (b : Bool) → IsPrefix kept (if b then with_look kept s else kept)
+early_by kept s true = begins_by kept s (is_longer kept s)
+early_by kept s false = ([], append-nil kept)
+
+-- what was kept is kept
+pub keeps_early : (plan : Plan) (events : List Event) (kept got : List Snapshot) → ComesOfLook plan events (with_early_look kept) got → IsPrefix kept got
+keeps_early plan events kept got look = subst (λ (l : List Snapshot). IsPrefix kept l) (sym look.kept) (early_by kept look.snapshot (nat_lt (length kept) 63))
+
+up_to_date_by : (plan : Plan) (events : List Event) (kept : List Snapshot) (s : Snapshot) → AreLooks plan events kept → s.length ≡ length events
+    → (b : Bool) → nat_lt (length kept) 63 ≡ b → AreUpToDate events (if b then with_look kept s else kept)
+up_to_date_by plan events kept s are long true is = record {
+  some = some_by kept s (is_longer kept s) refl;
+  last = λ few d. last_by plan events kept s are long (is_longer kept s) refl d;
+}
+up_to_date_by plan events kept s are long false is =
+    let many : 63 ≤ length kept = ltb-false (length kept) 63 is in record {
+      some = omega (arith, many);
+      last = λ few d. absurd (omega (arith, few, many));
+    }
+
+-- after a look that may be kept
+pub up_to_date : (plan now : Plan) (before after : List Event) (kept got : List Snapshot) → now ≡ plan → IsPrefix before after → AreLooks plan before kept
+    → ComesOfLook now after (with_early_look kept) got → AreUpToDate after got
+up_to_date plan now before after kept got same begins are look =
+    subst (λ (l : List Snapshot). AreUpToDate after l) (sym look.kept)
+    (up_to_date_by now after kept look.snapshot (kept_passing plan now before after kept same begins are) look.long (nat_lt (length kept) 63) refl)
 
 -- what begins with the history, and with which the history begins, is the history
 pub same_whole : (history seen : List Event) → IsPrefix history seen → IsPrefix seen history → seen ≡ history

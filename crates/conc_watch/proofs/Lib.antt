@@ -1,4 +1,4 @@
-pub mod Going
 pub mod Kept
+pub mod Going
 pub mod Lined
 pub mod Whole

@@ -2,13 +2,13 @@
 use Rattle.std.specs.Prelude.{◌≡◌, ℕ, All, length}
 use Rattle.conc_types.specs.declared.plan.Plan.{Plan}
 use Rattle.conc_view.specs.declared.naming.Naming.{Ghosts}
-use Rattle.conc_watch.specs.Looks.{SameWatched, Watches}
+use Rattle.conc_watch.specs.Looks.{HaveLooked, Watches}
 use Rattle.conc_watch.specs.declared.crew.Watchers.{Watchers}
 
 module _ {J : Type 0} {names : Ghosts J} where
-  -- each watches the plan that it watched
+  -- each has looked
   abbrev pub StillWatch : Watchers J names → Watchers J names → Type 0
-  StillWatch before after = SameWatched before.looks.items after.looks.items
+  StillWatch before after = HaveLooked before.looks.items after.looks.items
 
   -- they are so many, and each watches this plan
   pub record AreWatching (plan : Plan) (count : ℕ) (watchers : Watchers J names) : Type 0 where

@@ -38,3 +38,19 @@ is_longer kept s = option_map_or (λ (last : Snapshot). nat_lt last.length s.len
 -- these and the snapshot, where it is longer than the last one or there is none
 abbrev pub with_look : List Snapshot → Snapshot → List Snapshot
 with_look kept s = if is_longer kept s then kept ++ s ∷ [] else kept
+
+-- the same before the end, where at most 63 are kept: one more place is left for the look after the end
+abbrev pub with_early_look : List Snapshot → Snapshot → List Snapshot
+with_early_look kept s = if nat_lt (length kept) 63 then with_look kept s else kept
+
+-- what is kept comes of one look at the whole of this list
+pub record ComesOfLook (plan : Plan) (events : List Event) (keep : Snapshot → List Snapshot) (all : List Snapshot) : Type 0 where
+  pub snapshot : Snapshot
+  pub long : snapshot.length ≡ length events
+  pub counts : snapshot.counts ≡ counts_of plan events
+  pub kept : all ≡ keep snapshot
+
+-- some are kept, and while fewer than 63 are, the last one is that of the whole of this list
+pub record AreUpToDate (events : List Event) (kept : List Snapshot) : Type 0 where
+  pub some : 0 < length kept
+  pub last : length kept < 63 → (d : Snapshot) → (slice_index_or kept (length kept - 1) d).length ≡ length events

@@ -4,7 +4,7 @@ ghost use Rattle.std.specs.Vec.{vec_capacity};
 ghost use Rattle.conc_types.specs.declared.plan.Plan.{Plan};
 ghost use Rattle.conc_view.specs.Told.{whole_of};
 ghost use Rattle.conc_watch.specs.Lines.{AreWatchLines, watch_text};
-ghost use Rattle.conc_watch.specs.Looks.{Goes, IsWatcherOf, SameWatched};
+ghost use Rattle.conc_watch.specs.Looks.{HasLooked, HaveLooked, IsWatcherOf};
 
 use crate::ending::Ending;
 use crate::looks::Looks;
@@ -30,7 +30,7 @@ fn watch_all<R: Threads + Wait + Sync, J: Naming + Send + Sync>(
     ending: &Ending,
     looks: &mut [Looks<'_, J>],
 )
-    ensures { SameWatched looks.old looks.new }
+    ensures { HaveLooked looks.old looks.new }
 {
     if looks.is_empty() {
         return;
@@ -41,7 +41,7 @@ fn watch_all<R: Threads + Wait + Sync, J: Naming + Send + Sync>(
         looks,
         threads,
         &|_index, watcher: &mut Looks<'_, J>|
-            ensures { Goes watcher.entry.now watcher.exit.now }
+            ensures { HasLooked watcher.entry.now watcher.exit.now }
         { watcher.watch(rt, ending) },
     );
 }

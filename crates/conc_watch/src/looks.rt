@@ -4,7 +4,7 @@ ghost use mathlib.Core.List.{IsPrefix};
 ghost use Rattle.conc_view.specs.Counts.{counts_of};
 ghost use Rattle.conc_view.specs.Told.{whole_of};
 ghost use Rattle.conc_view.specs.Watcher.{seen_by, watched_plan};
-ghost use Rattle.conc_watch.specs.Watches.{AreLooks, IsWatch};
+ghost use Rattle.conc_watch.specs.Watches.{AreLooks, ComesOfLook, IsWatch, with_early_look, with_look};
 
 use crate::ending::Ending;
 use crate::keeping::keep;
@@ -50,7 +50,7 @@ fn look_at_whole<J: Naming>(watcher: &mut Watcher<'_, J>, told: &mut Told<J>) ->
 }
 
 impl<'p, J: Naming> Looks<'p, J> {
-    ghost use Rattle.conc_watch.specs.Looks.{plan_in, seen_in};
+    ghost use Rattle.conc_watch.specs.Looks.{HasLooked, kept_in, plan_in, seen_in};
 
     /// A watcher that has not looked. It takes the room for all that the watcher keeps.
     pub fn new(alloc: Global, watcher: Watcher<'p, J>) -> Result<Looks<'p, J>, NoMemory>
@@ -65,6 +65,8 @@ impl<'p, J: Naming> Looks<'p, J> {
     fn look(&mut self)
         ensures plan { plan_in self.new ≡ plan_in self.old }
         ensures begins { IsPrefix (seen_in self.old) (seen_in self.new) }
+        ensures kept { ComesOfLook (plan_in self.new) (seen_in self.new)
+            (with_early_look (kept_in self.old)) (kept_in self.new) }
     {
         let Looks { watcher, kept } = self;
         let snapshot = watcher.look();
@@ -77,8 +79,7 @@ impl<'p, J: Naming> Looks<'p, J> {
     /// look, and each that is longer than the last kept one, as long as there is a place besides that for
     /// the look after the end.
     pub fn watch<R: Wait>(&mut self, rt: &R, ending: &Ending)
-        ensures plan { plan_in self.new ≡ plan_in self.old }
-        ensures begins { IsPrefix (seen_in self.old) (seen_in self.new) }
+        ensures { HasLooked self.old self.new }
     {
         for _ in rt.forever() {
             self.look();
@@ -93,6 +94,8 @@ impl<'p, J: Naming> Looks<'p, J> {
     /// where none is kept. It takes no memory.
     pub fn finish(self, told: &mut Told<J>) -> Vec<Snapshot>
         ensures watch { IsWatch (plan_in self.entry) (whole_of told.old) result.items }
+        ensures kept { ComesOfLook (plan_in self.entry) (whole_of told.old)
+            (with_look (kept_in self.entry)) result.items }
         ensures told { whole_of told.new ≡ whole_of told.old }
     {
         let Looks {

@@ -1,5 +1,4 @@
-use Rattle.std.proofs.Common.{◌≡◌, ◌≤◌, [], All, length}
-use Rattle.std.specs.Vec.{vec_capacity}
+use Rattle.std.proofs.Common.{◌≡◌, All, length}
 use Rattle.conc_types.specs.declared.plan.Plan.{Plan}
 use Rattle.conc_watch.specs.Looks.{IsWatcherOf, Watches}
 use Rattle.conc_watch.proofs.crew.Watchers.new.Given as goal
