@@ -14,4 +14,6 @@ pub use laws::{
     event_lines_are_read_back, event_lines_have_one_spelling, lawful_events_have_lines,
     read_texts_have_one_spelling, texts_are_read_back,
 };
+pub use split::split_once;
 pub use starts::starts_of;
+pub use words::number_of;

@@ -8,7 +8,7 @@ fn find(bytes: &[u8], byte: u8) -> Option<usize>
 
 /// What stands before the first of these bytes, and what stands behind it. None where no such byte
 /// stands.
-pub(crate) fn split_once(bytes: &[u8], byte: u8) -> Option<(&[u8], &[u8])>
+pub fn split_once(bytes: &[u8], byte: u8) -> Option<(&[u8], &[u8])>
     ensures lacks { IfNone result (All (λ other. (other == byte) ≡ false) bytes.now) }
     ensures parts { IfSome result (λ p. bytes.now ≡ p.0.now ++ byte ∷ p.1.now) }
     ensures first { IfSome result (λ p. All (λ other. (other == byte) ≡ false) p.0.now) }

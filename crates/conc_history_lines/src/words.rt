@@ -18,8 +18,9 @@ pub(crate) fn split_word(line: &[u8]) -> (&[u8], Option<&[u8]>)
     }
 }
 
+/// The number that a word spells as a decimal, where 32 bits hold it.
 #[tactic(auto, unfolding(crate::specs::Numbers::number_of))]
-pub(crate) fn number_of(word: &[u8]) -> Option<u32>
+pub fn number_of(word: &[u8]) -> Option<u32>
     ensures { result ≡ numbers_spec.number_of word.now }
 {
     u32::try_from(read_decimal(word)?).ok()

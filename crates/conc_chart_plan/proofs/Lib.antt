@@ -1,0 +1,4 @@
+pub mod EightFields
+pub mod Listed
+pub mod Submitted
+pub mod Told

@@ -1,0 +1,4 @@
+pub mod Chains
+pub mod Clear
+pub mod Parts
+pub mod Plain

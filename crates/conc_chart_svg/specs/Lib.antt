@@ -1,0 +1,12 @@
+pub mod Bars
+pub mod Escaped
+pub mod Frame
+pub mod Geometry
+pub mod Labels
+pub mod Marks
+pub mod Moments
+pub mod Parts
+pub mod Picture
+pub mod Readings
+pub mod Rows
+pub mod Spans

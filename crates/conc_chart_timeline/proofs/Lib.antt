@@ -1,0 +1,4 @@
+pub mod Columns
+pub mod Parts
+pub mod Readable
+pub mod Words

@@ -1,0 +1,4 @@
+mod command_lines;
+mod plans;
+mod refusals;
+mod tables;
