@@ -6,3 +6,4 @@ pub mod Receipts
 pub mod Records
 pub mod JournalStates
 pub mod Writes
+pub mod Migrating

@@ -24,12 +24,13 @@ fn before_gate(spelled: &[u8]) -> [u8; 32]
     bytes
 }
 
-/// The event's record behind its gate, and the closed gate of the next one.
-pub(crate) fn record_before_gate(event: Event) -> [u8; 32]
+/// The event's record behind its gate, with this stamp where it is a command, and the closed gate of
+/// the next one.
+pub(crate) fn record_before_gate(event: Event, stamp: u64) -> [u8; 32]
     requires { IsTrue (has_record event) }
-    ensures { IsSpelled event result }
+    ensures { IsSpelled event stamp result }
 {
-    before_gate(&record_of(event))
+    before_gate(&record_of(event, stamp))
 }
 
 /// Writes the record behind its gate, which is here, and then opens the gate.

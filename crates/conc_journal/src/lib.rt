@@ -7,6 +7,7 @@ mod begin;
 mod durable;
 mod error;
 mod journal;
+mod migrate;
 mod opened;
 mod receipt;
 mod teller;

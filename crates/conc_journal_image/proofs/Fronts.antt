@@ -1,11 +1,13 @@
 -- The first bytes of an image tell what it stands for.
-use Rattle.std.proofs.Common.{◌≡◌, ℕ, zero, suc, ◌+◌, ◌*◌, ◌-◌, ◌<◌, ◌≤◌, List, [], ◌∷◌, length, take, drop, None, refl, ap, ◌∙◌, arith}
-use Rattle.std.specs.Prelude.{codes, cond, nat_le, not, ◌&&◌, ◌||◌}
+use Rattle.std.proofs.Common.{◌≡◌, ℕ, zero, suc, ◌+◌, ◌*◌, ◌-◌, ◌<◌, ◌≤◌, List, [], ◌∷◌, length, take, drop, None, refl, sym, ap, ◌∙◌, arith}
+use Rattle.std.specs.Prelude.{codes, cond, if◌then◌else◌, nat_le, not, ◌&&◌, ◌||◌, ◌==◌}
 use Rattle.std.specs.Str.{bytes_eq}
 use Rattle.std.proofs.lemmas.Bool.Decides.{nat_tests}
-use Rattle.std.proofs.lemmas.List.{drop-take, length-take, take-take}
-use Rattle.conc_journal_image.specs.Fields.{are_zero, event_in}
-use Rattle.conc_journal_image.specs.Image.{breaks_here, digest_in, ends_here, found_from, found_in, found_with, has_header, is_closed, is_not_begun, whole_record}
+use Rattle.std.proofs.lemmas.List.{drop-drop, drop-take, get_or-take, length-take, take-take}
+use Rattle.conc_journal_image.specs.declared.label.Label.{Label}
+use Rattle.conc_journal_image.specs.declared.label.Version.TheVariants.{One, Two}
+use Rattle.conc_journal_image.specs.Fields.{event_in}
+use Rattle.conc_journal_image.specs.Image.{base_in, breaks_here, digest_in, ends_here, found_from, found_in, found_with, has_header, is_closed, is_not_begun, label_in, version_in, whole_record}
 
 -- ---- of a list
 
@@ -16,6 +18,20 @@ drop-front m k xs h = let e : k ≡ m + (k - m) = omega arith in ap (λ j. drop 
 -- a part of the front
 pub part-front : {X : Type 0} (m n k : ℕ) (xs : List X) → m + n ≤ k → take n (drop m (take k xs)) ≡ take n (drop m xs)
 part-front m n k xs h = ap (λ ys. take n ys) (drop-front m k xs (omega arith)) ∙ take-take n (k - m) (drop m xs) (omega arith)
+
+-- what is behind a place, by what is behind an earlier one
+pub behind-same : {X : Type 0} (m n : ℕ) (c d : List X) → m ≤ n → drop m c ≡ drop m d → drop n c ≡ drop n d
+behind-same m n c d h same =
+    let e : m + (n - m) ≡ n = omega arith in
+    ap (λ k. drop k c) (sym e) ∙ sym (drop-drop (n - m) m c) ∙ ap (λ xs. drop (n - m) xs) same ∙ drop-drop (n - m) m d ∙ ap (λ k. drop k d) e
+
+-- what is in front of a place, by what is in front of a later one
+pub front-same : {X : Type 0} (m n : ℕ) (c d : List X) → m ≤ n → take n c ≡ take n d → take m c ≡ take m d
+front-same m n c d h same = sym (take-take m n c h) ∙ ap (λ xs. take m xs) same ∙ take-take m n d h
+
+-- a part of the front, by the front
+pub middle-same : {X : Type 0} (at n k : ℕ) (c d : List X) → at + n ≤ k → take k c ≡ take k d → take n (drop at c) ≡ take n (drop at d)
+middle-same at n k c d h same = sym (part-front at n k c h) ∙ ap (λ xs. take n (drop at xs)) same ∙ part-front at n k d h
 
 has_length-front : {X : Type 0} (n k : ℕ) (xs : List X) → n ≤ k → nat_le n (length (take k xs)) ≡ nat_le n (length xs)
 has_length-front n k xs h = let e = length-take k xs in grind (arith, nat_tests)
@@ -40,13 +56,29 @@ pub has_header-front : (k : ℕ) (image : List ℕ) → 65 ≤ k → has_header 
 unfolding has_header
 has_header-front k image h =
     let title = codes "conc journal 1\n" in
-    ap (λ b. b && (not (is_closed (take k image)) && (bytes_eq (take 15 (drop 1 (take k image))) title && are_zero (take 16 (drop 48 (take k image)))))) (has_length-front 65 k image h)
-    ∙ ap (λ b. nat_le 65 (length image) && (not b && (bytes_eq (take 15 (drop 1 (take k image))) title && are_zero (take 16 (drop 48 (take k image)))))) (is_closed-front k image (omega arith))
-    ∙ ap (λ xs. nat_le 65 (length image) && (not (is_closed image) && (bytes_eq xs title && are_zero (take 16 (drop 48 (take k image)))))) (part-front 1 15 k image (omega arith))
-    ∙ ap (λ xs. nat_le 65 (length image) && (not (is_closed image) && (bytes_eq (take 15 (drop 1 image)) title && are_zero xs))) (part-front 48 16 k image (omega arith))
+    ap (λ b. b && (not (is_closed (take k image)) && bytes_eq (take 15 (drop 1 (take k image))) title)) (has_length-front 65 k image h)
+    ∙ ap (λ b. nat_le 65 (length image) && (not b && bytes_eq (take 15 (drop 1 (take k image))) title)) (is_closed-front k image (omega arith))
+    ∙ ap (λ xs. nat_le 65 (length image) && (not (is_closed image) && bytes_eq xs title)) (part-front 1 15 k image (omega arith))
 
 pub digest_in-front : (k : ℕ) (image : List ℕ) → 48 ≤ k → digest_in (take k image) ≡ digest_in image
 digest_in-front k image h = part-front 16 32 k image h
+
+pub base_in-front : (k : ℕ) (image : List ℕ) → 63 ≤ k → base_in (take k image) ≡ base_in image
+base_in-front k image h = part-front 48 15 k image h
+
+pub version_in-front : (k : ℕ) (image : List ℕ) → 64 ≤ k → version_in (take k image) ≡ version_in image
+version_in-front k image h = ap (λ gate. if gate == 0 then One else Two) (get_or-take k image 63 0 (omega arith))
+
+-- a label by its parts
+pub same_label : (a b : Label) → a.version ≡ b.version → a.digest ≡ b.digest → a.base ≡ b.base → a ≡ b
+same_label a b version digest base =
+    ap (λ v. record { version = v; digest = a.digest; base = a.base }) version
+    ∙ ap (λ d. record { version = b.version; digest = d; base = a.base }) digest
+    ∙ ap (λ x. record { version = b.version; digest = b.digest; base = x }) base
+
+pub label_in-front : (k : ℕ) (image : List ℕ) → 64 ≤ k → label_in (take k image) ≡ label_in image
+label_in-front k image h =
+    same_label (label_in (take k image)) (label_in image) (version_in-front k image h) (digest_in-front k image (omega arith)) (base_in-front k image (omega arith))
 
 pub whole_record-front : (k : ℕ) (bytes : List ℕ) → 33 ≤ k → whole_record (take k bytes) ≡ whole_record bytes
 whole_record-front k bytes h =

@@ -7,3 +7,5 @@ pub mod Fronts
 pub mod Runs
 pub mod Appends
 pub mod Writes
+pub mod Stamps
+pub mod Turns

@@ -1,13 +1,13 @@
 -- An event has one spelling.
 use Rattle.std.proofs.Common.{◌≡◌, ℕ, zero, suc, ◌%◌, ◌+◌, ◌<◌, ◌≤◌, Bool, true, false, ◌&&◌, ◌==◌, List, [], ◌∷◌, ◌++◌, Option, Some, None, length, get_or, take, drop, replicate, refl, sym, ap, ◌∙◌, subst, arith, IsTrue}
 use Rattle.std.specs.Bool.{then_some}
-use Rattle.std.specs.Int.{to_be_bytes, w32, w64}
+use Rattle.std.specs.Int.{from_be_bytes, to_be_bytes, w32, w64}
 use Rattle.std.specs.List.{All}
 use Rattle.std.specs.Option.{option_and_then, option_map}
 use Rattle.std.specs.Prelude.{cond, IfSome, nat_lt}
 use Rattle.std.proofs.lemmas.Bool.{and_parts, eqb-true}
 use Rattle.std.proofs.lemmas.Bool.Decides.{nat_tests}
-use Rattle.std.proofs.lemmas.List.{drop-drop, length-drop, length-take-le, take-append-drop}
+use Rattle.std.proofs.lemmas.List.{drop-drop, get_or-take, length-drop, length-take-le, take-append-drop}
 use Rattle.std.proofs.lemmas.Nat.{be_bytes_4, be_bytes_8}
 use Rattle.conc_types.specs.declared.event.Event.{Event}
 use Rattle.conc_types.specs.declared.event.Event.TheVariants as event
@@ -16,8 +16,9 @@ use Rattle.conc_types.specs.declared.event.Outcome.{Outcome}
 use Rattle.conc_types.specs.declared.event.Outcome.TheVariants as outcome
 use Rattle.conc_types.specs.declared.event.RequestId.{RequestId}
 use Rattle.conc_law.specs.Calendar.{moment_at}
-use Rattle.conc_journal_image.specs.Fields.{are_zero, close_of, end_of, event_in, event_of, fields_of, has_a_wide_number, has_first_alone, has_first_and_outcome, has_record, has_two_numbers, is_report_outcome, outcome_number, report_end_of, report_outcome, request_of, tick_of, wide_at, word_at}
+use Rattle.conc_journal_image.specs.Fields.{are_zero, close_of, end_of, event_in, event_of, fields_of, has_a_wide_number, has_first_alone, has_first_and_outcome, has_first_and_wide, has_record, has_two_numbers, IsSpelling, command_stamp, stamp_in, is_report_outcome, outcome_number, report_end_of, report_outcome, request_of, tick_of, wide_at, word_at}
 use Rattle.conc_journal_image.specs.declared.fields.Fields.{Fields}
+use Rattle.conc_journal_image.proofs.Fronts.{behind-same, middle-same}
 
 -- ---- choices
 
@@ -139,6 +140,12 @@ first_alone f k e h =
     let r : ((f.wide == 0) ≡ true) × ((f.length == 0) ≡ true) = and_parts _ _ q.1 in
     same_fields f k 0 f.first 0 0 0 e (eqb-true _ _ p.0) refl (eqb-true _ _ q.0) (eqb-true _ _ r.0) (eqb-true _ _ r.1)
 
+first_and_wide : (f : Fields) (k : ℕ) → f.kind ≡ k → has_first_and_wide f ≡ true → f ≡ fields k 0 f.first 0 f.wide 0
+first_and_wide f k e h =
+    let p : ((f.outcome == 0) ≡ true) × ((f.second == 0 && f.length == 0) ≡ true) = and_parts _ _ h in
+    let r : ((f.second == 0) ≡ true) × ((f.length == 0) ≡ true) = and_parts _ _ p.1 in
+    same_fields f k 0 f.first 0 f.wide 0 e (eqb-true _ _ p.0) refl (eqb-true _ _ r.0) refl (eqb-true _ _ r.1)
+
 two_numbers : (f : Fields) (k : ℕ) → f.kind ≡ k → has_two_numbers f ≡ true → f ≡ fields k 0 f.first f.second 0 0
 two_numbers f k e h =
     let p : ((f.outcome == 0) ≡ true) × ((f.wide == 0 && f.length == 0) ≡ true) = and_parts _ _ h in
@@ -174,22 +181,37 @@ report n o h =
           subst (λ x. (n ≡ outcome_number x) × IsTrue (is_report_outcome x)) q (e ∙ number, reports)
 
 -- the fields of an event
-fields_for : Event → Fields
-fields_for (event.Tick t) = fields 1 0 0 0 t.seconds 0
-fields_for (event.Command n) = fields 2 0 n 0 0 0
-fields_for (event.OpenSet s) = fields 3 0 s.number 0 0 0
-fields_for (event.Stage s n) = fields 4 0 s.number n 0 0
-fields_for (event.CloseSet s o) = fields 5 (outcome_number o) s.number 0 0 0
-fields_for (event.LetOut r) = fields 6 0 r.number 0 0 0
-fields_for (event.Started r p) = fields 7 0 r.number p.index 0 0
-fields_for (event.Ended r o None) = fields 8 (outcome_number o) r.number 0 0 0
-fields_for (event.Ended r o (Some x)) = fields 8 (outcome_number o) r.number 0 x.offset x.length
-fields_for event.Resume = fields 9 0 0 0 0 0
-fields_for (event.Interrupt r) = fields 10 0 r.number 0 0 0
+fields_for : Event → ℕ → Fields
+fields_for (event.Tick t) stamp = fields 1 0 0 0 t.seconds 0
+fields_for (event.Command n) stamp = fields 2 0 n 0 stamp 0
+fields_for (event.OpenSet s) stamp = fields 3 0 s.number 0 0 0
+fields_for (event.Stage s n) stamp = fields 4 0 s.number n 0 0
+fields_for (event.CloseSet s o) stamp = fields 5 (outcome_number o) s.number 0 0 0
+fields_for (event.LetOut r) stamp = fields 6 0 r.number 0 0 0
+fields_for (event.Started r p) stamp = fields 7 0 r.number p.index 0 0
+fields_for (event.Ended r o None) stamp = fields 8 (outcome_number o) r.number 0 0 0
+fields_for (event.Ended r o (Some x)) stamp = fields 8 (outcome_number o) r.number 0 x.offset x.length
+fields_for event.Resume stamp = fields 9 0 0 0 0 0
+fields_for (event.Interrupt r) stamp = fields 10 0 r.number 0 0 0
+
+-- no other event than a command has a stamp
+fields_for-stamp : (e : Event) (s t : ℕ) → command_stamp e s ≡ command_stamp e t → fields_for e s ≡ fields_for e t
+unfolding fields_for
+fields_for-stamp (event.Tick m) s t h = refl
+fields_for-stamp (event.Command n) s t h = let e : s ≡ t = cc in ap (λ w. fields 2 0 n 0 w 0) e
+fields_for-stamp (event.OpenSet q) s t h = refl
+fields_for-stamp (event.Stage q n) s t h = refl
+fields_for-stamp (event.CloseSet q o) s t h = refl
+fields_for-stamp (event.LetOut r) s t h = refl
+fields_for-stamp (event.Started r p) s t h = refl
+fields_for-stamp (event.Ended r o None) s t h = refl
+fields_for-stamp (event.Ended r o (Some x)) s t h = refl
+fields_for-stamp event.Resume s t h = refl
+fields_for-stamp (event.Interrupt r) s t h = refl
 
 -- the event has a record, and these are its fields
 abbrev Tells : Fields → Event → Type 0
-Tells f e = IsTrue (has_record e) × (f ≡ fields_for e)
+Tells f e = IsTrue (has_record e) × (f ≡ fields_for e f.wide)
 
 tells_tick : (f : Fields) (e : Event) → f.kind ≡ 1 → tick_of f ≡ Some e → Tells f e
 unfolding fields_for moment_at
@@ -256,13 +278,17 @@ tells_interrupt f e h =
     let q : ((f.kind == 10) ≡ true) × (has_first_alone f ≡ true) = and_parts _ _ p.0 in
     subst (λ x. Tells f x) p.1 (refl, first_alone f 10 (eqb-true _ _ q.0) q.1)
 
+tells_command : (f : Fields) (e : Event) → f.kind ≡ 2 → then_some (has_first_and_wide f) (event.Command f.first) ≡ Some e → Tells f e
+unfolding fields_for
+tells_command f e same h = let p = passed _ _ e h in subst (λ x. Tells f x) p.1 (refl, first_and_wide f 2 same p.0)
+
 -- what has the first number alone
-tells_first : (f : Fields) (k : ℕ) (d e : Event) → f.kind ≡ k → IsTrue (has_record d) → fields_for d ≡ fields k 0 f.first 0 0 0 → then_some (has_first_alone f) d ≡ Some e → Tells f e
+tells_first : (f : Fields) (k : ℕ) (d e : Event) → f.kind ≡ k → IsTrue (has_record d) → fields_for d f.wide ≡ fields k 0 f.first 0 0 0 → then_some (has_first_alone f) d ≡ Some e → Tells f e
 tells_first f k d e same has is h =
     let p = passed _ _ e h in subst (λ x. Tells f x) p.1 (has, first_alone f k same p.0 ∙ sym is)
 
 -- what has the two numbers
-tells_two : (f : Fields) (k : ℕ) (d e : Event) → f.kind ≡ k → IsTrue (has_record d) → fields_for d ≡ fields k 0 f.first f.second 0 0 → then_some (has_two_numbers f) d ≡ Some e → Tells f e
+tells_two : (f : Fields) (k : ℕ) (d e : Event) → f.kind ≡ k → IsTrue (has_record d) → fields_for d f.wide ≡ fields k 0 f.first f.second 0 0 → then_some (has_two_numbers f) d ≡ Some e → Tells f e
 tells_two f k d e same has is h =
     let p = passed _ _ e h in subst (λ x. Tells f x) p.1 (has, two_numbers f k same p.0 ∙ sym is)
 
@@ -270,7 +296,7 @@ tells : (f : Fields) (e : Event) → event_of f ≡ Some e → Tells f e
 unfolding event_of fields_for
 tells f e h =
     either (f.kind == 1) _ _ _ h (λ k h. tells_tick f e (eqb-true _ _ k) h) (λ _ h.
-    either (f.kind == 2) _ _ _ h (λ k h. tells_first f 2 (event.Command f.first) e (eqb-true _ _ k) refl refl h) (λ _ h.
+    either (f.kind == 2) _ _ _ h (λ k h. tells_command f e (eqb-true _ _ k) h) (λ _ h.
     either (f.kind == 3) _ _ _ h (λ k h. tells_first f 3 (event.OpenSet (request_of f.first)) e (eqb-true _ _ k) refl refl h) (λ _ h.
     either (f.kind == 4) _ _ _ h (λ k h. tells_two f 4 (event.Stage (request_of f.first) f.second) e (eqb-true _ _ k) refl refl h) (λ _ h.
     either (f.kind == 5) _ _ _ h (λ k h. tells_close f e (eqb-true _ _ k) h) (λ _ h.
@@ -303,6 +329,35 @@ length-spelled xs e h =
     let p : ((length xs == 31) ≡ true) × ((are_zero (take 1 (drop 2 xs)) && are_zero (drop 23 xs)) ≡ true) = and_parts _ _ found.0 in
     eqb-true _ _ p.0
 
+-- The bytes of a command spell it whatever its stamp is, which stands at bytes 11 to 18.
+pub command_bytes : (xs ys : List ℕ) (n : ℕ) → length xs ≡ 31 → take 11 xs ≡ take 11 ys → drop 19 xs ≡ drop 19 ys
+    → event_in ys ≡ Some (event.Command n) → event_in xs ≡ Some (event.Command n)
+unfolding event_in event_of fields_of fields_for
+command_bytes xs ys n long front back h =
+    let b = between ys (event.Command n) h in
+    let found = passed _ _ b.0 b.1 in
+    let told : b.0 ≡ fields 2 0 n 0 b.0.wide 0 = (tells b.0 (event.Command n) b.2).1 in
+    let byte : (i : ℕ) → i < 11 → get_or xs i 0 ≡ get_or ys i 0 =
+    λ i below. sym (get_or-take 11 xs i 0 below) ∙ ap (λ zs. get_or zs i 0) front ∙ get_or-take 11 ys i 0 below in
+    let one : take 1 (drop 2 xs) ≡ take 1 (drop 2 ys) = middle-same 2 1 11 xs ys (omega arith) front in
+    let eight : drop 23 xs ≡ drop 23 ys = behind-same 19 23 xs ys (omega arith) back in
+    let whole : (length xs == 31 && (are_zero (take 1 (drop 2 xs)) && are_zero (drop 23 xs))) ≡ true =
+    ap (λ k. k == 31 && (are_zero (take 1 (drop 2 xs)) && are_zero (drop 23 xs))) (long ∙ sym (eqb-true _ _ (and_parts (length ys == 31) (are_zero (take 1 (drop 2 ys)) && are_zero (drop 23 ys)) found.0).0))
+    ∙ ap (λ zs. length ys == 31 && (are_zero zs && are_zero (drop 23 xs))) one
+    ∙ ap (λ zs. length ys == 31 && (are_zero (take 1 (drop 2 ys)) && are_zero zs)) eight
+    ∙ found.0 in
+    let is : Fields = fields (get_or xs 0 0) (get_or xs 1 0) (word_at 3 xs) (word_at 7 xs) (wide_at 11 xs) (word_at 19 xs) in
+    let same : is ≡ fields 2 0 n 0 (wide_at 11 xs) 0 =
+    same_fields
+    is 2 0 n 0 (wide_at 11 xs) 0
+    (byte 0 (omega arith) ∙ ap (λ f. f.kind) found.1 ∙ ap (λ f. f.kind) told)
+    (byte 1 (omega arith) ∙ ap (λ f. f.outcome) found.1 ∙ ap (λ f. f.outcome) told)
+    (ap (λ zs. from_be_bytes w32 zs) (middle-same 3 4 11 xs ys (omega arith) front) ∙ ap (λ f. f.first) found.1 ∙ ap (λ f. f.first) told)
+    (ap (λ zs. from_be_bytes w32 zs) (middle-same 7 4 11 xs ys (omega arith) front) ∙ ap (λ f. f.second) found.1 ∙ ap (λ f. f.second) told)
+    refl
+    (ap (λ zs. from_be_bytes w32 (take 4 zs)) back ∙ ap (λ f. f.length) found.1 ∙ ap (λ f. f.length) told) in
+    ap (λ t. option_and_then event_of (then_some t is)) whole ∙ ap (λ f. event_of f) same
+
 -- what is spelled has a record
 pub spelled-has_record : (xs : List ℕ) (e : Event) → event_in xs ≡ Some e → IsTrue (has_record e)
 spelled-has_record xs e h = let b = between xs e h in (tells b.0 e b.2).0
@@ -312,9 +367,18 @@ bytes_from [] small i = omega arith
 bytes_from (x ∷ xs) small zero = small 0 0 (omega arith)
 bytes_from (x ∷ xs) small (suc i) = bytes_from xs (λ k d h. small (suc k) d (omega arith)) i
 
--- two spellings of an event are one
-pub spelled-same : (xs ys : List ℕ) (e : Event) → All (λ byte. byte < 256) xs → All (λ byte. byte < 256) ys → event_in xs ≡ Some e → event_in ys ≡ Some e → xs ≡ ys
-spelled-same xs ys e sx sy hx hy =
-    let a = between xs e hx in
-    let b = between ys e hy in
-    spelling_of xs a.0 (bytes_from xs sx) a.1 ∙ ap (λ f. spelling f) ((tells a.0 e a.2).1 ∙ sym (tells b.0 e b.2).1) ∙ sym (spelling_of ys b.0 (bytes_from ys sy) b.1)
+-- the stamp of a spelling is the wide number of its fields
+stamp_in-fields : (xs : List ℕ) (f : Fields) → fields_of xs ≡ Some f → f.wide ≡ stamp_in xs
+unfolding fields_of
+stamp_in-fields xs f h = let found = passed _ _ f h in sym (ap (λ g. g.wide) found.1)
+
+-- two spellings of an event with one stamp are one
+pub spelled-same : (xs ys : List ℕ) (e : Event) (stamp : ℕ) → All (λ byte. byte < 256) xs → All (λ byte. byte < 256) ys → IsSpelling e stamp xs → IsSpelling e stamp ys → xs ≡ ys
+spelled-same xs ys e stamp sx sy hx hy =
+    let a = between xs e hx.event_is in
+    let b = between ys e hy.event_is in
+    let same : command_stamp e a.0.wide ≡ command_stamp e b.0.wide =
+    ap (λ n. command_stamp e n) (stamp_in-fields xs a.0 a.1) ∙ hx.stamp_is ∙ sym hy.stamp_is ∙ sym (ap (λ n. command_stamp e n) (stamp_in-fields ys b.0 b.1)) in
+    spelling_of xs a.0 (bytes_from xs sx) a.1
+    ∙ ap (λ f. spelling f) ((tells a.0 e a.2).1 ∙ fields_for-stamp e a.0.wide b.0.wide same ∙ sym (tells b.0 e b.2).1)
+    ∙ sym (spelling_of ys b.0 (bytes_from ys sy) b.1)

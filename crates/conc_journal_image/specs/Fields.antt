@@ -1,5 +1,5 @@
 -- What a record of a journal says. A record is a gate and 31 bytes behind it.
-use Rattle.std.specs.Prelude.{ℕ, Bool, true, false, ◌&&◌, ◌==◌, nat_lt, if◌then◌else◌, List, length, take, drop, slice_index, Option, None, Some}
+use Rattle.std.specs.Prelude.{◌≡◌, ℕ, Bool, true, false, ◌&&◌, ◌==◌, nat_lt, if◌then◌else◌, List, [], ◌∷◌, length, take, drop, slice_index, Option, None, Some}
 use Rattle.std.specs.Bool.{then_some}
 use Rattle.std.specs.Int.{from_be_bytes, w32, w64}
 use Rattle.std.specs.List.{list_all}
@@ -44,6 +44,10 @@ fields_of bytes =
 -- what no event of the kind uses is 0
 abbrev pub has_first_alone : Fields → Bool
 has_first_alone f = f.outcome == 0 && (f.second == 0 && (f.wide == 0 && f.length == 0))
+
+-- but for the first number and the wide one
+abbrev pub has_first_and_wide : Fields → Bool
+has_first_and_wide f = f.outcome == 0 && (f.second == 0 && f.length == 0)
 
 abbrev pub has_two_numbers : Fields → Bool
 has_two_numbers f = f.outcome == 0 && (f.wide == 0 && f.length == 0)
@@ -97,7 +101,7 @@ end_of f =
 unfoldable pub event_of : Fields → Option Event
 event_of f =
     if f.kind == 1 then tick_of f
-    else if f.kind == 2 then then_some (has_first_alone f) (event.Command f.first)
+    else if f.kind == 2 then then_some (has_first_and_wide f) (event.Command f.first)
     else if f.kind == 3 then then_some (has_first_alone f) (event.OpenSet (request_of f.first))
     else if f.kind == 4 then then_some (has_two_numbers f) (event.Stage (request_of f.first) f.second)
     else if f.kind == 5 then close_of f
@@ -110,6 +114,27 @@ event_of f =
 -- the event that 31 bytes spell
 unfoldable pub event_in : List ℕ → Option Event
 event_in bytes = option_and_then event_of (fields_of bytes)
+
+-- ---- stamps
+
+-- the wide number of 31 bytes, which is a command's stamp
+abbrev pub stamp_in : List ℕ → ℕ
+stamp_in bytes = wide_at 11 bytes
+
+-- the stamp, where the event is a command; no other has one
+abbrev pub command_stamp : Event → ℕ → List ℕ
+command_stamp (event.Command number) stamp = stamp ∷ []
+command_stamp _ stamp = []
+
+-- the event has a stamp: it is a command
+abbrev pub has_stamp : Event → Bool
+has_stamp (event.Command number) = true
+has_stamp _ = false
+
+-- the 31 bytes spell the event, with this stamp where it is a command
+pub record IsSpelling (e : Event) (stamp : ℕ) (bytes : List ℕ) : Type 0 where
+  pub event_is : event_in bytes ≡ Some e
+  pub stamp_is : command_stamp e (stamp_in bytes) ≡ command_stamp e stamp
 
 -- ---- events that have a record
 

@@ -1,7 +1,7 @@
 ghost use Rattle.std.specs.Prelude.{◌≡◌, ◌<◌, IsTrue, Some};
 ghost use Rattle.conc_types.specs.declared.event.Event.{Event};
 ghost use Rattle.conc_law.specs.Calendar.{moment_at};
-ghost use Rattle.conc_journal_image.specs.Fields.{close_of, end_of, event_of, has_record, is_report_outcome, outcome_number, report_outcome, tick_of};
+ghost use Rattle.conc_journal_image.specs.Fields.{close_of, command_stamp, end_of, event_of, has_record, is_report_outcome, outcome_number, report_outcome, tick_of};
 
 use crate::fields::Fields;
 use conc_types::{Event, Extent, Moment, Outcome, PlaceId, RequestId};
@@ -106,7 +106,7 @@ pub(crate) fn event_of(fields: &Fields) -> Option<Event>
     };
     match fields.kind {
         1 => tick_of(fields),
-        2 => fields.has_first_alone().then_some(Event::Command {
+        2 => fields.has_first_and_wide().then_some(Event::Command {
             number: fields.first,
         }),
         3 => fields
@@ -222,15 +222,33 @@ fn two_numbers(kind: u8, first: u32, second: u32) -> Fields
     }
 }
 
-// The fields of this event.
+// The fields of a command with this stamp.
+fn command_fields(number: u32, stamp: u64) -> Fields
+    ensures { result ≡ record {
+      kind = 2;
+      outcome = 0;
+      first = number;
+      second = 0;
+      wide = stamp;
+      length = 0;
+    } }
+{
+    Fields {
+        wide: stamp,
+        ..one_number(2, number)
+    }
+}
+
+// The fields of this event, with this stamp where it is a command.
 #[tactic(auto, unfolding(crate::specs::Fields::event_of))]
-pub(crate) fn fields_for(event: Event) -> Fields
+pub(crate) fn fields_for(event: Event, stamp: u64) -> Fields
     requires { IsTrue (has_record event) }
-    ensures { event_of result ≡ Some event }
+    ensures event { event_of result ≡ Some event }
+    ensures stamp { command_stamp event result.wide ≡ command_stamp event stamp }
 {
     match event {
         Event::Tick { moment } => tick_fields(moment),
-        Event::Command { number } => one_number(2, number),
+        Event::Command { number } => command_fields(number, stamp),
         Event::OpenSet { set } => one_number(3, set.number),
         Event::Stage { set, stage } => two_numbers(4, set.number, stage),
         Event::CloseSet { set, outcome } => Fields {

@@ -1,6 +1,6 @@
 ghost use Rattle.std.specs.Prelude.{◌≡◌, ◌+◌, ◌≤◌, ◌&&◌, Some, drop, take};
 ghost use Rattle.std.specs.Int.{from_be_bytes, w32, w64};
-ghost use Rattle.conc_journal_image.specs.Fields.{are_zero, fields_of, has_a_wide_number, has_first_alone, has_first_and_outcome, has_two_numbers, wide_at, word_at};
+ghost use Rattle.conc_journal_image.specs.Fields.{are_zero, fields_of, has_a_wide_number, has_first_alone, has_first_and_outcome, has_first_and_wide, has_two_numbers, stamp_in, wide_at, word_at};
 
 use crate::bytes::are_zero;
 
@@ -35,6 +35,13 @@ fn wide_at(bytes: &[u8; 31], at: usize) -> u64
         Some((wide, _)) => u64::from_be_bytes(*wide),
         None => unreachable!(),
     }
+}
+
+// The number that these bytes have where a command has its stamp.
+pub(crate) fn stamp_in(bytes: &[u8; 31]) -> u64
+    ensures { result ≡ stamp_in bytes.now }
+{
+    wide_at(bytes, 11)
 }
 
 // The four bytes of a number.
@@ -81,6 +88,13 @@ impl Fields {
         self.outcome == 0 && self.second == 0 && self.wide == 0 && self.length == 0
     }
 
+    // But for the first number and the wide one all is 0.
+    pub(crate) fn has_first_and_wide(&self) -> bool
+        ensures { result ≡ has_first_and_wide self.now }
+    {
+        self.outcome == 0 && self.second == 0 && self.length == 0
+    }
+
     // But for the two numbers all is 0.
     pub(crate) fn has_two_numbers(&self) -> bool
         ensures { result ≡ has_two_numbers self.now }
@@ -104,7 +118,8 @@ impl Fields {
 
     // The 31 bytes of these fields.
     pub(crate) fn bytes(self) -> [u8; 31]
-        ensures { fields_of result ≡ Some self }
+        ensures fields { fields_of result ≡ Some self }
+        ensures stamp { stamp_in result ≡ self.wide }
     {
         let first = word_bytes(self.first);
         let second = word_bytes(self.second);

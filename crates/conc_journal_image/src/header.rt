@@ -1,10 +1,10 @@
-ghost use Rattle.std.specs.Prelude.{◌≡◌, ◌≤◌, ◌&&◌, codes, drop, length, take};
+ghost use Rattle.std.specs.Prelude.{◌≡◌, ◌≤◌, [], ◌∷◌, ◌++◌, codes, drop, length, take};
 ghost use Rattle.std.specs.Str.{bytes_eq};
-ghost use Rattle.conc_journal_image.specs.Fields.{are_zero};
-ghost use Rattle.conc_journal_image.specs.Headers.{BeginsJournal, header_behind, IsJudged};
-ghost use Rattle.conc_journal_image.specs.Image.{digest_in, has_header, is_closed, is_not_begun};
+ghost use Rattle.conc_journal_image.specs.Headers.{BeginsJournal, header_behind, IsJudged, label_of};
+ghost use Rattle.conc_journal_image.specs.Image as image_spec;
+ghost use Rattle.conc_journal_image.specs.Image.{base_in, digest_in, has_header, is_closed, is_not_begun, label_in};
 
-use crate::bytes::are_zero;
+use crate::label::{Label, Version};
 
 // What a journal says of itself behind its gate.
 const TITLE: &[u8; 15] = b"conc journal 1\n";
@@ -14,8 +14,8 @@ const TITLE: &[u8; 15] = b"conc journal 1\n";
 pub enum Header {
     /// No journal was begun.
     NotBegun,
-    /// The header of a journal, which names its input by this digest.
-    Begun { digest: [u8; 32] },
+    /// The header of a journal, which says this of its input.
+    Begun { label: Label },
     /// Anything else.
     Foreign,
 }
@@ -37,13 +37,12 @@ fn is_not_begun(image: &[u8]) -> bool
     image.len() <= 1 || is_closed(image)
 }
 
-// The title and the bytes behind the digest are those of a journal.
+// The title is that of a journal.
 fn is_titled(image: &[u8]) -> bool
     requires { 65 ≤ length image.now }
-    ensures { result ≡ (bytes_eq (take 15 (drop 1 image.now)) (codes "conc journal 1\n")
-        && are_zero (take 16 (drop 48 image.now))) }
+    ensures { result ≡ bytes_eq (take 15 (drop 1 image.now)) (codes "conc journal 1\n") }
 {
-    &image[1..16] == TITLE.as_slice() && are_zero(&image[48..64])
+    &image[1..16] == TITLE.as_slice()
 }
 
 #[tactic(auto, unfolding(crate::specs::Image::has_header))]
@@ -57,12 +56,44 @@ fn has_header(image: &[u8]) -> bool
 }
 
 fn digest_in(image: &[u8]) -> [u8; 32]
-    requires { 48 ≤ length image.now }
+    requires { 65 ≤ length image.now }
     ensures { result ≡ digest_in image.now }
 {
     match image[16..].split_first_chunk() {
         Some((digest, _)) => *digest,
         None => unreachable!(),
+    }
+}
+
+fn base_in(image: &[u8]) -> [u8; 15]
+    requires { 65 ≤ length image.now }
+    ensures { result ≡ base_in image.now }
+{
+    match image[48..].split_first_chunk() {
+        Some((base, _)) => *base,
+        None => unreachable!(),
+    }
+}
+
+fn version_in(image: &[u8]) -> Version
+    requires { 65 ≤ length image.now }
+    ensures { result ≡ image_spec.version_in image.now }
+{
+    if image[63] == 0 {
+        Version::One
+    } else {
+        Version::Two
+    }
+}
+
+fn label_in(image: &[u8]) -> Label
+    requires { 65 ≤ length image.now }
+    ensures { result ≡ label_in image.now }
+{
+    Label {
+        version: version_in(image),
+        digest: digest_in(image),
+        base: base_in(image),
     }
 }
 
@@ -75,28 +106,39 @@ pub fn judge_header(image: &[u8]) -> Header
         Header::NotBegun
     } else if has_header(image) {
         Header::Begun {
-            digest: digest_in(image),
+            label: label_in(image),
         }
     } else {
         Header::Foreign
     }
 }
 
-// The title, the digest and 17 bytes that are 0.
-fn header_bytes(digest: &[u8; 32]) -> [u8; 64]
-    ensures { result ≡ header_behind digest.now }
+// Both digests, one behind the other.
+fn joined(digest: &[u8; 32], base: &[u8; 15]) -> [u8; 47]
+    ensures { result ≡ digest.now ++ base.now }
 {
-    let mut bytes = [0; 64];
-    bytes[..15].copy_from_slice(TITLE);
-    bytes[15..47].copy_from_slice(digest);
+    let mut bytes = [0; 47];
+    bytes[..32].copy_from_slice(digest);
+    bytes[32..].copy_from_slice(base);
     bytes
 }
 
-/// The bytes 1 to 64 of a journal's file: the header behind its gate, and the closed gate of the
-/// first record.
-pub fn header_of(digest: &[u8; 32]) -> [u8; 64]
-    ensures bytes { result ≡ header_behind digest.now }
-    ensures begins { BeginsJournal digest.now result }
+// The title, the two digests, a 1 and a 0.
+fn header_bytes(digests: &[u8; 47]) -> [u8; 64]
+    ensures { result ≡ codes "conc journal 1\n" ++ (digests.now ++ 1 ∷ 0 ∷ []) }
 {
-    header_bytes(digest)
+    let mut bytes = [0; 64];
+    bytes[62] = 1;
+    bytes[..15].copy_from_slice(TITLE);
+    bytes[15..62].copy_from_slice(digests);
+    bytes
+}
+
+/// The bytes 1 to 64 of a journal's file: the header behind its gate, of version 2 with these digests,
+/// and the closed gate of the first record.
+pub fn header_of(digest: &[u8; 32], base: &[u8; 15]) -> [u8; 64]
+    ensures bytes { result ≡ header_behind digest.now base.now }
+    ensures begins { BeginsJournal (label_of digest.now base.now) result }
+{
+    header_bytes(&joined(digest, base))
 }

@@ -7,6 +7,7 @@ mod events;
 mod fields;
 mod found;
 mod header;
+mod label;
 mod laws;
 mod layout;
 mod record;
@@ -14,9 +15,11 @@ mod record;
 pub use events::has_record;
 pub use found::{Found, read_records};
 pub use header::{Header, header_of, judge_header};
+pub use label::{Label, Version, base_of};
 pub use laws::{
-    front_tells_all, gate_adds, gate_begins, journal_is_long_enough, journal_stays,
-    not_begun_stays, spelled_has_record, spelling_is_unique,
+    basing_keeps, front_tells_all, gate_adds, gate_begins, journal_is_long_enough, journal_stays,
+    not_begun_stays, spelled_has_record, spelling_is_unique, stamping_keeps, stamping_stamps,
+    version_turns,
 };
 pub use layout::{HEADER_BYTES, MOST_BYTES, MOST_RECORDS, RECORD_BYTES, offset_behind};
 pub use record::{read_record, record_of};

@@ -1,5 +1,5 @@
 ghost use Rattle.std.specs.Prelude.{◌≡◌, IfSome, IsTrue};
-ghost use Rattle.conc_journal_image.specs.Fields.{event_in, has_record};
+ghost use Rattle.conc_journal_image.specs.Fields.{event_in, has_record, IsSpelling};
 
 use crate::events::{event_of, fields_for};
 use crate::fields::Fields;
@@ -14,11 +14,11 @@ pub fn read_record(bytes: &[u8; 31]) -> Option<Event>
     event_of(&Fields::of(bytes)?)
 }
 
-/// The 31 bytes that spell the event.
+/// The 31 bytes that spell the event, with this stamp where it is a command.
 #[tactic(auto, unfolding(crate::specs::Fields::event_in))]
-pub fn record_of(event: Event) -> [u8; 31]
+pub fn record_of(event: Event, stamp: u64) -> [u8; 31]
     requires { IsTrue (has_record event) }
-    ensures spelled { event_in result ≡ Some event }
+    ensures { IsSpelling event stamp result }
 {
-    fields_for(event).bytes()
+    fields_for(event, stamp).bytes()
 }

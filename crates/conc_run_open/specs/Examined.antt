@@ -1,5 +1,6 @@
 -- What a run has in hand before it writes.
 use Rattle.std.specs.Prelude.{◌≡◌, ◌⊎◌, List, [], ℕ, reverse, Some, unwrap_or}
+use Rattle.conc_types.specs.declared.digests.Digests.{Digests}
 use Rattle.conc_types.specs.declared.event.Event.{Event}
 use Rattle.conc_types.specs.declared.plan.Plan.{Plan}
 use Rattle.conc_types.specs.declared.script.Reading.{Reading}
@@ -10,24 +11,30 @@ use Rattle.conc_law.specs.State.{used}
 use Rattle.conc_machine.specs.StandsFor.{plan_of, readings_of, StandsFor}
 use Rattle.conc_journal.specs.Journals.{list_of, room_of, state_of}
 use Rattle.conc_journal.specs.Journals.{IsOn as JournalIsOn}
-use Rattle.conc_journal.specs.declared.journal.JournalState.{JournalState}
-use Rattle.conc_journal.specs.declared.journal.JournalState.TheVariants.{Begun, NotBegun}
+use Rattle.conc_journal.specs.declared.journal.Journal.{Journal}
+use Rattle.conc_journal.specs.declared.journal.JournalState.TheVariants.{NotBegun}
 use Rattle.conc_restart.specs.Need.{need}
 use Rattle.conc_spool.specs.Spools.{used_of}
 use Rattle.conc_spool.specs.Spools.{IsOn as SpoolIsOn}
 use Rattle.conc_run_state.specs.Handed.{Handed, IsFound, IsUntouched}
+use Rattle.conc_run_state.specs.Inputs.{AreStampsOf, IsBegunFor}
 use Rattle.conc_run_open.specs.declared.examining.Examined.{Examined}
 
--- it is begun with this digest, or not at all
-abbrev pub MayStart : List ℕ → JournalState → Type 0
-MayStart digest state = (state ≡ NotBegun) ⊎ (state ≡ Begun digest)
+-- it is not begun, or begun for this input
+abbrev pub MayStart : Plan → Digests → Journal → Type 0
+MayStart plan digests journal = (state_of journal ≡ NotBegun) ⊎ IsBegunFor plan digests journal
+
+-- and these are the stamps of the commands in its list
+pub record MayStartWith (plan : Plan) (digests : Digests) (due : List ℕ) (journal : Journal) : Type 0 where
+  pub may_start : MayStart plan digests journal
+  pub due_are : AreStampsOf plan (list_of journal) due
 
 -- the events found
 abbrev pub list_found : Examined → List Event
 list_found examined = list_of examined.journal
 
 -- The machine stands for the events found with the resume of the life that is to begin. The journal has the events alone,
--- with room for a life.
+-- with room for a life. The stamps of the commands among them are at hand.
 pub record IsReady (plan : Plan) (readings : List Reading) (examined : Examined) : Type 0 where
   pub plan_is : plan_of examined.machine ≡ plan
   pub readings_are : readings_of examined.machine ≡ Some readings
@@ -35,18 +42,19 @@ pub record IsReady (plan : Plan) (readings : List Reading) (examined : Examined)
   pub so_far : LawfulSoFar plan (list_of examined.journal)
   pub room : room_of examined.journal ≡ need plan readings
   pub used_is : used_of examined.spool ≡ used (reverse (list_of examined.journal))
+  pub due : AreStampsOf plan (list_of examined.journal) examined.due.items
 
--- what is in hand is ready, its journal is not begun, or begun with this digest, and both disks are on
-pub record MayBegin (plan : Plan) (readings : List Reading) (digest : List ℕ) (examined : Examined) (journal spool : DiskState) : Type 0 where
+-- what is in hand is ready, its journal is not begun, or begun for this input, and both disks are on
+pub record MayBegin (plan : Plan) (readings : List Reading) (digests : Digests) (examined : Examined) (journal spool : DiskState) : Type 0 where
   pub ready : IsReady plan readings examined
-  pub state : MayStart digest (state_of examined.journal)
+  pub state : MayStart plan digests examined.journal
   pub journal_on : JournalIsOn examined.journal journal
   pub spool_on : SpoolIsOn examined.spool spool
 
 -- such is what was found on the disks
 pub record IsExamined (h : Handed) (examined : Examined) : Type 0 where
   pub found : IsFound h (list_of examined.journal)
-  pub may_begin : MayBegin h.plan h.readings h.digest examined h.disks.journal_after h.disks.spool_after
+  pub may_begin : MayBegin h.plan h.readings h.digests examined h.disks.journal_after h.disks.spool_after
 
 -- it was examined so, and nothing was written
 pub record WasExamined (h : Handed) (examined : Examined) : Type 0 where
@@ -62,5 +70,5 @@ plan_held examined = plan_of examined.machine
 abbrev pub readings_held : Examined → List Reading
 readings_held examined = unwrap_or (readings_of examined.machine) []
 
-abbrev pub IsInHand : List ℕ → Examined → DiskState → DiskState → Type 0
-IsInHand digest examined journal spool = MayBegin (plan_held examined) (readings_held examined) digest examined journal spool
+abbrev pub IsInHand : Digests → Examined → DiskState → DiskState → Type 0
+IsInHand digests examined journal spool = MayBegin (plan_held examined) (readings_held examined) digests examined journal spool

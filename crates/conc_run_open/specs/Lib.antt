@@ -4,3 +4,4 @@ pub mod Examined
 pub mod Opening
 pub mod Listing
 pub mod Texts
+pub mod Scripts

@@ -4,10 +4,9 @@ use Rattle.conc_types.specs.declared.event.Event.{Event}
 use Rattle.conc_law.specs.Alone.{opening}
 use Rattle.conc_law.specs.State.{used}
 use Rattle.conc_disk.specs.Left.{EachImage, LeavesOnly}
-use Rattle.conc_journal.specs.Journals.{state_of}
-use Rattle.conc_journal.specs.declared.journal.JournalState.TheVariants.{Begun}
 use Rattle.conc_spool.specs.Spools.{KeepsBelow}
 use Rattle.conc_run_state.specs.Handed.{Handed, IsTaken}
+use Rattle.conc_run_state.specs.Inputs.{IsBegunFor}
 use Rattle.conc_run_state.specs.Survival.{Survives}
 use Rattle.conc_run_state.specs.Stored.{AreStored}
 use Rattle.conc_run_state.specs.Works.{AreReady, list_in}
@@ -15,7 +14,7 @@ use Rattle.conc_run_state.specs.declared.work.Work.{Work}
 
 -- a journal with the events found, with the resume of the life that begins or without
 abbrev pub HasOpening : Handed → List Event → List ℕ → Type 0
-HasOpening h found image = Survives h.digest found (opening found) image
+HasOpening h found image = Survives h.plan h.digests found (opening found) image
 
 -- a crash at some moment left of the journal what it might have left before, or such a journal
 abbrev pub LeavesOpening : Handed → List Event → Type 0
@@ -31,7 +30,7 @@ pub record IsBegun (h : Handed) (work : Work) : Type 0 where
   pub taken : IsTaken h found
   pub list : list_in work ≡ opening found
   pub ready : AreReady h.plan h.readings work h.disks.journal_after h.disks.spool_after
-  pub state : state_of work.journal ≡ Begun h.digest
+  pub begun_for : IsBegunFor h.plan h.digests work.journal
   pub left : LeavesOpening h found
   pub stored : StillStored h found
 

@@ -1,5 +1,6 @@
 -- Why no life begins.
 use Rattle.std.specs.Prelude.{◌≡◌, ◌⊎◌, ℕ, ◌+◌, ◌<◌, ◌≤◌, List, length, Option, None, IfSome, IsFalse, ⊤}
+use Rattle.conc_types.specs.declared.digests.Digests.{Digests}
 use Rattle.conc_types.specs.declared.event.Event.{Event}
 use Rattle.conc_types.specs.declared.plan.Plan.{Plan}
 use Rattle.conc_types.specs.declared.script.Reading.{Reading}
@@ -9,20 +10,21 @@ use Rattle.conc_law.specs.Law.{LawfulSoFar}
 use Rattle.conc_journal.specs.Opens.{may_open}
 use Rattle.conc_journal_image.specs.declared.layout.TheConstants.{MOST_RECORDS}
 use Rattle.conc_restart.specs.Need.{need}
-use Rattle.conc_run_state.specs.Causes.{IsOther}
+use Rattle.conc_run_state.specs.Causes.{IsOther, IsOtherScript}
 use Rattle.conc_run_state.specs.Judging.{IsBadFor, IsBadRecord}
 use Rattle.conc_run_state.specs.declared.error.HistoryFail.{HistoryFail}
 use Rattle.conc_run_state.specs.declared.error.HistoryFail.TheVariants as history_fail
 use Rattle.conc_run_state.specs.declared.error.DiskName.TheVariants as disk_name
 use Rattle.conc_run_open.specs.Extents.{counted}
 
--- this is no journal, or that of another input, or its disk failed, or there is no memory
-abbrev pub IsUnopened : List ℕ → DiskState → DiskState → HistoryFail → Type 0
-IsUnopened digest old new history_fail.NotJournal = IfSome old.seen (λ image. IsFalse (may_open image))
-IsUnopened digest old new (history_fail.OtherInput found) = IfSome old.seen (IsOther digest found)
-IsUnopened digest old new (history_fail.DiskFault disk_name.Journal) = Rose old.faults new.faults
-IsUnopened digest old new history_fail.NoMemory = ⊤
-IsUnopened digest old new _ = ⊥
+-- this is no journal, or that of another input or another script, or its disk failed, or there is no memory
+abbrev pub IsUnopened : Plan → Digests → DiskState → DiskState → HistoryFail → Type 0
+IsUnopened plan digests old new history_fail.NotJournal = IfSome old.seen (λ image. IsFalse (may_open image))
+IsUnopened plan digests old new (history_fail.OtherInput found given) = IfSome old.seen (IsOther digests found given)
+IsUnopened plan digests old new (history_fail.OtherScript command found given) = IfSome old.seen (IsOtherScript plan digests command found given)
+IsUnopened plan digests old new (history_fail.DiskFault disk_name.Journal) = Rose old.faults new.faults
+IsUnopened plan digests old new history_fail.NoMemory = ⊤
+IsUnopened plan digests old new _ = ⊥
 
 -- a record is bad for a spool of so many bytes, or there is no memory
 abbrev pub IsRefused : Plan → ℕ → List Event → Option ℕ → HistoryFail → Type 0

@@ -12,6 +12,7 @@ ghost use Rattle.conc_run_open.specs.Refusals.{LacksRoom, CannotBegin};
 
 use crate::judging::resume_whole;
 use crate::reading::{open_own, open_texts};
+use crate::scripts::stamps_due;
 use conc_disk::Disk;
 use conc_journal::{Journal, Opened};
 use conc_journal_image::MOST_RECORDS;
@@ -19,7 +20,7 @@ use conc_machine::Machine;
 use conc_restart::need;
 use conc_run_state::HistoryFail;
 use conc_spool::Spool;
-use conc_types::{Event, NoMemory, Plan, Readings};
+use conc_types::{Digests, Event, NoMemory, Plan, Readings};
 use std::alloc::Global;
 
 /// What a run has in hand before it writes. The machine stands for the events found with the resume of
@@ -29,6 +30,8 @@ pub struct Examined<'p> {
     pub(crate) machine: Machine<'p>,
     pub(crate) journal: Journal,
     pub(crate) spool: Spool,
+    // The stamps of the commands found, which a journal of version 1 does not have.
+    pub(crate) due: Vec<u64>,
 }
 
 impl Examined<'_> {
@@ -102,11 +105,13 @@ fn prepare<'p>(
     } = opened;
     let mut machine = resume_whole(alloc, plan, journal.events(), broken)?;
     make_room(plan, readings, &mut journal)?;
+    let due = stamps_due(alloc, plan, journal.events())?;
     match begin_life(alloc, &mut machine, readings, journal.events()) {
         Ok(()) => Ok(Examined {
             machine,
             journal,
             spool,
+            due,
         }),
         Err(NoMemory) => Err(HistoryFail::NoMemory),
     }
@@ -118,22 +123,22 @@ pub fn examine<'p, D: Disk, E: Disk>(
     alloc: Global,
     plan: &'p Plan,
     readings: &Readings,
-    digest: &[u8; 32],
+    digests: &Digests,
     journal: &mut D,
     spool: &mut E,
 ) -> Result<Examined<'p>, HistoryFail>
     ensures examined { IfOk result (IsExamined
-        (handed plan.now readings.now digest.now (D.state journal.old) (D.state journal.new)
+        (handed plan.now readings.now digests.now (D.state journal.old) (D.state journal.new)
         (E.state spool.old) (E.state spool.new))) }
-    ensures in_hand { IfOk result (λ examined. IsInHand digest.now examined (D.state journal.new)
+    ensures in_hand { IfOk result (λ examined. IsInHand digests.now examined (D.state journal.new)
         (E.state spool.new)) }
     ensures cause { IfErr result (HasCause
-        (handed plan.now readings.now digest.now (D.state journal.old) (D.state journal.new)
+        (handed plan.now readings.now digests.now (D.state journal.old) (D.state journal.new)
         (E.state spool.old) (E.state spool.new))) }
-    ensures untouched { IsUntouched (handed plan.now readings.now digest.now (D.state journal.old)
+    ensures untouched { IsUntouched (handed plan.now readings.now digests.now (D.state journal.old)
         (D.state journal.new) (E.state spool.old) (E.state spool.new)) }
 {
-    let opened = open_own(alloc, digest, journal)?;
+    let opened = open_own(alloc, plan, digests, journal)?;
     let texts = open_texts(alloc, plan, opened.journal.events(), spool)?;
     prepare(alloc, plan, readings, opened, texts)
 }

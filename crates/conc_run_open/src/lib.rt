@@ -9,6 +9,7 @@ mod judging;
 mod listing;
 mod opening;
 mod reading;
+mod scripts;
 mod starting;
 mod text;
 

@@ -12,7 +12,7 @@ ghost use Rattle.conc_run_state.specs.Handed.{handed, IsUntouched};
 ghost use Rattle.conc_run_state.specs.Works.{AreReady, list_in};
 ghost use Rattle.conc_run_state.specs.declared.error.HistoryFail.TheVariants as history_fail;
 ghost use Rattle.conc_run_state.specs.declared.error.DiskName.TheVariants as disk_name;
-ghost use Rattle.conc_run_open.specs.Examined.{MayBegin, MayStart, WasExamined, list_found};
+ghost use Rattle.conc_run_open.specs.Examined.{MayBegin, MayStartWith, WasExamined, list_found, plan_held};
 ghost use Rattle.conc_run_open.specs.Opening.{IsBegun, IsGivenUp};
 
 use crate::examining::{Examined, examine};
@@ -20,7 +20,7 @@ use crate::starting::start;
 use conc_disk::{Disk, DiskFault};
 use conc_journal::Receipt;
 use conc_run_state::{DiskName, HistoryFail, Work};
-use conc_types::{Plan, Readings};
+use conc_types::{Digests, Plan, Readings};
 use std::alloc::Global;
 
 /// A life that is begun.
@@ -35,28 +35,29 @@ pub struct Begun<'p> {
 /// resume where events were found, and hands out its receipt. The spool's disk is only lent.
 pub fn begin<'p, D: Disk, E: Disk>(
     examined: Examined<'p>,
-    digest: &[u8; 32],
+    digests: &Digests,
     journal: &mut D,
     spool: &E,
 ) -> Result<Begun<'p>, HistoryFail>
-    requires state { MayStart digest.now (state_of examined.journal) }
+    requires may { MayStartWith (plan_held examined) digests.now examined.due.items
+        examined.journal }
     requires room { 0 < room_of examined.journal }
     requires on { IsOn examined.journal (D.state journal.old) }
 
     // Of what was found on disks that stood so, whatever they were before.
     ensures begun { (plan : Plan) (readings : Readings) (before : D) (texts : E) → WasExamined
-        (handed plan readings digest.now (D.state before) (D.state journal.old) (E.state texts)
+        (handed plan readings digests.now (D.state before) (D.state journal.old) (E.state texts)
         (E.state spool.now)) examined.entry
-        → IfOk result (λ begun. IsBegun (handed plan readings digest.now (D.state before)
+        → IfOk result (λ begun. IsBegun (handed plan readings digests.now (D.state before)
         (D.state journal.new) (E.state texts) (E.state spool.now)) begun.work) }
     ensures given_up { (plan : Plan) (readings : Readings) (before : D) (texts : E) → WasExamined
-        (handed plan readings digest.now (D.state before) (D.state journal.old) (E.state texts)
+        (handed plan readings digests.now (D.state before) (D.state journal.old) (E.state texts)
         (E.state spool.now)) examined.entry
-        → OnErr result (IsGivenUp (handed plan readings digest.now (D.state before)
+        → OnErr result (IsGivenUp (handed plan readings digests.now (D.state before)
         (D.state journal.new) (E.state texts) (E.state spool.now))) }
 
     // Of what is in hand.
-    ensures ready { (plan : Plan) (readings : List Reading) → MayBegin plan readings digest.now
+    ensures ready { (plan : Plan) (readings : List Reading) → MayBegin plan readings digests.now
         examined.entry (D.state journal.old) (E.state spool.now)
         → IfOk result (λ begun. AreReady plan readings begun.work (D.state journal.new)
         (E.state spool.now)) }
@@ -71,8 +72,9 @@ pub fn begin<'p, D: Disk, E: Disk>(
         machine,
         journal: mut list,
         spool: texts,
+        due,
     } = examined;
-    match start(&mut list, journal, digest) {
+    match start(&mut list, journal, digests, &due) {
         Ok(resumed) => Ok(Begun {
             work: Work {
                 machine,
@@ -87,8 +89,8 @@ pub fn begin<'p, D: Disk, E: Disk>(
     }
 }
 
-/// Opens the journal and the spool of a run of this plan with these readings, whose input has this
-/// digest, and begins a life: it writes the header where no journal was begun, and adds a resume where
+/// Opens the journal and the spool of a run of this plan with these readings, whose input has these
+/// digests, and begins a life: it writes the header where no journal was begun, and adds a resume where
 /// events were found. Before that it judges all that stands there, in this order: whether it is a
 /// journal, and this input's; whether the spool can be read; the first record that is broken, that may
 /// not follow, or whose extent ends past the spool; and whether there is room for a life. It takes the
@@ -97,33 +99,33 @@ pub fn open<'p, D: Disk, E: Disk>(
     alloc: Global,
     plan: &'p Plan,
     readings: &Readings,
-    digest: &[u8; 32],
+    digests: &Digests,
     journal: &mut D,
     spool: &mut E,
 ) -> Result<Work<'p>, HistoryFail>
     ensures begun { IfOk result (IsBegun
-        (handed plan.now readings.now digest.now (D.state journal.old) (D.state journal.new)
+        (handed plan.now readings.now digests.now (D.state journal.old) (D.state journal.new)
         (E.state spool.old) (E.state spool.new))) }
 
     // Each cause, and what is written then.
     ensures cause { IfErr result (HasCause
-        (handed plan.now readings.now digest.now (D.state journal.old) (D.state journal.new)
+        (handed plan.now readings.now digests.now (D.state journal.old) (D.state journal.new)
         (E.state spool.old) (E.state spool.new))) }
     ensures untouched { IfErr result (λ e. IsFalse (is_journal_fault e)
-        → IsUntouched (handed plan.now readings.now digest.now (D.state journal.old)
+        → IsUntouched (handed plan.now readings.now digests.now (D.state journal.old)
         (D.state journal.new) (E.state spool.old) (E.state spool.new))) }
 
     // A crash at any moment. What it leaves where a life is begun stands above.
     ensures given_up { OnErr result (IsUntouched
-        (handed plan.now readings.now digest.now (D.state journal.old) (D.state journal.new)
+        (handed plan.now readings.now digests.now (D.state journal.old) (D.state journal.new)
         (E.state spool.old) (E.state spool.new))
-        ⊎ IsGivenUp (handed plan.now readings.now digest.now (D.state journal.old)
+        ⊎ IsGivenUp (handed plan.now readings.now digests.now (D.state journal.old)
         (D.state journal.new) (E.state spool.old) (E.state spool.new))) }
     ensures spool { Stays (E.state spool.old) (E.state spool.new) }
     ensures spool_survives { LeavesOnly (E.state spool.old).may_leave (E.state spool.old)
         (E.state spool.new) }
 {
-    let examined = examine(alloc, plan, readings, digest, journal, spool)?;
-    let Begun { work, .. } = begin(examined, digest, journal, spool)?;
+    let examined = examine(alloc, plan, readings, digests, journal, spool)?;
+    let Begun { work, .. } = begin(examined, digests, journal, spool)?;
     Ok(work)
 }

@@ -1,30 +1,98 @@
-ghost use Rattle.std.specs.Prelude.{◌≡◌, ◌+◌, ◌<◌, IfOk, IfSome, IsNone, length, OnErr, OnOk, Some};
+ghost use Rattle.std.specs.Prelude.{◌≡◌, ◌+◌, ◌<◌, IfOk, IfSome, IsFalse, IsNone, IsTrue, length, OnErr, OnOk, Some};
 ghost use Rattle.conc_outside.specs.Counts.{Rose};
+ghost use Rattle.conc_types.specs.declared.digests.Digests.{Digests as DigestsOf};
+ghost use Rattle.conc_types.specs.declared.plan.Plan.{Plan};
 ghost use Rattle.conc_law.specs.Alone.{opening};
 ghost use Rattle.conc_disk.specs.Left.{EachImage, LeavesOnly};
 ghost use Rattle.conc_journal.specs.Journals.{IsOn, list_of, room_of, state_of};
+ghost use Rattle.conc_journal.specs.JournalStates.{has_faulted, takes_events};
 ghost use Rattle.conc_journal.specs.Receipts.{IsNextOf};
-ghost use Rattle.conc_journal.specs.declared.journal.JournalState.TheVariants.{Begun};
+ghost use Rattle.conc_run_state.specs.Inputs.{IsBegunFor};
 ghost use Rattle.conc_run_state.specs.Survival.{Survives};
-ghost use Rattle.conc_run_open.specs.Examined.{MayStart};
+ghost use Rattle.conc_run_open.specs.Examined.{MayStartWith};
 
 use conc_disk::{Disk, DiskFault};
 use conc_journal::{Journal, Receipt};
-use conc_types::Event;
+use conc_types::{Digests, Event};
 
-/// Begins a life in a journal: the header where none was begun, and a resume where it has events. It hands out
-/// the receipt of the resume, where it added one.
+// Brings a journal that was begun to version 2, with these stamps, unless it is of that version.
+fn renew<D: Disk>(
+    journal: &mut Journal,
+    disk: &mut D,
+    digests: &Digests,
+    due: &[u64],
+) -> Result<(), DiskFault>
+    requires may { (plan : Plan) × MayStartWith plan digests.now due.now journal.old }
+    requires begun { IsTrue (takes_events (state_of journal.old)) }
+    requires on { IsOn journal.old (D.state disk.old) }
+    ensures on { IsOn journal.new (D.state disk.new) }
+    ensures begun_for { (plan : Plan) → MayStartWith plan digests.now due.now journal.old
+        → OnOk result (IsBegunFor plan digests.now journal.new) }
+    ensures list { list_of journal.new ≡ list_of journal.old }
+    ensures room { room_of journal.new ≡ room_of journal.old }
+    ensures fault { OnErr result (Rose (D.state disk.old).faults (D.state disk.new).faults) }
+    ensures survives { (plan : Plan) → MayStartWith plan digests.now due.now journal.old
+        → LeavesOnly (Survives plan digests.now (list_of journal.old) (list_of journal.old))
+        (D.state disk.old) (D.state disk.new) }
+    ensures now { (plan : Plan) → MayStartWith plan digests.now due.now journal.old
+        → EachImage (Survives plan digests.now (list_of journal.old) (list_of journal.old))
+        (D.state disk.new) }
+{
+    if journal.is_of_version_one() {
+        journal.migrate(disk, &digests.base, due)
+    } else {
+        Ok(())
+    }
+}
+
+// Adds a resume where the journal has events.
+fn resume<D: Disk>(journal: &mut Journal, disk: &mut D) -> Result<Option<Receipt>, DiskFault>
+    requires begun { IsTrue (takes_events (state_of journal.old)) }
+    requires sound { IsFalse (has_faulted (state_of journal.old)) }
+    requires room { 0 < room_of journal.old }
+    requires on { IsOn journal.old (D.state disk.old) }
+    ensures on { OnOk result (IsOn journal.new (D.state disk.new)) }
+    ensures begun_for { (plan : Plan) (digests : DigestsOf) → IsBegunFor plan digests journal.old
+        → OnOk result (IsBegunFor plan digests journal.new) }
+    ensures list { OnOk result (list_of journal.new ≡ opening (list_of journal.old)) }
+    ensures room { OnOk result (room_of journal.new + length (list_of journal.new)
+        ≡ room_of journal.old + length (list_of journal.old)) }
+    ensures receipt { IfOk result (λ resumed. IfSome resumed
+        (IsNextOf (Some (list_of journal.old)) (λ list. list ≡ list_of journal.new))) }
+    ensures still { IfOk result (λ resumed. IsNone resumed
+        → list_of journal.new ≡ list_of journal.old) }
+    ensures fault { OnErr result (Rose (D.state disk.old).faults (D.state disk.new).faults) }
+    ensures survives { (plan : Plan) (digests : DigestsOf) → IsBegunFor plan digests journal.old
+        → LeavesOnly (Survives plan digests (list_of journal.old) (opening (list_of journal.old)))
+        (D.state disk.old) (D.state disk.new) }
+    ensures now { (plan : Plan) (digests : DigestsOf) → IsBegunFor plan digests journal.old
+        → EachImage (Survives plan digests (list_of journal.old) (opening (list_of journal.old)))
+        (D.state disk.new) }
+{
+    if journal.events().is_empty() {
+        return Ok(None);
+    }
+    match journal.append(disk, Event::Resume, 0) {
+        Ok(receipt) => Ok(Some(receipt)),
+        Err(_) => Err(DiskFault),
+    }
+}
+
+/// Begins a life in a journal: the header where none was begun; version 2 where it is of version 1; and a
+/// resume where it has events. It hands out the receipt of the resume, where it added one.
 pub(crate) fn start<D: Disk>(
     journal: &mut Journal,
     disk: &mut D,
-    digest: &[u8; 32],
+    digests: &Digests,
+    due: &[u64],
 ) -> Result<Option<Receipt>, DiskFault>
-    requires state { MayStart digest.now (state_of journal.old) }
+    requires may { (plan : Plan) × MayStartWith plan digests.now due.now journal.old }
     requires room { 0 < room_of journal.old }
     requires on { IsOn journal.old (D.state disk.old) }
 
     ensures on { OnOk result (IsOn journal.new (D.state disk.new)) }
-    ensures state { OnOk result (state_of journal.new ≡ Begun digest.now) }
+    ensures begun_for { (plan : Plan) → MayStartWith plan digests.now due.now journal.old
+        → OnOk result (IsBegunFor plan digests.now journal.new) }
     ensures list { OnOk result (list_of journal.new ≡ opening (list_of journal.old)) }
     ensures room { OnOk result (room_of journal.new + length (list_of journal.new)
         ≡ room_of journal.old + length (list_of journal.old)) }
@@ -34,20 +102,17 @@ pub(crate) fn start<D: Disk>(
         → list_of journal.new ≡ list_of journal.old) }
     ensures fault { OnErr result (Rose (D.state disk.old).faults (D.state disk.new).faults) }
 
-    ensures survives { LeavesOnly (Survives digest.now (list_of journal.old)
+    ensures survives { (plan : Plan) → MayStartWith plan digests.now due.now journal.old
+        → LeavesOnly (Survives plan digests.now (list_of journal.old)
         (opening (list_of journal.old))) (D.state disk.old) (D.state disk.new) }
-    ensures now { EachImage (Survives digest.now (list_of journal.old)
+    ensures now { (plan : Plan) → MayStartWith plan digests.now due.now journal.old
+        → EachImage (Survives plan digests.now (list_of journal.old)
         (opening (list_of journal.old))) (D.state disk.new) }
 {
     if !journal.takes_events() {
-        journal.begin(disk, digest)?;
+        journal.begin(disk, digests)?;
         return Ok(None);
     }
-    if journal.events().is_empty() {
-        return Ok(None);
-    }
-    match journal.append(disk, Event::Resume) {
-        Ok(receipt) => Ok(Some(receipt)),
-        Err(_) => Err(DiskFault),
-    }
+    renew(journal, disk, digests, due)?;
+    resume(journal, disk)
 }

@@ -10,7 +10,7 @@ use crate::reading::{open_own, open_texts};
 use conc_disk::Disk;
 use conc_run_state::{DiskName, HistoryFail};
 use conc_spool::ReadBack;
-use conc_types::{Event, Extent, Plan, RequestId};
+use conc_types::{Digests, Event, Extent, Plan, RequestId};
 use std::alloc::Global;
 
 // Where the report of this request stands, if the event is its end and has one.
@@ -40,21 +40,21 @@ fn find_report(events: &[Event], id: RequestId) -> Option<Extent>
 }
 
 /// The text of the report with which this request ended, from the spool of a run of this plan, whose
-/// input has this digest. It writes nothing. It judges what stands on the disks, in this order: whether
+/// input has these digests. It writes nothing. It judges what stands on the disks, in this order: whether
 /// there is a journal, and this input's; whether the spool can be read; and the first record that is
 /// broken, that may not follow, or whose extent ends past the spool. Only then it looks for the end of
 /// the request and reads its text.
 pub fn read_text<D: Disk, E: Disk>(
     alloc: Global,
     plan: &Plan,
-    digest: &[u8; 32],
+    digests: &Digests,
     id: RequestId,
     journal: &mut D,
     spool: &mut E,
 ) -> Result<Vec<u8>, TextFail>
-    ensures text { IfOk result (λ text. HasText plan.now digest.now id (D.state journal.old)
+    ensures text { IfOk result (λ text. HasText plan.now digests.now id (D.state journal.old)
         (E.state spool.old) text.items) }
-    ensures cause { IfErr result (HasTextCause plan.now digest.now id
+    ensures cause { IfErr result (HasTextCause plan.now digests.now id
         (disks (D.state journal.old) (D.state journal.new) (E.state spool.old)
         (E.state spool.new))) }
 
@@ -65,7 +65,7 @@ pub fn read_text<D: Disk, E: Disk>(
     ensures spool_survives { LeavesOnly (E.state spool.old).may_leave (E.state spool.old)
         (E.state spool.new) }
 {
-    let opened = open_own(alloc, digest, journal)?;
+    let opened = open_own(alloc, plan, digests, journal)?;
     let texts = open_texts(alloc, plan, opened.journal.events(), spool)?;
     resume_whole(alloc, plan, opened.journal.events(), opened.broken)?;
     let Some(extent) = find_report(opened.journal.events(), id) else {

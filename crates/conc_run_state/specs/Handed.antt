@@ -1,5 +1,6 @@
 -- What a run is handed, and what it finds.
 use Rattle.std.specs.Prelude.{◌≡◌, ℕ, ◌+◌, ◌≤◌, List, length, None, IfSome, IsTrue}
+use Rattle.conc_types.specs.declared.digests.Digests.{Digests}
 use Rattle.conc_types.specs.declared.event.Event.{Event}
 use Rattle.conc_types.specs.declared.plan.Plan.{Plan}
 use Rattle.conc_types.specs.declared.script.Reading.{Reading}
@@ -11,20 +12,20 @@ use Rattle.conc_journal_image.specs.declared.layout.TheConstants.{MOST_RECORDS}
 use Rattle.conc_restart.specs.Need.{need}
 use Rattle.conc_run_state.specs.Disks.{AreUntouched, Disks, disks}
 use Rattle.conc_run_state.specs.Judging.{EndWithin}
-use Rattle.conc_run_state.specs.Survival.{IsOwn}
+use Rattle.conc_run_state.specs.Inputs.{IsOwn}
 
--- its plan and readings, the digest of its input, and its two disks before and after
+-- its plan and readings, the digests of its input, and its two disks before and after
 pub record Handed : Type 1 where
   pub plan : Plan
   pub readings : List Reading
-  pub digest : List ℕ
+  pub digests : Digests
   pub disks : Disks
 
-abbrev pub handed : Plan → Readings → List ℕ → DiskState → DiskState → DiskState → DiskState → Handed
-handed plan readings digest journal journal' spool spool' = record {
+abbrev pub handed : Plan → Readings → Digests → DiskState → DiskState → DiskState → DiskState → Handed
+handed plan readings digests journal journal' spool spool' = record {
   plan = plan;
   readings = readings.list;
-  digest = digest;
+  digests = digests;
   disks = disks journal journal' spool spool';
 }
 
@@ -33,15 +34,15 @@ abbrev pub IsUntouched : Handed → Type 0
 IsUntouched h = AreUntouched h.disks
 
 -- the image is that of a journal of this input, or of one that is not begun
-pub record IsOwnJournal (digest : List ℕ) (image : List ℕ) : Type 0 where
+pub record IsOwnJournal (plan : Plan) (digests : Digests) (image : List ℕ) : Type 0 where
   pub opens : IsTrue (may_open image)
-  pub own : IsOwn digest image
+  pub own : IsOwn plan digests image
 
 -- These are the events found. They are lawful, every life judged as an earlier one. Where the journal's disk exposes its bytes, they are
 -- those of a journal of this input of which no record is broken; and where the spool's does, each extent ends within it.
 pub record IsFound (h : Handed) (found : List Event) : Type 0 where
   pub so_far : LawfulSoFar h.plan found
-  pub own : IfSome h.disks.journal_before.seen (IsOwnJournal h.digest)
+  pub own : IfSome h.disks.journal_before.seen (IsOwnJournal h.plan h.digests)
   pub whole : IfSome h.disks.journal_before.seen (λ image. broken_of image ≡ None)
   pub events : IfSome h.disks.journal_before.seen (λ image. found ≡ events_of image)
   pub within : IfSome h.disks.spool_before.seen (λ texts. EndWithin (length texts) found)

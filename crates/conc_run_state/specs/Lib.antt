@@ -7,3 +7,4 @@ pub mod Handed
 pub mod Judging
 pub mod Causes
 pub mod Fits
+pub mod Inputs

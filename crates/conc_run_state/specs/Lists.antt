@@ -11,7 +11,7 @@ use Rattle.conc_law.specs.Law.{Lawful}
 use Rattle.conc_journal.specs.Journals.{list_of, state_of}
 use Rattle.conc_journal.specs.declared.journal.Journal.{Journal}
 use Rattle.conc_journal.specs.declared.journal.JournalState.{JournalState}
-use Rattle.conc_journal.specs.declared.journal.JournalState.TheVariants.{NotBegun, BeginFailed, Begun, Broken, AppendFailed}
+use Rattle.conc_journal.specs.declared.journal.JournalState.TheVariants.{NotBegun, BeginFailed, Begun, Broken, AppendFailed, MigrateFailed}
 
 -- the second list begins with the first
 abbrev pub IsPrefix : List Event → List Event → Type 0
@@ -33,10 +33,11 @@ GoesOnAlone plan readings first list = Follows plan readings (length first) list
 -- the events whose append met a fault: each is the last that the disk may have
 abbrev pub failed_in : JournalState → List Event
 failed_in NotBegun = []
-failed_in (BeginFailed digest) = []
-failed_in (Begun digest) = []
-failed_in (Broken digest) = []
-failed_in (AppendFailed digest event) = event ∷ []
+failed_in (BeginFailed label) = []
+failed_in (Begun label) = []
+failed_in (Broken label) = []
+failed_in (AppendFailed label event stamp) = event ∷ []
+failed_in (MigrateFailed label base) = []
 
 -- the longest list that the disk of a journal may have
 abbrev pub longest_of : Journal → List Event

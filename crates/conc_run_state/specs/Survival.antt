@@ -1,18 +1,17 @@
 -- What a crash at any moment may leave of a journal.
-use Rattle.std.specs.Prelude.{◌≡◌, ◌⊎◌, ℕ, List, None, Some, IsTrue}
+use Rattle.std.specs.Prelude.{◌≡◌, ℕ, List, None, IsTrue}
+use Rattle.conc_types.specs.declared.digests.Digests.{Digests}
 use Rattle.conc_types.specs.declared.event.Event.{Event}
-use Rattle.conc_journal.specs.Opens.{broken_of, digest_of, events_of, may_open}
+use Rattle.conc_types.specs.declared.plan.Plan.{Plan}
+use Rattle.conc_journal.specs.Opens.{broken_of, events_of, may_open}
+use Rattle.conc_run_state.specs.Inputs.{IsOwn}
 use Rattle.conc_run_state.specs.Lists.{IsPrefix}
 
--- none was begun, or one with this digest
-abbrev pub IsOwn : List ℕ → List ℕ → Type 0
-IsOwn digest image = (digest_of image ≡ None) ⊎ (digest_of image ≡ Some digest)
-
--- the image is that of a journal with this digest, or of one that is not begun, which has the empty list; no record of
+-- the image is that of a journal of this input, or of one that is not begun, which has the empty list; no record of
 -- it is broken, and its list begins with the first one and is a beginning of the last one
-pub record Survives (digest : List ℕ) (first last : List Event) (image : List ℕ) : Type 0 where
+pub record Survives (plan : Plan) (digests : Digests) (first last : List Event) (image : List ℕ) : Type 0 where
   pub opens : IsTrue (may_open image)
-  pub own : IsOwn digest image
+  pub own : IsOwn plan digests image
   pub whole : broken_of image ≡ None
   pub begins : IsPrefix first (events_of image)
   pub within : IsPrefix (events_of image) last

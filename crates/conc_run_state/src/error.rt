@@ -24,9 +24,17 @@ pub enum RunFail {
 pub enum HistoryFail {
     #[error("this is no journal")]
     NotJournal,
-    /// The journal is that of another input, with this digest.
+    /// The journal is that of another input: in its version it has `found` where this input has `given`.
     #[error("the journal is that of another input")]
-    OtherInput { found: [u8; 32] },
+    OtherInput { found: [u8; 32], given: [u8; 32] },
+    /// The journal is that of another script. It has this command with the stamp `found`, and the script
+    /// with `given`, which is 0 where the script has no such command.
+    #[error("command {command} is another one in the journal")]
+    OtherScript {
+        command: u32,
+        found: u64,
+        given: u64,
+    },
     /// The record with this number, from 1, is broken or not lawful, or its extent ends past the spool.
     #[error("record {number} is not lawful")]
     Unlawful { number: u64 },

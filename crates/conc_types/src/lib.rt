@@ -4,6 +4,7 @@
 
 mod cells;
 mod decimal;
+mod digests;
 mod error;
 mod event;
 mod facts;
@@ -25,6 +26,7 @@ mod text;
 
 pub use cells::Cells;
 pub use decimal::{put_decimal, read_decimal};
+pub use digests::Digests;
 pub use error::{CheckFail, NoMemory, ReadFail};
 pub use event::{Event, Extent, Moment, Outcome, Phase, PlaceId, RequestId, Status};
 pub use facts::{Facts, State};

@@ -26,17 +26,21 @@ pub struct Req {
 }
 
 /// What is to be run: a setup, the commands of a script that fits it, the tables that its programs
-/// report on, and the requests that the commands enter, in the order of their numbers.
+/// report on, the requests that the commands enter, in the order of their numbers, and a stamp for each
+/// command.
 #[derive(Drop)]
 pub struct Plan {
     pub setup: Setup,
     pub script: Script,
     pub tables: Seq<Table>,
     pub requests: Seq<Req>,
+    /// The stamp of each command, which stands for it and those before it.
+    pub stamps: Seq<u64>,
     ghost commands: { IsTrue (are_commands setup script.commands) },
     ghost reports: { IsTrue (are_tables setup tables) },
     ghost expanded: { requests ≡ expansion setup script.commands },
     ghost few: { length requests ≤ 16384 },
+    ghost stamped: { length stamps ≡ length script.commands },
 }
 
 impl Plan {
@@ -49,5 +53,12 @@ impl Plan {
         ensures { option_copied result ≡ spec.request self.now id }
     {
         numbered(self.requests.as_slice(), id.number)
+    }
+
+    /// The stamp of the command with this number, from 1, if there is one. It takes no memory.
+    pub fn stamp(&self, command: u32) -> Option<u64>
+        ensures { result ≡ spec.stamp self.now command }
+    {
+        numbered(self.stamps.as_slice(), command).copied()
     }
 }

@@ -160,9 +160,11 @@ twice_ended = record {
       record { columns = codes "account" ∷ codes "period" ∷ codes "cents" ∷ []; rows = []; distinct = refl; even = refl; few = lit≤ tt }
       ∷ record { columns = codes "supplier" ∷ []; rows = []; distinct = refl; even = refl; few = lit≤ tt } ∷ [];
   requests = expansion department (month_end_by (codes "ann") ∷ month_end_by (codes "batch") ∷ []);
+  stamps = 0 ∷ 0 ∷ [];
   commands = refl;
   reports = refl;
   expanded = refl;
+  stamped = refl;
   few = lit≤ tt;
 }
 

@@ -49,9 +49,11 @@ r94 = record {
   script = record { commands = r94_commands; few = lit≤ tt };
   tables = (record { columns = ((codes "k") ∷ (codes "v") ∷ []); rows = (((codes "b") ∷ (codes "3") ∷ []) ∷ []); distinct = refl; even = refl; few = lit≤ tt } ∷ []);
   requests = expansion r94_setup r94_commands;
+  stamps = map (λ (order : Order). 0) r94_commands;
   commands = refl;
   reports = refl;
   expanded = refl;
+  stamped = refl;
   few = lit≤ tt;
 }
 
@@ -126,9 +128,11 @@ r107 = record {
   script = record { commands = r107_commands; few = lit≤ tt };
   tables = (record { columns = ((codes "k") ∷ (codes "v") ∷ []); rows = []; distinct = refl; even = refl; few = lit≤ tt } ∷ []);
   requests = expansion r107_setup r107_commands;
+  stamps = map (λ (order : Order). 0) r107_commands;
   commands = refl;
   reports = refl;
   expanded = refl;
+  stamped = refl;
   few = lit≤ tt;
 }
 
@@ -203,9 +207,11 @@ r57 = record {
   script = record { commands = r57_commands; few = lit≤ tt };
   tables = (record { columns = ((codes "k") ∷ (codes "v") ∷ []); rows = (((codes "b") ∷ (codes "1") ∷ []) ∷ ((codes "b") ∷ (codes "1") ∷ []) ∷ []); distinct = refl; even = refl; few = lit≤ tt } ∷ []);
   requests = expansion r57_setup r57_commands;
+  stamps = map (λ (order : Order). 0) r57_commands;
   commands = refl;
   reports = refl;
   expanded = refl;
+  stamped = refl;
   few = lit≤ tt;
 }
 
@@ -280,9 +286,11 @@ r89 = record {
   script = record { commands = r89_commands; few = lit≤ tt };
   tables = (record { columns = ((codes "k") ∷ (codes "v") ∷ []); rows = (((codes "b") ∷ (codes "1") ∷ []) ∷ ((codes "b") ∷ (codes "3") ∷ []) ∷ []); distinct = refl; even = refl; few = lit≤ tt } ∷ []);
   requests = expansion r89_setup r89_commands;
+  stamps = map (λ (order : Order). 0) r89_commands;
   commands = refl;
   reports = refl;
   expanded = refl;
+  stamped = refl;
   few = lit≤ tt;
 }
 

@@ -49,9 +49,11 @@ c83 = record {
   script = record { commands = c83_commands; few = lit≤ tt };
   tables = (record { columns = ((codes "k") ∷ (codes "v") ∷ []); rows = []; distinct = refl; even = refl; few = lit≤ tt } ∷ []);
   requests = expansion c83_setup c83_commands;
+  stamps = map (λ (order : Order). 0) c83_commands;
   commands = refl;
   reports = refl;
   expanded = refl;
+  stamped = refl;
   few = lit≤ tt;
 }
 
@@ -122,9 +124,11 @@ c57 = record {
   script = record { commands = c57_commands; few = lit≤ tt };
   tables = (record { columns = ((codes "k") ∷ (codes "v") ∷ []); rows = (((codes "b") ∷ (codes "1") ∷ []) ∷ ((codes "b") ∷ (codes "1") ∷ []) ∷ []); distinct = refl; even = refl; few = lit≤ tt } ∷ []);
   requests = expansion c57_setup c57_commands;
+  stamps = map (λ (order : Order). 0) c57_commands;
   commands = refl;
   reports = refl;
   expanded = refl;
+  stamped = refl;
   few = lit≤ tt;
 }
 
@@ -191,9 +195,11 @@ c6 = record {
   script = record { commands = c6_commands; few = lit≤ tt };
   tables = (record { columns = ((codes "k") ∷ (codes "v") ∷ []); rows = (((codes "b") ∷ (codes "1") ∷ []) ∷ ((codes "b") ∷ (codes "1") ∷ []) ∷ ((codes "a") ∷ (codes "1") ∷ []) ∷ []); distinct = refl; even = refl; few = lit≤ tt } ∷ []);
   requests = expansion c6_setup c6_commands;
+  stamps = map (λ (order : Order). 0) c6_commands;
   commands = refl;
   reports = refl;
   expanded = refl;
+  stamped = refl;
   few = lit≤ tt;
 }
 
@@ -260,9 +266,11 @@ c130 = record {
   script = record { commands = c130_commands; few = lit≤ tt };
   tables = (record { columns = ((codes "k") ∷ (codes "v") ∷ []); rows = (((codes "b") ∷ (codes "3") ∷ []) ∷ ((codes "b") ∷ (codes "3") ∷ []) ∷ []); distinct = refl; even = refl; few = lit≤ tt } ∷ []);
   requests = expansion c130_setup c130_commands;
+  stamps = map (λ (order : Order). 0) c130_commands;
   commands = refl;
   reports = refl;
   expanded = refl;
+  stamped = refl;
   few = lit≤ tt;
 }
 
@@ -329,9 +337,11 @@ c84 = record {
   script = record { commands = c84_commands; few = lit≤ tt };
   tables = (record { columns = ((codes "k") ∷ (codes "v") ∷ []); rows = []; distinct = refl; even = refl; few = lit≤ tt } ∷ []);
   requests = expansion c84_setup c84_commands;
+  stamps = map (λ (order : Order). 0) c84_commands;
   commands = refl;
   reports = refl;
   expanded = refl;
+  stamped = refl;
   few = lit≤ tt;
 }
 

@@ -49,9 +49,11 @@ w7 = record {
   script = record { commands = w7_commands; few = lit≤ tt };
   tables = (record { columns = ((codes "k") ∷ (codes "v") ∷ []); rows = []; distinct = refl; even = refl; few = lit≤ tt } ∷ []);
   requests = expansion w7_setup w7_commands;
+  stamps = map (λ (order : Order). 0) w7_commands;
   commands = refl;
   reports = refl;
   expanded = refl;
+  stamped = refl;
   few = lit≤ tt;
 }
 
@@ -154,9 +156,11 @@ w40 = record {
   script = record { commands = w40_commands; few = lit≤ tt };
   tables = (record { columns = ((codes "k") ∷ (codes "v") ∷ []); rows = (((codes "b") ∷ (codes "3") ∷ []) ∷ []); distinct = refl; even = refl; few = lit≤ tt } ∷ []);
   requests = expansion w40_setup w40_commands;
+  stamps = map (λ (order : Order). 0) w40_commands;
   commands = refl;
   reports = refl;
   expanded = refl;
+  stamped = refl;
   few = lit≤ tt;
 }
 
@@ -263,9 +267,11 @@ w23 = record {
   script = record { commands = w23_commands; few = lit≤ tt };
   tables = (record { columns = ((codes "k") ∷ (codes "v") ∷ []); rows = (((codes "a") ∷ (codes "-2") ∷ []) ∷ ((codes "a") ∷ (codes "1") ∷ []) ∷ ((codes "a") ∷ (codes "3") ∷ []) ∷ []); distinct = refl; even = refl; few = lit≤ tt } ∷ []);
   requests = expansion w23_setup w23_commands;
+  stamps = map (λ (order : Order). 0) w23_commands;
   commands = refl;
   reports = refl;
   expanded = refl;
+  stamped = refl;
   few = lit≤ tt;
 }
 

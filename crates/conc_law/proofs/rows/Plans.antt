@@ -1,9 +1,10 @@
 -- The parts of the plans and histories that this folder computes with.
-use Rattle.std.proofs.Common.{ℕ, ◌+◌, ◌*◌, ◌%◌, ◌<◌, ◌≤◌, Bool, true, false, ◌&&◌, List, [], ◌∷◌, length, lit<, lit≤, refl, Option, None, Some, mod-lt}
+use Rattle.std.proofs.Common.{ℕ, ◌+◌, ◌*◌, ◌%◌, ◌<◌, ◌≤◌, Bool, true, false, ◌&&◌, List, [], ◌∷◌, length, map, lit<, lit≤, refl, Option, None, Some, mod-lt}
 use Rattle.std.specs.Prelude.{codes, nat_le, IsTrue}
 use Rattle.std.specs.List.{sum_by}
 use Rattle.std.specs.Str.{is_utf8, chars}
 use Rattle.std.proofs.lemmas.Bool.{and_parts, leb-true}
+use Rattle.std.proofs.lemmas.List.{length-map}
 use Rattle.conc_types.specs.declared.event.Event.{Event}
 use Rattle.conc_types.specs.declared.event.Event.TheVariants as event
 use Rattle.conc_types.specs.declared.event.Moment.{Moment}
@@ -229,10 +230,12 @@ plan setup commands fits = record {
   script = record { commands = commands; few = (fitting setup commands fits).0 };
   tables = three_rows ∷ [];
   requests = expansion setup commands;
+  stamps = map (λ (order : Order). 0) commands;
   commands = (fitting setup commands fits).1;
   reports = (fitting setup commands fits).2;
   expanded = refl;
   few = (fitting setup commands fits).3;
+  stamped = length-map commands (λ order. 0);
 }
 
 -- ---- readings and histories

@@ -1,0 +1,5 @@
+use Rattle.conc_journal_image.proofs.Turns.{basing-keeps}
+use Rattle.conc_journal_image.proofs.laws.basing_keeps.Goals as goal
+
+pub returns : goal.returns
+returns c = λ label stamps old new events one j long front back. basing-keeps label stamps old new events one j long front back
