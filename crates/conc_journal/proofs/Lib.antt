@@ -5,3 +5,5 @@ mod Begins
 mod Opening
 pub mod Steps
 mod Written
+mod Stamping
+mod Versions

@@ -1,5 +1,5 @@
 -- What is read of a disk and found there.
-use Rattle.std.proofs.Common.{◌≡◌, ℕ, ◌≤◌, min, Bool, true, false, ◌||◌, if◌then◌else◌, List, [], IsFalse, IsTrue, IsNone, IfOk, Result, Ok, Err, refl, length, take, drop, Option, None, Some, IfSome, subst, sym, ap, ◌∙◌, arith, tt}
+use Rattle.std.proofs.Common.{◌≡◌, ℕ, ◌≤◌, min, Bool, true, false, ◌||◌, if◌then◌else◌, List, [], IsFalse, IsTrue, IsNone, IfOk, Result, Ok, Err, refl, length, take, drop, Option, None, Some, IfSome, subst, sym, ap, ◌∙◌, arith}
 use Rattle.std.proofs.lemmas.List.{take_min}
 use Rattle.conc_types.specs.declared.event.Event.{Event}
 use Rattle.conc_disk.specs.Disk.{DiskState, LeavesWhatWasSeen, Stays}

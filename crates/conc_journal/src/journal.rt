@@ -342,7 +342,7 @@ impl Journal {
 fn push_within<T: Copy>(items: &mut Vec<T>, item: T)
     requires { vec_len items.old < vec_capacity items.old }
     ensures items { items.new.items ≡ items.old.items ++ item ∷ [] }
-    ensures capacity { vec_capacity items.new ≡ vec_capacity items.old }
+    ensures capacity { vec_capacity items.old ≤ vec_capacity items.new }
 {
     match items.push(item) {
         Ok(()) => (),

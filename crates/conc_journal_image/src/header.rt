@@ -1,10 +1,11 @@
 ghost use Rattle.std.specs.Prelude.{◌≡◌, ◌≤◌, [], ◌∷◌, ◌++◌, codes, drop, length, take};
 ghost use Rattle.std.specs.Str.{bytes_eq};
-ghost use Rattle.conc_journal_image.specs.Headers.{BeginsJournal, header_behind, IsJudged, label_of};
+ghost use Rattle.conc_journal_image.specs.Headers.{BeginsJournal, header_behind, IsJudged, label_for};
 ghost use Rattle.conc_journal_image.specs.Image as image_spec;
 ghost use Rattle.conc_journal_image.specs.Image.{base_in, digest_in, has_header, is_closed, is_not_begun, label_in};
 
-use crate::label::{Label, Version};
+use crate::label::{Label, Version, base_of};
+use conc_types::Digests;
 
 // What a journal says of itself behind its gate.
 const TITLE: &[u8; 15] = b"conc journal 1\n";
@@ -115,7 +116,9 @@ pub fn judge_header(image: &[u8]) -> Header
 
 // Both digests, one behind the other.
 fn joined(digest: &[u8; 32], base: &[u8; 15]) -> [u8; 47]
-    ensures { result ≡ digest.now ++ base.now }
+    ensures bytes { result ≡ digest.now ++ base.now }
+    ensures long { length digest.now ≡ 32 }
+    ensures short { length base.now ≡ 15 }
 {
     let mut bytes = [0; 47];
     bytes[..32].copy_from_slice(digest);
@@ -136,9 +139,10 @@ fn header_bytes(digests: &[u8; 47]) -> [u8; 64]
 
 /// The bytes 1 to 64 of a journal's file: the header behind its gate, of version 2 with these digests,
 /// and the closed gate of the first record.
-pub fn header_of(digest: &[u8; 32], base: &[u8; 15]) -> [u8; 64]
-    ensures bytes { result ≡ header_behind digest.now base.now }
-    ensures begins { BeginsJournal (label_of digest.now base.now) result }
+pub fn header_of(digests: &Digests) -> [u8; 64]
+    ensures bytes { result ≡ header_behind digests.now.full (take 15 digests.now.base) }
+    ensures begins { BeginsJournal (label_for digests.now) result }
 {
-    header_bytes(&joined(digest, base))
+    let base = base_of(&digests.base);
+    header_bytes(&joined(&digests.full, &base))
 }

@@ -11,8 +11,8 @@ put-behind first second rest long few =
     ∙ ap (λ xs. first ++ (second ++ xs)) (drop_all 15 rest (omega arith))
     ∙ ap (λ xs. first ++ xs) (append-nil second)
 
-pub returns : goal.returns
-returns c =
+pub returns-clause-bytes : goal.returns-clause-bytes
+returns-clause-bytes c =
     ap (λ xs. put_mid 32 15 (xs ++ replicate 15 0) c.copy_from_slice-2.new.self) c.copy_from_slice.ensures.after
     ∙ ap (λ xs. put_mid 32 15 (c.args.digest.now ++ replicate 15 0) xs) c.copy_from_slice-2.ensures.after
     ∙ put-behind c.args.digest.now c.args.base.now (replicate 15 0) c.told-digest refl
