@@ -1,4 +1,4 @@
-ghost use Rattle.std.specs.Prelude.{ℕ, ◌^◌, ◌<◌, List, [], ◌∷◌, ◌++◌, length};
+ghost use Rattle.std.specs.Prelude.{ℕ, List, [], ◌∷◌, ◌++◌};
 ghost use Rattle.std.specs.Int.{to_be_bytes, w32, w64};
 ghost use Rattle.sha2.specs.Hashers.{Holds256};
 ghost use Rattle.conc_plan_stamps.specs.Stamps.{act_coding, coding, item_coding, request_coding, sized};
@@ -14,12 +14,12 @@ fn add_word(hasher: &mut Sha256, number: u32)
     hasher.update(number.to_be_bytes());
 }
 
-// Takes in bytes with their number before them.
+// Takes in bytes with their number before them, in 4 bytes.
 fn add_sized(hasher: &mut Sha256, bytes: &[u8])
-    requires { length bytes.now < 2 ^ 32 }
     ensures { (m : List ℕ) → Holds256 hasher.old m → Holds256 hasher.new (m ++ sized bytes.now) }
 {
-    add_word(hasher, bytes.len() as u32);
+    let length = (bytes.len() as u64).to_be_bytes();
+    hasher.update(&length[4..]);
     hasher.update(bytes);
 }
 
