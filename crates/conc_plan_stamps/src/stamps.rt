@@ -1,4 +1,4 @@
-ghost use Rattle.std.specs.Prelude.{◌≡◌, IfOk};
+ghost use Rattle.std.specs.Prelude.{◌≡◌, length, IfOk};
 ghost use Rattle.conc_plan_stamps.specs.Stamps as spec;
 
 use crate::coding::add_order;
@@ -30,7 +30,8 @@ fn stamp_of(hash: &[u8; 32]) -> u64
 /// all before it, so two scripts that agree on a command's stamp agree, as far as SHA-256 tells, on the
 /// script up to that command.
 pub fn stamps_of(alloc: Global, orders: &[Order]) -> Result<Vec<u64>, NoMemory>
-    ensures { IfOk result (λ stamps. stamps.items ≡ spec.stamps_of orders.now) }
+    ensures stamps { IfOk result (λ stamps. stamps.items ≡ spec.stamps_of orders.now) }
+    ensures count { IfOk result (λ stamps. length stamps.items ≡ length orders.now) }
 {
     let mut stamps = Vec::with_capacity(alloc, orders.len())?;
     let mut hash = [0; 32];

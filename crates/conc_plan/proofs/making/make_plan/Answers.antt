@@ -14,4 +14,5 @@ invariant_of-result c =
       reports = are_tables_so c.args.setup c.args.tables c.requires.tables faultless;
       expanded = c.from_vec.ensures ∙ c.in_ok-requests.ensures.ok ∙ ap (expansion c.args.setup) c.as_slice-2.ensures;
       few = omega (arith, ap length c.from_vec.ensures, c.in_ok-requests.ensures.few);
+      stamped = ap length c.from_vec-2.ensures ∙ c.in_ok-stamps.ensures.count ∙ ap length c.as_slice-3.ensures;
     }

@@ -1,7 +1,8 @@
-use Rattle.std.proofs.Common.{◌≡◌, ℕ, ◌+◌, ◌<◌, ◌≤◌, List, [], ◌∷◌, ◌++◌, drop, get_or, length, refl, sym, ap, ◌∙◌}
+use Rattle.std.proofs.Common.{◌≡◌, ℕ, ◌+◌, ◌<◌, ◌≤◌, List, [], ◌∷◌, ◌++◌, drop, get_or, length, replicate, refl, sym, ap, ◌∙◌}
 use Rattle.std.proofs.lemmas.List.{append-nil, append_assoc, drop_all, drop_more}
 use Rattle.conc_types.specs.declared.script.Order.{Order}
 use Rattle.conc_plan_stamps.specs.Stamps.{hash_behind, stamp_of, stamps_behind, stamps_of}
+use Rattle.conc_plan_stamps.proofs.Counting.{length-stamps_behind}
 use Rattle.conc_plan_stamps.proofs.stamps.stamps_of.Goals as goal
 
 -- the stamp of the next command, and those behind it
@@ -33,6 +34,8 @@ loop-order-preserved c =
 pub returns : goal.returns
 returns c =
     let l = c.loop-order in
+    let all =
     sym (append-nil l.stamps.items)
     ∙ ap (λ xs. l.stamps.items ++ xs) (sym (no-stamp c.args.orders.now l.order-index l.hash c.loop-order-test.false))
-    ∙ l.invariant
+    ∙ l.invariant in
+    record { stamps = all; count = ap length all ∙ length-stamps_behind (replicate 32 0) c.args.orders.now }
