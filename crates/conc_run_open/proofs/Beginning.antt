@@ -1,5 +1,6 @@
 -- What a run begins with.
 use Rattle.std.proofs.Common.{◌≡◌, ℕ, ◌+◌, List, length, reverse, sym, ◌∙◌, ap, subst, arith, length-append}
+use Rattle.conc_types.specs.declared.digests.Digests.{Digests}
 use Rattle.conc_types.specs.declared.event.Event.{Event}
 use Rattle.conc_types.specs.declared.plan.Plan.{Plan}
 use Rattle.conc_types.specs.declared.script.Reading.{Reading}
@@ -10,18 +11,18 @@ use Rattle.conc_law.specs.Alone.{opening}
 use Rattle.conc_law.specs.Law.{Lawful}
 use Rattle.conc_law.specs.State.{used}
 use Rattle.conc_machine.specs.StandsFor.{StandsFor}
-use Rattle.conc_journal.specs.Journals.{list_of, room_of, state_of}
+use Rattle.conc_journal.specs.Journals.{list_of, room_of}
 use Rattle.conc_journal.specs.Journals.{IsOn as JournalIsOn}
 use Rattle.conc_journal.specs.JournalStates.{has_faulted, takes_events}
 use Rattle.conc_journal.specs.declared.journal.Journal.{Journal}
-use Rattle.conc_journal.specs.declared.journal.JournalState.TheVariants.{Begun}
 use Rattle.conc_spool.specs.Spools.{KeepsBelow}
 use Rattle.conc_run_state.specs.Handed.{handed, IsTaken}
+use Rattle.conc_run_state.specs.Inputs.{IsBegunFor}
 use Rattle.conc_run_state.specs.Survival.{Survives}
 use Rattle.conc_run_state.specs.Works.{AreReady}
 use Rattle.conc_run_state.specs.declared.work.Work.{Work}
 use Rattle.conc_run_open.specs.declared.examining.Examined.{Examined}
-use Rattle.conc_run_open.specs.Examined.{IsExamined, MayBegin, WasExamined}
+use Rattle.conc_run_open.specs.Examined.{IsExamined, MayBegin, MayStartWith, WasExamined}
 use Rattle.conc_run_open.specs.Opening.{IsBegun, IsGivenUp, LeavesOpening, StillStored}
 use Rattle.conc_run_open.proofs.Counting.{end-within}
 use Rattle.conc_run_open.proofs.Lives.{disk-stored, opening-lawful, opening-lives, opening-used}
@@ -31,17 +32,21 @@ use Rattle.conc_run_open.proofs.Surviving.{opening-left, texts-stay}
 abbrev pub begun_with : Examined → Journal → Work
 begun_with examined list = record { machine = examined.machine; journal = list; spool = examined.spool }
 
+-- with its stamps it may start
+pub may-start-with : (plan : Plan) (readings : List Reading) (digests : Digests) (examined : Examined) (journal spool : DiskState) → MayBegin plan readings digests examined journal spool → MayStartWith plan digests examined.due.items examined.journal
+may-start-with plan readings digests examined journal spool may = record { may_start = may.state; due_are = may.ready.due }
+
 -- a journal in which a life was begun
-pub record IsStarted (digest : List ℕ) (old list : Journal) (disk : DiskState) : Type 0 where
+pub record IsStarted (plan : Plan) (digests : Digests) (old list : Journal) (disk : DiskState) : Type 0 where
   pub on : JournalIsOn list disk
-  pub state : state_of list ≡ Begun digest
+  pub begun_for : IsBegunFor plan digests list
   pub all : list_of list ≡ opening (list_of old)
   pub room : room_of list + length (list_of list) ≡ room_of old + length (list_of old)
 
 -- it is ready
-pub are-ready : (plan : Plan) (readings : List Reading) (digest : List ℕ) (journal new spool : DiskState) (examined : Examined) (list : Journal) → MayBegin plan readings digest examined journal spool → IsStarted digest examined.journal list new
+pub are-ready : (plan : Plan) (readings : List Reading) (digests : Digests) (journal new spool : DiskState) (examined : Examined) (list : Journal) → MayBegin plan readings digests examined journal spool → IsStarted plan digests examined.journal list new
     → AreReady plan readings (begun_with examined list) new spool
-are-ready plan readings digest journal new spool examined list may started =
+are-ready plan readings digests journal new spool examined list may started =
     let found : List Event = list_of examined.journal in
     let ready = may.ready in
     let more = opening-lives found in
@@ -52,7 +57,7 @@ are-ready plan readings digest journal new spool examined list may started =
         readings_are = ready.readings_are;
         stands = subst (λ (l : List Event). StandsFor examined.machine (reverse l)) (sym started.all) ready.stands;
         lawful = subst (Lawful plan readings) (sym started.all) (opening-lawful plan readings found ready.so_far);
-        takes = ap takes_events started.state;
+        takes = ap takes_events started.begun_for.state;
         used_is = ready.used_is ∙ sym (opening-used found) ∙ ap (λ (l : List Event). used (reverse l)) (sym started.all);
         pending_text = tt;
         journal_on = started.on;
@@ -65,34 +70,34 @@ are-ready plan readings digest journal new spool examined list may started =
         one = more.2;
         enough = omega (arith, ready.room, started.room, longer);
       };
-      sound = ap has_faulted started.state;
+      sound = ap has_faulted started.begun_for.state;
     }
 
-module _ (plan : Plan) (readings : Readings) (digest : List ℕ) (journal mid new spool spool' : DiskState) (examined : Examined) (was : WasExamined (handed plan readings digest journal mid spool spool') examined)
-    (wrote : LeavesOnly (Survives digest (list_of examined.journal) (opening (list_of examined.journal))) mid new) where
-  is : IsExamined (handed plan readings digest journal mid spool spool') examined
+module _ (plan : Plan) (readings : Readings) (digests : Digests) (journal mid new spool spool' : DiskState) (examined : Examined) (was : WasExamined (handed plan readings digests journal mid spool spool') examined)
+    (wrote : LeavesOnly (Survives plan digests (list_of examined.journal) (opening (list_of examined.journal))) mid new) where
+  is : IsExamined (handed plan readings digests journal mid spool spool') examined
   is = was.is_examined
 
   stays : Stays spool spool'
   stays = was.untouched.spool
 
   -- what was examined is taken
-  taken : IsTaken (handed plan readings digest journal new spool spool') (list_of examined.journal)
+  taken : IsTaken (handed plan readings digests journal new spool spool') (list_of examined.journal)
   taken = record {
     is_found = record { so_far = is.found.so_far; own = is.found.own; whole = is.found.whole; events = is.found.events; within = is.found.within };
     room = omega (arith, is.may_begin.ready.room, examined.journal.few);
   }
 
   -- the texts of its ends are held as before
-  stored-still : StillStored (handed plan readings digest journal new spool spool') (list_of examined.journal)
+  stored-still : StillStored (handed plan readings digests journal new spool spool') (list_of examined.journal)
   stored-still = λ from stored.
       disk-stored plan from examined.spool.used (list_of examined.journal) spool spool' stays (end-within plan examined.spool.used (list_of examined.journal) is.may_begin.ready.so_far (omega (arith, is.may_begin.ready.used_is))) is.may_begin.spool_on stored
 
-  left : LeavesOpening (handed plan readings digest journal new spool spool') (list_of examined.journal)
-  left = opening-left (handed plan readings digest journal new spool spool') (list_of examined.journal) mid was.untouched.journal_survives wrote
+  left : LeavesOpening (handed plan readings digests journal new spool spool') (list_of examined.journal)
+  left = opening-left (handed plan readings digests journal new spool spool') (list_of examined.journal) mid was.untouched.journal_survives wrote
 
   -- the journal's disk failed
-  pub gives_up : EachImage (Survives digest (list_of examined.journal) (opening (list_of examined.journal))) new → IsGivenUp (handed plan readings digest journal new spool spool')
+  pub gives_up : EachImage (Survives plan digests (list_of examined.journal) (opening (list_of examined.journal))) new → IsGivenUp (handed plan readings digests journal new spool spool')
   gives_up now = record {
     found = list_of examined.journal;
     taken = taken;
@@ -103,13 +108,13 @@ module _ (plan : Plan) (readings : Readings) (digest : List ℕ) (journal mid ne
   }
 
   -- the life is begun
-  pub begins : (list : Journal) → IsStarted digest examined.journal list new → IsBegun (handed plan readings digest journal new spool spool') (begun_with examined list)
+  pub begins : (list : Journal) → IsStarted plan digests examined.journal list new → IsBegun (handed plan readings digests journal new spool spool') (begun_with examined list)
   begins list started = record {
     found = list_of examined.journal;
     taken = taken;
     list = started.all;
-    ready = are-ready plan readings.list digest mid new spool' examined list is.may_begin started;
-    state = started.state;
+    ready = are-ready plan readings.list digests mid new spool' examined list is.may_begin started;
+    begun_for = started.begun_for;
     left = left;
     stored = stored-still;
   }

@@ -19,7 +19,7 @@ use Rattle.conc_run_open.proofs.Counting.{counted-is, end-within}
 
 -- what was found in the journal of this input
 pub record HasFound (h : Handed) (opened : Opened) : Type 0 where
-  pub own : IfSome h.disks.journal_before.seen (IsOwnJournal h.digest)
+  pub own : IfSome h.disks.journal_before.seen (IsOwnJournal h.plan h.digests)
   pub found : IfSome h.disks.journal_before.seen (λ image. IsFoundIn image opened)
 
 -- the events are good
@@ -61,7 +61,8 @@ found-refused : (h : Handed) (opened : Opened) (len : ℕ) (e : HistoryFail) →
 found-refused h opened len (history_fail.Unlawful number) has long is = found-bad h opened number has (len, long, is)
 found-refused h opened len history_fail.NoMemory has long is = tt
 found-refused h opened len history_fail.NotJournal has long is = absurd is
-found-refused h opened len (history_fail.OtherInput found) has long is = absurd is
+found-refused h opened len (history_fail.OtherInput other given) has long is = absurd is
+found-refused h opened len (history_fail.OtherScript command other given) has long is = absurd is
 found-refused h opened len (history_fail.JournalFull n needed) has long is = absurd is
 found-refused h opened len (history_fail.DiskFault disk) has long is = absurd is
 
@@ -70,7 +71,8 @@ pub short-unreadable : (plan : Plan) (events : List Event) (broken : Option ℕ)
 short-unreadable plan events broken old new len (history_fail.Unlawful number) long is = (len, long, is)
 short-unreadable plan events broken old new len history_fail.NoMemory long is = tt
 short-unreadable plan events broken old new len history_fail.NotJournal long is = absurd is
-short-unreadable plan events broken old new len (history_fail.OtherInput found) long is = absurd is
+short-unreadable plan events broken old new len (history_fail.OtherInput other given) long is = absurd is
+short-unreadable plan events broken old new len (history_fail.OtherScript command other given) long is = absurd is
 short-unreadable plan events broken old new len (history_fail.JournalFull n needed) long is = absurd is
 short-unreadable plan events broken old new len (history_fail.DiskFault disk) long is = absurd is
 
@@ -81,7 +83,8 @@ found-unreadable h opened events (history_fail.Unlawful number) has same is =
 found-unreadable h opened events (history_fail.DiskFault disk_name.Spool) has same is = (has.own, is)
 found-unreadable h opened events history_fail.NoMemory has same is = tt
 found-unreadable h opened events history_fail.NotJournal has same is = absurd is
-found-unreadable h opened events (history_fail.OtherInput found) has same is = absurd is
+found-unreadable h opened events (history_fail.OtherInput other given) has same is = absurd is
+found-unreadable h opened events (history_fail.OtherScript command other given) has same is = absurd is
 found-unreadable h opened events (history_fail.JournalFull n needed) has same is = absurd is
 found-unreadable h opened events (history_fail.DiskFault disk_name.Journal) has same is = absurd is
 
@@ -89,7 +92,8 @@ found-lacks_room : (h : Handed) (opened : Opened) (e : HistoryFail) → IsFound 
 found-lacks_room h opened (history_fail.JournalFull len needed) found is = record { found = opened.journal.events.items; is_found = found; len_is = is.0; needed_is = is.1; full = is.2 }
 found-lacks_room h opened history_fail.NoMemory found is = tt
 found-lacks_room h opened history_fail.NotJournal found is = absurd is
-found-lacks_room h opened (history_fail.OtherInput digest) found is = absurd is
+found-lacks_room h opened (history_fail.OtherInput other given) found is = absurd is
+found-lacks_room h opened (history_fail.OtherScript command other given) found is = absurd is
 found-lacks_room h opened (history_fail.Unlawful number) found is = absurd is
 found-lacks_room h opened (history_fail.DiskFault disk) found is = absurd is
 

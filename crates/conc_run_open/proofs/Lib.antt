@@ -4,6 +4,9 @@ pub mod Finding
 pub mod Lives
 pub mod Surviving
 pub mod Resuming
+pub mod Renewing
+pub mod Starting
+pub mod Scripting
 pub mod Preparing
 pub mod Beginning
 pub mod Listed

@@ -1,6 +1,7 @@
 -- What a journal alone tells, or why it tells nothing.
 use Rattle.std.proofs.Common.{◌≡◌, ℕ, List, Option, None, IfSome, sym, ◌∙◌, subst}
 use Rattle.std.proofs.lemmas.Option.{IfSome_then}
+use Rattle.conc_types.specs.declared.digests.Digests.{Digests}
 use Rattle.conc_types.specs.declared.event.Event.{Event}
 use Rattle.conc_types.specs.declared.plan.Plan.{Plan}
 use Rattle.conc_disk.specs.Disk.{DiskState}
@@ -15,33 +16,35 @@ use Rattle.conc_run_open.specs.Refusals.{IsUnopened}
 use Rattle.conc_run_open.specs.Listing.{HasListCause, IsBadEvent, IsListed, IsUnlisted}
 
 -- the journal was not opened
-pub unopened-listed : (plan : Plan) (digest : List ℕ) (old new : DiskState) (e : HistoryFail) → IsUnopened digest old new e → HasListCause plan digest old new e
-unopened-listed plan digest old new history_fail.NotJournal is = is
-unopened-listed plan digest old new (history_fail.OtherInput found) is = is
-unopened-listed plan digest old new (history_fail.DiskFault disk_name.Journal) is = is
-unopened-listed plan digest old new history_fail.NoMemory is = tt
-unopened-listed plan digest old new (history_fail.Unlawful number) is = absurd is
-unopened-listed plan digest old new (history_fail.JournalFull len needed) is = absurd is
-unopened-listed plan digest old new (history_fail.DiskFault disk_name.Spool) is = absurd is
+pub unopened-listed : (plan : Plan) (digests : Digests) (old new : DiskState) (e : HistoryFail) → IsUnopened plan digests old new e → HasListCause plan digests old new e
+unopened-listed plan digests old new history_fail.NotJournal is = is
+unopened-listed plan digests old new (history_fail.OtherInput found given) is = is
+unopened-listed plan digests old new (history_fail.OtherScript command found given) is = is
+unopened-listed plan digests old new (history_fail.DiskFault disk_name.Journal) is = is
+unopened-listed plan digests old new history_fail.NoMemory is = tt
+unopened-listed plan digests old new (history_fail.Unlawful number) is = absurd is
+unopened-listed plan digests old new (history_fail.JournalFull len needed) is = absurd is
+unopened-listed plan digests old new (history_fail.DiskFault disk_name.Spool) is = absurd is
 
 -- an event is bad
-pub unlisted-cause : (plan : Plan) (digest : List ℕ) (old new : DiskState) (opened : Opened) (events : List Event) (e : HistoryFail) → IfSome old.seen (IsOwnJournal digest) → IfSome old.seen (λ image. IsFoundIn image opened)
-    → events ≡ opened.journal.events.items → IsUnlisted plan events opened.broken e → HasListCause plan digest old new e
-unlisted-cause plan digest old new opened events (history_fail.Unlawful number) own found same bad = record {
+pub unlisted-cause : (plan : Plan) (digests : Digests) (old new : DiskState) (opened : Opened) (events : List Event) (e : HistoryFail) → IfSome old.seen (IsOwnJournal plan digests) → IfSome old.seen (λ image. IsFoundIn image opened)
+    → events ≡ opened.journal.events.items → IsUnlisted plan events opened.broken e → HasListCause plan digests old new e
+unlisted-cause plan digests old new opened events (history_fail.Unlawful number) own found same bad = record {
   own = own;
   bad = IfSome_then old.seen found (λ image is.
       subst (λ (l : List Event). IsBadEvent plan l (broken_of image) number) (same ∙ is.events) (subst (λ (b : Option ℕ). IsBadEvent plan events b number) is.broken bad));
 }
-unlisted-cause plan digest old new opened events history_fail.NoMemory own found same bad = tt
-unlisted-cause plan digest old new opened events history_fail.NotJournal own found same bad = absurd bad
-unlisted-cause plan digest old new opened events (history_fail.OtherInput other) own found same bad = absurd bad
-unlisted-cause plan digest old new opened events (history_fail.JournalFull len needed) own found same bad = absurd bad
-unlisted-cause plan digest old new opened events (history_fail.DiskFault disk) own found same bad = absurd bad
+unlisted-cause plan digests old new opened events history_fail.NoMemory own found same bad = tt
+unlisted-cause plan digests old new opened events history_fail.NotJournal own found same bad = absurd bad
+unlisted-cause plan digests old new opened events (history_fail.OtherInput other given) own found same bad = absurd bad
+unlisted-cause plan digests old new opened events (history_fail.OtherScript command other given) own found same bad = absurd bad
+unlisted-cause plan digests old new opened events (history_fail.JournalFull len needed) own found same bad = absurd bad
+unlisted-cause plan digests old new opened events (history_fail.DiskFault disk) own found same bad = absurd bad
 
 -- the events are good
-pub listed : (plan : Plan) (digest : List ℕ) (disk : DiskState) (opened : Opened) → IfSome disk.seen (IsOwnJournal digest) → IfSome disk.seen (λ image. IsFoundIn image opened)
-    → LawfulSoFar plan opened.journal.events.items → opened.broken ≡ None → IsListed plan digest disk opened.journal.events.items
-listed plan digest disk opened own found so_far whole = record {
+pub listed : (plan : Plan) (digests : Digests) (disk : DiskState) (opened : Opened) → IfSome disk.seen (IsOwnJournal plan digests) → IfSome disk.seen (λ image. IsFoundIn image opened)
+    → LawfulSoFar plan opened.journal.events.items → opened.broken ≡ None → IsListed plan digests disk opened.journal.events.items
+listed plan digests disk opened own found so_far whole = record {
   so_far = so_far;
   own = own;
   whole = IfSome_then disk.seen found (λ image is. sym is.broken ∙ whole);

@@ -1,20 +1,23 @@
 -- What a run has in hand, or why no life begins.
-use Rattle.std.proofs.Common.{◌≡◌, inl, inr, ℕ, ◌≤◌, List, [], Option, None, Result, Ok, Err, IfErr, IfOk, OnOk, sym, ap, subst}
+use Rattle.std.proofs.Common.{◌≡◌, inl, inr, ℕ, ◌≤◌, List, [], Option, None, Result, Ok, Err, IfErr, IfOk, OnOk, sym, ◌∙◌, ap, subst}
 use Rattle.std.specs.Prelude.{unwrap_or}
+use Rattle.conc_types.specs.declared.digests.Digests.{Digests}
 use Rattle.conc_types.specs.declared.event.Event.{Event}
 use Rattle.conc_types.specs.declared.plan.Plan.{Plan}
 use Rattle.conc_types.specs.declared.script.Reading.{Reading}
 use Rattle.conc_law.specs.Law.{LawfulSoFar}
 use Rattle.conc_disk.specs.Disk.{DiskState, Reaches}
 use Rattle.conc_disk.specs.Left.{EachImage}
-use Rattle.conc_journal.specs.Journals.{FitsState, list_of, state_of}
+use Rattle.conc_journal.specs.Journals.{FitsState, list_of, stamps_held, state_of}
 use Rattle.conc_journal.specs.Journals.{IsOn as JournalIsOn}
+use Rattle.conc_journal.specs.declared.journal.Journal.{Journal}
 use Rattle.conc_journal.specs.declared.journal.JournalState.{JournalState}
 use Rattle.conc_journal.specs.declared.opened.Opened.{Opened}
 use Rattle.conc_spool.specs.Spools.{IsOn as SpoolIsOn}
 use Rattle.conc_spool.specs.declared.spool.Spool.{Spool}
 use Rattle.conc_run_state.specs.Causes.{HasCause}
 use Rattle.conc_run_state.specs.Handed.{Handed, IsFound}
+use Rattle.conc_run_state.specs.Inputs.{IsBegunFor, IsOfInput}
 use Rattle.conc_run_state.specs.declared.error.HistoryFail.{HistoryFail}
 use Rattle.conc_run_open.specs.declared.examining.Examined.{Examined}
 use Rattle.conc_run_open.specs.Examined.{IsExamined, IsInHand, IsReady, MayBegin, MayStart, readings_held}
@@ -43,33 +46,49 @@ pub prepared-cause : (h : Handed) (opened : Opened) (r : Result Examined History
 prepared-cause h opened (Ok examined) has long cannot_begin = tt
 prepared-cause h opened (Err e) has long cannot_begin = found-cannot_begin h opened e has long cannot_begin
 
+-- a journal with the same state, list and stamps is of the same input
+pub begun-same : (plan : Plan) (digests : Digests) (one other : Journal) → state_of other ≡ state_of one → list_of other ≡ list_of one → stamps_held other ≡ stamps_held one → IsBegunFor plan digests one → IsBegunFor plan digests other
+begun-same plan digests one other state list stamps is = record {
+  label = is.label;
+  state = state ∙ is.state;
+  of_input = subst (λ (l : List Event). IsOfInput plan digests is.label l (stamps_held other)) (sym list) (subst (λ (s : List ℕ). IsOfInput plan digests is.label (list_of one) s) (sym stamps) is.of_input);
+}
+
+start-same : (plan : Plan) (digests : Digests) (one other : Journal) → state_of other ≡ state_of one → list_of other ≡ list_of one → stamps_held other ≡ stamps_held one → MayStart plan digests one → MayStart plan digests other
+start-same plan digests one other state list stamps (inl none) = inl (state ∙ none)
+start-same plan digests one other state list stamps (inr begun) = inr (begun-same plan digests one other state list stamps begun)
+
+-- and on the same disk
+on-same : (one other : Journal) (disk : DiskState) → state_of other ≡ state_of one → list_of other ≡ list_of one → stamps_held other ≡ stamps_held one → JournalIsOn one disk → JournalIsOn other disk
+on-same one other disk state list stamps on =
+    subst (λ (s : JournalState). EachImage (FitsState s (stamps_held other) (list_of other)) disk) (sym state)
+    (subst (λ (l : List Event). EachImage (FitsState (state_of one) (stamps_held other) l) disk) (sym list) (subst (λ (s : List ℕ). EachImage (FitsState (state_of one) s (list_of one)) disk) (sym stamps) on))
+
 -- what is in hand is what was found
 pub prepared : (h : Handed) (opened : Opened) (spool : Spool) (r : Result Examined HistoryFail) → HasFound h opened → Reaches h.disks.spool_before (counted opened.journal.events.items)
-    → (opened.broken ≡ None → JournalIsOn opened.journal h.disks.journal_after) → (opened.broken ≡ None → MayStart h.digest (state_of opened.journal)) → SpoolIsOn spool h.disks.spool_after
-    → IfOk r (IsReady h.plan h.readings) → IfOk r (λ examined. list_of examined.journal ≡ list_of opened.journal) → IfOk r (λ examined. state_of examined.journal ≡ state_of opened.journal)
-    → IfOk r (λ examined. examined.spool ≡ spool) → OnOk r (opened.broken ≡ None) → IfOk r (IsExamined h)
-prepared h opened spool (Err e) has long on state spool_on ready list_is state_is spool_is whole = tt
-prepared h opened spool (Ok examined) has long on state spool_on ready list_is state_is spool_is whole =
+    → (opened.broken ≡ None → JournalIsOn opened.journal h.disks.journal_after) → (opened.broken ≡ None → MayStart h.plan h.digests opened.journal) → SpoolIsOn spool h.disks.spool_after
+    → IfOk r (IsReady h.plan h.readings) → IfOk r (λ examined. list_of examined.journal ≡ list_of opened.journal) → IfOk r (λ examined. stamps_held examined.journal ≡ stamps_held opened.journal)
+    → IfOk r (λ examined. state_of examined.journal ≡ state_of opened.journal) → IfOk r (λ examined. examined.spool ≡ spool) → OnOk r (opened.broken ≡ None) → IfOk r (IsExamined h)
+prepared h opened spool (Err e) has long on state spool_on ready list_is stamps_are state_is spool_is whole = tt
+prepared h opened spool (Ok examined) has long on state spool_on ready list_is stamps_are state_is spool_is whole =
     let so_far : LawfulSoFar h.plan opened.journal.events.items = subst (LawfulSoFar h.plan) list_is ready.so_far in
     record {
       found = subst (IsFound h) (sym list_is) (found-good h opened has so_far whole long);
       may_begin = record {
         ready = ready;
-        state = subst (MayStart h.digest) (sym state_is) (state whole);
-        journal_on =
-            subst (λ (s : JournalState). EachImage (FitsState s (list_of examined.journal)) h.disks.journal_after) (sym state_is)
-            (subst (λ (l : List Event). EachImage (FitsState (state_of opened.journal) l) h.disks.journal_after) (sym list_is) (on whole));
+        state = start-same h.plan h.digests opened.journal examined.journal state_is list_is stamps_are (state whole);
+        journal_on = on-same opened.journal examined.journal h.disks.journal_after state_is list_is stamps_are (on whole);
         spool_on = subst (λ (s : Spool). SpoolIsOn s h.disks.spool_after) (sym spool_is) spool_on;
       };
     }
 
 -- what may begin may do so by the plan and the readings that the machine has
-in-hand : (plan : Plan) (readings : List Reading) (digest : List ℕ) (examined : Examined) (journal spool : DiskState) → MayBegin plan readings digest examined journal spool → IsInHand digest examined journal spool
-in-hand plan readings digest examined journal spool may =
+in-hand : (plan : Plan) (readings : List Reading) (digests : Digests) (examined : Examined) (journal spool : DiskState) → MayBegin plan readings digests examined journal spool → IsInHand digests examined journal spool
+in-hand plan readings digests examined journal spool may =
     let known : readings_held examined ≡ readings = ap (λ (o : Option (List Reading)). unwrap_or o []) may.ready.readings_are in
-    subst (λ (p : Plan). MayBegin p (readings_held examined) digest examined journal spool) (sym may.ready.plan_is)
-    (subst (λ (l : List Reading). MayBegin plan l digest examined journal spool) (sym known) may)
+    subst (λ (p : Plan). MayBegin p (readings_held examined) digests examined journal spool) (sym may.ready.plan_is)
+    (subst (λ (l : List Reading). MayBegin plan l digests examined journal spool) (sym known) may)
 
-pub prepared-in_hand : (h : Handed) (r : Result Examined HistoryFail) → IfOk r (IsExamined h) → IfOk r (λ examined. IsInHand h.digest examined h.disks.journal_after h.disks.spool_after)
+pub prepared-in_hand : (h : Handed) (r : Result Examined HistoryFail) → IfOk r (IsExamined h) → IfOk r (λ examined. IsInHand h.digests examined h.disks.journal_after h.disks.spool_after)
 prepared-in_hand h (Err e) is = tt
-prepared-in_hand h (Ok examined) is = in-hand h.plan h.readings h.digest examined h.disks.journal_after h.disks.spool_after is.may_begin
+prepared-in_hand h (Ok examined) is = in-hand h.plan h.readings h.digests examined h.disks.journal_after h.disks.spool_after is.may_begin

@@ -1,6 +1,7 @@
 -- What is read of a report's text, or why none is.
 use Rattle.std.proofs.Common.{◌≡◌, inl, inr, ℕ, ◌+◌, ◌≤◌, List, length, take, drop, Option, None, IfSome, ◌∙◌, subst, arith, le_refl}
 use Rattle.std.proofs.lemmas.Option.{IfSome_then}
+use Rattle.conc_types.specs.declared.digests.Digests.{Digests}
 use Rattle.conc_types.specs.declared.event.Event.{Event}
 use Rattle.conc_types.specs.declared.event.Extent.{Extent}
 use Rattle.conc_types.specs.declared.event.RequestId.{RequestId}
@@ -29,29 +30,31 @@ use Rattle.conc_run_open.proofs.Surviving.{left-wider}
 -- ---- why none is read
 
 -- the journal was not opened
-pub unopened-read : (plan : Plan) (digest : List ℕ) (d : Disks) (e : HistoryFail) → IsUnopened digest d.journal_before d.journal_after e → HasReadCause plan digest d e
-unopened-read plan digest d history_fail.NotJournal is = is
-unopened-read plan digest d (history_fail.OtherInput found) is = is
-unopened-read plan digest d (history_fail.DiskFault disk_name.Journal) is = is
-unopened-read plan digest d history_fail.NoMemory is = tt
-unopened-read plan digest d (history_fail.Unlawful number) is = absurd is
-unopened-read plan digest d (history_fail.JournalFull len needed) is = absurd is
-unopened-read plan digest d (history_fail.DiskFault disk_name.Spool) is = absurd is
+pub unopened-read : (plan : Plan) (digests : Digests) (d : Disks) (e : HistoryFail) → IsUnopened plan digests d.journal_before d.journal_after e → HasReadCause plan digests d e
+unopened-read plan digests d history_fail.NotJournal is = is
+unopened-read plan digests d (history_fail.OtherInput found given) is = is
+unopened-read plan digests d (history_fail.OtherScript command found given) is = is
+unopened-read plan digests d (history_fail.DiskFault disk_name.Journal) is = is
+unopened-read plan digests d history_fail.NoMemory is = tt
+unopened-read plan digests d (history_fail.Unlawful number) is = absurd is
+unopened-read plan digests d (history_fail.JournalFull len needed) is = absurd is
+unopened-read plan digests d (history_fail.DiskFault disk_name.Spool) is = absurd is
 
 -- a record is bad, or the spool could not be read
-pub unreadable-read : (plan : Plan) (digest : List ℕ) (d : Disks) (opened : Opened) (events : List Event) (e : HistoryFail) → IfSome d.journal_before.seen (IsOwnJournal digest)
-    → IfSome d.journal_before.seen (λ image. IsFoundIn image opened) → events ≡ opened.journal.events.items → IsUnreadable plan events opened.broken d.spool_before d.spool_after e → HasReadCause plan digest d e
-unreadable-read plan digest d opened events (history_fail.Unlawful number) own found same bad = record {
+pub unreadable-read : (plan : Plan) (digests : Digests) (d : Disks) (opened : Opened) (events : List Event) (e : HistoryFail) → IfSome d.journal_before.seen (IsOwnJournal plan digests)
+    → IfSome d.journal_before.seen (λ image. IsFoundIn image opened) → events ≡ opened.journal.events.items → IsUnreadable plan events opened.broken d.spool_before d.spool_after e → HasReadCause plan digests d e
+unreadable-read plan digests d opened events (history_fail.Unlawful number) own found same bad = record {
   own = own;
   bad = IfSome_then d.journal_before.seen found (λ image is.
       bad-in plan d.spool_before opened image number is (subst (λ (l : List Event). IsBadFor plan d.spool_before l opened.broken number) same bad));
 }
-unreadable-read plan digest d opened events (history_fail.DiskFault disk_name.Spool) own found same bad = (own, bad)
-unreadable-read plan digest d opened events history_fail.NoMemory own found same bad = tt
-unreadable-read plan digest d opened events history_fail.NotJournal own found same bad = absurd bad
-unreadable-read plan digest d opened events (history_fail.OtherInput other) own found same bad = absurd bad
-unreadable-read plan digest d opened events (history_fail.JournalFull len needed) own found same bad = absurd bad
-unreadable-read plan digest d opened events (history_fail.DiskFault disk_name.Journal) own found same bad = absurd bad
+unreadable-read plan digests d opened events (history_fail.DiskFault disk_name.Spool) own found same bad = (own, bad)
+unreadable-read plan digests d opened events history_fail.NoMemory own found same bad = tt
+unreadable-read plan digests d opened events history_fail.NotJournal own found same bad = absurd bad
+unreadable-read plan digests d opened events (history_fail.OtherInput other given) own found same bad = absurd bad
+unreadable-read plan digests d opened events (history_fail.OtherScript command other given) own found same bad = absurd bad
+unreadable-read plan digests d opened events (history_fail.JournalFull len needed) own found same bad = absurd bad
+unreadable-read plan digests d opened events (history_fail.DiskFault disk_name.Journal) own found same bad = absurd bad
 
 -- a record is bad, where the spool has all extents
 pub refused-unreadable : (plan : Plan) (events : List Event) (broken : Option ℕ) (old new : DiskState) (e : HistoryFail) → Reaches old (counted events) → ((len : ℕ) → counted events ≤ len → IsRefused plan len events broken e)
@@ -59,17 +62,18 @@ pub refused-unreadable : (plan : Plan) (events : List Event) (broken : Option �
 refused-unreadable plan events broken old new (history_fail.Unlawful number) long refused = let far = long-enough old (counted events) long in (far.0, far.1, refused far.0 far.2)
 refused-unreadable plan events broken old new history_fail.NoMemory long refused = tt
 refused-unreadable plan events broken old new history_fail.NotJournal long refused = absurd (refused (counted events) (le_refl (counted events)))
-refused-unreadable plan events broken old new (history_fail.OtherInput other) long refused = absurd (refused (counted events) (le_refl (counted events)))
+refused-unreadable plan events broken old new (history_fail.OtherInput other given) long refused = absurd (refused (counted events) (le_refl (counted events)))
+refused-unreadable plan events broken old new (history_fail.OtherScript command other given) long refused = absurd (refused (counted events) (le_refl (counted events)))
 refused-unreadable plan events broken old new (history_fail.JournalFull len needed) long refused = absurd (refused (counted events) (le_refl (counted events)))
 refused-unreadable plan events broken old new (history_fail.DiskFault disk) long refused = absurd (refused (counted events) (le_refl (counted events)))
 
 -- ---- what is found
 
 -- the events are good, and the spool has their extents
-pub whole-read : (plan : Plan) (digest : List ℕ) (journal spool : DiskState) (opened : Opened) → IfSome journal.seen (IsOwnJournal digest) → IfSome journal.seen (λ image. IsFoundIn image opened)
-    → Reaches spool (counted opened.journal.events.items) → LawfulSoFar plan opened.journal.events.items → opened.broken ≡ None → AreWhole plan digest journal spool opened.journal.events.items
-whole-read plan digest journal spool opened own found long so_far whole = record {
-  listed = listed plan digest journal opened own found so_far whole;
+pub whole-read : (plan : Plan) (digests : Digests) (journal spool : DiskState) (opened : Opened) → IfSome journal.seen (IsOwnJournal plan digests) → IfSome journal.seen (λ image. IsFoundIn image opened)
+    → Reaches spool (counted opened.journal.events.items) → LawfulSoFar plan opened.journal.events.items → opened.broken ≡ None → AreWhole plan digests journal spool opened.journal.events.items
+whole-read plan digests journal spool opened own found long so_far whole = record {
+  listed = listed plan digests journal opened own found so_far whole;
   within = IfSome_then spool.seen long (λ texts far. end-within plan (length texts) opened.journal.events.items so_far (omega (arith, far, counted-is plan opened.journal.events.items so_far)));
 }
 

@@ -1,13 +1,16 @@
 -- What a crash may leave while a life begins.
 use Rattle.std.proofs.Common.{IsTrue, ◌≡◌, ◌⊎◌, inl, inr, ℕ, Bool, ◌||◌, if◌then◌else◌, List, [], Option, None, Some, IfSome, refl, sym, ◌∙◌, ap, subst, append-nil}
 use Rattle.std.proofs.lemmas.Option.{IfSome_then}
+use Rattle.conc_types.specs.declared.digests.Digests.{Digests}
 use Rattle.conc_types.specs.declared.event.Event.{Event}
+use Rattle.conc_types.specs.declared.plan.Plan.{Plan}
 use Rattle.conc_disk.specs.Disk.{DiskState, Stays}
 use Rattle.conc_disk.specs.Left.{EachImage, LeavesOnly}
 use Rattle.conc_disk.proofs.Leaving.{if_some-any, leaves-twice, leaves-wider}
-use Rattle.conc_journal_image.specs.Image.{digest_in, found_in, has_header, is_not_begun}
+use Rattle.conc_journal_image.specs.Image.{found_in, has_header, is_not_begun, label_in, stamps_in}
 use Rattle.conc_journal.specs.Opens.{events_of}
 use Rattle.conc_run_state.specs.Handed.{Handed}
+use Rattle.conc_run_state.specs.Inputs.{MayBeOfInput}
 use Rattle.conc_spool.specs.Spools.{Agrees, KeepsBelow}
 use Rattle.conc_run_state.specs.Survival.{Survives}
 use Rattle.conc_run_open.specs.Opening.{HasOpening, LeavesOpening}
@@ -15,10 +18,10 @@ use Rattle.conc_run_open.specs.Opening.{HasOpening, LeavesOpening}
 -- ---- images
 
 -- where no journal was begun
-pub unbegun-survives : (digest image : List ℕ) → IsTrue (is_not_begun image) → Survives digest [] [] image
-unbegun-survives digest image none = record {
+pub unbegun-survives : (plan : Plan) (digests : Digests) (image : List ℕ) → IsTrue (is_not_begun image) → Survives plan digests [] [] image
+unbegun-survives plan digests image none = record {
   opens = ap (λ (b : Bool). b || has_header image) none;
-  own = inl (ap (λ (b : Bool). if b then None else Some (digest_in image)) none);
+  own = subst (λ (b : Bool). MayBeOfInput plan digests (if b then None else Some (label_in image)) (if b then [] else (found_in image).events) (if b then [] else stamps_in image)) (sym none) tt;
   whole = ap (λ (b : Bool). if b then None else (found_in image).broken) none;
   begins = (events_of image, refl);
   within = ([], sym (append-nil (events_of image) ∙ ap (λ (b : Bool). if b then [] else (found_in image).events) none));

@@ -1,5 +1,5 @@
 ghost use Rattle.std.specs.Prelude.{◌≡◌, IfErr, IfOk, IfSome, None, OnOk, reverse, Some};
-ghost use Rattle.conc_journal.specs.Journals.{list_of, room_of, state_of};
+ghost use Rattle.conc_journal.specs.Journals.{list_of, room_of, stamps_held, state_of};
 ghost use Rattle.conc_law.specs.Alone.{opening};
 ghost use Rattle.conc_machine.specs.StandsFor.{plan_of, readings_of, StandsFor};
 ghost use Rattle.conc_restart.specs.Need as spec;
@@ -48,6 +48,7 @@ fn make_room(plan: &Plan, readings: &Readings, journal: &mut Journal) -> Result<
     requires { room_of journal.old ≡ 0 }
     ensures room { OnOk result (room_of journal.new ≡ spec.need plan.now readings.now.list) }
     ensures list { list_of journal.new ≡ list_of journal.old }
+    ensures stamps { stamps_held journal.new ≡ stamps_held journal.old }
     ensures state { state_of journal.new ≡ state_of journal.old }
     ensures lacks_room { IfErr result (LacksRoom plan.now readings.now.list (list_of journal.old)) }
 {
@@ -92,6 +93,8 @@ fn prepare<'p>(
     requires spool { used_of spool ≡ counted (list_of opened.journal) }
     ensures ready { IfOk result (IsReady plan.now readings.now.list) }
     ensures list { IfOk result (λ examined. list_of examined.journal ≡ list_of opened.journal) }
+    ensures stamps { IfOk result (λ examined. stamps_held examined.journal
+        ≡ stamps_held opened.journal) }
     ensures state { IfOk result (λ examined. state_of examined.journal ≡ state_of opened.journal) }
     ensures spool { IfOk result (λ examined. examined.spool ≡ spool) }
     ensures whole { OnOk result (opened.broken ≡ None) }

@@ -11,7 +11,7 @@ use Rattle.conc_run_open.proofs.examining.examine.Goals as goal
 pub returns-in_err-texts-clause-cause : goal.returns-in_err-texts-clause-cause
 returns-in_err-texts-clause-cause g c =
     let p = err_from_is_err_and c.from_residual-in_err-texts.result c.from_residual-in_err-texts.ensures.1 in
-    let h = handed c.args.plan.now c.args.readings.now c.args.digest.now (g.D.Disk.state c.args.journal.now) (g.D.Disk.state c.open_own.new.disk) (g.E.Disk.state c.args.spool.now) (g.E.Disk.state c.open_texts.new.disk) in
+    let h = handed c.args.plan.now c.args.readings.now c.args.digests.now (g.D.Disk.state c.args.journal.now) (g.D.Disk.state c.open_own.new.disk) (g.E.Disk.state c.args.spool.now) (g.E.Disk.state c.open_texts.new.disk) in
     let opened = c.in_ok-opened.opened in
     let found = c.in_ok-opened.ensures in
     rw (p.1, p.2) (found-unreadable h opened c.events.result.now _ (record { own = found.own; found = found.found }) c.events.ensures (c.in_err-texts.ensures.unreadable opened.broken))
@@ -19,22 +19,22 @@ returns-in_err-texts-clause-cause g c =
 pub returns-clause-examined : goal.returns-clause-examined
 returns-clause-examined g c =
     let spool = g.E.Disk.state c.args.spool.now in
-    let h = handed c.args.plan.now c.args.readings.now c.args.digest.now (g.D.Disk.state c.args.journal.now) (g.D.Disk.state c.open_own.new.disk) spool (g.E.Disk.state c.open_texts.new.disk) in
+    let h = handed c.args.plan.now c.args.readings.now c.args.digests.now (g.D.Disk.state c.args.journal.now) (g.D.Disk.state c.open_own.new.disk) spool (g.E.Disk.state c.open_texts.new.disk) in
     let found = c.in_ok-opened.ensures in
     let made = c.prepare.ensures in
     prepared h c.in_ok-opened.opened c.in_ok-texts.texts c.prepare.result (record { own = found.own; found = found.found })
     (subst (λ (l : List Event). Reaches spool (counted l)) c.events.ensures c.in_ok-texts.ensures.long)
-    found.on found.state c.in_ok-texts.ensures.on made.ready made.list made.state made.spool made.whole
+    found.on found.state c.in_ok-texts.ensures.on made.ready made.list made.stamps made.state made.spool made.whole
 
 pub returns-clause-cause : goal.returns-clause-cause
 returns-clause-cause g c =
     let spool = g.E.Disk.state c.args.spool.now in
-    let h = handed c.args.plan.now c.args.readings.now c.args.digest.now (g.D.Disk.state c.args.journal.now) (g.D.Disk.state c.open_own.new.disk) spool (g.E.Disk.state c.open_texts.new.disk) in
+    let h = handed c.args.plan.now c.args.readings.now c.args.digests.now (g.D.Disk.state c.args.journal.now) (g.D.Disk.state c.open_own.new.disk) spool (g.E.Disk.state c.open_texts.new.disk) in
     let found = c.in_ok-opened.ensures in
     prepared-cause h c.in_ok-opened.opened c.prepare.result (record { own = found.own; found = found.found })
     (subst (λ (l : List Event). Reaches spool (counted l)) c.events.ensures c.in_ok-texts.ensures.long) c.prepare.ensures.cannot_begin
 
 pub returns-clause-in_hand : goal.returns-clause-in_hand
 returns-clause-in_hand g c =
-    let h = handed c.args.plan.now c.args.readings.now c.args.digest.now (g.D.Disk.state c.args.journal.now) (g.D.Disk.state c.open_own.new.disk) (g.E.Disk.state c.args.spool.now) (g.E.Disk.state c.open_texts.new.disk) in
+    let h = handed c.args.plan.now c.args.readings.now c.args.digests.now (g.D.Disk.state c.args.journal.now) (g.D.Disk.state c.open_own.new.disk) (g.E.Disk.state c.args.spool.now) (g.E.Disk.state c.open_texts.new.disk) in
     prepared-in_hand h c.prepare.result (returns-clause-examined g c)

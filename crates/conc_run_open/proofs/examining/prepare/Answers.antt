@@ -5,6 +5,7 @@ use Rattle.conc_law.specs.Alone.{opening}
 use Rattle.conc_law.specs.Law.{LawfulSoFar}
 use Rattle.conc_law.specs.State.{used}
 use Rattle.conc_machine.specs.StandsFor.{StandsFor}
+use Rattle.conc_run_state.specs.Inputs.{AreStampsOf}
 use Rattle.conc_run_open.proofs.Counting.{counted-is}
 use Rattle.conc_run_open.proofs.Preparing.{cannot_begin-bad, cannot_begin-full}
 use Rattle.conc_run_open.proofs.examining.prepare.Goals as goal
@@ -34,6 +35,7 @@ returns-in-Ok-clause-ready c =
       so_far = subst (LawfulSoFar plan) (sym list) so_far;
       room = c.in_ok-make_room.ensures.room;
       used_is = c.requires.spool ∙ counted-is plan events so_far ∙ ap (λ (l : List Event). used (reverse l)) (sym list);
+      due = subst (λ (l : List Event). AreStampsOf plan l c.in_ok-due.due.items) c.events-2.ensures c.in_ok-due.ensures;
     }
 
 pub returns-clause-cannot_begin : goal.returns-clause-cannot_begin

@@ -1,55 +1,60 @@
-use Rattle.std.proofs.Common.{◌≡◌, ◌<◌, length, sym, ap, ◌∙◌, Err}
-use Rattle.conc_journal.specs.declared.journal.JournalState.TheVariants.{Begun}
-use Rattle.conc_run_open.proofs.Resuming.{header-left, header-now, is-begun, not-empty, resume-failed, resume-left, resume-there}
+use Rattle.std.proofs.Common.{◌≡◌, List, sym, ap, ◌∙◌, subst}
+use Rattle.conc_types.specs.declared.event.Event.{Event}
+use Rattle.conc_disk.specs.Left.{EachImage}
+use Rattle.conc_law.specs.Alone.{opening}
+use Rattle.conc_journal.specs.JournalStates.{has_faulted, takes_events}
+use Rattle.conc_run_state.specs.Survival.{Survives}
+use Rattle.conc_run_open.proofs.Resuming.{header-begun-for, header-left, header-now}
+use Rattle.conc_run_open.proofs.Starting.{now-wider, renewed-left, start-twice, unbegun}
 use Rattle.conc_run_open.proofs.starting.start.Goals as goal
 
+pub begin-requires-clause-state : goal.begin-requires-clause-state
+begin-requires-clause-state g c = let may = c.requires.may in unbegun may.0 c.args.digests.now c.args.journal.now may.1.may_start (sym c.takes_events.ensures ∙ c.if-not-takes_events.true)
+
 pub returns-in_err-begin-clause-survives : goal.returns-in_err-begin-clause-survives
-returns-in_err-begin-clause-survives g c =
-    header-left c.args.digest.now c.args.journal.now.events.items (g.D.Disk.state c.args.disk.now) (g.D.Disk.state c.begin.new.disk) (sym c.begin.ensures.list ∙ c.begin.ensures.empty) c.begin.ensures.survives
+returns-in_err-begin-clause-survives g c = λ plan may.
+    header-left plan c.args.digests.now c.args.journal.now.events.items (g.D.Disk.state c.args.disk.now) (g.D.Disk.state c.begin.new.disk) (sym c.begin.ensures.list ∙ c.begin.ensures.empty) c.begin.ensures.survives
 
 pub returns-in_err-begin-clause-now : goal.returns-in_err-begin-clause-now
-returns-in_err-begin-clause-now g c =
-    header-now c.begin.result c.args.digest.now c.args.journal.now.events.items c.begin.new.self.events.items c.begin.new.self.state (g.D.Disk.state c.begin.new.disk) c.begin.ensures.begun c.begin.ensures.failed c.begin.ensures.list c.begin.ensures.empty
-    c.begin.ensures.on
+returns-in_err-begin-clause-now g c = λ plan may.
+    header-now c.begin.result plan c.args.digests.now c.args.journal.now.events.items c.begin.new.self.events.items c.begin.new.self.stamps.items c.begin.new.self.state (g.D.Disk.state c.begin.new.disk)
+    c.begin.ensures.begun c.begin.ensures.failed c.begin.ensures.list c.begin.ensures.empty c.begin.ensures.stamps c.begin.ensures.on
+
+pub returns-then-not-takes_events-clause-begun_for : goal.returns-then-not-takes_events-clause-begun_for
+returns-then-not-takes_events-clause-begun_for g c = λ plan may.
+    header-begun-for c.begin.result plan c.args.digests.now c.begin.new.self c.begin.ensures.begun c.begin.ensures.empty c.begin.ensures.stamps
 
 pub returns-then-not-takes_events-clause-survives : goal.returns-then-not-takes_events-clause-survives
-returns-then-not-takes_events-clause-survives g c =
-    header-left c.args.digest.now c.args.journal.now.events.items (g.D.Disk.state c.args.disk.now) (g.D.Disk.state c.begin.new.disk) (sym c.begin.ensures.list ∙ c.begin.ensures.empty) c.begin.ensures.survives
+returns-then-not-takes_events-clause-survives g c = λ plan may.
+    header-left plan c.args.digests.now c.args.journal.now.events.items (g.D.Disk.state c.args.disk.now) (g.D.Disk.state c.begin.new.disk) (sym c.begin.ensures.list ∙ c.begin.ensures.empty) c.begin.ensures.survives
 
 pub returns-then-not-takes_events-clause-now : goal.returns-then-not-takes_events-clause-now
-returns-then-not-takes_events-clause-now g c =
-    header-now c.begin.result c.args.digest.now c.args.journal.now.events.items c.begin.new.self.events.items c.begin.new.self.state (g.D.Disk.state c.begin.new.disk) c.begin.ensures.begun c.begin.ensures.failed c.begin.ensures.list c.begin.ensures.empty
-    c.begin.ensures.on
+returns-then-not-takes_events-clause-now g c = λ plan may.
+    header-now c.begin.result plan c.args.digests.now c.args.journal.now.events.items c.begin.new.self.events.items c.begin.new.self.stamps.items c.begin.new.self.state (g.D.Disk.state c.begin.new.disk)
+    c.begin.ensures.begun c.begin.ensures.failed c.begin.ensures.list c.begin.ensures.empty c.begin.ensures.stamps c.begin.ensures.on
 
-pub returns-in-Ok-clause-survives : goal.returns-in-Ok-clause-survives
-returns-in-Ok-clause-survives g c =
-    let journal = c.args.journal.now in
-    let digest = c.args.digest.now in
-    let begun : journal.state ≡ Begun digest = is-begun digest journal.state c.requires.state (sym c.takes_events.ensures ∙ c.if-not-takes_events.false) in
-    let some : 0 < length journal.events.items = not-empty journal.events.items c.events.result.now c.events.ensures (sym c.is_empty.ensures ∙ c.if-is_empty.false) in
-    resume-left digest journal.events.items journal.state (g.D.Disk.state c.args.disk.now) (g.D.Disk.state c.append.new.disk) begun some c.append.ensures.survives
+pub returns-in_err-renew-clause-survives : goal.returns-in_err-renew-clause-survives
+returns-in_err-renew-clause-survives g c = λ plan may.
+    renewed-left plan c.args.digests.now c.args.journal.now.events.items (g.D.Disk.state c.args.disk.now) (g.D.Disk.state c.renew.new.disk) (c.renew.ensures.survives plan may)
 
-pub returns-in-Ok-clause-now : goal.returns-in-Ok-clause-now
-returns-in-Ok-clause-now g c =
-    let journal = c.args.journal.now in
-    let digest = c.args.digest.now in
-    let begun : journal.state ≡ Begun digest = is-begun digest journal.state c.requires.state (sym c.takes_events.ensures ∙ c.if-not-takes_events.false) in
-    let some : 0 < length journal.events.items = not-empty journal.events.items c.events.result.now c.events.ensures (sym c.is_empty.ensures ∙ c.if-is_empty.false) in
-    resume-there digest journal.events.items c.append.new.self.events.items c.append.new.self.state (g.D.Disk.state c.append.new.disk) (c.in-Ok.ensures.state ∙ begun) some c.in-Ok.ensures.appended c.append.ensures.on
+pub returns-in_err-renew-clause-now : goal.returns-in_err-renew-clause-now
+returns-in_err-renew-clause-now g c = λ plan may.
+    now-wider plan c.args.digests.now c.args.journal.now.events.items (g.D.Disk.state c.renew.new.disk) (c.renew.ensures.now plan may)
 
-pub returns-in-Err-clause-survives : goal.returns-in-Err-clause-survives
-returns-in-Err-clause-survives g c =
-    let journal = c.args.journal.now in
-    let digest = c.args.digest.now in
-    let begun : journal.state ≡ Begun digest = is-begun digest journal.state c.requires.state (sym c.takes_events.ensures ∙ c.if-not-takes_events.false) in
-    let some : 0 < length journal.events.items = not-empty journal.events.items c.events.result.now c.events.ensures (sym c.is_empty.ensures ∙ c.if-is_empty.false) in
-    resume-left digest journal.events.items journal.state (g.D.Disk.state c.args.disk.now) (g.D.Disk.state c.append.new.disk) begun some c.append.ensures.survives
+pub resume-requires-clause-begun : goal.resume-requires-clause-begun
+resume-requires-clause-begun g c = let may = c.requires.may in ap takes_events (c.in_ok-renew.ensures.begun_for may.0 may.1).state
 
-pub returns-in-Err-clause-now : goal.returns-in-Err-clause-now
-returns-in-Err-clause-now g c =
-    let journal = c.args.journal.now in
-    let digest = c.args.digest.now in
-    let begun : journal.state ≡ Begun digest = is-begun digest journal.state c.requires.state (sym c.takes_events.ensures ∙ c.if-not-takes_events.false) in
-    let some : 0 < length journal.events.items = not-empty journal.events.items c.events.result.now c.events.ensures (sym c.is_empty.ensures ∙ c.if-is_empty.false) in
-    resume-failed digest journal.events.items c.append.new.self.events.items journal.state c.append.new.self.state c.in-Err.field-0 (g.D.Disk.state c.append.new.disk) begun some c.in-Err.ensures.list
-    (λ is. c.append.ensures.faulted (c.in-Err.is ∙ ap Err is)) (λ is. c.append.ensures.failed.0 (c.in-Err.is ∙ ap Err is)) c.append.ensures.on
+pub resume-requires-clause-sound : goal.resume-requires-clause-sound
+resume-requires-clause-sound g c = let may = c.requires.may in ap has_faulted (c.in_ok-renew.ensures.begun_for may.0 may.1).state
+
+pub returns-clause-begun_for : goal.returns-clause-begun_for
+returns-clause-begun_for g c = λ plan may. c.resume.ensures.begun_for plan c.args.digests.now (c.in_ok-renew.ensures.begun_for plan may)
+
+pub returns-clause-survives : goal.returns-clause-survives
+returns-clause-survives g c = λ plan may.
+    start-twice plan c.args.digests.now c.args.journal.now.events.items c.renew.new.journal.events.items (g.D.Disk.state c.args.disk.now) (g.D.Disk.state c.renew.new.disk) (g.D.Disk.state c.resume.new.disk) c.renew.ensures.list
+    (c.renew.ensures.survives plan may) (c.resume.ensures.survives plan c.args.digests.now (c.in_ok-renew.ensures.begun_for plan may))
+
+pub returns-clause-now : goal.returns-clause-now
+returns-clause-now g c = λ plan may.
+    subst (λ (l : List Event). EachImage (Survives plan c.args.digests.now l (opening l)) (g.D.Disk.state c.resume.new.disk)) c.renew.ensures.list (c.resume.ensures.now plan c.args.digests.now (c.in_ok-renew.ensures.begun_for plan may))

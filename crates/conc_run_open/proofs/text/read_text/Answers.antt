@@ -13,7 +13,7 @@ pub returns-in_err-opened-clause-cause : goal.returns-in_err-opened-clause-cause
 returns-in_err-opened-clause-cause g c =
     let spool = g.E.Disk.state c.args.spool.now in
     let p = err_from_is_err_and c.from_residual.result c.from_residual.ensures.1 in
-    rw (p.1, p.2) (unopened-read c.args.plan.now c.args.digest.now (disks (g.D.Disk.state c.args.journal.now) (g.D.Disk.state c.open_own.new.disk) spool spool) _ c.in_err-opened.ensures.cause)
+    rw (p.1, p.2) (unopened-read c.args.plan.now c.args.digests.now (disks (g.D.Disk.state c.args.journal.now) (g.D.Disk.state c.open_own.new.disk) spool spool) _ c.in_err-opened.ensures.cause)
 
 pub returns-in_err-texts-clause-cause : goal.returns-in_err-texts-clause-cause
 returns-in_err-texts-clause-cause g c =
@@ -21,7 +21,7 @@ returns-in_err-texts-clause-cause g c =
     let d = disks (g.D.Disk.state c.args.journal.now) (g.D.Disk.state c.open_own.new.disk) (g.E.Disk.state c.args.spool.now) (g.E.Disk.state c.open_texts.new.disk) in
     let opened = c.in_ok-opened.opened in
     let found = c.in_ok-opened.ensures in
-    rw (p.1, p.2) (unreadable-read c.args.plan.now c.args.digest.now d opened c.events.result.now _ found.own found.found c.events.ensures (c.in_err-texts.ensures.unreadable opened.broken))
+    rw (p.1, p.2) (unreadable-read c.args.plan.now c.args.digests.now d opened c.events.result.now _ found.own found.found c.events.ensures (c.in_err-texts.ensures.unreadable opened.broken))
 
 pub returns-in_err-resume_whole-clause-cause : goal.returns-in_err-resume_whole-clause-cause
 returns-in_err-resume_whole-clause-cause g c =
@@ -35,7 +35,7 @@ returns-in_err-resume_whole-clause-cause g c =
     let events = c.events-2.result.now in
     let long = subst (λ (l : List Event). Reaches old (counted l)) (c.events.ensures ∙ sym c.events-2.ensures) c.in_ok-texts.ensures.long in
     rw (p.1, p.2)
-    (unreadable-read plan c.args.digest.now d opened events _ found.own found.found c.events-2.ensures (refused-unreadable plan events opened.broken old mid _ long c.in_err-resume_whole.ensures.refused))
+    (unreadable-read plan c.args.digests.now d opened events _ found.own found.found c.events-2.ensures (refused-unreadable plan events opened.broken old mid _ long c.in_err-resume_whole.ensures.refused))
 
 pub returns-in_default-clause-cause : goal.returns-in_default-clause-cause
 returns-in_default-clause-cause g c =
@@ -49,7 +49,7 @@ returns-in_default-clause-cause g c =
     let long = subst (λ (l : List Event). Reaches spool (counted l)) c.events.ensures c.in_ok-texts.ensures.long in
     record {
       events = opened.journal.events.items;
-      whole = whole-read plan c.args.digest.now journal spool opened found.own found.found long so_far good.whole;
+      whole = whole-read plan c.args.digests.now journal spool opened found.own found.found long so_far good.whole;
       none = subst (λ (l : List Event). HasNoEnd l c.args.id) c.events-3.ensures c.in_default.ensures;
     }
 
@@ -73,7 +73,7 @@ returns-in-Ok-clause-text g c =
     let long = subst (λ (l : List Event). Reaches spool (counted l)) c.events.ensures c.in_ok-texts.ensures.long in
     record {
       events = opened.journal.events.items;
-      whole = whole-read plan c.args.digest.now journal spool opened found.own found.found long so_far good.whole;
+      whole = whole-read plan c.args.digests.now journal spool opened found.own found.found long so_far good.whole;
       extent = c.in-Some.extent;
       ended = subst (λ (l : List Event). HasEnd l c.args.id c.in-Some.extent) c.events-3.ensures c.in-Some.ensures;
       long = sym c.in-Ok.text.ok.0 ∙ c.in-Ok.ensures.length;
