@@ -6,7 +6,7 @@ use Rattle.conc_law.specs.State.{used}
 use Rattle.conc_disk.specs.Left.{EachImage, LeavesOnly}
 use Rattle.conc_spool.specs.Spools.{KeepsBelow}
 use Rattle.conc_run_state.specs.Handed.{Handed, IsTaken}
-use Rattle.conc_run_state.specs.Inputs.{IsBegunFor}
+use Rattle.conc_run_state.specs.Inputs.{IsBegunFor, IsOfVersionTwo}
 use Rattle.conc_run_state.specs.Survival.{Survives}
 use Rattle.conc_run_state.specs.Stored.{AreStored}
 use Rattle.conc_run_state.specs.Works.{AreReady, list_in}
@@ -24,13 +24,14 @@ LeavesOpening h found = LeavesOnly (λ image. h.disks.journal_before.may_leave i
 abbrev pub StillStored : Handed → List Event → Type 0
 StillStored h found = (from : ℕ) → IfSome h.disks.spool_before.seen (AreStored h.plan from found) → EachImage (AreStored h.plan from found) h.disks.spool_after
 
--- a life is begun: the list has the events found, with a resume behind them if there are any
+-- a life is begun in a journal of version 2: the list has the events found, with a resume behind them if there are any
 pub record IsBegun (h : Handed) (work : Work) : Type 0 where
   pub found : List Event
   pub taken : IsTaken h found
   pub list : list_in work ≡ opening found
   pub ready : AreReady h.plan h.readings work h.disks.journal_after h.disks.spool_after
   pub begun_for : IsBegunFor h.plan h.digests work.journal
+  pub version : IsOfVersionTwo work.journal
   pub left : LeavesOpening h found
   pub stored : StillStored h found
 

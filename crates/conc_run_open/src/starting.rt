@@ -7,7 +7,7 @@ ghost use Rattle.conc_disk.specs.Left.{EachImage, LeavesOnly};
 ghost use Rattle.conc_journal.specs.Journals.{IsOn, list_of, room_of, state_of};
 ghost use Rattle.conc_journal.specs.JournalStates.{has_faulted, takes_events};
 ghost use Rattle.conc_journal.specs.Receipts.{IsNextOf};
-ghost use Rattle.conc_run_state.specs.Inputs.{IsBegunFor};
+ghost use Rattle.conc_run_state.specs.Inputs.{IsBegunFor, IsOfVersionTwo};
 ghost use Rattle.conc_run_state.specs.Survival.{Survives};
 ghost use Rattle.conc_run_open.specs.Examined.{MayStartWith};
 
@@ -28,6 +28,7 @@ fn renew<D: Disk>(
     ensures on { IsOn journal.new (D.state disk.new) }
     ensures begun_for { (plan : Plan) → MayStartWith plan digests.now due.now journal.old
         → OnOk result (IsBegunFor plan digests.now journal.new) }
+    ensures version { OnOk result (IsOfVersionTwo journal.new) }
     ensures list { list_of journal.new ≡ list_of journal.old }
     ensures room { room_of journal.new ≡ room_of journal.old }
     ensures fault { OnErr result (Rose (D.state disk.old).faults (D.state disk.new).faults) }
@@ -54,6 +55,7 @@ fn resume<D: Disk>(journal: &mut Journal, disk: &mut D) -> Result<Option<Receipt
     ensures on { OnOk result (IsOn journal.new (D.state disk.new)) }
     ensures begun_for { (plan : Plan) (digests : DigestsOf) → IsBegunFor plan digests journal.old
         → OnOk result (IsBegunFor plan digests journal.new) }
+    ensures version { IsOfVersionTwo journal.old → OnOk result (IsOfVersionTwo journal.new) }
     ensures list { OnOk result (list_of journal.new ≡ opening (list_of journal.old)) }
     ensures room { OnOk result (room_of journal.new + length (list_of journal.new)
         ≡ room_of journal.old + length (list_of journal.old)) }
@@ -93,6 +95,7 @@ pub(crate) fn start<D: Disk>(
     ensures on { OnOk result (IsOn journal.new (D.state disk.new)) }
     ensures begun_for { (plan : Plan) → MayStartWith plan digests.now due.now journal.old
         → OnOk result (IsBegunFor plan digests.now journal.new) }
+    ensures version { OnOk result (IsOfVersionTwo journal.new) }
     ensures list { OnOk result (list_of journal.new ≡ opening (list_of journal.old)) }
     ensures room { OnOk result (room_of journal.new + length (list_of journal.new)
         ≡ room_of journal.old + length (list_of journal.old)) }

@@ -68,3 +68,7 @@ pub record IsHeldFor (plan : Plan) (digests : Digests) (journal : Journal) : Typ
   pub label : Label
   pub labelled : state_label (state_of journal) ≡ Some label
   pub of_input : IsOfInput plan digests label (longest_of journal) (stamps_held journal ++ failed_stamps (state_of journal))
+
+-- its label, where it has one, is of version 2
+abbrev pub IsOfVersionTwo : Journal → Type 0
+IsOfVersionTwo journal = (label : Label) → state_label (state_of journal) ≡ Some label → label.version ≡ Two
