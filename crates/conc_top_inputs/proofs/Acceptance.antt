@@ -10,7 +10,8 @@ use Rattle.conc_types.specs.declared.script.Readings.{Readings}
 use Rattle.conc_types.specs.declared.script.Script.{Script}
 use Rattle.conc_types.specs.declared.setup.Setup.{Setup}
 use Rattle.conc_types.specs.declared.table.Table.{Table}
-use Rattle.conc_journal_digest.specs.Inputs.{input_digest}
+use Rattle.conc_journal_digest.specs.Inputs.{input_digests}
+use Rattle.conc_plan_stamps.specs.Stamps.{stamps_of}
 use Rattle.conc_outside.specs.Files.{Files, Gives, IsLater, ShelfState}
 use Rattle.conc_plan.specs.Faults.{IsFailure, plan_fault}
 use Rattle.conc_tables.specs.Tables.{SpellsTable}
@@ -49,14 +50,14 @@ tables-of exposed before names start readings has named tables same files read =
     let at : named ≡ has.files.before.before.setup.tables = same ∙ ap (λ (s : Setup). s.tables) has.setup in
     record { before = has.files; given = subst (λ t. HasTables t has.files.before.before.setup.tables tables) files (subst (λ l. HasTables before l tables) at read) }
 
--- all was read, and this is the plan and the digest
+-- all was read, and this is the plan and these are the digests
 pub accepted : (exposed : Exposed) (before : Option Files) (names : Names) (a : Accepted) (start : Start) (readings : Option Readings) (has : HasInputs exposed names start readings) (named : List (List ℕ)) (tables : List Table)
     → named ≡ start.setup.tables → before ≡ exposed.files → (read : HasTables before named tables)
-    → a.digest ≡ input_digest has.files.before.before.bytes has.files.before.bytes (zip named read.contents)
-    → a.plan.setup ≡ start.setup → a.plan.script ≡ start.script → a.plan.tables ≡ tables → IsAccepted exposed names readings a
-accepted exposed before names a start readings has named tables same files read digest setup script these =
+    → a.digests ≡ input_digests has.files.before.before.bytes has.files.before.bytes (zip named read.contents)
+    → a.plan.setup ≡ start.setup → a.plan.script ≡ start.script → a.plan.stamps ≡ stamps_of start.script.commands → a.plan.tables ≡ tables → IsAccepted exposed names readings a
+accepted exposed before names a start readings has named tables same files read digest setup script stamps these =
     let P : Option Files → List (List ℕ) → List Table → Type 0 = λ all l t.
-    (given : HasTables all l t) × (a.digest ≡ input_digest has.files.before.before.bytes has.files.before.bytes (zip l given.contents)) in
+    (given : HasTables all l t) × (a.digests ≡ input_digests has.files.before.before.bytes has.files.before.bytes (zip l given.contents)) in
     let at : named ≡ has.files.before.before.setup.tables = same ∙ ap (λ (s : Setup). s.tables) has.setup in
     let there : P exposed.files has.files.before.before.setup.tables a.plan.tables
     = subst (λ all. P all has.files.before.before.setup.tables a.plan.tables) files
@@ -66,9 +67,10 @@ accepted exposed before names a start readings has named tables same files read 
         files = record { before = has.files; given = there.0 };
         setup = setup ∙ has.setup;
         script = script ∙ has.script;
+        stamps = stamps ∙ ap (λ (s : Script). stamps_of s.commands) has.script;
         same_readings = has.same_readings;
       };
-      digest = there.1;
+      digests = there.1;
     }
 
 -- all was read, and gives no plan

@@ -4,6 +4,7 @@ use Rattle.std.specs.List.{AllZip, sum_by, zip}
 use Rattle.std.specs.Str.{bytes_eq}
 use Rattle.conc_outside_clock.specs.Clocks.{ClockState, Gives as Shows}
 use Rattle.conc_types.specs.declared.event.Moment.{Moment}
+use Rattle.conc_types.specs.declared.digests.Digests.{Digests}
 use Rattle.conc_types.specs.declared.plan.Plan.{Plan}
 use Rattle.conc_types.specs.declared.refusal.FileKind.{FileKind}
 use Rattle.conc_types.specs.declared.refusal.FileKind.TheVariants as kind
@@ -12,7 +13,8 @@ use Rattle.conc_types.specs.declared.script.Readings.{Readings}
 use Rattle.conc_types.specs.declared.script.Script.{Script}
 use Rattle.conc_types.specs.declared.setup.Setup.{Setup}
 use Rattle.conc_types.specs.declared.table.Table.{Table}
-use Rattle.conc_journal_digest.specs.Inputs.{input_digest}
+use Rattle.conc_journal_digest.specs.Inputs.{input_digests}
+use Rattle.conc_plan_stamps.specs.Stamps.{stamps_of}
 use Rattle.conc_outside.specs.Files.{Files, Gives, ShelfState}
 use Rattle.conc_setup.specs.Setups.{setup_in}
 use Rattle.conc_script.specs.Clock.{SpellsClock}
@@ -115,14 +117,15 @@ pub record HasAll (exposed : Exposed) (names : Names) (tables : List Table) : Ty
   pub before : HasClock exposed names
   pub given : HasTables exposed.files before.before.before.setup.tables tables
 
--- the digest of the bytes of the setup and the script, and of the tables under their names
-abbrev pub digest_of : {exposed : Exposed} {names : Names} {tables : List Table} → HasAll exposed names tables → List ℕ
-digest_of all =
-    input_digest all.before.before.before.bytes all.before.before.bytes (zip all.before.before.before.setup.tables all.given.contents)
+-- the digests of the bytes of the setup and the script, and of the tables under their names
+abbrev pub digests_of : {exposed : Exposed} {names : Names} {tables : List Table} → HasAll exposed names tables → Digests
+digests_of all =
+    input_digests all.before.before.before.bytes all.before.before.bytes (zip all.before.before.before.setup.tables all.given.contents)
 
--- they give this plan and, where there is a clock, these readings
+-- they give this plan, with the stamps of its script's commands, and, where there is a clock, these readings
 pub record Accepts (exposed : Exposed) (names : Names) (plan : Plan) (readings : Option Readings) : Type 0 where
   pub files : HasAll exposed names plan.tables
   pub setup : plan.setup ≡ files.before.before.before.setup
   pub script : plan.script ≡ files.before.before.script
+  pub stamps : plan.stamps ≡ stamps_of files.before.before.script.commands
   pub same_readings : readings ≡ files.before.readings

@@ -16,7 +16,7 @@ use crate::reading::{Start, read_start, read_tables};
 use conc_outside::Shelf;
 use conc_outside_clock::Clock;
 use conc_plan::make_plan;
-use conc_types::{FileKind, Name, Plan, ReadFail, Readings, Seq};
+use conc_types::{Digests, FileKind, Name, Plan, ReadFail, Readings, Seq};
 use std::alloc::Global;
 
 /// What files give, once all are accepted.
@@ -24,7 +24,7 @@ use std::alloc::Global;
 pub struct Accepted {
     pub plan: Plan,
     /// Of the files that were read, but for the clock's.
-    pub digest: [u8; 32],
+    pub digests: Digests,
 }
 
 // The name of the setup's or the script's file: a plan is refused in one of them.
@@ -79,7 +79,7 @@ fn plan_from<F: Shelf>(
     match make_plan(alloc, start.setup, start.script, Seq::from_vec(tables)) {
         Ok(plan) => Ok(Accepted {
             plan,
-            digest: digest.finish(),
+            digests: digest.finish(),
         }),
         Err(fail) => Err(fail_without_plan(fail, setup, script)),
     }

@@ -22,11 +22,11 @@ pub returns-in-Ok-make_plan-clause-ok : goal.returns-in-Ok-make_plan-clause-ok
 returns-in-Ok-make_plan-clause-ok g c exposed clock readings same has =
     let read = c.in-Ok.ensures.ok in
     accepted exposed (g.F.Shelf.state c.args.shelf.now).files (named c.args.setup c.args.script clock)
-    (record { plan = c.in-Ok-make_plan.plan; digest = c.finish.result })
+    (record { plan = c.in-Ok-make_plan.plan; digests = c.finish.result })
     c.args.start readings has c.as_slice.result.now c.in-Ok.tables.items c.as_slice.ensures (sym same) read.given
     (c.finish.ensures has.files.before.before.bytes has.files.before.bytes (zip c.as_slice.result.now read.given.contents)
     (read.digest has.files.before.before.bytes has.files.before.bytes [] has.digest))
-    c.in-Ok-make_plan.ensures.setup c.in-Ok-make_plan.ensures.script (c.in-Ok-make_plan.ensures.tables ∙ c.from_vec.ensures)
+    c.in-Ok-make_plan.ensures.setup c.in-Ok-make_plan.ensures.script c.in-Ok-make_plan.ensures.stamps (c.in-Ok-make_plan.ensures.tables ∙ c.from_vec.ensures)
 
 pub returns-in-Err-make_plan-clause-err : goal.returns-in-Err-make_plan-clause-err
 returns-in-Err-make_plan-clause-err g c old before after clock readings later has =
