@@ -1,5 +1,5 @@
 -- Which journals are those of a run's input: of a plan, and the digests of the files that gave it.
-use Rattle.std.specs.Prelude.{◌≡◌, ℕ, ◌++◌, List, [], map, take, Option, None, Some, ⊤}
+use Rattle.std.specs.Prelude.{◌≡◌, ℕ, ◌++◌, Bool, false, true, List, [], map, take, Option, None, Some, IsFalse, ⊤}
 use Rattle.std.specs.List.{filter_map}
 use Rattle.conc_types.specs.Plans.{stamp}
 use Rattle.conc_types.specs.declared.digests.Digests.{Digests}
@@ -63,10 +63,16 @@ failed_stamps (Broken label) = []
 failed_stamps (AppendFailed label event stamp) = command_stamp event stamp
 failed_stamps (MigrateFailed label base) = []
 
--- it was begun, and with the event whose append met a fault, if one did, it is of this input
+-- its migration met a fault
+abbrev pub migrate_failed : JournalState → Bool
+migrate_failed (MigrateFailed label base) = true
+migrate_failed _ = false
+
+-- it was begun, no migration of it met a fault, and with the event whose append met a fault, if one did, it is of this input
 pub record IsHeldFor (plan : Plan) (digests : Digests) (journal : Journal) : Type 0 where
   pub label : Label
   pub labelled : state_label (state_of journal) ≡ Some label
+  pub not_migrating : IsFalse (migrate_failed (state_of journal))
   pub of_input : IsOfInput plan digests label (longest_of journal) (stamps_held journal ++ failed_stamps (state_of journal))
 
 -- its label, where it has one, is of version 2
