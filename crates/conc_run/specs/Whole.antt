@@ -6,7 +6,6 @@ use Rattle.conc_law.specs.Law.{Finished, LawfulSoFar}
 use Rattle.conc_law.specs.State.{used}
 use Rattle.conc_law_sameness.specs.Steady.{Steady}
 use Rattle.conc_disk.specs.Left.{EachImage, LeavesOnly}
-use Rattle.conc_journal_image.specs.Image.{IsJournal}
 use Rattle.conc_journal.specs.Opens.{events_of}
 use Rattle.conc_spool.specs.Spools.{KeepsBelow}
 use Rattle.conc_resolver_alone.specs.Runs.{LacksMemory}
@@ -14,7 +13,7 @@ use Rattle.conc_resolver_workers.specs.Runs.{AwaitsReport}
 use Rattle.conc_run_state.specs.Causes.{HasCause, is_journal_fault, is_refusal}
 use Rattle.conc_run_state.specs.Handed.{Handed, IsTaken, IsUntouched}
 use Rattle.conc_run_state.specs.Lists.{GoesOn, GoesOnAlone, IsPrefix}
-use Rattle.conc_run_state.specs.Survival.{Survives}
+use Rattle.conc_run_state.specs.Survival.{HoldsList, Survives}
 use Rattle.conc_run_state.specs.Stored.{AreStored}
 use Rattle.conc_run_state.specs.declared.error.HistoryFail.{HistoryFail}
 use Rattle.conc_run_state.specs.declared.error.HistoryFail.TheVariants as history_fail
@@ -24,7 +23,7 @@ use Rattle.conc_run.specs.Same.{HasResultOfAlone}
 
 -- an image that a crash might have left before, or one of a journal whose list is between these
 abbrev pub HasBetween : Handed → List Event → List Event → List ℕ → Type 0
-HasBetween h first last image = h.disks.journal_before.may_leave image ⊎ Survives h.digest first last image
+HasBetween h first last image = h.disks.journal_before.may_leave image ⊎ Survives h.plan h.digests first last image
 
 -- an image that a crash might have left before, or one with the bytes of the texts of these events' ends
 abbrev pub KeepsTexts : Handed → List Event → List ℕ → Type 0
@@ -36,7 +35,7 @@ KeepsTexts h found image = h.disks.spool_before.may_leave image ⊎ KeepsBelow (
 pub record HasNow (h : Handed) (found acknowledged last : List Event) : Type 0 where
   pub taken : IsTaken h found
   pub so_far : LawfulSoFar h.plan last
-  pub journal : EachImage (Survives h.digest acknowledged last) h.disks.journal_after
+  pub journal : EachImage (Survives h.plan h.digests acknowledged last) h.disks.journal_after
   pub spool : EachImage (KeepsBelow (used (reverse found)) h.disks.spool_before) h.disks.spool_after
   pub stored : (from : ℕ) → IfSome h.disks.spool_before.seen (AreStored h.plan from found) → EachImage (AreStored h.plan from last) h.disks.spool_after
 
@@ -67,7 +66,7 @@ pub record IsFinished (threads : ℕ) (h : Handed) (list : List Event) : Type 0 
   pub finished : Finished h.plan h.readings list
   pub alone : threads ≡ 0 → Alone h.plan h.readings found list
   pub same : found ≡ [] → Steady h.plan h.readings → HasResultOfAlone h list
-  pub journal : EachImage (IsJournal h.digest list) h.disks.journal_after
+  pub journal : EachImage (HoldsList h.plan h.digests list) h.disks.journal_after
   pub stored : (from : ℕ) → IfSome h.disks.spool_before.seen (AreStored h.plan from found) → EachImage (AreStored h.plan from list) h.disks.spool_after
   pub left : HasLeft threads h found list list
 

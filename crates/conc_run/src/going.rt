@@ -31,6 +31,7 @@ use conc_resolver_workers::{Ran, run_with_workers};
 use conc_run_open::{Begun, Examined, begin};
 use conc_run_state::{HistoryFail, RunFail, Work};
 use conc_run_steps::tell;
+use conc_types::Digests;
 use std::alloc::Global;
 use std::sync::Wait;
 use std::thread::Threads;
@@ -147,34 +148,34 @@ pub fn go_on<
     rt: &R,
     alloc: Global,
     examined: Examined<'p>,
-    digest: &[u8; 32],
+    digests: &Digests,
     journal: &mut D,
     spool: &mut E,
     teller: &mut T,
     gate: &G,
     threads: u32,
 ) -> Result<Work<'p>, HistoryFail>
-    requires in_hand { IsInHand digest.now examined (D.state journal.old) (E.state spool.old) }
+    requires in_hand { IsInHand digests.now examined (D.state journal.old) (E.state spool.old) }
     requires told { IsTold (T.list teller.old) (T.takes teller.old) (plan_held examined)
         (list_found examined) }
     ensures finished { (plan : Plan) (readings : Readings) (before : D) (texts : E) → WasExamined
-        (handed plan readings digest.now (D.state before) (D.state journal.old) (E.state texts)
+        (handed plan readings digests.now (D.state before) (D.state journal.old) (E.state texts)
         (E.state spool.old)) examined.entry
-        → IfOk result (λ work. IsFinished threads (handed plan readings digest.now
+        → IfOk result (λ work. IsFinished threads (handed plan readings digests.now
         (D.state before) (D.state journal.new) (E.state texts) (E.state spool.new))
         (list_in work)) }
     ensures told { IfOk result (λ work. IsTold (T.list teller.new) (T.takes teller.new)
         (plan_held examined.entry) (list_in work)) }
     ensures cut_short { (plan : Plan) (readings : Readings) (before : D) (texts : E) → WasExamined
-        (handed plan readings digest.now (D.state before) (D.state journal.old) (E.state texts)
+        (handed plan readings digests.now (D.state before) (D.state journal.old) (E.state texts)
         (E.state spool.old)) examined.entry
         → IfErr result (IsCutShort threads (LacksTelling (T.may_lack teller.new)
-        (T.list teller.new)) (handed plan readings digest.now (D.state before)
+        (T.list teller.new)) (handed plan readings digests.now (D.state before)
         (D.state journal.new) (E.state texts) (E.state spool.new))) }
 {
     lawful_is_lawful_so_far();
     table_of_alone();
-    let begun = begin(examined, digest, journal, spool)?;
+    let begun = begin(examined, digests, journal, spool)?;
     let Ended { work, answer } = run_begun(rt, alloc, begun, journal, spool, teller, gate, threads);
     match answer {
         Ok(()) => Ok(work),

@@ -20,17 +20,18 @@ use Rattle.conc_run_state.specs.declared.error.HistoryFail.TheVariants as histor
 use Rattle.conc_run_state.specs.declared.error.DiskName.{DiskName}
 use Rattle.conc_run_state.specs.declared.error.DiskName.TheVariants as disk_name
 
--- what a label has, in its version, to tell whose input a journal is: 32 bytes, of which version 2 has the first 15
+-- what tells whose input a journal is, in this version: 32 bytes, of which version 2 has the first 15
+abbrev pub told_in : Version → List ℕ → List ℕ → List ℕ
+told_in One digest base = digest
+told_in Two digest base = base ++ replicate 17 0
+
+-- what a label has of it
 abbrev pub told : Label → List ℕ
-told label = told_in label.version label.digest label.base where
-  told_in : Version → List ℕ → List ℕ → List ℕ
-  told_in One digest base = digest
-  told_in Two digest base = base ++ replicate 17 0
+told label = told_in label.version label.digest label.base
 
 -- what a label of this version has for this input
 abbrev pub told_for : Version → Digests → List ℕ
-told_for One digests = digests.full
-told_for Two digests = take 15 digests.base ++ replicate 17 0
+told_for version digests = told_in version digests.full (take 15 digests.base)
 
 -- the journal of another input: it has these bytes in place of those
 pub record IsOther (digests : Digests) (found given image : List ℕ) : Type 0 where
