@@ -78,7 +78,8 @@ left-opening threads h s to_so_far survives = record {
 -- no refusal comes while the journal is written
 refused-before : (e : HistoryFail) → IsTrue (is_refusal e) → IsFalse (is_journal_fault e)
 refused-before history_fail.NotJournal is = refl
-refused-before (history_fail.OtherInput found) is = refl
+refused-before (history_fail.OtherInput found given) is = refl
+refused-before (history_fail.OtherScript command found given) is = refl
 refused-before (history_fail.Unlawful number) is = refl
 refused-before (history_fail.JournalFull len needed) is = refl
 refused-before (history_fail.DiskFault disk_name.Spool) is = refl

@@ -4,8 +4,8 @@ use Rattle.std.proofs.lemmas.Option.{IfSome_then}
 use Rattle.conc_types.specs.declared.event.Event.{Event}
 use Rattle.conc_disk.specs.Disk.{DiskState, SeenFollows, Stays}
 use Rattle.conc_disk.specs.Left.{EachImage, LeavesOnly}
-use Rattle.conc_journal.specs.Journals.{FitsState, state_of}
-use Rattle.conc_journal.specs.JournalStates.{state_digest}
+use Rattle.conc_journal.specs.Journals.{FitsState, list_of, stamps_held, state_of}
+use Rattle.conc_journal.specs.JournalStates.{state_label}
 use Rattle.conc_journal.specs.declared.journal.JournalState.{JournalState}
 use Rattle.conc_law.specs.Alone.{Alone, opening}
 use Rattle.conc_law.specs.Law.{Finished, Lawful, LawfulSoFar}
@@ -15,11 +15,12 @@ use Rattle.conc_resolver_alone.specs.Runs.{LacksMemory}
 use Rattle.conc_resolver_workers.specs.Runs.{AwaitsReport}
 use Rattle.conc_run_state.specs.Causes.{HasCause, is_journal_fault, is_refusal}
 use Rattle.conc_run_state.specs.Disks.{disks}
+use Rattle.conc_run_state.specs.Inputs.{IsBegunFor, IsHeldFor}
 use Rattle.conc_run_steps.specs.Going.{WentOn}
 use Rattle.conc_spool.specs.Spools.{Agrees, used_of}
 use Rattle.conc_run_state.specs.Handed.{Handed, IsTaken, IsUntouched}
 use Rattle.conc_run_state.specs.Lists.{GoesOn, GoesOnAlone, IsPrefix}
-use Rattle.conc_run_state.specs.Survival.{Survives}
+use Rattle.conc_run_state.specs.Survival.{HoldsList, Survives}
 use Rattle.conc_run_state.specs.Stored.{AreStored}
 use Rattle.conc_run_state.specs.Works.{list_in, longest_in, with_pending}
 use Rattle.conc_run_state.specs.declared.error.HistoryFail.{HistoryFail}
@@ -27,6 +28,7 @@ use Rattle.conc_run_state.specs.declared.error.HistoryFail.TheVariants as histor
 use Rattle.conc_run_state.specs.declared.work.Work.{Work}
 use Rattle.conc_run.specs.Whole.{HasLeft, HasNow, IsCutShort, IsFinished}
 use Rattle.conc_run_state.proofs.Prefixes.{prefix-twice}
+use Rattle.conc_run_state.proofs.Surviving.{held-begun}
 use Rattle.conc_run.proofs.Lists.{prefix-acknowledged, prefix-with_pending, stored-opening, used-opening, used-prefix}
 use Rattle.conc_run.proofs.Same.{HasLaw, same-result}
 use Rattle.conc_run.proofs.Survived.{begun-longest, fits-survives, journal-left}
@@ -64,8 +66,8 @@ module _ (threads : ℕ) (h : Handed) (journal spool : DiskState) (old new : Wor
       let with = prefix-twice begun.found (list_in new) (with_pending went.pending (list_in new)) acknowledged (prefix-with_pending went.pending (list_in new)) in
       omega (arith, used-found, used-prefix begun.found (with_pending went.pending (list_in new)) with, went.tied.used_is)
 
-  own-digest : state_digest (state_of new.journal) ≡ Some h.digest
-  own-digest = went.digest ∙ ap (λ (s : JournalState). state_digest s) begun.state
+  held : IsHeldFor h.plan h.digests new.journal
+  held = went.held h.digests begun.begun_for
 
   -- what was found is taken, whatever the disks are now
   still-taken : IsTaken h begun.found
@@ -77,7 +79,7 @@ module _ (threads : ℕ) (h : Handed) (journal spool : DiskState) (old new : Wor
   has-now to_so_far stays = record {
     taken = still-taken;
     so_far = to_so_far (longest_in new) went.list.lawful;
-    journal = IfSome_then h.disks.journal_after.seen went.tied.journal_on (λ bytes each image left. fits-survives (state_of new.journal) h.digest (list_in new) image went.tied.takes own-digest (each image left));
+    journal = IfSome_then h.disks.journal_after.seen went.tied.journal_on (λ bytes each image left. fits-survives h.plan h.digests (list_in new) (stamps_held new.journal) image (state_of new.journal) held.label went.tied.takes held.not_migrating held.labelled held.of_input (each image left));
     spool = spool-now (used (reverse begun.found)) (used_of new.spool) h.disks.spool_before spool h.disks.spool_after (omega (arith, used-found, used-grows)) stays (subst (λ (n : ℕ). SeenFollows (Agrees n) spool h.disks.spool_after) used-found went.spool_now) went.tied.spool_on;
     stored = stored-longest;
   }
@@ -90,15 +92,15 @@ module _ (threads : ℕ) (h : Handed) (journal spool : DiskState) (old new : Wor
     goes_on = inr goes-on;
     alone = λ none. inr (goes-alone none);
     last_is = went.last_is;
-    journal = journal-left h.digest begun.found (longest_in new) h.disks.journal_before journal h.disks.journal_after begins begun.left
-        (subst (λ (l : List Event). LeavesOnly (Survives h.digest l (longest_in new)) journal h.disks.journal_after) begun.list (went.journal h.digest begun.state));
+    journal = journal-left h.plan h.digests begun.found (longest_in new) h.disks.journal_before journal h.disks.journal_after begins begun.left
+        (subst (λ (l : List Event). LeavesOnly (Survives h.plan h.digests l (longest_in new)) journal h.disks.journal_after) begun.list (went.journal h.digests begun.begun_for));
     spool = subst (λ (n : ℕ). LeavesOnly (Keeps h.disks.spool_before n) h.disks.spool_before h.disks.spool_after) used-found (spool-left (used_of old.spool) h.disks.spool_before spool h.disks.spool_after stays survives went.spool);
     now = inr (has-now to_so_far stays);
   }
 
   -- no append met a fault
   pub longest-acknowledged : state_of new.journal ≡ state_of old.journal → longest_in new ≡ list_in new
-  longest-acknowledged same = begun-longest (state_of new.journal) h.digest (list_in new) (same ∙ begun.state)
+  longest-acknowledged same = begun-longest (state_of new.journal) begun.begun_for.label (list_in new) (same ∙ begun.begun_for.state)
 
   goes-acknowledged : state_of new.journal ≡ state_of old.journal → GoesOn h.plan h.readings (opening begun.found) (list_in new)
   goes-acknowledged same = subst (λ (l : List Event). GoesOn h.plan h.readings (opening begun.found) l) (longest-acknowledged same) goes-on
@@ -118,6 +120,18 @@ module _ (threads : ℕ) (h : Handed) (journal spool : DiskState) (old new : Wor
   stored-acknowledged : state_of new.journal ≡ state_of old.journal → (from : ℕ) → IfSome h.disks.spool_before.seen (AreStored h.plan from begun.found) → EachImage (AreStored h.plan from (list_in new)) h.disks.spool_after
   stored-acknowledged same from stored = subst (λ (l : List Event). EachImage (AreStored h.plan from l) h.disks.spool_after) (longest-acknowledged same) (stored-longest from stored)
 
+  -- the journal holds the list, and is of version 2
+  holds-list : state_of new.journal ≡ state_of old.journal → EachImage (HoldsList h.plan h.digests (list_in new)) h.disks.journal_after
+  holds-list same =
+      let still = held-begun h.plan h.digests new.journal begun.begun_for.label held (same ∙ begun.begun_for.state) in
+      IfSome_then h.disks.journal_after.seen went.tied.journal_on (λ bytes each image left. record {
+        label = begun.begun_for.label;
+        stamps = stamps_held new.journal;
+        journal = subst (λ (s : JournalState). FitsState s (stamps_held new.journal) (list_in new) image) (same ∙ begun.begun_for.state) (each image left);
+        version = begun.version begun.begun_for.label (ap (λ (s : JournalState). state_label s) begun.begun_for.state);
+        of_input = still;
+      })
+
   pub finished-run : ((list : List Event) → Lawful h.plan h.readings list → LawfulSoFar h.plan list) → HasLaw h → Stays h.disks.spool_before spool → LeavesOnly h.disks.spool_before.may_leave h.disks.spool_before spool → state_of new.journal ≡ state_of old.journal
       → Finished h.plan h.readings (list_in new) → IsFinished threads h (list_in new)
   finished-run to_so_far law stays survives same finished = record {
@@ -127,7 +141,7 @@ module _ (threads : ℕ) (h : Handed) (journal spool : DiskState) (old new : Wor
     finished = finished;
     alone = is-alone same finished;
     same = same-result h begun.found (list_in new) law (goes-acknowledged same) finished (stored-acknowledged same 0);
-    journal = subst (λ (s : JournalState). EachImage (FitsState s (list_in new)) h.disks.journal_after) (same ∙ begun.state) went.tied.journal_on;
+    journal = holds-list same;
     stored = stored-acknowledged same;
     left = subst (λ (l : List Event). HasLeft threads h begun.found (list_in new) l) (longest-acknowledged same) (left-run to_so_far stays survives);
   }

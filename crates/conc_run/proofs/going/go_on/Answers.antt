@@ -83,7 +83,7 @@ pub returns-in_err-begun-clause-cut_short : goal.returns-in_err-begun-clause-cut
 returns-in_err-begun-clause-cut_short g c = λ plan readings before texts was.
     let p = err_from_is_err_and c.from_residual.result c.from_residual.ensures.1 in
     let first = g.D.Disk.state before in let mid = g.D.Disk.state c.args.journal.now in let after = g.D.Disk.state c.begin.new.journal in
-    let h : Handed = handed plan readings c.args.digest.now first after (g.E.Disk.state texts) (g.E.Disk.state c.args.spool.now) in
+    let h : Handed = handed plan readings c.args.digests.now first after (g.E.Disk.state texts) (g.E.Disk.state c.args.spool.now) in
     rw (p.1, p.2)
     (cut-begin c.args.threads (LacksTelling (g.T.Teller.may_lack c.args.teller.now) (g.T.Teller.list c.args.teller.now)) h c.in_err-begun.field-0.0 c.in_err-begun.ensures.cause
     (rose-since first.faults mid.faults after.faults was.untouched.journal_survives.faults c.in_err-begun.ensures.fault) (c.in_err-begun.ensures.given_up plan readings before texts was)
@@ -96,7 +96,7 @@ returns-in-Ok-clause-finished g c = λ plan readings before texts was.
     let ran = c.run_begun-work in
     let begun-on = g.D.Disk.state c.begin.new.journal in
     let spool-begun = g.E.Disk.state c.args.spool.now in
-    let h : Handed = handed plan readings c.args.digest.now (g.D.Disk.state before) (g.D.Disk.state ran.new.journal) (g.E.Disk.state texts) (g.E.Disk.state ran.new.spool) in
+    let h : Handed = handed plan readings c.args.digests.now (g.D.Disk.state before) (g.D.Disk.state ran.new.journal) (g.E.Disk.state texts) (g.E.Disk.state ran.new.spool) in
     let begun = c.in_ok-begun.ensures.begun plan readings before texts was in
     let tied = begun.ready.tied in
     let work = c.in_ok-begun.begun.work in
@@ -128,7 +128,7 @@ returns-clause-cut_short g c = λ plan readings before texts was.
     let spool-first = g.E.Disk.state texts in
     let spool-begun = g.E.Disk.state c.args.spool.now in
     let spool-after = g.E.Disk.state ran.new.spool in
-    let h : Handed = handed plan readings c.args.digest.now first after spool-first spool-after in
+    let h : Handed = handed plan readings c.args.digests.now first after spool-first spool-after in
     let begun = c.in_ok-begun.ensures.begun plan readings before texts was in
     let tied = begun.ready.tied in
     let work = c.in_ok-begun.begun.work in

@@ -19,7 +19,7 @@ cut-silent (Err e) threads h cut = cut-wider threads (LacksTelling false None) (
 pub returns-in_err-examined-clause-cut_short : goal.returns-in_err-examined-clause-cut_short
 returns-in_err-examined-clause-cut_short g c =
     let p = err_from_is_err_and c.from_residual.result c.from_residual.ensures.1 in
-    let h : Handed = handed c.args.plan.now c.args.readings.now c.args.digest.now (g.D.Disk.state c.args.journal.now) (g.D.Disk.state c.examine.new.journal) (g.E.Disk.state c.args.spool.now) (g.E.Disk.state c.examine.new.spool) in
+    let h : Handed = handed c.args.plan.now c.args.readings.now c.args.digests.now (g.D.Disk.state c.args.journal.now) (g.D.Disk.state c.examine.new.journal) (g.E.Disk.state c.args.spool.now) (g.E.Disk.state c.examine.new.spool) in
     rw (p.1, p.2) (cut-untouched c.args.threads (LacksToTell 0) h c.in_err-examined.field-0.0 c.in_err-examined.ensures.cause c.examine.ensures.untouched)
 
 pub returns-clause-finished : goal.returns-clause-finished
@@ -28,6 +28,6 @@ returns-clause-finished g c =
 
 pub returns-clause-cut_short : goal.returns-clause-cut_short
 returns-clause-cut_short g c =
-    let h : Handed = handed c.args.plan.now c.args.readings.now c.args.digest.now (g.D.Disk.state c.args.journal.now) (g.D.Disk.state c.go_on.new.journal) (g.E.Disk.state c.args.spool.now) (g.E.Disk.state c.go_on.new.spool) in
+    let h : Handed = handed c.args.plan.now c.args.readings.now c.args.digests.now (g.D.Disk.state c.args.journal.now) (g.D.Disk.state c.go_on.new.journal) (g.E.Disk.state c.args.spool.now) (g.E.Disk.state c.go_on.new.spool) in
     cut-silent c.go_on.result c.args.threads h
     (c.go_on.ensures.cut_short c.args.plan.now c.args.readings.now c.args.journal.now c.args.spool.now (record { is_examined = c.in_ok-examined.ensures.examined; untouched = c.examine.ensures.untouched }))

@@ -28,14 +28,14 @@ same-err (Err e) x y a b = cc
 pub returns-in_err-work-clause-cut_short : goal.returns-in_err-work-clause-cut_short
 returns-in_err-work-clause-cut_short g c =
     let p = err_from_is_err_and c.from_residual.result c.from_residual.ensures.1 in
-    let h : Handed = handed c.args.plan.now c.args.readings.now c.args.digest.now (g.D.Disk.state c.args.journal.now) (g.D.Disk.state c.open.new.journal) (g.E.Disk.state c.args.spool.now) (g.E.Disk.state c.open.new.spool) in
+    let h : Handed = handed c.args.plan.now c.args.readings.now c.args.digests.now (g.D.Disk.state c.args.journal.now) (g.D.Disk.state c.open.new.journal) (g.E.Disk.state c.args.spool.now) (g.E.Disk.state c.open.new.spool) in
     rw (p.1, p.2)
     (cut-opening 0 (LacksToTell 0) h c.in_err-work.field-0.0 c.in_err-work.ensures.cause c.in_err-work.ensures.untouched c.in_err-work.ensures.given_up (c.lawful_is_lawful_so_far.ensures c.args.plan.now c.args.readings.now)
     c.open.ensures.spool_survives)
 
 pub returns-in-Ok-clause-finished : goal.returns-in-Ok-clause-finished
 returns-in-Ok-clause-finished g c =
-    let h : Handed = handed c.args.plan.now c.args.readings.now c.args.digest.now (g.D.Disk.state c.args.journal.now) (g.D.Disk.state c.run_alone.new.journal) (g.E.Disk.state c.args.spool.now) (g.E.Disk.state c.run_alone.new.spool) in
+    let h : Handed = handed c.args.plan.now c.args.readings.now c.args.digests.now (g.D.Disk.state c.args.journal.now) (g.D.Disk.state c.run_alone.new.journal) (g.E.Disk.state c.args.spool.now) (g.E.Disk.state c.run_alone.new.spool) in
     let begun-on = g.D.Disk.state c.open.new.journal in
     let spool-begun = g.E.Disk.state c.open.new.spool in
     let begun = c.in_ok-work.ensures.begun in
@@ -57,7 +57,7 @@ returns-clause-cut_short g c =
     let spool-before = g.E.Disk.state c.args.spool.now in
     let spool-begun = g.E.Disk.state c.open.new.spool in
     let spool-after = g.E.Disk.state c.run_alone.new.spool in
-    let h : Handed = handed c.args.plan.now c.args.readings.now c.args.digest.now before after spool-before spool-after in
+    let h : Handed = handed c.args.plan.now c.args.readings.now c.args.digests.now before after spool-before spool-after in
     let begun = c.in_ok-work.ensures.begun in
     let tied = begun.ready.tied in
     let work = c.in_ok-work.work in
