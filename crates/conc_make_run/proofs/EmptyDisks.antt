@@ -9,10 +9,10 @@ use Rattle.conc_types.specs.declared.script.Readings.{Readings}
 use Rattle.conc_types.specs.Words.{numbered}
 use Rattle.conc_journal_image.specs.Image.{is_not_begun}
 use Rattle.conc_law.specs.Alone.{Alone}
-use Rattle.conc_journal.specs.Opens.{broken_of, digest_of, events_of, may_open}
+use Rattle.conc_journal.specs.Opens.{broken_of, events_of, label_of, may_open}
 use Rattle.conc_restart.specs.Need.{need}
 use Rattle.conc_run.specs.Whole.{IsFinished}
-use Rattle.conc_run_state.specs.Causes.{HasCause, IsOther, is_refusal}
+use Rattle.conc_run_state.specs.Causes.{HasCause, IsOther, IsOtherScript, is_refusal}
 use Rattle.conc_run_state.specs.Handed.{Handed, IsFound}
 use Rattle.conc_run_state.specs.Judging.{IsBadFor, IsBadRecord}
 use Rattle.conc_run_state.specs.declared.error.HistoryFail.{HistoryFail}
@@ -27,8 +27,8 @@ not-begun = refl
 opens : may_open [] ≡ Bool.true
 opens = rw not-begun refl
 
-no-digest : digest_of [] ≡ None
-no-digest = rw not-begun refl
+no-label : label_of [] ≡ None
+no-label = rw not-begun refl
 
 no-events : events_of [] ≡ []
 no-events = rw not-begun refl
@@ -68,8 +68,10 @@ fits plan readings =
 pub not-refused : (h : Handed) (e : HistoryFail) → h.disks.journal_before.seen ≡ Some [] → h.disks.spool_before.seen ≡ Some [] → need h.plan h.readings ≤ 1048576 → HasCause h e → IsFalse (is_refusal e)
 not-refused h history_fail.NotJournal journal spool room cause =
     let no : may_open [] ≡ Bool.false = at-seen (λ image. IsFalse (may_open image)) h.disks.journal_before.seen [] journal cause in absurd (cc (opens, no))
-not-refused h (history_fail.OtherInput found) journal spool room cause =
-    let other : IsOther h.digest found [] = at-seen (IsOther h.digest found) h.disks.journal_before.seen [] journal cause in absurd (cc (no-digest, other.found_is))
+not-refused h (history_fail.OtherInput found given) journal spool room cause =
+    let other : IsOther h.digests found given [] = at-seen (IsOther h.digests found given) h.disks.journal_before.seen [] journal cause in absurd (cc (no-label, other.labelled))
+not-refused h (history_fail.OtherScript command found given) journal spool room cause =
+    let other : IsOtherScript h.plan h.digests command found given [] = at-seen (IsOtherScript h.plan h.digests command found given) h.disks.journal_before.seen [] journal cause in absurd (cc (no-label, other.labelled))
 not-refused h (history_fail.Unlawful number) journal spool room cause =
     let bad = λ (image : List ℕ). IsBadFor h.plan h.disks.spool_before (events_of image) (broken_of image) number in
     let there : bad [] = at-seen bad h.disks.journal_before.seen [] journal cause.bad in

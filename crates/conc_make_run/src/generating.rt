@@ -8,18 +8,18 @@ use conc_plan::make_plan;
 use conc_script::{read_clock, read_script};
 use conc_setup::read_setup;
 use conc_tables::read_table;
-use conc_types::{NoMemory, Plan, ReadFail, Readings, Seq, Table};
+use conc_types::{Digests, NoMemory, Plan, ReadFail, Readings, Seq, Table};
 use std::alloc::Global;
 
 /// The name of the table in the setup.
 const TABLE_NAME: &[u8] = b"m.csv";
 
-/// What generated files give for a run: the plan, the readings, and the digest of the input.
+/// What generated files give for a run: the plan, the readings, and the digests of the input.
 #[derive(Drop)]
 pub(crate) struct Generated {
     pub(crate) plan: Plan,
     pub(crate) readings: Readings,
-    pub(crate) digest: [u8; 32],
+    pub(crate) digests: Digests,
 }
 
 // The value of a file that is accepted.
@@ -42,7 +42,7 @@ fn one_table(alloc: Global, table: Table) -> Result<Seq<Table>, NoMemory>
     Ok(Seq::from_vec(tables))
 }
 
-fn digest_of(inputs: &Inputs) -> [u8; 32] {
+fn digests_of(inputs: &Inputs) -> Digests {
     let mut digest = InputDigest::new(&inputs.setup, &inputs.script);
     digest.add_table(TABLE_NAME, &inputs.table);
     digest.finish()
@@ -62,10 +62,10 @@ pub(crate) fn generate(alloc: Global, seed: u64, size: u32) -> Result<Generated,
     let table = accepted(read_table(alloc, &inputs.table, 0))?;
     let tables = one_table(alloc, table)?;
     let plan = accepted(make_plan(alloc, setup, script, tables))?;
-    let digest = digest_of(&inputs);
+    let digests = digests_of(&inputs);
     Ok(Generated {
         plan,
         readings,
-        digest,
+        digests,
     })
 }

@@ -30,11 +30,11 @@ pub(crate) fn run_in_memory(alloc: Global, generated: &Generated) -> Result<Work
     let Generated {
         plan,
         readings,
-        digest,
+        digests,
     } = generated;
     let mut journal = MemDisk::new(alloc, Vec::new(alloc), Vec::new(alloc));
     let mut spool = MemDisk::new(alloc, Vec::new(alloc), Vec::new(alloc));
-    match run_plan(alloc, plan, readings, digest, &mut journal, &mut spool) {
+    match run_plan(alloc, plan, readings, digests, &mut journal, &mut spool) {
         Ok(work) => Ok(work),
         Err(fail) => Err(want_of_memory(fail)),
     }

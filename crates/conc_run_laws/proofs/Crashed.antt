@@ -3,6 +3,7 @@ use Rattle.std.proofs.Common.{◌≡◌, ◌⊎◌, inl, inr, ℕ, ◌≤◌, tr
 use Rattle.std.specs.Prelude.{slice_get}
 use Rattle.std.proofs.lemmas.List.{length-append}
 use Rattle.std.proofs.lemmas.Option.{slice_get_within}
+use Rattle.conc_types.specs.declared.digests.Digests.{Digests}
 use Rattle.conc_types.specs.declared.event.Event.{Event}
 use Rattle.conc_types.specs.declared.event.Event.TheVariants as event
 use Rattle.conc_types.specs.declared.plan.Plan.{Plan}
@@ -17,8 +18,8 @@ use Rattle.conc_law.specs.Law.{LawfulSoFar}
 use Rattle.conc_law.specs.Words.{Has}
 use Rattle.conc_law.proofs.Prefixes.{is_lawful_so_far-prefix}
 use Rattle.conc_run.specs.Whole.{HasBetween, HasLeft, IsFinished}
-use Rattle.conc_run.proofs.Next.{left-good, not-bad, not-closed, not-other}
-use Rattle.conc_run_state.specs.Causes.{HasCause, IsOther}
+use Rattle.conc_run.proofs.Next.{left-good, not-bad, not-closed, not-other, not-other_script}
+use Rattle.conc_run_state.specs.Causes.{HasCause, IsOther, IsOtherScript}
 use Rattle.conc_run_state.specs.Handed.{Handed, IsOwnJournal}
 use Rattle.conc_run_state.specs.Judging.{EndWithin, IsBadFor, IsBadRecord}
 use Rattle.conc_run_state.specs.Lists.{GoesOn, IsPrefix}
@@ -44,10 +45,10 @@ module _ (threads : ℕ) (h : Handed) (found acknowledged last : List Event) (be
   found-is = at-some (λ (i : List ℕ). found ≡ events_of i) h.disks.journal_before.seen began.image began.journal.seen left.events
 
   -- the image found stands
-  same-fit : (image texts : List ℕ) → EndWithin (length texts) (events_of image) → image ≡ began.image → IsFit h.plan h.digest image texts × IsPrefix found (events_of image)
+  same-fit : (image texts : List ℕ) → EndWithin (length texts) (events_of image) → image ≡ began.image → IsFit h.plan h.digests image texts × IsPrefix found (events_of image)
   same-fit image texts within same = (
     record {
-      own = subst (λ (i : List ℕ). IsOwnJournal h.digest i) (sym same) began.fit.own;
+      own = subst (λ (i : List ℕ). IsOwnJournal h.plan h.digests i) (sym same) began.fit.own;
       good = record {
         whole = ap broken_of same ∙ began.fit.good.whole;
         so_far = subst (λ (i : List ℕ). LawfulSoFar h.plan (events_of i)) (sym same) began.fit.good.so_far;
@@ -69,7 +70,7 @@ module _ (threads : ℕ) (h : Handed) (found acknowledged last : List Event) (be
       h.disks.journal_before.seen began.image began.journal.seen leaves.nothing_else h.disks.journal_before.moment image (le_refl h.disks.journal_before.moment) since
 
   pub left-fit : (image texts : List ℕ) → h.disks.journal_after.left_since h.disks.journal_before.moment image → EndWithin (length texts) (events_of image)
-      → IsFit h.plan h.digest image texts × IsPrefix found (events_of image)
+      → IsFit h.plan h.digests image texts × IsPrefix found (events_of image)
   left-fit image texts since within = elim left.now [
     | inl untouched ↦ elim (since-left h.disks.journal_before.may_leave image untouched.journal_survives since) [
       | inl before ↦ same-fit image texts within (earlier-same image before)
@@ -79,7 +80,7 @@ module _ (threads : ℕ) (h : Handed) (found acknowledged last : List Event) (be
       | inl before ↦ same-fit image texts within (earlier-same image before)
       | inr (inl may) ↦ same-fit image texts within (began.journal.settled image may)
       | inr (inr survives) ↦
-          let both = left-good h.plan h.digest found last image (length texts) (is_lawful_so_far-prefix h.plan) now.so_far survives within in
+          let both = left-good h.plan h.digests found last image (length texts) (is_lawful_so_far-prefix h.plan) now.so_far survives within in
           (record { own = both.0; good = both.1 }, survives.begins)
     ]
   ]
@@ -94,10 +95,12 @@ past-end found last same i e from there = let within = slice_get_within last i e
 opening-long : (found : List Event) → length found ≤ length (opening found)
 opening-long found = let behind = prefix-opening found in omega (arith, ap length behind.1, length-append found behind.0)
 
-module _ (h : Handed) (image texts : List ℕ) (fit : IsFit h.plan h.digest image texts) (journal : h.disks.journal_before.seen ≡ Some image) (spool : h.disks.spool_before.seen ≡ Some texts) where
+module _ (h : Handed) (image texts : List ℕ) (fit : IsFit h.plan h.digests image texts) (journal : h.disks.journal_before.seen ≡ Some image) (spool : h.disks.spool_before.seen ≡ Some texts) where
   pub refuses-for_room : (e : HistoryFail) → HasCause h e → RefusesForRoom h image e
-  refuses-for_room history_fail.NotJournal cause = not-closed h.digest image fit.own (at-some (λ (i : List ℕ). IsFalse (may_open i)) h.disks.journal_before.seen image journal cause)
-  refuses-for_room (history_fail.OtherInput found) cause = not-other h.digest found image fit.own.own (at-some (λ (i : List ℕ). IsOther h.digest found i) h.disks.journal_before.seen image journal cause)
+  refuses-for_room history_fail.NotJournal cause = not-closed h.plan h.digests image fit.own (at-some (λ (i : List ℕ). IsFalse (may_open i)) h.disks.journal_before.seen image journal cause)
+  refuses-for_room (history_fail.OtherInput found given) cause = not-other h.plan h.digests found given image fit.own.own (at-some (λ (i : List ℕ). IsOther h.digests found given i) h.disks.journal_before.seen image journal cause)
+  refuses-for_room (history_fail.OtherScript command found given) cause =
+      not-other_script h.plan h.digests command found given image fit.own.own (at-some (λ (i : List ℕ). IsOtherScript h.plan h.digests command found given i) h.disks.journal_before.seen image journal cause)
   refuses-for_room (history_fail.Unlawful number) cause =
       let bad = at-some (λ (i : List ℕ). IsBadFor h.plan h.disks.spool_before (events_of i) (broken_of i) number) h.disks.journal_before.seen image journal cause.bad in
       let long : bad.0 ≡ length texts = at-some (λ (t : List ℕ). bad.0 ≡ length t) h.disks.spool_before.seen texts spool bad.1 in
@@ -130,11 +133,11 @@ module _ (h : Handed) (image texts : List ℕ) (fit : IsFit h.plan h.digest imag
       let same = finds-events threads finished.found list list finished.left in
       finished-interrupts h.plan h.readings (events_of image) list (subst (λ (l : List Event). GoesOn h.plan h.readings (opening l) list) same finished.goes_on) r has finished.finished is
 
-pub next-run : (threads : ℕ) (h next : Handed) (found acknowledged last : List Event) (image texts : List ℕ) → next.plan ≡ h.plan → next.digest ≡ h.digest → are_in_order next.readings ≡ true → OnlyNow h.disks.journal_before
+pub next-run : (threads : ℕ) (h next : Handed) (found acknowledged last : List Event) (image texts : List ℕ) → next.plan ≡ h.plan → next.digests ≡ h.digests → are_in_order next.readings ≡ true → OnlyNow h.disks.journal_before
     → BeganWell h → HasLeft threads h found acknowledged last → IsNextOver h.disks.journal_before h.disks.journal_after next image texts → IsNextRun next found image
-next-run threads h next found acknowledged last image texts same_plan same_digest order only_now began left over =
+next-run threads h next found acknowledged last image texts same_plan same_digests order only_now began left over =
     let both = left-fit threads h found acknowledged last began only_now left image texts over.left over.within in
-    let fit = subst (λ (p : Plan). IsFit p next.digest image texts) (sym same_plan) (subst (λ (d : List ℕ). IsFit h.plan d image texts) (sym same_digest) both.0) in
+    let fit = subst (λ (p : Plan). IsFit p next.digests image texts) (sym same_plan) (subst (λ (d : Digests). IsFit h.plan d image texts) (sym same_digests) both.0) in
     record {
       refuses = refuses-for_room next image texts fit over.journal over.spool;
       begins = both.1;

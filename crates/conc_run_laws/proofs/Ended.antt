@@ -68,10 +68,10 @@ held None P is holds = cc is
 
 now-fit : (h : Handed) (found acknowledged last : List Event) (image texts : List ℕ) → HasNow h found acknowledged last → CrashesAtEnd h found image texts → IsFitEnd h acknowledged image texts
 now-fit h found acknowledged last image texts now end =
-    let survives = held h.disks.journal_after.seen ((i : List ℕ) → h.disks.journal_after.may_leave i → Survives h.digest acknowledged last i) end.journal_exposes now.journal image end.journal in
+    let survives = held h.disks.journal_after.seen ((i : List ℕ) → h.disks.journal_after.may_leave i → Survives h.plan h.digests acknowledged last i) end.journal_exposes now.journal image end.journal in
     let stored = held h.disks.spool_after.seen ((t : List ℕ) → h.disks.spool_after.may_leave t → AreStored h.plan 0 last t) end.spool_exposes (now.stored 0 end.stored) texts end.spool in
     let within = all-within h.plan (events_of image) last texts survives.within stored in
-    let both = left-good h.plan h.digest acknowledged last image (length texts) (is_lawful_so_far-prefix h.plan) now.so_far survives within in
+    let both = left-good h.plan h.digests acknowledged last image (length texts) (is_lawful_so_far-prefix h.plan) now.so_far survives within in
     inr (record { own = both.0; good = both.1 }, survives.begins)
 
 pub end-fit : (threads : ℕ) (h : Handed) (found acknowledged last : List Event) (image texts : List ℕ) → HasLeft threads h found acknowledged last → CrashesAtEnd h found image texts → IsFitEnd h acknowledged image texts

@@ -1,5 +1,6 @@
 -- A run that crashed, and the next one of the same files.
 use Rattle.std.specs.Prelude.{◌≡◌, ◌⊎◌, ⊤, ℕ, ◌+◌, ◌<◌, List, length, reverse, Some, is_some, IfSome, IsTrue}
+use Rattle.conc_types.specs.declared.digests.Digests.{Digests}
 use Rattle.conc_types.specs.declared.event.Event.{Event}
 use Rattle.conc_types.specs.declared.plan.Plan.{Plan}
 use Rattle.conc_types.specs.declared.plan.Req.{Req}
@@ -23,8 +24,8 @@ use Rattle.conc_run_laws.specs.Lives.{IsInterrupted, IsRightLife}
 
 -- The image is a journal of these files or not begun, no record of it is broken, its events are lawful, every life judged as
 -- an earlier one, and the spool with these texts has the extent of each.
-pub record IsFit (plan : Plan) (digest image texts : List ℕ) : Type 0 where
-  pub own : IsOwnJournal digest image
+pub record IsFit (plan : Plan) (digests : Digests) (image texts : List ℕ) : Type 0 where
+  pub own : IsOwnJournal plan digests image
   pub good : AreGood plan (length texts) (events_of image) (broken_of image)
 
 -- a read gives these bytes, and nothing is pending: a crash leaves them too
@@ -38,7 +39,7 @@ pub record BeganWell (h : Handed) : Type 0 where
   pub texts : List ℕ
   pub journal : Holds h.disks.journal_before image
   pub spool : h.disks.spool_before.seen ≡ Some texts
-  pub fit : IsFit h.plan h.digest image texts
+  pub fit : IsFit h.plan h.digests image texts
 
 -- ---- the next run
 
@@ -81,4 +82,4 @@ pub record CrashesAtEnd (h : Handed) (found : List Event) (image texts : List �
 
 -- nothing was written; or the images fit together, and the list in the journal begins with the one that was acknowledged
 abbrev pub IsFitEnd : Handed → List Event → List ℕ → List ℕ → Type 0
-IsFitEnd h acknowledged image texts = IsUntouched h ⊎ (IsFit h.plan h.digest image texts × IsPrefix acknowledged (events_of image))
+IsFitEnd h acknowledged image texts = IsUntouched h ⊎ (IsFit h.plan h.digests image texts × IsPrefix acknowledged (events_of image))

@@ -1,5 +1,6 @@
 -- What a run beside watchers begins with, and how it ends.
 use Rattle.std.specs.Prelude.{◌≡◌, ℕ, List, map, Option, Result, Bool, IfErr, IfOk, IfSome}
+use Rattle.conc_types.specs.declared.digests.Digests.{Digests}
 use Rattle.conc_types.specs.declared.event.Event.{Event}
 use Rattle.conc_disk.specs.Disk.{DiskState}
 use Rattle.conc_run.specs.Telling.{LacksTelling}
@@ -15,8 +16,8 @@ use Rattle.conc_run_watched.specs.declared.watched.Watched.{Watched}
 use Rattle.conc_watch.specs.Lines.{AreWatchLines, watch_text}
 
 -- what was found is in hand over these disks, and the teller stands at it
-pub record MayGo (digest : List ℕ) (journal spool : DiskState) (told : Option (List Event)) (takes : List Event → Type 0) (examined : Examined) : Type 0 where
-  pub in_hand : IsInHand digest examined journal spool
+pub record MayGo (digests : Digests) (journal spool : DiskState) (told : Option (List Event)) (takes : List Event → Type 0) (examined : Examined) : Type 0 where
+  pub in_hand : IsInHand digests examined journal spool
   pub stands : IsTold told takes (plan_held examined) (list_found examined)
 
 -- with so many threads the run is finished, and the teller was told its whole list; or it was cut short

@@ -18,7 +18,7 @@ use conc_outside_gate::Gate;
 use conc_run::go_on;
 use conc_run_open::{Examined, examine};
 use conc_run_state::{HistoryFail, Work};
-use conc_types::{NoMemory, Plan, Readings};
+use conc_types::{Digests, NoMemory, Plan, Readings};
 use conc_view::{Naming, Opened, Snapshot, new_view};
 use conc_watch::{Ending, Watchers};
 use std::alloc::Global;
@@ -46,7 +46,7 @@ fn run_out<
 >(
     rt: &R,
     alloc: Global,
-    digest: &[u8; 32],
+    digests: &Digests,
     gate: &G,
     threads: u32,
     ending: &Ending,
@@ -55,21 +55,21 @@ fn run_out<
     spool: &mut E,
     teller: &mut T,
 ) -> Result<Work<'p>, HistoryFail>
-    requires { IsSomeAnd examined.old (MayGo digest.now (D.state journal.old)
+    requires { IsSomeAnd examined.old (MayGo digests.now (D.state journal.old)
         (E.state spool.old) (T.list teller.old) (T.takes teller.old)) }
     ensures taken { examined.new ≡ None }
     ensures ended { (plan : Plan) (readings : Readings) (before : D) (texts : E) →
-        IfSome examined.old (WasExamined (handed plan readings digest.now (D.state before)
+        IfSome examined.old (WasExamined (handed plan readings digests.now (D.state before)
         (D.state journal.old) (E.state texts) (E.state spool.old)))
         → HasEnded threads (T.list teller.new) (T.may_lack teller.new)
-        (handed plan readings digest.now (D.state before) (D.state journal.new) (E.state texts)
+        (handed plan readings digests.now (D.state before) (D.state journal.new) (E.state texts)
         (E.state spool.new)) result }
 {
     let Some(examined) = examined.take() else {
         unreachable!()
     };
     let answer = go_on(
-        rt, alloc, examined, digest, journal, spool, teller, gate, threads,
+        rt, alloc, examined, digests, journal, spool, teller, gate, threads,
     );
     ending.set();
     answer
@@ -87,7 +87,7 @@ fn run_beside<
 >(
     rt: &R,
     alloc: Global,
-    digest: &[u8; 32],
+    digests: &Digests,
     gate: &G,
     threads: u32,
     ending: &Ending,
@@ -98,13 +98,13 @@ fn run_beside<
     teller: &mut T,
     answer: &mut Option<Result<Work<'p>, HistoryFail>>,
 )
-    requires { IsSomeAnd examined.old (MayGo digest.now (D.state journal.old)
+    requires { IsSomeAnd examined.old (MayGo digests.now (D.state journal.old)
         (E.state spool.old) (T.list teller.old) (T.takes teller.old)) }
     ensures ended { (plan : Plan) (readings : Readings) (before : D) (texts : E) →
-        IfSome examined.old (WasExamined (handed plan readings digest.now (D.state before)
+        IfSome examined.old (WasExamined (handed plan readings digests.now (D.state before)
         (D.state journal.old) (E.state texts) (E.state spool.old)))
         → IsSomeAnd answer.new (HasEnded threads (T.list teller.new) (T.may_lack teller.new)
-        (handed plan readings digest.now (D.state before) (D.state journal.new) (E.state texts)
+        (handed plan readings digests.now (D.state before) (D.state journal.new) (E.state texts)
         (E.state spool.new))) }
     ensures answered { IsSome answer.new }
     ensures taken { examined.new ≡ None }
@@ -117,20 +117,20 @@ fn run_beside<
             ensures { StillWatch watchers.entry.now watchers.exit.now }
         { watchers.watch(rt, ending) },
         &mut ||
-            requires { IsSomeAnd examined.now (MayGo digest.now (D.state journal.now)
+            requires { IsSomeAnd examined.now (MayGo digests.now (D.state journal.now)
                 (E.state spool.now) (T.list teller.now) (T.takes teller.now)) }
             ensures { ((plan : Plan) (readings : Readings) (before : D) (texts : E) →
-                IfSome examined.entry.now (WasExamined (handed plan readings digest.entry.now
+                IfSome examined.entry.now (WasExamined (handed plan readings digests.entry.now
                 (D.state before) (D.state journal.entry.now) (E.state texts)
                 (E.state spool.entry.now)))
                 → IsSomeAnd answer.exit.now (HasEnded threads (T.list teller.exit.now)
-                (T.may_lack teller.exit.now) (handed plan readings digest.entry.now
+                (T.may_lack teller.exit.now) (handed plan readings digests.entry.now
                 (D.state before) (D.state journal.exit.now) (E.state texts)
                 (E.state spool.exit.now))))
                 × IsSome answer.exit.now × (examined.exit.now ≡ None) }
         {
             *answer = Some(run_out(
-                rt, alloc, digest, gate, threads, ending, examined, journal, spool, teller,
+                rt, alloc, digests, gate, threads, ending, examined, journal, spool, teller,
             ));
         },
     );
@@ -148,7 +148,7 @@ fn run_told_beside<
 >(
     rt: &R,
     alloc: Global,
-    digest: &[u8; 32],
+    digests: &Digests,
     gate: &G,
     threads: u32,
     examined: Examined<'p>,
@@ -157,13 +157,13 @@ fn run_told_beside<
     spool: &mut E,
     teller: &mut T,
 ) -> Result<Work<'p>, HistoryFail>
-    requires { MayGo digest.now (D.state journal.old) (E.state spool.old) (T.list teller.old)
+    requires { MayGo digests.now (D.state journal.old) (E.state spool.old) (T.list teller.old)
         (T.takes teller.old) examined }
     ensures ended { (plan : Plan) (readings : Readings) (before : D) (texts : E) → WasExamined
-        (handed plan readings digest.now (D.state before) (D.state journal.old)
+        (handed plan readings digests.now (D.state before) (D.state journal.old)
         (E.state texts) (E.state spool.old)) examined.entry
         → HasEnded threads (T.list teller.new) (T.may_lack teller.new)
-        (handed plan readings digest.now (D.state before) (D.state journal.new) (E.state texts)
+        (handed plan readings digests.now (D.state before) (D.state journal.new) (E.state texts)
         (E.state spool.new)) result }
     ensures watching { StillWatch watchers.old watchers.new }
 {
@@ -173,7 +173,7 @@ fn run_told_beside<
     run_beside(
         rt,
         alloc,
-        digest,
+        digests,
         gate,
         threads,
         &ending,
@@ -204,7 +204,7 @@ fn run_viewed<
     opened: Opened,
     plan: &'p Plan,
     examined: Examined<'p>,
-    digest: &[u8; 32],
+    digests: &Digests,
     journal: &mut D,
     spool: &mut E,
     gate: &G,
@@ -214,11 +214,11 @@ fn run_viewed<
     requires named { name_of opened ≡ J.name }
     requires watchers { IsTrue (is_between 1 8 watchers) }
     requires plan { plan_held examined ≡ plan.now }
-    requires in_hand { IsInHand digest.now examined (D.state journal.old) (E.state spool.old) }
+    requires in_hand { IsInHand digests.now examined (D.state journal.old) (E.state spool.old) }
     ensures { (readings : Readings) (before : D) (texts : E) → WasExamined
-        (handed plan.now readings digest.now (D.state before) (D.state journal.old)
+        (handed plan.now readings digests.now (D.state before) (D.state journal.old)
         (E.state texts) (E.state spool.old)) examined.entry
-        → HasWatched threads watchers (handed plan.now readings digest.now (D.state before)
+        → HasWatched threads watchers (handed plan.now readings digests.now (D.state before)
         (D.state journal.new) (E.state texts) (E.state spool.new)) result }
 {
     let Ok((mut publisher, seated)) = new_view::<J, R>(
@@ -238,7 +238,7 @@ fn run_viewed<
     let answer = run_told_beside(
         rt,
         alloc,
-        digest,
+        digests,
         gate,
         threads,
         examined,
@@ -264,7 +264,7 @@ pub fn run_watched<'p, R: Threads + Wait + Sync, D: Disk + Send, E: Disk + Send,
     alloc: Global,
     plan: &'p Plan,
     readings: &Readings,
-    digest: &[u8; 32],
+    digests: &Digests,
     journal: &mut D,
     spool: &mut E,
     gate: &G,
@@ -274,19 +274,19 @@ pub fn run_watched<'p, R: Threads + Wait + Sync, D: Disk + Send, E: Disk + Send,
     requires some { 0 < watchers }
     requires few { watchers ≤ 8 }
     ensures finished { IfOk result (λ watched. IsFinished threads
-        (handed plan.now readings.now digest.now (D.state journal.old) (D.state journal.new)
+        (handed plan.now readings.now digests.now (D.state journal.old) (D.state journal.new)
         (E.state spool.old) (E.state spool.new)) (list_in watched.work)) }
     ensures watched { IfOk result (λ watched. AreWatchLines plan.now (list_in watched.work)
         watchers (watch_text 1 (map (λ k. k.items) watched.kept.items))) }
     ensures cut_short { IfErr result (IsCutShort threads (LacksToTell watchers)
-        (handed plan.now readings.now digest.now (D.state journal.old) (D.state journal.new)
+        (handed plan.now readings.now digests.now (D.state journal.old) (D.state journal.new)
         (E.state spool.old) (E.state spool.new))) }
 {
-    let examined = examine(alloc, plan, readings, digest, journal, spool)?;
+    let examined = examine(alloc, plan, readings, digests, journal, spool)?;
     let Ok(opened) = Opened::new(alloc) else {
         return Err(HistoryFail::NoMemory);
     };
     run_viewed::<Brand, R, D, E, G>(
-        rt, alloc, opened, plan, examined, digest, journal, spool, gate, threads, watchers,
+        rt, alloc, opened, plan, examined, digests, journal, spool, gate, threads, watchers,
     )
 }

@@ -5,9 +5,9 @@ use Rattle.conc_types.specs.declared.event.Event.{Event}
 use Rattle.conc_law.specs.Law.{Lawful, LawfulSoFar}
 use Rattle.conc_law.specs.Overlap.{NoOverlap}
 use Rattle.conc_law.specs.Text.{text_of}
-use Rattle.conc_journal_image.specs.Image.{IsJournal}
 use Rattle.conc_outside.specs.Taken.{Took, TookPrefix}
 use Rattle.conc_run_state.specs.Handed.{Handed}
+use Rattle.conc_run_state.specs.Survival.{HoldsList}
 use Rattle.conc_run_state.specs.declared.error.HistoryFail.{HistoryFail}
 use Rattle.conc_run_state.specs.declared.error.HistoryFail.TheVariants as history_fail
 use Rattle.conc_top.specs.declared.exit.Exit.{Exit}
@@ -26,9 +26,10 @@ read-of kind None may_leave each left = tt
 read-of kind (Some bytes) may_leave each left = each bytes left
 
 -- a run that was cut short, and wrote nothing
-pub cut-ends : (threads watchers : ℕ) (h : Handed) (sink : Sunk) (s : HistoryFail) → IsCutShort threads (LacksToTell watchers) h s → TookNothing sink → RunEnds threads watchers h sink (exit_for h.digest s)
+pub cut-ends : (threads watchers : ℕ) (h : Handed) (sink : Sunk) (s : HistoryFail) → IsCutShort threads (LacksToTell watchers) h s → TookNothing sink → RunEnds threads watchers h sink (exit_for s)
 cut-ends threads watchers h sink history_fail.NotJournal cut nothing = (cut, nothing)
-cut-ends threads watchers h sink (history_fail.OtherInput found) cut nothing = ((cut, nothing), refl)
+cut-ends threads watchers h sink (history_fail.OtherInput found given) cut nothing = (cut, nothing)
+cut-ends threads watchers h sink (history_fail.OtherScript command found given) cut nothing = (cut, nothing)
 cut-ends threads watchers h sink (history_fail.Unlawful number) cut nothing = (cut, nothing)
 cut-ends threads watchers h sink (history_fail.JournalFull len needed) cut nothing = (cut, nothing)
 cut-ends threads watchers h sink (history_fail.DiskFault disk) cut nothing = (cut, nothing)
@@ -43,7 +44,7 @@ history-of threads h history finished so_far apart left = record {
   complete = finished.finished;
   apart = apart (so_far finished.goes_on.lawful);
   reported = finished.goes_on.reported;
-  read = read-of (IsJournal h.digest history) h.disks.journal_after.seen h.disks.journal_after.may_leave finished.journal left;
+  read = read-of (HoldsList h.plan h.digests history) h.disks.journal_after.seen h.disks.journal_after.may_leave finished.journal left;
 }
 
 -- without watchers there are no lines
@@ -75,3 +76,4 @@ history-ends threads watchers h sink history printed lines end same is watched p
     ends (exit.Unlawful number) wrote = absurd wrote
     ends (exit.NotLawful line) wrote = absurd wrote
     ends (exit.NotEnded number) wrote = absurd wrote
+    ends (exit.OtherScript command found given) wrote = absurd wrote

@@ -123,6 +123,7 @@ check-earlier plan readings name old mid new sink (exit.OtherInput found given) 
 check-earlier plan readings name old mid new sink (exit.JournalFull len needed) later h = absurd h
 check-earlier plan readings name old mid new sink (exit.Unlawful number) later h = absurd h
 check-earlier plan readings name old mid new sink (exit.NotEnded number) later h = absurd h
+check-earlier plan readings name old mid new sink (exit.OtherScript command found given) later h = absurd h
 
 -- ---- any command
 

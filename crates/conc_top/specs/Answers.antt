@@ -8,7 +8,7 @@ use Rattle.conc_disk.specs.Disk.{DiskState}
 use Rattle.conc_make_run.specs.Summary.{IsSummary}
 use Rattle.conc_history.specs.Listing.{listing}
 use Rattle.conc_top_inputs.specs.Fails.{FailsWith}
-use Rattle.conc_top_inputs.specs.Given.{Accepts, digest_of, Names, Sources, sources, Exposed, exposed_by}
+use Rattle.conc_top_inputs.specs.Given.{Accepts, digests_of, Names, Sources, sources, Exposed, exposed_by}
 use Rattle.conc_top_inputs.specs.declared.error.InputFail.TheVariants as input
 use Rattle.conc_outside.specs.Files.{ShelfState}
 use Rattle.conc_run_state.specs.Disks.{AreUntouched, Disks}
@@ -61,7 +61,7 @@ abbrev pub handed_in : (a : Around) (names : Names) → Disks → HasRun a names
 handed_in a names d run = record {
   plan = run.plan;
   readings = run.readings.list;
-  digest = digest_of run.accepted.files;
+  digests = digests_of run.accepted.files;
   disks = d;
 }
 
@@ -91,11 +91,11 @@ AnswersCheck names history a end =
 
 abbrev pub AnswersStatus : Names → Around → DiskState → DiskState → Exit → Type 0
 AnswersStatus names a old new end =
-    ((p : HasPlan a names) × StatusEnds p.plan (digest_of p.accepted.files) old new a.sink end) ⊎ IsUnplanned names a end
+    ((p : HasPlan a names) × StatusEnds p.plan (digests_of p.accepted.files) old new a.sink end) ⊎ IsUnplanned names a end
 
 abbrev pub AnswersOutput : Names → RequestId → Around → Disks → Exit → Type 0
 AnswersOutput names id a d end =
-    ((p : HasPlan a names) × OutputEnds p.plan (digest_of p.accepted.files) id d a.sink end) ⊎ IsUnplanned names a end
+    ((p : HasPlan a names) × OutputEnds p.plan (digests_of p.accepted.files) id d a.sink end) ⊎ IsUnplanned names a end
 
 abbrev pub AnswersMake : ℕ → ℕ → Sunk → Exit → Type 0
 AnswersMake seed size sink end = Prints (IsSummary seed size) sink end

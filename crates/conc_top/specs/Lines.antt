@@ -23,6 +23,7 @@ number_of exit.NoMemory = 12
 number_of (exit.Unlawful number) = 13
 number_of (exit.NotLawful line) = 14
 number_of (exit.NotEnded number) = 15
+number_of (exit.OtherScript command found given) = 16
 
 -- the line that tells an exit; none where the command is done
 abbrev pub line_of : Exit → List ℕ
@@ -45,3 +46,4 @@ line_of exit.NoMemory = codes "no memory\n"
 line_of (exit.Unlawful number) = codes "unlawful record: " ++ decimal number ++ codes "\n"
 line_of (exit.NotLawful line) = codes "not lawful: " ++ decimal line ++ codes "\n"
 line_of (exit.NotEnded number) = codes "not ended: " ++ decimal number ++ codes "\n"
+line_of (exit.OtherScript command found given) = codes "other script: " ++ decimal command ++ codes "\n"

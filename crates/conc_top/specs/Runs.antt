@@ -7,11 +7,11 @@ use Rattle.conc_law.specs.Ends.{AreReported}
 use Rattle.conc_law.specs.Law.{Finished, Lawful}
 use Rattle.conc_law.specs.Overlap.{NoOverlap}
 use Rattle.conc_law.specs.Text.{text_of}
-use Rattle.conc_journal_image.specs.Image.{IsJournal}
 use Rattle.conc_outside.specs.Counts.{Rose}
 use Rattle.conc_outside.specs.Taken.{Took, TookPrefix}
 use Rattle.conc_run.specs.Whole.{IsCutShort, IsFinished, LacksToTell}
 use Rattle.conc_run_state.specs.Handed.{Handed}
+use Rattle.conc_run_state.specs.Survival.{HoldsList}
 use Rattle.conc_run_state.specs.declared.error.HistoryFail.{HistoryFail}
 use Rattle.conc_run_state.specs.declared.error.HistoryFail.TheVariants as history_fail
 use Rattle.conc_top.specs.declared.exit.Exit.{Exit}
@@ -29,7 +29,7 @@ pub record IsHistory (threads : ℕ) (h : Handed) (history : List Event) : Type 
   pub complete : Finished h.plan h.readings history
   pub apart : NoOverlap h.plan history
   pub reported : AreReported h.plan (length (opening finished.found)) history
-  pub read : IfSome h.disks.journal_after.seen (IsJournal h.digest history)
+  pub read : IfSome h.disks.journal_after.seen (HoldsList h.plan h.digests history)
 
 -- the text of a history, and behind it the lines of so many watchers
 pub record IsRunText (plan : Plan) (watchers : ℕ) (history : List Event) (text : List ℕ) : Type 0 where
@@ -53,8 +53,8 @@ RunEnds threads watchers h sink exit.NoMemory =
     EndsEarly threads watchers h sink history_fail.NoMemory ⊎ (((history : List Event) × IsHistory threads h history) × TookNothing sink)
 RunEnds threads watchers h sink (exit.DiskFault disk) = EndsEarly threads watchers h sink (history_fail.DiskFault disk)
 RunEnds threads watchers h sink exit.NotJournal = EndsEarly threads watchers h sink history_fail.NotJournal
-RunEnds threads watchers h sink (exit.OtherInput found given) =
-    EndsEarly threads watchers h sink (history_fail.OtherInput found) × (given ≡ h.digest)
+RunEnds threads watchers h sink (exit.OtherInput found given) = EndsEarly threads watchers h sink (history_fail.OtherInput found given)
+RunEnds threads watchers h sink (exit.OtherScript command found given) = EndsEarly threads watchers h sink (history_fail.OtherScript command found given)
 RunEnds threads watchers h sink (exit.JournalFull len needed) = EndsEarly threads watchers h sink (history_fail.JournalFull len needed)
 RunEnds threads watchers h sink (exit.Unlawful number) = EndsEarly threads watchers h sink (history_fail.Unlawful number)
 RunEnds threads watchers h sink _ = ⊥

@@ -23,8 +23,15 @@ pub enum Exit {
     ClockFault,
     /// What stands on the journal's disk is no journal.
     NotJournal,
-    /// The journal was begun for files with another digest.
+    /// The journal is that of other files: in its version it has `found` where these files have `given`.
     OtherInput { found: [u8; 32], given: [u8; 32] },
+    /// The journal is that of another script: it has this command with the stamp `found`, and the script
+    /// with `given`, which is 0 where the script has no such command.
+    OtherScript {
+        command: u32,
+        found: u64,
+        given: u64,
+    },
     /// The journal has `len` records, and no room for the `need` that the run may add.
     JournalFull { len: u64, need: u64 },
     /// There was no memory.
@@ -63,6 +70,7 @@ impl Exit {
             Exit::Unlawful { .. } => 13,
             Exit::NotLawful { .. } => 14,
             Exit::NotEnded { .. } => 15,
+            Exit::OtherScript { .. } => 16,
         }
     }
 }

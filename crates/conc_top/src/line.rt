@@ -102,6 +102,9 @@ fn put_line(alloc: Global, out: &mut Vec<u8>, exit: &Exit) -> Result<(), NoMemor
         Exit::Unlawful { number } => put_number(out, b"unlawful record: ", *number),
         Exit::NotLawful { line } => put_number(out, b"not lawful: ", *line),
         Exit::NotEnded { number } => put_number(out, b"not ended: ", u64::from(*number)),
+        Exit::OtherScript { command, .. } => {
+            put_number(out, b"other script: ", u64::from(*command))
+        }
     }
 }
 

@@ -20,16 +20,21 @@ pub(crate) fn write_text<O: Sink>(text: &[u8], out: &mut O) -> Exit
     }
 }
 
-/// The exit of a run that did not come to its end, or where nothing is read of its disks, whose files
-/// have this digest.
-pub(crate) fn exit_for(fail: HistoryFail, digest: &[u8; 32]) -> Exit
-    ensures { result ≡ spec.exit_for digest.now fail }
+/// The exit of a run that did not come to its end, or where nothing is read of its disks.
+pub(crate) fn exit_for(fail: HistoryFail) -> Exit
+    ensures { result ≡ spec.exit_for fail }
 {
     match fail {
         HistoryFail::NotJournal => Exit::NotJournal,
-        HistoryFail::OtherInput { found } => Exit::OtherInput {
+        HistoryFail::OtherInput { found, given } => Exit::OtherInput { found, given },
+        HistoryFail::OtherScript {
+            command,
             found,
-            given: *digest,
+            given,
+        } => Exit::OtherScript {
+            command,
+            found,
+            given,
         },
         HistoryFail::Unlawful { number } => Exit::Unlawful { number },
         HistoryFail::JournalFull { len, need } => Exit::JournalFull { len, need },

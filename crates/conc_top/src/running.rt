@@ -20,7 +20,7 @@ use conc_outside_gate::Gate;
 use conc_run::{run_on_threads, run_plan};
 use conc_run_watched::{Watched, run_watched};
 use conc_top_inputs::{Accepted, accept_timed};
-use conc_types::{Event, Name, NoMemory, Plan, Readings};
+use conc_types::{Digests, Event, Name, NoMemory, Plan, Readings};
 use conc_view::Snapshot;
 use conc_watch::put_watch_lines;
 use std::alloc::Global;
@@ -68,20 +68,20 @@ fn run_and_print<O: Sink, D: Disk, E: Disk>(
     alloc: Global,
     plan: &Plan,
     readings: &Readings,
-    digest: &[u8; 32],
+    digests: &Digests,
     out: &mut O,
     journal: &mut D,
     spool: &mut E,
 ) -> Exit
-    ensures { RunEnds 0 0 (handed plan.now readings.now digest.now (D.state journal.old)
+    ensures { RunEnds 0 0 (handed plan.now readings.now digests.now (D.state journal.old)
         (D.state journal.new) (E.state spool.old) (E.state spool.new))
         (sunk (O.state out.old) (O.state out.new)) result }
 {
     lawful_is_lawful_so_far();
     no_overlap();
-    let work = match run_plan(alloc, plan, readings, digest, journal, spool) {
+    let work = match run_plan(alloc, plan, readings, digests, journal, spool) {
         Ok(work) => work,
-        Err(fail) => return exit_for(fail, digest),
+        Err(fail) => return exit_for(fail),
     };
     print_history(alloc, plan, work.journal.events(), &[], out)
 }
@@ -99,7 +99,7 @@ fn run_threads_and_print<
     alloc: Global,
     plan: &Plan,
     readings: &Readings,
-    digest: &[u8; 32],
+    digests: &Digests,
     out: &mut O,
     journal: &mut D,
     spool: &mut E,
@@ -107,18 +107,18 @@ fn run_threads_and_print<
     threads: u32,
 ) -> Exit
     requires { 0 < threads }
-    ensures { RunEnds threads 0 (handed plan.now readings.now digest.now (D.state journal.old)
+    ensures { RunEnds threads 0 (handed plan.now readings.now digests.now (D.state journal.old)
         (D.state journal.new) (E.state spool.old) (E.state spool.new))
         (sunk (O.state out.old) (O.state out.new)) result }
 {
     lawful_is_lawful_so_far();
     no_overlap();
     let ran = run_on_threads(
-        rt, alloc, plan, readings, digest, journal, spool, gate, threads,
+        rt, alloc, plan, readings, digests, journal, spool, gate, threads,
     );
     let work = match ran {
         Ok(work) => work,
-        Err(fail) => return exit_for(fail, digest),
+        Err(fail) => return exit_for(fail),
     };
     print_history(alloc, plan, work.journal.events(), &[], out)
 }
@@ -136,7 +136,7 @@ fn run_watched_and_print<
     alloc: Global,
     plan: &Plan,
     readings: &Readings,
-    digest: &[u8; 32],
+    digests: &Digests,
     out: &mut O,
     journal: &mut D,
     spool: &mut E,
@@ -146,18 +146,18 @@ fn run_watched_and_print<
 ) -> Exit
     requires some { 0 < watchers }
     requires few { watchers ≤ 8 }
-    ensures { RunEnds threads watchers (handed plan.now readings.now digest.now
+    ensures { RunEnds threads watchers (handed plan.now readings.now digests.now
         (D.state journal.old) (D.state journal.new) (E.state spool.old) (E.state spool.new))
         (sunk (O.state out.old) (O.state out.new)) result }
 {
     lawful_is_lawful_so_far();
     no_overlap();
     let ran = run_watched(
-        rt, alloc, plan, readings, digest, journal, spool, gate, threads, watchers,
+        rt, alloc, plan, readings, digests, journal, spool, gate, threads, watchers,
     );
     let Watched { work, kept } = match ran {
         Ok(watched) => watched,
-        Err(fail) => return exit_for(fail, digest),
+        Err(fail) => return exit_for(fail),
     };
     print_history(alloc, plan, work.journal.events(), kept.as_slice(), out)
 }
@@ -188,8 +188,8 @@ pub(crate) fn run_files_plain<F: Shelf, O: Sink, D: Disk, E: Disk, C: Clock>(
         Ok(given) => given,
         Err(fail) => return Exit::from(fail),
     };
-    let Accepted { plan, digest } = &accepted;
-    run_and_print(alloc, plan, &readings, digest, out, journal, spool)
+    let Accepted { plan, digests } = &accepted;
+    run_and_print(alloc, plan, &readings, digests, out, journal, spool)
 }
 
 /// Runs the plan of the files with these names with so many threads, beside so many watchers, over its
@@ -235,13 +235,13 @@ pub(crate) fn run_files<
         Ok(given) => given,
         Err(fail) => return Exit::from(fail),
     };
-    let (Accepted { plan, digest }, readings) = &given;
+    let (Accepted { plan, digests }, readings) = &given;
     if watchers == 0 {
         return run_threads_and_print(
-            rt, alloc, plan, readings, digest, out, journal, spool, gate, threads,
+            rt, alloc, plan, readings, digests, out, journal, spool, gate, threads,
         );
     }
     run_watched_and_print(
-        rt, alloc, plan, readings, digest, out, journal, spool, gate, threads, watchers,
+        rt, alloc, plan, readings, digests, out, journal, spool, gate, threads, watchers,
     )
 }

@@ -16,7 +16,7 @@ use conc_history::{put_plan, put_status_table};
 use conc_outside::{Shelf, Sink};
 use conc_run_open::{TextFail, read_list, read_text};
 use conc_top_inputs::accept;
-use conc_types::{Name, NoMemory, Plan, RequestId};
+use conc_types::{Digests, Name, NoMemory, Plan, RequestId};
 use std::alloc::Global;
 
 // ---- the requests of a plan
@@ -58,17 +58,17 @@ pub(crate) fn list_files<F: Shelf, O: Sink>(
 fn print_table<O: Sink, D: Disk>(
     alloc: Global,
     plan: &Plan,
-    digest: &[u8; 32],
+    digests: &Digests,
     out: &mut O,
     journal: &mut D,
 ) -> Exit
-    ensures ends { StatusEnds plan.now digest.now (D.state journal.old) (D.state journal.new)
+    ensures ends { StatusEnds plan.now digests.now (D.state journal.old) (D.state journal.new)
         (sunk (O.state out.old) (O.state out.new)) result }
     ensures untouched { IsDiskUntouched (D.state journal.old) (D.state journal.new) }
 {
-    let events = match read_list(alloc, plan, digest, journal) {
+    let events = match read_list(alloc, plan, digests, journal) {
         Ok(events) => events,
-        Err(fail) => return exit_for(fail, digest),
+        Err(fail) => return exit_for(fail),
     };
     match put_status_table(alloc, plan, &events) {
         Ok(text) => write_text(&text, out),
@@ -94,7 +94,7 @@ pub(crate) fn show_table<F: Shelf, O: Sink, D: Disk>(
     ensures later { IsLater (F.state shelf.old) (F.state shelf.new) }
 {
     match accept(alloc, shelf, setup, script) {
-        Ok(accepted) => print_table(alloc, &accepted.plan, &accepted.digest, out, journal),
+        Ok(accepted) => print_table(alloc, &accepted.plan, &accepted.digests, out, journal),
         Err(fail) => Exit::from(fail),
     }
 }
@@ -102,11 +102,11 @@ pub(crate) fn show_table<F: Shelf, O: Sink, D: Disk>(
 // ---- a report
 
 // The exit where no text of this request's report is given.
-fn exit_for_text(fail: TextFail, digest: &[u8; 32], id: RequestId) -> Exit
-    ensures { result ≡ spec.exit_for_text digest.now id fail }
+fn exit_for_text(fail: TextFail, id: RequestId) -> Exit
+    ensures { result ≡ spec.exit_for_text id fail }
 {
     match fail {
-        TextFail::NoHistory(history) => exit_for(history, digest),
+        TextFail::NoHistory(history) => exit_for(history),
         TextFail::NotEnded => Exit::NotEnded { number: id.number },
     }
 }
@@ -115,21 +115,21 @@ fn exit_for_text(fail: TextFail, digest: &[u8; 32], id: RequestId) -> Exit
 fn print_report<O: Sink, D: Disk, E: Disk>(
     alloc: Global,
     plan: &Plan,
-    digest: &[u8; 32],
+    digests: &Digests,
     id: RequestId,
     out: &mut O,
     journal: &mut D,
     spool: &mut E,
 ) -> Exit
-    ensures ends { OutputEnds plan.now digest.now id
+    ensures ends { OutputEnds plan.now digests.now id
         (disks (D.state journal.old) (D.state journal.new) (E.state spool.old) (E.state spool.new))
         (sunk (O.state out.old) (O.state out.new)) result }
     ensures untouched { AreUntouched (disks (D.state journal.old) (D.state journal.new)
         (E.state spool.old) (E.state spool.new)) }
 {
-    match read_text(alloc, plan, digest, id, journal, spool) {
+    match read_text(alloc, plan, digests, id, journal, spool) {
         Ok(text) => write_text(&text, out),
-        Err(fail) => exit_for_text(fail, digest, id),
+        Err(fail) => exit_for_text(fail, id),
     }
 }
 
@@ -158,7 +158,7 @@ pub(crate) fn show_report<F: Shelf, O: Sink, D: Disk, E: Disk>(
         Ok(accepted) => print_report(
             alloc,
             &accepted.plan,
-            &accepted.digest,
+            &accepted.digests,
             id,
             out,
             journal,

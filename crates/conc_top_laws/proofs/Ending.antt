@@ -2,6 +2,7 @@
 use Rattle.std.proofs.Common.{◌≡◌, inl, inr, ℕ, zero, suc, ◌<◌, Bool, List, [], ◌∷◌, length, take, Option, None, Some, IsFalse, refl, sym, ◌∙◌, ap, subst, arith}
 use Rattle.std.specs.Prelude.{slice_get}
 use Rattle.std.proofs.lemmas.Bool.{both_ways}
+use Rattle.conc_types.specs.declared.digests.Digests.{Digests}
 use Rattle.conc_types.specs.declared.event.Event.{Event}
 use Rattle.conc_types.specs.declared.event.Extent.{Extent}
 use Rattle.conc_types.specs.declared.event.RequestId.{RequestId}
@@ -14,11 +15,11 @@ use Rattle.conc_journal.specs.Opens.{broken_of, events_of, may_open}
 use Rattle.conc_law.proofs.Numbering.{numbered-at}
 use Rattle.conc_outside.specs.Files.{Files, Gives}
 use Rattle.conc_restart.proofs.ReadSoFar.{bad-not_past}
-use Rattle.conc_run.proofs.Next.{not-bad, not-closed, not-other}
+use Rattle.conc_run.proofs.Next.{not-bad, not-closed, not-other, not-other_script}
 use Rattle.conc_run_laws.proofs.Crashed.{at-some, refuses-for_room}
 use Rattle.conc_run_open.specs.Listing.{HasListCause, IsBadEvent}
 use Rattle.conc_run_open.specs.Texts.{HasEnd, HasNoEnd}
-use Rattle.conc_run_state.specs.Causes.{IsOther}
+use Rattle.conc_run_state.specs.Causes.{IsOther, IsOtherScript}
 use Rattle.conc_run_state.specs.Disks.{Disks}
 use Rattle.conc_run_state.specs.Handed.{Handed}
 use Rattle.conc_run_state.specs.Judging.{IsBadFor, IsBadRecord}
@@ -46,7 +47,8 @@ module _ (threads watchers : ℕ) (h : Handed) (sink : Sunk) (fits : FitsRun h) 
   run-done (exit.DiskFault disk_name.Journal) is = absurd (journal_quiet is.0.cause)
   run-done (exit.DiskFault disk_name.Spool) is = absurd (spool_quiet is.0.cause.1)
   run-done exit.NotJournal is = absurd (refuses-for_room h fits.image fits.texts fits.fit fits.journal fits.spool history_fail.NotJournal is.0.cause)
-  run-done (exit.OtherInput found given) is = absurd (refuses-for_room h fits.image fits.texts fits.fit fits.journal fits.spool (history_fail.OtherInput found) is.0.0.cause)
+  run-done (exit.OtherInput found given) is = absurd (refuses-for_room h fits.image fits.texts fits.fit fits.journal fits.spool (history_fail.OtherInput found given) is.0.cause)
+  run-done (exit.OtherScript command found given) is = absurd (refuses-for_room h fits.image fits.texts fits.fit fits.journal fits.spool (history_fail.OtherScript command found given) is.0.cause)
   run-done (exit.Unlawful number) is = absurd (refuses-for_room h fits.image fits.texts fits.fit fits.journal fits.spool (history_fail.Unlawful number) is.0.cause)
   run-done (exit.JournalFull len needed) is =
       let full = refuses-for_room h fits.image fits.texts fits.fit fits.journal fits.spool (history_fail.JournalFull len needed) is.0.cause in
@@ -61,9 +63,9 @@ module _ (threads watchers : ℕ) (h : Handed) (sink : Sunk) (fits : FitsRun h) 
 
 -- ---- how the requests stand
 
-module _ (plan : Plan) (digest : List ℕ) (old new : DiskState) (sink : Sunk) (fits : FitsStatus plan digest old) (quiet : IsQuiet old.faults new.faults)
+module _ (plan : Plan) (digests : Digests) (old new : DiskState) (sink : Sunk) (fits : FitsStatus plan digests old) (quiet : IsQuiet old.faults new.faults)
     (sink_quiet : IsQuiet sink.before.faults sink.after.faults) where
-  listed : (number : ℕ) → HasListCause plan digest old new (history_fail.Unlawful number) → ⊥
+  listed : (number : ℕ) → HasListCause plan digests old new (history_fail.Unlawful number) → ⊥
   listed number cause =
       let bad = at-some (λ (i : List ℕ). IsBadEvent plan (events_of i) (broken_of i) number) old.seen fits.image fits.seen cause.bad in
       elim bad.bad [
@@ -71,9 +73,11 @@ module _ (plan : Plan) (digest : List ℕ) (old new : DiskState) (sink : Sunk) (
         | inr first ↦ bad-not_past plan (events_of fits.image) number first fits.so_far
       ]
 
-  pub status-done : (end : Exit) → StatusEnds plan digest old new sink end → IsDone end
-  status-done exit.NotJournal is = absurd (not-closed digest fits.image fits.own (at-some (λ (i : List ℕ). IsFalse (may_open i)) old.seen fits.image fits.seen is.0))
-  status-done (exit.OtherInput found given) is = absurd (not-other digest found fits.image fits.own.own (at-some (λ (i : List ℕ). IsOther digest found i) old.seen fits.image fits.seen is.0))
+  pub status-done : (end : Exit) → StatusEnds plan digests old new sink end → IsDone end
+  status-done exit.NotJournal is = absurd (not-closed plan digests fits.image fits.own (at-some (λ (i : List ℕ). IsFalse (may_open i)) old.seen fits.image fits.seen is.0))
+  status-done (exit.OtherInput found given) is = absurd (not-other plan digests found given fits.image fits.own.own (at-some (λ (i : List ℕ). IsOther digests found given i) old.seen fits.image fits.seen is.0))
+  status-done (exit.OtherScript command found given) is =
+      absurd (not-other_script plan digests command found given fits.image fits.own.own (at-some (λ (i : List ℕ). IsOtherScript plan digests command found given i) old.seen fits.image fits.seen is.0))
   status-done (exit.Unlawful number) is = absurd (listed number is.0)
   status-done (exit.DiskFault disk_name.Journal) is = absurd (quiet is.0)
   status-done (exit.DiskFault disk_name.Spool) is = absurd is.0
@@ -94,11 +98,13 @@ module _ (plan : Plan) (digest : List ℕ) (old new : DiskState) (sink : Sunk) (
 has-end : (list events : List Event) (id : RequestId) (x : Extent) → list ≡ events → HasEnd events id x → HasNoEnd list id → ⊥
 has-end list events id x same has none = none has.position has.outcome x (ap (λ (l : List Event). slice_get l has.position) same ∙ has.there)
 
-module _ (plan : Plan) (digest : List ℕ) (id : RequestId) (d : Disks) (sink : Sunk) (fits : FitsOutput plan digest id d.journal_before d.spool_before) (quiet : AreQuietDisks d)
+module _ (plan : Plan) (digests : Digests) (id : RequestId) (d : Disks) (sink : Sunk) (fits : FitsOutput plan digests id d.journal_before d.spool_before) (quiet : AreQuietDisks d)
     (sink_quiet : IsQuiet sink.before.faults sink.after.faults) where
-  pub output-done : (end : Exit) → OutputEnds plan digest id d sink end → IsDone end
-  output-done exit.NotJournal is = absurd (not-closed digest fits.image fits.fit.own (at-some (λ (i : List ℕ). IsFalse (may_open i)) d.journal_before.seen fits.image fits.journal_seen is.0))
-  output-done (exit.OtherInput found given) is = absurd (not-other digest found fits.image fits.fit.own.own (at-some (λ (i : List ℕ). IsOther digest found i) d.journal_before.seen fits.image fits.journal_seen is.0))
+  pub output-done : (end : Exit) → OutputEnds plan digests id d sink end → IsDone end
+  output-done exit.NotJournal is = absurd (not-closed plan digests fits.image fits.fit.own (at-some (λ (i : List ℕ). IsFalse (may_open i)) d.journal_before.seen fits.image fits.journal_seen is.0))
+  output-done (exit.OtherInput found given) is = absurd (not-other plan digests found given fits.image fits.fit.own.own (at-some (λ (i : List ℕ). IsOther digests found given i) d.journal_before.seen fits.image fits.journal_seen is.0))
+  output-done (exit.OtherScript command found given) is =
+      absurd (not-other_script plan digests command found given fits.image fits.fit.own.own (at-some (λ (i : List ℕ). IsOtherScript plan digests command found given i) d.journal_before.seen fits.image fits.journal_seen is.0))
   output-done (exit.Unlawful number) is =
       let bad = at-some (λ (i : List ℕ). IsBadFor plan d.spool_before (events_of i) (broken_of i) number) d.journal_before.seen fits.image fits.journal_seen is.0.bad in
       let long : bad.0 ≡ length fits.texts = at-some (λ (t : List ℕ). bad.0 ≡ length t) d.spool_before.seen fits.texts fits.spool_seen bad.1 in
@@ -161,6 +167,7 @@ module _ (j : Judging) (files : Files) (exposed : j.before.files ≡ Some files)
   check-done (exit.DiskFault disk) is = absurd is
   check-done exit.NotJournal is = absurd is
   check-done (exit.OtherInput found given) is = absurd is
+  check-done (exit.OtherScript command found given) is = absurd is
   check-done (exit.JournalFull len needed) is = absurd is
   check-done (exit.Unlawful number) is = absurd is
   check-done (exit.NotEnded number) is = absurd is

@@ -6,7 +6,7 @@ use Rattle.conc_top.specs.declared.exit.Exit.{Exit}
 use Rattle.conc_top.specs.declared.exit.Exit.TheVariants as exit
 use Rattle.conc_top.specs.Answers.{Around, handed_in, HasPlan, HasRun, judging_in}
 use Rattle.conc_top.specs.Meaning.{Means}
-use Rattle.conc_top_inputs.specs.Given.{digest_of, named}
+use Rattle.conc_top_inputs.specs.Given.{digests_of, named}
 use Rattle.conc_top_words.specs.declared.command.Command.TheVariants as command
 use Rattle.conc_top_laws.specs.Accepted.{HasAccepted}
 use Rattle.conc_top_laws.specs.Fitting.{FitsOutput, FitsRun, FitsStatus, HasLawfulHistory}
@@ -35,12 +35,12 @@ CheckCompletes setup script clock history a d end =
 abbrev pub StatusCompletes : List ℕ → List ℕ → Around → Disks → Exit → Type 0
 StatusCompletes setup script a d end =
     Means (Some (command.Status setup script)) a d end → HasAccepted a (named setup script None) → IsQuietAround a → AreQuietDisks d
-    → ((p : HasPlan a (named setup script None)) → FitsStatus p.plan (digest_of p.accepted.files) d.journal_before) → IsDone end
+    → ((p : HasPlan a (named setup script None)) → FitsStatus p.plan (digests_of p.accepted.files) d.journal_before) → IsDone end
 
 abbrev pub OutputCompletes : List ℕ → List ℕ → RequestId → Around → Disks → Exit → Type 0
 OutputCompletes setup script id a d end =
     Means (Some (command.Output setup script id)) a d end → HasAccepted a (named setup script None) → IsQuietAround a → AreQuietDisks d
-    → ((p : HasPlan a (named setup script None)) → FitsOutput p.plan (digest_of p.accepted.files) id d.journal_before d.spool_before) → IsDone end
+    → ((p : HasPlan a (named setup script None)) → FitsOutput p.plan (digests_of p.accepted.files) id d.journal_before d.spool_before) → IsDone end
 
 abbrev pub MakeCompletes : ℕ → ℕ → Around → Disks → Exit → Type 0
 MakeCompletes seed size a d end = Means (Some (command.Make seed size)) a d end → IsQuietAround a → IsDone end

@@ -1,5 +1,6 @@
 -- Journals, spools and histories of which a command does what it is for.
 use Rattle.std.specs.Prelude.{◌≡◌, ℕ, ◌+◌, ◌≤◌, Bool, List, length, None, Some}
+use Rattle.conc_types.specs.declared.digests.Digests.{Digests}
 use Rattle.conc_types.specs.declared.event.Extent.{Extent}
 use Rattle.conc_types.specs.declared.event.RequestId.{RequestId}
 use Rattle.conc_types.specs.declared.plan.Plan.{Plan}
@@ -20,24 +21,24 @@ pub record FitsRun (h : Handed) : Type 0 where
   pub texts : List ℕ
   pub journal : h.disks.journal_before.seen ≡ Some image
   pub spool : h.disks.spool_before.seen ≡ Some texts
-  pub fit : IsFit h.plan h.digest image texts
+  pub fit : IsFit h.plan h.digests image texts
   pub room : length (events_of image) + need h.plan h.readings ≤ MOST_RECORDS
 
 -- the journal's disk exposes its bytes; the journal is that of these files or not begun, no record is broken, and its list is lawful so far
-pub record FitsStatus (plan : Plan) (digest : List ℕ) (journal : DiskState) : Type 0 where
+pub record FitsStatus (plan : Plan) (digests : Digests) (journal : DiskState) : Type 0 where
   pub image : List ℕ
   pub seen : journal.seen ≡ Some image
-  pub own : IsOwnJournal digest image
+  pub own : IsOwnJournal plan digests image
   pub whole : broken_of image ≡ None
   pub so_far : LawfulSoFar plan (events_of image)
 
 -- the disks expose their bytes, the journal and the spool fit the files, and the journal has an end of the request with an extent
-pub record FitsOutput (plan : Plan) (digest : List ℕ) (id : RequestId) (journal spool : DiskState) : Type 0 where
+pub record FitsOutput (plan : Plan) (digests : Digests) (id : RequestId) (journal spool : DiskState) : Type 0 where
   pub image : List ℕ
   pub texts : List ℕ
   pub journal_seen : journal.seen ≡ Some image
   pub spool_seen : spool.seen ≡ Some texts
-  pub fit : IsFit plan digest image texts
+  pub fit : IsFit plan digests image texts
   pub extent : Extent
   pub ended : HasEnd (events_of image) id extent
 

@@ -14,7 +14,7 @@ returns-clause-ended g c plan readings before texts was =
     let told = g.T.Teller.list ended.new.teller in
     let takes = g.T.Teller.takes ended.new.teller in
     let w = of-some c.args.examined.now examined
-    (WasExamined (handed plan readings c.args.digest.now (g.D.Disk.state before) (g.D.Disk.state c.args.journal.now) (g.E.Disk.state texts) (g.E.Disk.state c.args.spool.now)))
+    (WasExamined (handed plan readings c.args.digests.now (g.D.Disk.state before) (g.D.Disk.state c.args.journal.now) (g.E.Disk.state texts) (g.E.Disk.state c.args.spool.now)))
     (sym c.take.ensures.value ∙ c.in-Some.is) was in
     record {
       finished = ended.ensures.finished plan readings before texts w;

@@ -9,12 +9,12 @@ use Rattle.conc_run_watched.proofs.watched.run_watched.Goals as goal
 pub returns-in_err-examined-clause-cut_short : goal.returns-in_err-examined-clause-cut_short
 returns-in_err-examined-clause-cut_short g c =
     let p = err_from_is_err_and c.from_residual.result c.from_residual.ensures.1 in
-    let h : Handed = handed c.args.plan.now c.args.readings.now c.args.digest.now (g.D.Disk.state c.args.journal.now) (g.D.Disk.state c.examine.new.journal) (g.E.Disk.state c.args.spool.now) (g.E.Disk.state c.examine.new.spool) in
+    let h : Handed = handed c.args.plan.now c.args.readings.now c.args.digests.now (g.D.Disk.state c.args.journal.now) (g.D.Disk.state c.examine.new.journal) (g.E.Disk.state c.args.spool.now) (g.E.Disk.state c.examine.new.spool) in
     rw (p.1, p.2) (cut-untouched c.args.threads (LacksToTell c.args.watchers) h c.in_err-examined.field-0.0 c.in_err-examined.ensures.cause c.examine.ensures.untouched)
 
 pub returns-in_default-clause-cut_short : goal.returns-in_default-clause-cut_short
 returns-in_default-clause-cut_short g c =
-    let h : Handed = handed c.args.plan.now c.args.readings.now c.args.digest.now (g.D.Disk.state c.args.journal.now) (g.D.Disk.state c.examine.new.journal) (g.E.Disk.state c.args.spool.now) (g.E.Disk.state c.examine.new.spool) in
+    let h : Handed = handed c.args.plan.now c.args.readings.now c.args.digests.now (g.D.Disk.state c.args.journal.now) (g.D.Disk.state c.examine.new.journal) (g.E.Disk.state c.args.spool.now) (g.E.Disk.state c.examine.new.spool) in
     cut-untouched c.args.threads (LacksToTell c.args.watchers) h history_fail.NoMemory tt c.examine.ensures.untouched
 
 pub returns-clause-finished : goal.returns-clause-finished

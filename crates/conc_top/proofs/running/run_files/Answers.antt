@@ -1,4 +1,5 @@
 use Rattle.std.proofs.Common.{ℕ, List, Some, refl, subst, sym, inl, inr}
+use Rattle.conc_types.specs.declared.digests.Digests.{Digests}
 use Rattle.conc_top_inputs.specs.Given.{named}
 use Rattle.conc_run_state.specs.Handed.{Handed, handed}
 use Rattle.conc_run_state.specs.Disks.{disks}
@@ -23,11 +24,11 @@ returns-then-watchers-eq0-2-clause-answers g c =
     let journal = g.D.Disk.state in
     let spool = g.E.Disk.state in
     let sink = sunk (g.O.Sink.state c.args.out.now) (g.O.Sink.state c.run_threads_and_print.new.out) in
-    let h : List ℕ → Handed = λ digest. handed c.in-Ok.given.0.plan c.in-Ok.given.1 digest (journal c.args.journal.now) (journal c.run_threads_and_print.new.journal) (spool c.args.spool.now) (spool c.run_threads_and_print.new.spool) in
+    let h : Digests → Handed = λ digests. handed c.in-Ok.given.0.plan c.in-Ok.given.1 digests (journal c.args.journal.now) (journal c.run_threads_and_print.new.journal) (spool c.args.spool.now) (spool c.run_threads_and_print.new.spool) in
     inl (
       record { plan = c.in-Ok.given.0.plan; readings = c.in-Ok.given.1; accepted = given.accepts },
-      subst (λ digest. RunEnds c.args.threads c.args.watchers (h digest) sink c.run_threads_and_print.result) given.digest
-          (subst (λ w. RunEnds c.args.threads w (h c.in-Ok.given.0.digest) sink c.run_threads_and_print.result) (sym c.if-watchers-eq0-2.true) c.run_threads_and_print.ensures),
+      subst (λ digests. RunEnds c.args.threads c.args.watchers (h digests) sink c.run_threads_and_print.result) given.digests
+          (subst (λ w. RunEnds c.args.threads w (h c.in-Ok.given.0.digests) sink c.run_threads_and_print.result) (sym c.if-watchers-eq0-2.true) c.run_threads_and_print.ensures),
     )
 
 pub returns-clause-answers : goal.returns-clause-answers
@@ -39,9 +40,9 @@ returns-clause-answers g c =
     inl (
       record { plan = c.in-Ok.given.0.plan; readings = c.in-Ok.given.1; accepted = given.accepts },
       subst
-          (λ digest. RunEnds c.args.threads c.args.watchers (handed c.in-Ok.given.0.plan c.in-Ok.given.1 digest (journal c.args.journal.now) (journal c.run_watched_and_print.new.journal)
+          (λ digests. RunEnds c.args.threads c.args.watchers (handed c.in-Ok.given.0.plan c.in-Ok.given.1 digests (journal c.args.journal.now) (journal c.run_watched_and_print.new.journal)
           (spool c.args.spool.now) (spool c.run_watched_and_print.new.spool)) sink c.run_watched_and_print.result)
-          given.digest c.run_watched_and_print.ensures,
+          given.digests c.run_watched_and_print.ensures,
     )
 
 pub returns-in-Err-clause-answers : goal.returns-in-Err-clause-answers

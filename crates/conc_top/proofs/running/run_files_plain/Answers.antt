@@ -16,9 +16,9 @@ returns-clause-answers g c =
     inl (
       record { plan = c.in-Ok.given.0.plan; readings = c.in-Ok.given.1; accepted = given.accepts },
       subst
-          (λ digest. RunEnds 0 0 (handed c.in-Ok.given.0.plan c.in-Ok.given.1 digest (journal c.args.journal.now) (journal c.run_and_print.new.journal)
+          (λ digests. RunEnds 0 0 (handed c.in-Ok.given.0.plan c.in-Ok.given.1 digests (journal c.args.journal.now) (journal c.run_and_print.new.journal)
           (spool c.args.spool.now) (spool c.run_and_print.new.spool)) sink c.run_and_print.result)
-          given.digest c.run_and_print.ensures,
+          given.digests c.run_and_print.ensures,
     )
 
 pub returns-in-Err-clause-answers : goal.returns-in-Err-clause-answers

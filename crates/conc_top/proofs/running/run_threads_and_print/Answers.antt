@@ -11,7 +11,7 @@ pub returns-in-Err : goal.returns-in-Err
 returns-in-Err g c =
     let journal = g.D.Disk.state in
     let spool = g.E.Disk.state in
-    let h = handed c.args.plan.now c.args.readings.now c.args.digest.now (journal c.args.journal.now) (journal c.run_on_threads-ran.new.journal) (spool c.args.spool.now) (spool c.run_on_threads-ran.new.spool) in
+    let h = handed c.args.plan.now c.args.readings.now c.args.digests.now (journal c.args.journal.now) (journal c.run_on_threads-ran.new.journal) (spool c.args.spool.now) (spool c.run_on_threads-ran.new.spool) in
     let sink = sunk (g.O.Sink.state c.args.out.now) (g.O.Sink.state c.args.out.now) in
     subst (RunEnds c.args.threads 0 h sink) (sym c.exit_for.ensures) (cut-ends c.args.threads 0 h sink c.in-Err.fail c.in-Err.ensures.cut_short refl)
 
@@ -21,7 +21,7 @@ returns g c =
     let spool = g.E.Disk.state in
     let plan = c.args.plan.now in
     let readings = c.args.readings.now in
-    let h = handed plan readings c.args.digest.now (journal c.args.journal.now) (journal c.run_on_threads-ran.new.journal) (spool c.args.spool.now) (spool c.run_on_threads-ran.new.spool) in
+    let h = handed plan readings c.args.digests.now (journal c.args.journal.now) (journal c.run_on_threads-ran.new.journal) (spool c.args.spool.now) (spool c.run_on_threads-ran.new.spool) in
     let sink = sunk (g.O.Sink.state c.args.out.now) (g.O.Sink.state c.print_history.new.out) in
     let history = list_in c.in-Ok.work in
     history-ends c.args.threads 0 h sink history c.events.result.now (watch_text 1 []) c.print_history.result c.events.ensures

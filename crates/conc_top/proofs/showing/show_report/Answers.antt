@@ -14,7 +14,7 @@ returns-in-Ok-clause-answers g c clock =
     let sink = sunk (g.O.Sink.state c.args.out.now) (g.O.Sink.state c.print_report.new.out) in
     inl (
       record { plan = c.in-Ok.accepted.plan; accepted = given.accepts },
-      subst (λ digest. OutputEnds c.in-Ok.accepted.plan digest c.args.id d sink c.print_report.result) given.digest c.print_report.ensures.ends,
+      subst (λ digests. OutputEnds c.in-Ok.accepted.plan digests c.args.id d sink c.print_report.result) given.digests c.print_report.ensures.ends,
     )
 
 pub returns-in-Err-clause-answers : goal.returns-in-Err-clause-answers

@@ -12,8 +12,8 @@ returns-in-Ok-clause-answers g c clock =
     let sink = sunk (g.O.Sink.state c.args.out.now) (g.O.Sink.state c.print_table.new.out) in
     inl (
       record { plan = c.in-Ok.accepted.plan; accepted = given.accepts },
-      subst (λ digest. StatusEnds c.in-Ok.accepted.plan digest (g.D.Disk.state c.args.journal.now) (g.D.Disk.state c.print_table.new.journal) sink c.print_table.result)
-          given.digest c.print_table.ensures.ends,
+      subst (λ digests. StatusEnds c.in-Ok.accepted.plan digests (g.D.Disk.state c.args.journal.now) (g.D.Disk.state c.print_table.new.journal) sink c.print_table.result)
+          given.digests c.print_table.ensures.ends,
     )
 
 pub returns-in-Err-clause-answers : goal.returns-in-Err-clause-answers

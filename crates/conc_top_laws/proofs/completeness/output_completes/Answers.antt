@@ -2,7 +2,7 @@ use Rattle.std.proofs.Common.{None, inl, inr}
 use Rattle.conc_run_state.specs.Disks.{disks}
 use Rattle.conc_top.specs.Answers.{around}
 use Rattle.conc_top.specs.Printing.{sunk}
-use Rattle.conc_top_inputs.specs.Given.{digest_of, named}
+use Rattle.conc_top_inputs.specs.Given.{digests_of, named}
 use Rattle.conc_top_laws.proofs.Ending.{output-done}
 use Rattle.conc_top_laws.proofs.Printed.{unplanned-done}
 use Rattle.conc_top_laws.proofs.completeness.output_completes.Goals as goal
@@ -14,6 +14,6 @@ returns g c shelf shelf_after out out_after journal journal_after spool spool_af
     let d = disks (g.D.Disk.state journal) (g.D.Disk.state journal_after) (g.E.Disk.state spool) (g.E.Disk.state spool_after) in
     let names = named setup script None in
     elim means.0 [
-      | inl planned ↦ output-done planned.0.plan (digest_of planned.0.accepted.files) id d a.sink (fits planned.0) still quiet.sink end planned.1
+      | inl planned ↦ output-done planned.0.plan (digests_of planned.0.accepted.files) id d a.sink (fits planned.0) still quiet.sink end planned.1
       | inr not ↦ unplanned-done names a end not accepted quiet
     ]
