@@ -28,7 +28,7 @@ use Rattle.conc_run_state.proofs.Prefixes.{prefix-twice}
 -- what counts in a version of a journal's label and stamps stands in its image
 names-in : (version : Version) (plan : Plan) (digests : Digests) (label : Label) (list : List Event) (stamps image : List ℕ) → NamesInput version plan digests label list stamps → Tells version label image → HasStamps version stamps image → NamesInput version plan digests (label_in image) list (stamps_in image)
 names-in One plan digests label list stamps image names tells stamped = tells ∙ names
-names-in Two plan digests label list stamps image (base , these) tells stamped = (tells ∙ base) , subst (λ (s : List ℕ). AreStampsOf plan list s) (sym stamped) these
+names-in Two plan digests label list stamps image (base, these) tells stamped = (tells ∙ base, subst (λ (s : List ℕ). AreStampsOf plan list s) (sym stamped) these)
 
 -- the image of a journal of this input is one of this input
 pub journal-own : (plan : Plan) (digests : Digests) (label : Label) (list : List Event) (stamps image : List ℕ) → IsOfInput plan digests label list stamps → IsJournal label stamps list image → IsOwn plan digests image
@@ -104,7 +104,7 @@ stamps-less plan events (event.Interrupt r) stamps own are = other-less plan eve
 
 names-less : (version : Version) (plan : Plan) (digests : Digests) (label : Label) (events : List Event) (e : Event) (stamps : List ℕ) (own : ℕ) → NamesInput version plan digests label (events ++ e ∷ []) (stamps ++ command_stamp e own) → NamesInput version plan digests label events stamps
 names-less One plan digests label events e stamps own names = names
-names-less Two plan digests label events e stamps own (base , these) = base , stamps-less plan events e stamps own these
+names-less Two plan digests label events e stamps own (base, these) = (base, stamps-less plan events e stamps own these)
 
 -- a journal that is of this input with one more event is of this input without it
 pub of_input-less : (plan : Plan) (digests : Digests) (label : Label) (events : List Event) (e : Event) (stamps : List ℕ) (own : ℕ) → IsOfInput plan digests label (events ++ e ∷ []) (stamps ++ command_stamp e own) → IsOfInput plan digests label events stamps

@@ -26,7 +26,10 @@ pub enum HistoryFail {
     NotJournal,
     /// The journal is that of another input: in its version it has `found` where this input has `given`.
     #[error("the journal is that of another input")]
-    OtherInput { found: [u8; 32], given: [u8; 32] },
+    OtherInput {
+        found: [u8; 32],
+        given: [u8; 32],
+    },
     /// The journal is that of another script. It has this command with the stamp `found`, and the script
     /// with `given`, which is 0 where the script has no such command.
     #[error("command {command} is another one in the journal")]
@@ -37,12 +40,19 @@ pub enum HistoryFail {
     },
     /// The record with this number, from 1, is broken or not lawful, or its extent ends past the spool.
     #[error("record {number} is not lawful")]
-    Unlawful { number: u64 },
+    Unlawful {
+        number: u64,
+    },
     /// The journal has `len` records, and no room for the `need` that a life may add.
     #[error("the journal has {len} records and needs {need} more")]
-    JournalFull { len: u64, need: u64 },
+    JournalFull {
+        len: u64,
+        need: u64,
+    },
     #[error("a disk failed")]
-    DiskFault { disk: DiskName },
+    DiskFault {
+        disk: DiskName,
+    },
     #[error("no memory")]
     NoMemory,
 }
