@@ -7,6 +7,8 @@ pub mod Resuming
 pub mod Renewing
 pub mod Starting
 pub mod Scripting
+pub mod Standing
+pub mod Judged
 pub mod Preparing
 pub mod Beginning
 pub mod Listed
