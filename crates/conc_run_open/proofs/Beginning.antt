@@ -17,7 +17,7 @@ use Rattle.conc_journal.specs.JournalStates.{has_faulted, takes_events}
 use Rattle.conc_journal.specs.declared.journal.Journal.{Journal}
 use Rattle.conc_spool.specs.Spools.{KeepsBelow}
 use Rattle.conc_run_state.specs.Handed.{handed, IsTaken}
-use Rattle.conc_run_state.specs.Inputs.{IsBegunFor}
+use Rattle.conc_run_state.specs.Inputs.{IsBegunFor, IsOfVersionTwo}
 use Rattle.conc_run_state.specs.Survival.{Survives}
 use Rattle.conc_run_state.specs.Works.{AreReady}
 use Rattle.conc_run_state.specs.declared.work.Work.{Work}
@@ -40,6 +40,7 @@ may-start-with plan readings digests examined journal spool may = record { may_s
 pub record IsStarted (plan : Plan) (digests : Digests) (old list : Journal) (disk : DiskState) : Type 0 where
   pub on : JournalIsOn list disk
   pub begun_for : IsBegunFor plan digests list
+  pub version : IsOfVersionTwo list
   pub all : list_of list ≡ opening (list_of old)
   pub room : room_of list + length (list_of list) ≡ room_of old + length (list_of old)
 
@@ -115,6 +116,7 @@ module _ (plan : Plan) (readings : Readings) (digests : Digests) (journal mid ne
     list = started.all;
     ready = are-ready plan readings.list digests mid new spool' examined list is.may_begin started;
     begun_for = started.begun_for;
+    version = started.version;
     left = left;
     stored = stored-still;
   }

@@ -1,5 +1,5 @@
 -- A journal of version 1 that is brought to version 2.
-use Rattle.std.proofs.Common.{Result, Ok, Err, OnOk, OnErr, ◌≡◌, inl, inr, ℕ, List, length, map, take, Some, refl, sym, ◌∙◌, ap, subst}
+use Rattle.std.proofs.Common.{Result, Ok, Err, OnOk, OnErr, ◌≡◌, inl, inr, ℕ, false, List, length, map, take, Some, refl, sym, ◌∙◌, ap, subst}
 use Rattle.conc_types.specs.declared.digests.Digests.{Digests}
 use Rattle.conc_types.specs.declared.event.Event.{Event}
 use Rattle.conc_types.specs.declared.plan.Plan.{Plan}
@@ -9,12 +9,13 @@ use Rattle.conc_journal_image.specs.Headers.{migrated}
 use Rattle.conc_journal_image.specs.Image.{IsJournal}
 use Rattle.conc_journal_image.specs.declared.label.Label.{Label}
 use Rattle.conc_journal_image.specs.declared.label.Version.{Version}
-use Rattle.conc_journal_image.specs.declared.label.Version.TheVariants.{One}
+use Rattle.conc_journal_image.specs.declared.label.Version.TheVariants.{One, Two}
 use Rattle.conc_journal.specs.Journals.{FitsState, IsOn, list_of, stamps_held, state_of}
+use Rattle.conc_journal.specs.JournalStates.{is_of_version_one, is_one, state_label}
 use Rattle.conc_journal.specs.declared.journal.Journal.{Journal}
 use Rattle.conc_journal.specs.declared.journal.JournalState.{JournalState}
 use Rattle.conc_journal.specs.declared.journal.JournalState.TheVariants.{Begun, MigrateFailed}
-use Rattle.conc_run_state.specs.Inputs.{AreStampsOf, IsBegunFor, IsOfInput, NamesInput}
+use Rattle.conc_run_state.specs.Inputs.{AreStampsOf, IsBegunFor, IsOfInput, IsOfVersionTwo, NamesInput}
 use Rattle.conc_run_state.specs.Survival.{Survives}
 use Rattle.conc_run_state.proofs.Prefixes.{prefix-self}
 use Rattle.conc_run_state.proofs.Surviving.{journal-survives}
@@ -68,3 +69,29 @@ begun-now plan digests journal disk is on =
     each-wider (IsJournal is.label (stamps_held journal) list) (Survives plan digests list list) disk
     (λ c journal'. journal-survives plan digests is.label (stamps_held journal) list list list c (prefix-self list) (prefix-self list) is.of_input journal')
     (subst (λ (s : JournalState). EachImage (FitsState s (stamps_held journal) list) disk) is.state on)
+
+-- ---- the version
+
+-- a journal that is begun with a label of version 2 is of version 2
+pub version-two : (journal : Journal) (label : Label) → state_of journal ≡ Begun label → label.version ≡ Two → IsOfVersionTwo journal
+version-two journal label state two = λ other labelled.
+    let both : Some label ≡ Some other = sym (ap state_label state) ∙ labelled in
+    let same : label ≡ other = cc in
+    subst (λ (l : Label). l.version ≡ Two) same two
+
+-- one that was brought there
+pub migrated-two : {E : Type 0} (r : Result (Unit {0}) E) (label : Label) (base : List ℕ) (journal : Journal) → OnOk r (state_of journal ≡ Begun (migrated label base)) → OnOk r (IsOfVersionTwo journal)
+migrated-two (Ok x) label base journal begun = version-two journal (migrated label base) begun refl
+migrated-two (Err e) label base journal begun = tt
+
+-- and one that needed none of that
+pub begun-two : (plan : Plan) (digests : Digests) (journal : Journal) → IsBegunFor plan digests journal → is_of_version_one (state_of journal) ≡ false → IsOfVersionTwo journal
+begun-two plan digests journal begun other = version-two journal begun.label begun.state (go begun.label.version (sym (ap is_of_version_one begun.state) ∙ other))
+  where
+    go : (v : Version) → is_one v ≡ false → v ≡ Two
+    go One h = absurd (cc)
+    go Two h = refl
+
+-- it stays so at the same state
+pub two-still : (one other : Journal) → state_of other ≡ state_of one → IsOfVersionTwo one → IsOfVersionTwo other
+two-still one other same two = λ label labelled. two label (sym (ap state_label same) ∙ labelled)

@@ -8,7 +8,7 @@ returns-in-Ok-clause-begun g c = λ plan readings before texts was.
     let spool = g.E.Disk.state c.args.spool.now in
     let may = may-start-with plan readings.list c.args.digests.now c.args.examined old spool was.is_examined.may_begin in
     begins plan readings c.args.digests.now (g.D.Disk.state before) old (g.D.Disk.state c.start.new.disk) (g.E.Disk.state texts) spool
-    c.args.examined was (c.start.ensures.survives plan may) c.start.new.journal (record { on = made.on; begun_for = made.begun_for plan may; all = made.list; room = made.room })
+    c.args.examined was (c.start.ensures.survives plan may) c.start.new.journal (record { on = made.on; begun_for = made.begun_for plan may; version = made.version; all = made.list; room = made.room })
 
 pub returns-in-Ok-clause-ready : goal.returns-in-Ok-clause-ready
 returns-in-Ok-clause-ready g c = λ plan readings may.
@@ -17,7 +17,7 @@ returns-in-Ok-clause-ready g c = λ plan readings may.
     let spool = g.E.Disk.state c.args.spool.now in
     are-ready plan readings c.args.digests.now old (g.D.Disk.state c.start.new.disk) spool
     c.args.examined c.start.new.journal may
-    (record { on = made.on; begun_for = made.begun_for plan (may-start-with plan readings c.args.digests.now c.args.examined old spool may); all = made.list; room = made.room })
+    (record { on = made.on; begun_for = made.begun_for plan (may-start-with plan readings c.args.digests.now c.args.examined old spool may); version = made.version; all = made.list; room = made.room })
 
 pub returns-clause-given_up : goal.returns-clause-given_up
 returns-clause-given_up g c = λ plan readings before texts was.

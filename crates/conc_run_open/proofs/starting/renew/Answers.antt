@@ -1,7 +1,7 @@
-use Rattle.std.proofs.Common.{◌≡◌, sym, ◌∙◌}
+use Rattle.std.proofs.Common.{◌≡◌, take, sym, ◌∙◌}
 use Rattle.conc_disk.proofs.Leaving.{leaves-none}
 use Rattle.conc_run_state.specs.Survival.{Survives}
-use Rattle.conc_run_open.proofs.Renewing.{begun-now, migrated-for, migrated-now, migrating-left, one-named}
+use Rattle.conc_run_open.proofs.Renewing.{begun-now, begun-two, migrated-for, migrated-now, migrated-two, migrating-left, one-named}
 use Rattle.conc_run_open.proofs.Resuming.{is-begun, is-one, stamps-counted}
 use Rattle.conc_run_open.proofs.starting.renew.Goals as goal
 
@@ -44,3 +44,13 @@ returns-else-is_of_version_one-clause-survives g c = λ plan may.
 pub returns-else-is_of_version_one-clause-now : goal.returns-else-is_of_version_one-clause-now
 returns-else-is_of_version_one-clause-now g c = λ plan may.
     begun-now plan c.args.digests.now c.args.journal.now (g.D.Disk.state c.args.disk.now) (is-begun plan c.args.digests.now c.args.journal.now may.may_start c.requires.begun) c.requires.on
+
+pub returns-then-is_of_version_one-clause-version : goal.returns-then-is_of_version_one-clause-version
+returns-then-is_of_version_one-clause-version g c =
+    let one = is-one c.args.journal.now.state (sym c.is_of_version_one.ensures ∙ c.if-is_of_version_one.true) in
+    migrated-two c.migrate.result one.0 (take 15 c.args.digests.now.base) c.migrate.new.self (c.migrate.ensures.migrated one.0 one.1)
+
+pub returns-else-is_of_version_one-clause-version : goal.returns-else-is_of_version_one-clause-version
+returns-else-is_of_version_one-clause-version g c =
+    let may = c.requires.may in
+    begun-two may.0 c.args.digests.now c.args.journal.now (is-begun may.0 c.args.digests.now c.args.journal.now may.1.may_start c.requires.begun) (sym c.is_of_version_one.ensures ∙ c.if-is_of_version_one.false)

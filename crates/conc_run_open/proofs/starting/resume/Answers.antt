@@ -1,4 +1,5 @@
 use Rattle.std.proofs.Common.{◌≡◌, ◌<◌, length, sym, ap, ◌∙◌, Err}
+use Rattle.conc_run_open.proofs.Renewing.{two-still}
 use Rattle.conc_run_open.proofs.Resuming.{not-empty, resume-begun-for, resume-failed, resume-left, resume-there}
 use Rattle.conc_run_open.proofs.starting.resume.Goals as goal
 
@@ -32,3 +33,6 @@ returns-in-Err-clause-now g c = λ plan digests begun.
     let some : 0 < length journal.events.items = not-empty journal.events.items c.events.result.now c.events.ensures (sym c.is_empty.ensures ∙ c.if-is_empty.false) in
     resume-failed plan digests journal c.append.new.self c.in-Err.field-0 (g.D.Disk.state c.append.new.disk) begun some c.in-Err.ensures.list c.in-Err.ensures.stamps
     (λ is. c.append.ensures.faulted (c.in-Err.is ∙ ap Err is)) (λ is. c.append.ensures.failed.0 (c.in-Err.is ∙ ap Err is)) c.append.ensures.on
+
+pub returns-in-Ok-clause-version : goal.returns-in-Ok-clause-version
+returns-in-Ok-clause-version g c = two-still c.args.journal.now c.append.new.self c.in-Ok.ensures.state

@@ -1,9 +1,11 @@
-use Rattle.std.proofs.Common.{◌≡◌, List, sym, ap, ◌∙◌, subst}
+use Rattle.std.proofs.Common.{◌≡◌, List, refl, sym, ap, ◌∙◌, subst}
 use Rattle.conc_types.specs.declared.event.Event.{Event}
 use Rattle.conc_disk.specs.Left.{EachImage}
+use Rattle.conc_journal_image.specs.Headers.{label_for}
 use Rattle.conc_law.specs.Alone.{opening}
 use Rattle.conc_journal.specs.JournalStates.{has_faulted, takes_events}
 use Rattle.conc_run_state.specs.Survival.{Survives}
+use Rattle.conc_run_open.proofs.Renewing.{version-two}
 use Rattle.conc_run_open.proofs.Resuming.{header-begun-for, header-left, header-now}
 use Rattle.conc_run_open.proofs.Starting.{now-wider, renewed-left, start-twice, unbegun}
 use Rattle.conc_run_open.proofs.starting.start.Goals as goal
@@ -58,3 +60,9 @@ returns-clause-survives g c = λ plan may.
 pub returns-clause-now : goal.returns-clause-now
 returns-clause-now g c = λ plan may.
     subst (λ (l : List Event). EachImage (Survives plan c.args.digests.now l (opening l)) (g.D.Disk.state c.resume.new.disk)) c.renew.ensures.list (c.resume.ensures.now plan c.args.digests.now (c.in_ok-renew.ensures.begun_for plan may))
+
+pub returns-then-not-takes_events-clause-version : goal.returns-then-not-takes_events-clause-version
+returns-then-not-takes_events-clause-version g c = version-two c.begin.new.self (label_for c.args.digests.now) c.in_ok-begin.ensures.begun refl
+
+pub returns-clause-version : goal.returns-clause-version
+returns-clause-version g c = c.resume.ensures.version c.in_ok-renew.ensures.version
