@@ -17,7 +17,7 @@ use Rattle.conc_journal.specs.JournalStates.{has_faulted, takes_events}
 use Rattle.conc_journal.specs.declared.journal.Journal.{Journal}
 use Rattle.conc_spool.specs.Spools.{KeepsBelow}
 use Rattle.conc_run_state.specs.Handed.{handed, IsTaken}
-use Rattle.conc_run_state.specs.Inputs.{IsBegunFor, IsOfVersionTwo}
+use Rattle.conc_run_state.specs.Inputs.{AreStampsOf, IsBegunFor, IsOfVersionTwo}
 use Rattle.conc_run_state.specs.Survival.{Survives}
 use Rattle.conc_run_state.specs.Works.{AreReady}
 use Rattle.conc_run_state.specs.declared.work.Work.{Work}
@@ -33,8 +33,9 @@ abbrev pub begun_with : Examined → Journal → Work
 begun_with examined list = record { machine = examined.machine; journal = list; spool = examined.spool }
 
 -- with its stamps it may start
-pub may-start-with : (plan : Plan) (readings : List Reading) (digests : Digests) (examined : Examined) (journal spool : DiskState) → MayBegin plan readings digests examined journal spool → MayStartWith plan digests examined.due.items examined.journal
-may-start-with plan readings digests examined journal spool may = record { may_start = may.state; due_are = may.ready.due }
+pub may-start-with : (plan : Plan) (readings : List Reading) (digests : Digests) (examined : Examined) (due : List ℕ) (journal spool : DiskState) → due ≡ examined.due.items → MayBegin plan readings digests examined journal spool
+    → MayStartWith plan digests due examined.journal
+may-start-with plan readings digests examined due journal spool same may = record { may_start = may.state; due_are = subst (AreStampsOf plan (list_of examined.journal)) (sym same) may.ready.due }
 
 -- a journal in which a life was begun
 pub record IsStarted (plan : Plan) (digests : Digests) (old list : Journal) (disk : DiskState) : Type 0 where

@@ -5,7 +5,7 @@ pub mod Lives
 pub mod Surviving
 pub mod Resuming
 pub mod Renewing
-pub mod Starting
+pub mod TwoSteps
 pub mod Scripting
 pub mod Standing
 pub mod Judged

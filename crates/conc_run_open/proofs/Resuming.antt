@@ -1,9 +1,10 @@
 -- What is on a journal's disk while a life is begun there.
 use Rattle.std.proofs.Common.{Result, Ok, Err, OnOk, OnErr, ◌≡◌, ◌==◌, inl, inr, ℕ, ◌<◌, Bool, true, false, List, [], ◌∷◌, ◌++◌, length, map, take, Some, refl, sym, ◌∙◌, ap, subst, arith, append-nil}
-use Rattle.std.specs.Prelude.{count_by}
+use Rattle.std.specs.Prelude.{cond, count_by}
 use Rattle.std.specs.List.{filter_map}
 use Rattle.std.proofs.lemmas.List.{length-map}
 use Rattle.std.proofs.lemmas.List.Elements.{filter_map-append}
+use Rattle.std.proofs.lemmas.List.Sums.{sum_by-cons}
 use Rattle.conc_types.specs.Plans.{stamp}
 use Rattle.conc_types.specs.declared.digests.Digests.{Digests}
 use Rattle.conc_types.specs.declared.event.Event.{Event}
@@ -57,23 +58,21 @@ is-one (MigrateFailed label base) h = absurd (cc)
 resume-no-command : (list : List Event) → filter_map command_of (list ++ event.Resume ∷ []) ≡ filter_map command_of list
 resume-no-command list = filter_map-append command_of list (event.Resume ∷ []) ∙ append-nil (filter_map command_of list)
 
+opening-commands : (list : List Event) → filter_map command_of (opening list) ≡ filter_map command_of list
+opening-commands [] = refl
+opening-commands (e ∷ es) = resume-no-command (e ∷ es)
+
 pub opening-of-input : (plan : Plan) (digests : Digests) (label : Label) (list : List Event) (stamps : List ℕ) → IsOfInput plan digests label list stamps → IsOfInput plan digests label (opening list) stamps
 opening-of-input plan digests label list stamps is = go label.version is
   where
-    same : filter_map command_of (opening list) ≡ filter_map command_of list
-    same = elim list [
-      | [] ↦ refl
-      | (e ∷ es) ↦ resume-no-command (e ∷ es)
-    ]
-
     go : (v : Version) → NamesInput v plan digests label list stamps → NamesInput v plan digests label (opening list) stamps
     go One names = names
-    go Two (base , these) = (base, ap (map (stamp plan)) same ∙ these)
+    go Two (base, these) = (base, ap (map (stamp plan)) (opening-commands list) ∙ these)
 
 -- there are as many stamps as commands
 commands-counted : (list : List Event) → length (filter_map command_of list) ≡ count_by has_stamp list
 commands-counted [] = refl
-commands-counted (event.Command n ∷ es) = ap suc (commands-counted es)
+commands-counted (event.Command n ∷ es) = omega (arith, commands-counted es, sum_by-cons (λ (e : Event). cond (has_stamp e) 1 0) (event.Command n) es)
 commands-counted (e ∷ es) = commands-counted es
 
 -- ---- images
@@ -124,14 +123,12 @@ header-now r plan digests list list' stamps state disk begun failed same none no
     survives (Err e) other is c fits = header-survives plan digests c (subst (λ (s : JournalState). FitsState s [] [] c) is fits)
 
 -- a journal that is begun with it
-pub header-begun-for : {E : Type 0} (r : Result (Unit {0}) E) (plan : Plan) (digests : Digests) (journal : Journal) → OnOk r (state_of journal ≡ Begun (label_for digests)) → list_of journal ≡ [] → stamps_held journal ≡ []
-    → OnOk r (IsBegunFor plan digests journal)
-header-begun-for (Ok x) plan digests journal begun none no_stamps = record {
+pub header-begun-for : (plan : Plan) (digests : Digests) (journal : Journal) → state_of journal ≡ Begun (label_for digests) → list_of journal ≡ [] → stamps_held journal ≡ [] → IsBegunFor plan digests journal
+header-begun-for plan digests journal begun none no_stamps = record {
   label = label_for digests;
   state = begun;
   of_input = (refl, ap (λ (l : List Event). map (stamp plan) (filter_map command_of l)) none ∙ sym (ap (map Some) no_stamps));
 }
-header-begun-for (Err e) plan digests journal begun none no_stamps = tt
 
 -- ---- the resume that is added
 

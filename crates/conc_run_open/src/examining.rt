@@ -108,7 +108,9 @@ fn prepare<'p>(
     } = opened;
     let mut machine = resume_whole(alloc, plan, journal.events(), broken)?;
     make_room(plan, readings, &mut journal)?;
-    let due = stamps_due(alloc, plan, journal.events())?;
+    let Ok(due) = stamps_due(alloc, plan, journal.events()) else {
+        return Err(HistoryFail::NoMemory);
+    };
     match begin_life(alloc, &mut machine, readings, journal.events()) {
         Ok(()) => Ok(Examined {
             machine,

@@ -10,7 +10,9 @@ use Rattle.conc_run_open.proofs.Judged.{judged}
 use Rattle.conc_run_open.proofs.reading.judge_input.Goals as goal
 
 pub first_other-requires : goal.first_other-requires
-first_other-requires c = ap length c.stamps.ensures ∙ c.args.journal.now.stamped ∙ ap (λ (l : List Event). count_by has_stamp l) (sym c.events.ensures)
+first_other-requires c =
+    let journal = c.args.journal.now in
+    ap length c.stamps.ensures ∙ sym journal.stamps.ok.0 ∙ journal.stamped ∙ ap (λ (l : List Event). count_by has_stamp l) (sym c.events.ensures)
 
 pub returns-in-Two : goal.returns-in-Two
 returns-in-Two c =

@@ -1,4 +1,4 @@
-use Rattle.std.proofs.Common.{◌≡◌, take, sym, ◌∙◌}
+use Rattle.std.proofs.Common.{◌≡◌, arith, take, sym, ◌∙◌}
 use Rattle.conc_disk.proofs.Leaving.{leaves-none}
 use Rattle.conc_run_state.specs.Survival.{Survives}
 use Rattle.conc_run_open.proofs.Renewing.{begun-now, begun-two, migrated-for, migrated-now, migrated-two, migrating-left, one-named}
@@ -11,7 +11,8 @@ migrate-requires-clause-begun g c = is-one c.args.journal.now.state (sym c.is_of
 pub migrate-requires-clause-stamps : goal.migrate-requires-clause-stamps
 migrate-requires-clause-stamps g c =
     let may = c.requires.may in
-    stamps-counted may.0 c.args.journal.now.events.items c.args.due.now may.1.due_are ∙ sym c.args.journal.now.stamped
+    let journal = c.args.journal.now in
+    omega (arith, stamps-counted may.0 journal.events.items c.args.due.now may.1.due_are, journal.stamped, journal.stamps.ok.0)
 
 pub returns-then-is_of_version_one-clause-begun_for : goal.returns-then-is_of_version_one-clause-begun_for
 returns-then-is_of_version_one-clause-begun_for g c = λ plan may.

@@ -7,7 +7,7 @@ use Rattle.conc_journal.specs.JournalStates.{has_faulted, takes_events}
 use Rattle.conc_run_state.specs.Survival.{Survives}
 use Rattle.conc_run_open.proofs.Renewing.{version-two}
 use Rattle.conc_run_open.proofs.Resuming.{header-begun-for, header-left, header-now}
-use Rattle.conc_run_open.proofs.Starting.{now-wider, renewed-left, start-twice, unbegun}
+use Rattle.conc_run_open.proofs.TwoSteps.{now-wider, renewed-left, start-twice, unbegun}
 use Rattle.conc_run_open.proofs.starting.start.Goals as goal
 
 pub begin-requires-clause-state : goal.begin-requires-clause-state
@@ -24,7 +24,7 @@ returns-in_err-begin-clause-now g c = λ plan may.
 
 pub returns-then-not-takes_events-clause-begun_for : goal.returns-then-not-takes_events-clause-begun_for
 returns-then-not-takes_events-clause-begun_for g c = λ plan may.
-    header-begun-for c.begin.result plan c.args.digests.now c.begin.new.self c.begin.ensures.begun c.begin.ensures.empty c.begin.ensures.stamps
+    header-begun-for plan c.args.digests.now c.begin.new.self c.in_ok-begin.ensures.begun c.begin.ensures.empty c.begin.ensures.stamps
 
 pub returns-then-not-takes_events-clause-survives : goal.returns-then-not-takes_events-clause-survives
 returns-then-not-takes_events-clause-survives g c = λ plan may.

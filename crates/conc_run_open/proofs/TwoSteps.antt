@@ -1,5 +1,5 @@
 -- A life that is begun in two steps: the journal is renewed, and the resume is added.
-use Rattle.std.proofs.Common.{◌≡◌, inl, inr, true, List, ap, sym, ◌∙◌, subst, ℕ, not}
+use Rattle.std.proofs.Common.{◌≡◌, inl, inr, false, true, List, ap, sym, ◌∙◌, subst, ℕ}
 use Rattle.conc_types.specs.declared.digests.Digests.{Digests}
 use Rattle.conc_types.specs.declared.event.Event.{Event}
 use Rattle.conc_types.specs.declared.plan.Plan.{Plan}
@@ -18,7 +18,7 @@ use Rattle.conc_run_open.specs.Examined.{MayStart}
 use Rattle.conc_run_open.proofs.Surviving.{each-wider, left-wider}
 
 -- what takes no events is not begun
-pub unbegun : (plan : Plan) (digests : Digests) (journal : Journal) → MayStart plan digests journal → not (takes_events (state_of journal)) ≡ true → state_of journal ≡ NotBegun
+pub unbegun : (plan : Plan) (digests : Digests) (journal : Journal) → MayStart plan digests journal → takes_events (state_of journal) ≡ false → state_of journal ≡ NotBegun
 unbegun plan digests journal (inl none) h = none
 unbegun plan digests journal (inr begun) h = absurd (let takes : takes_events (state_of journal) ≡ true = ap takes_events begun.state in cc)
 
