@@ -1,5 +1,5 @@
 -- A journal of version 1 that is brought to version 2.
-use Rattle.std.proofs.Common.{Result, Ok, Err, OnOk, OnErr, ◌≡◌, inl, inr, ℕ, false, List, length, map, take, Some, refl, sym, ◌∙◌, ap, subst}
+use Rattle.std.proofs.Common.{Result, Ok, Err, OnOk, OnErr, ◌≡◌, inl, inr, ℕ, false, List, take, Some, refl, sym, ◌∙◌, ap, subst}
 use Rattle.conc_types.specs.declared.digests.Digests.{Digests}
 use Rattle.conc_types.specs.declared.event.Event.{Event}
 use Rattle.conc_types.specs.declared.plan.Plan.{Plan}

@@ -1,5 +1,5 @@
 -- Each command of a list that is lawful so far stands in the plan, with a stamp.
-use Rattle.std.proofs.Common.{◌≡◌, true, ℕ, ◌+◌, List, [], ◌∷◌, ◌++◌, reverse, take, drop, Some, refl, sym, ◌∙◌, ap, subst, arith}
+use Rattle.std.proofs.Common.{◌≡◌, true, ℕ, ◌+◌, List, ◌∷◌, ◌++◌, reverse, take, drop, Some, sym, ◌∙◌, ap, arith}
 use Rattle.std.specs.Prelude.{slice_get}
 use Rattle.std.proofs.lemmas.Bool.{and_parts}
 use Rattle.std.proofs.lemmas.List.{take-append-drop}
@@ -8,7 +8,7 @@ use Rattle.conc_types.specs.Plans.{stamp}
 use Rattle.conc_types.specs.declared.event.Event.{Event}
 use Rattle.conc_types.specs.declared.event.Event.TheVariants as event
 use Rattle.conc_types.specs.declared.plan.Plan.{Plan}
-use Rattle.conc_law.specs.Law.{is_lawful_so_far, LawfulSoFar, may_follow}
+use Rattle.conc_law.specs.Law.{is_lawful_so_far, LawfulSoFar}
 use Rattle.conc_law.proofs.Numbering.{numbered-at}
 use Rattle.conc_law.proofs.Positions.{reverse-push, slice_get-some}
 use Rattle.conc_law.proofs.Prefixes.{is_lawful_so_far-prefix}

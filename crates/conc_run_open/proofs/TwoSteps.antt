@@ -1,5 +1,5 @@
 -- A life that is begun in two steps: the journal is renewed, and the resume is added.
-use Rattle.std.proofs.Common.{◌≡◌, inl, inr, false, true, List, ap, sym, ◌∙◌, subst, ℕ}
+use Rattle.std.proofs.Common.{◌≡◌, inl, inr, false, true, List, ap, subst, ℕ}
 use Rattle.conc_types.specs.declared.digests.Digests.{Digests}
 use Rattle.conc_types.specs.declared.event.Event.{Event}
 use Rattle.conc_types.specs.declared.plan.Plan.{Plan}

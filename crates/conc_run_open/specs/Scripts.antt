@@ -12,8 +12,8 @@ use Rattle.conc_run_state.specs.Inputs.{AreStampsOf}
 use Rattle.conc_run_state.specs.declared.error.HistoryFail.{HistoryFail}
 use Rattle.conc_run_state.specs.declared.error.HistoryFail.TheVariants as history_fail
 
--- the plan lacks this command among the events, or has it with another stamp, which is 0 where it lacks it; and the commands before
--- it have the plan's stamps
+-- This is a command of the events that the plan lacks, or has with another stamp. The stamp here is found, and the plan's is given,
+-- which is 0 where it lacks the command. The commands before it have the plan's stamps.
 pub record HasOther (plan : Plan) (events : List Event) (stamps : List ℕ) (command found given : ℕ) : Type 0 where
   pub before : List Event
   pub after : List Event
@@ -25,7 +25,7 @@ pub record HasOther (plan : Plan) (events : List Event) (stamps : List ℕ) (com
   pub given_is : given ≡ unwrap_or (stamp plan command) 0
   pub other : stamp plan command ≡ Some found → ⊥
 
--- such is the first command that differs
+-- it is refused as the first command that differs
 abbrev pub IsOtherCommand : Plan → List Event → List ℕ → HistoryFail → Type 0
 IsOtherCommand plan events stamps (history_fail.OtherScript command found given) = HasOther plan events stamps command found given
 IsOtherCommand plan events stamps _ = ⊥

@@ -11,9 +11,10 @@ use conc_types::{Digests, Event, Plan};
 use std::alloc::Global;
 
 /// The events in the journal of a run of this plan, whose input has these digests; none where no journal
-/// was begun. It writes nothing, and needs no spool. It judges what stands there, in this order: whether
-/// it is a journal, and this input's; and the first record that is broken, or whose event may not follow
-/// those before it with every life judged as an earlier one.
+/// was begun. It writes nothing, so a journal of version 1 stays one, and it needs no spool. It judges
+/// what stands there, in this order: whether it is a journal, this input's, and this script's; and the
+/// first record that is broken, or whose event may not follow those before it with every life judged as
+/// an earlier one.
 pub fn read_list<D: Disk>(
     alloc: Global,
     plan: &Plan,

@@ -31,8 +31,9 @@ pub struct Begun<'p> {
     pub resumed: Option<Receipt>,
 }
 
-/// Begins the life of what was examined: it writes the header where no journal was begun, and adds a
-/// resume where events were found, and hands out its receipt. The spool's disk is only lent.
+/// Begins the life of what was examined: it writes the header where no journal was begun, brings a
+/// journal of version 1 to version 2, and adds a resume where events were found, and hands out its
+/// receipt. The spool's disk is only lent.
 pub fn begin<'p, D: Disk, E: Disk>(
     examined: Examined<'p>,
     digests: &Digests,
@@ -90,11 +91,12 @@ pub fn begin<'p, D: Disk, E: Disk>(
 }
 
 /// Opens the journal and the spool of a run of this plan with these readings, whose input has these
-/// digests, and begins a life: it writes the header where no journal was begun, and adds a resume where
-/// events were found. Before that it judges all that stands there, in this order: whether it is a
-/// journal, and this input's; whether the spool can be read; the first record that is broken, that may
-/// not follow, or whose extent ends past the spool; and whether there is room for a life. It takes the
-/// memory for the machine and for the events of the life before it writes.
+/// digests, and begins a life: it writes the header where no journal was begun, brings a journal of
+/// version 1 to version 2, and adds a resume where events were found. Before that it judges all that
+/// stands there, in this order: whether it is a journal, this input's, and this script's; whether the
+/// spool can be read; the first record that is broken, that may not follow, or whose extent ends past
+/// the spool; and whether there is room for a life. It takes the memory for the machine, for the stamps
+/// and for the events of the life before it writes.
 pub fn open<'p, D: Disk, E: Disk>(
     alloc: Global,
     plan: &'p Plan,

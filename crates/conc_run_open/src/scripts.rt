@@ -33,11 +33,7 @@ pub(crate) fn first_other(plan: &Plan, events: &[Event], stamps: &[u64]) -> Opti
 }
 
 /// The stamps of the commands among these events, each of which the plan has.
-pub(crate) fn stamps_due(
-    alloc: Global,
-    plan: &Plan,
-    events: &[Event],
-) -> Result<Vec<u64>, NoMemory>
+pub(crate) fn stamps_due(alloc: Global, plan: &Plan, events: &[Event]) -> Result<Vec<u64>, NoMemory>
     requires { LawfulSoFar plan.now events.now }
     ensures { IfOk result (λ stamps. AreStampsOf plan.now events.now stamps.items) }
 {

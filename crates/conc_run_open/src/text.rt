@@ -40,10 +40,10 @@ fn find_report(events: &[Event], id: RequestId) -> Option<Extent>
 }
 
 /// The text of the report with which this request ended, from the spool of a run of this plan, whose
-/// input has these digests. It writes nothing. It judges what stands on the disks, in this order: whether
-/// there is a journal, and this input's; whether the spool can be read; and the first record that is
-/// broken, that may not follow, or whose extent ends past the spool. Only then it looks for the end of
-/// the request and reads its text.
+/// input has these digests. It writes nothing, so a journal of version 1 stays one. It judges what stands
+/// on the disks, in this order: whether there is a journal, this input's, and this script's; whether the
+/// spool can be read; and the first record that is broken, that may not follow, or whose extent ends past
+/// the spool. Only then it looks for the end of the request and reads its text.
 pub fn read_text<D: Disk, E: Disk>(
     alloc: Global,
     plan: &Plan,

@@ -1,4 +1,4 @@
-use Rattle.std.proofs.Common.{◌≡◌, arith, take, sym, ◌∙◌}
+use Rattle.std.proofs.Common.{arith, take, sym, ◌∙◌}
 use Rattle.conc_disk.proofs.Leaving.{leaves-none}
 use Rattle.conc_run_state.specs.Survival.{Survives}
 use Rattle.conc_run_open.proofs.Renewing.{begun-now, begun-two, migrated-for, migrated-now, migrated-two, migrating-left, one-named}

@@ -1,4 +1,4 @@
-use Rattle.std.proofs.Common.{◌≡◌, ◌<◌, length, sym, ap, ◌∙◌, Err}
+use Rattle.std.proofs.Common.{◌<◌, length, sym, ap, ◌∙◌, Err}
 use Rattle.conc_run_open.proofs.Renewing.{two-still}
 use Rattle.conc_run_open.proofs.Resuming.{not-empty, resume-begun-for, resume-failed, resume-left, resume-there}
 use Rattle.conc_run_open.proofs.starting.resume.Goals as goal

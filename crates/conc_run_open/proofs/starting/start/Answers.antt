@@ -1,4 +1,4 @@
-use Rattle.std.proofs.Common.{◌≡◌, List, refl, sym, ap, ◌∙◌, subst}
+use Rattle.std.proofs.Common.{List, refl, sym, ap, ◌∙◌, subst}
 use Rattle.conc_types.specs.declared.event.Event.{Event}
 use Rattle.conc_disk.specs.Left.{EachImage}
 use Rattle.conc_journal_image.specs.Headers.{label_for}
