@@ -1,6 +1,6 @@
 -- The end of a request that runs may come next.
-use Rattle.std.proofs.Common.{◌≡◌, ℕ, ◌<◌, ◌+◌, ◌++◌, [], ◌∷◌, true, false, Bool, List, length, reverse, Option, None, Some, is_some, if◌then◌else◌, refl, sym, ◌∙◌, ap, subst, arith, inl, inr}
-use Rattle.std.specs.Prelude.{◌==◌, nat_lt}
+use Rattle.std.proofs.Common.{◌≡◌, ℕ, ◌++◌, [], ◌∷◌, true, false, Bool, List, length, reverse, Option, None, Some, is_some, if◌then◌else◌, refl, sym, ◌∙◌, ap, subst, arith, inl, inr}
+use Rattle.std.specs.Prelude.{nat_lt}
 use Rattle.std.specs.Option.{option_and_then, option_map}
 use Rattle.std.proofs.lemmas.Bool.{and_from, cond-false}
 use Rattle.std.proofs.lemmas.Option.{slice_get_cases}
@@ -24,9 +24,7 @@ use Rattle.conc_law.specs.Kinds.{is_resume}
 use Rattle.conc_law.specs.Law.{is_lawful, is_lawful_so_far, Lawful, may_follow}
 use Rattle.conc_law.specs.Next.{forced, may_come, obeys}
 use Rattle.conc_law.specs.Readings.{next_reading}
-use Rattle.conc_law.specs.Report.{Report}
 use Rattle.conc_law.specs.State.{facts_at, is_running, is_stopping, state, used}
-use Rattle.conc_law.specs.Words.{Has}
 use Rattle.conc_law.proofs.AloneLawful.{end_allowed, IsGood}
 use Rattle.conc_law.proofs.FactsAt.{facts_at-state}
 use Rattle.conc_law.proofs.Numbering.{found, numbered-at, numbered_plan}
@@ -43,12 +41,12 @@ use Rattle.conc_board_seats.specs.Reports.{MayLeave}
 use Rattle.conc_board_seats.specs.LeadStates.{is_marked}
 use Rattle.conc_board_seats.specs.Words.{IsRequest, request_word}
 use Rattle.conc_board_seats.specs.declared.posted.Posted.{Posted}
-use Rattle.conc_board_seats.specs.declared.posted.Posted.TheVariants.{Text, Stopped, NoMemory}
+use Rattle.conc_board_seats.specs.declared.posted.Posted.TheVariants.{Text, Stopped}
 use Rattle.conc_board_seats.specs.declared.views.LeadState.{LeadState}
 use Rattle.conc_resolver_choice.proofs.Pushes.{is_lawful-more}
 use Rattle.conc_run_steps.proofs.Coming.{made-good}
 use Rattle.conc_desk.specs.Keeping.{end_in, IsLeftIn, must_stop}
-use Rattle.conc_desk_lead.specs.Ties.{GoesWith, LeadStatesGoWith, RunsAt}
+use Rattle.conc_desk_lead.specs.Ties.{GoesWith, LeadStatesGoWith}
 
 -- ---- the request that is named
 

@@ -1,7 +1,7 @@
 -- A desk at which an event is logged.
-use Rattle.std.proofs.Common.{◌≡◌, ◌+◌, ℕ, Bool, true, false, List, [], ◌∷◌, ◌++◌, reverse, Option, None, Some, refl, sym, ◌∙◌, ap, subst, arith}
+use Rattle.std.proofs.Common.{◌≡◌, Bool, true, false, List, [], ◌∷◌, ◌++◌, reverse, Option, None, Some, refl, sym, ◌∙◌, ap, subst, arith}
 use Rattle.std.specs.Prelude.{if◌then◌else◌}
-use Rattle.std.proofs.lemmas.Bool.{and_parts, both_ways, cond-false}
+use Rattle.std.proofs.lemmas.Bool.{and_parts}
 use Rattle.conc_types.specs.declared.event.Event.{Event}
 use Rattle.conc_types.specs.declared.event.Event.TheVariants as event
 use Rattle.conc_types.specs.declared.event.RequestId.{RequestId}
@@ -11,7 +11,7 @@ use Rattle.conc_disk.specs.Disk.{DiskState}
 use Rattle.conc_journal.specs.Journals.{IsOn as JournalIsOn}
 use Rattle.conc_journal_image.specs.Fields.{has_record}
 use Rattle.conc_law.specs.Kinds.{ends, extent_length, is_resume}
-use Rattle.conc_law.specs.Law.{is_lawful, is_lawful_so_far, Lawful, LawfulSoFar, may_follow}
+use Rattle.conc_law.specs.Law.{is_lawful, is_lawful_so_far, Lawful, may_follow}
 use Rattle.conc_law.specs.State.{used}
 use Rattle.conc_law.specs.Words.{id_eq}
 use Rattle.conc_law.proofs.EqualEvents.{id_same}
@@ -19,8 +19,7 @@ use Rattle.conc_law.proofs.Positions.{reverse-push}
 use Rattle.conc_board.specs.declared.lead.Lead.{Lead}
 use Rattle.conc_board.specs.Seats.{lead_state_of}
 use Rattle.conc_board_seats.specs.LeadStates.{IsGone}
-use Rattle.conc_resolver_choice.specs.Choices.{HasItsText}
-use Rattle.conc_run_state.specs.Works.{AreTied, HasPendingText, list_in}
+use Rattle.conc_run_state.specs.Works.{HasPendingText, list_in}
 use Rattle.conc_run_state.specs.declared.work.Work.{Work}
 use Rattle.conc_run_steps.specs.Steps.{any_disk, IsTied, plan_in, readings_in}
 use Rattle.conc_run_steps.proofs.Coming.{follows-record, lawful-past, last-follows}

@@ -1,5 +1,5 @@
 -- A call on one request of the board keeps what is true of a desk.
-use Rattle.std.proofs.Common.{◌≡◌, ◌≢◌, Bool, List, length, reverse, Option, None, Some, refl, sym, ◌∙◌, ap, subst, inl, inr, ⊎_elim}
+use Rattle.std.proofs.Common.{◌≡◌, ◌≢◌, List, length, reverse, Option, None, Some, sym, ◌∙◌, ap, subst, inl, inr}
 use mathlib.Core.Logic.{dite}
 use native.Mathlib.Decide.{ℕ_discrete}
 use Rattle.conc_types.specs.declared.event.Event.{Event}

@@ -1,8 +1,7 @@
 -- A desk at which something was taken for an end.
-use Rattle.std.proofs.Common.{◌≡◌, ℕ, ◌++◌, [], ◌∷◌, Bool, true, false, List, reverse, Option, None, Some, Ok, Err, refl, sym, ◌∙◌, ap, subst, inl, inr}
+use Rattle.std.proofs.Common.{◌≡◌, ◌++◌, [], ◌∷◌, Bool, true, false, reverse, Option, None, Some, Ok, Err, refl, sym, ◌∙◌, ap, subst, inl, inr}
 use Rattle.std.specs.Prelude.{unwrap_or}
 use Rattle.conc_types.specs.declared.event.Event.{Event}
-use Rattle.conc_types.specs.declared.event.Event.TheVariants as event
 use Rattle.conc_types.specs.declared.event.RequestId.{RequestId}
 use Rattle.conc_types.specs.declared.facts.Facts.{Facts}
 use Rattle.conc_types.specs.declared.plan.Plan.{Plan}
@@ -18,7 +17,6 @@ use Rattle.conc_board.specs.Stops.{Collects}
 use Rattle.conc_board_seats.specs.declared.posted.Posted.{Posted}
 use Rattle.conc_board_seats.specs.declared.posted.Posted.TheVariants.{Text, Stopped, NoMemory}
 use Rattle.conc_board_seats.specs.declared.views.LeadState.{LeadState}
-use Rattle.conc_board_seats.specs.declared.views.LeadState.TheVariants.{Gone, Done}
 use Rattle.conc_board_seats.specs.LeadStates.{IsGone}
 use Rattle.conc_board_seats.specs.Words.{IsRequest}
 use Rattle.conc_disk.specs.Disk.{DiskState}

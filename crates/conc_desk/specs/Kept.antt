@@ -1,5 +1,5 @@
 -- The end that is kept and not recorded yet.
-use Rattle.std.specs.Prelude.{List, ◌∷◌, [], ◌++◌, Option, None, Some, ⊤}
+use Rattle.std.specs.Prelude.{◌∷◌, [], ◌++◌, Option, None, Some, ⊤}
 use Rattle.conc_types.specs.declared.event.Event.{Event}
 use Rattle.conc_types.specs.declared.event.Event.TheVariants as event
 use Rattle.conc_law.specs.Law.{Lawful}

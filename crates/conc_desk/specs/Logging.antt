@@ -5,7 +5,7 @@ use Rattle.conc_types.specs.declared.event.Event.TheVariants as event
 use Rattle.conc_board_seats.specs.declared.views.LeadState.TheVariants.{Seen}
 use Rattle.conc_journal.specs.Journals.{room_of, state_of}
 use Rattle.conc_journal.specs.JournalStates.{after_fault}
-use Rattle.conc_run_steps.specs.Steps.{readings_in}
+use Rattle.conc_run_steps.specs.Steps.{readings_in, stamp_for, StaysBegun, StaysHeld}
 use Rattle.conc_desk_lead.specs.Following.{Follows}
 use Rattle.conc_desk.specs.Desks.{lead_state_at, list_at, plan_at}
 use Rattle.conc_desk.specs.State.{DeskState}
@@ -29,6 +29,7 @@ pub record IsLogged (e : Event) (old new : DeskState) : Type 0 where
   pub plan : plan_at new ≡ plan_at old
   pub readings : readings_in new.work ≡ readings_in old.work
   pub state : state_of new.work.journal ≡ state_of old.work.journal
+  pub begun_for : StaysBegun (plan_at old) old.work.journal new.work.journal
   pub room : room_of new.work.journal + 1 ≡ room_of old.work.journal
   pub spool : new.work.spool ≡ old.work.spool
   pub begun_with : new.begun_with ≡ old.begun_with
@@ -36,7 +37,8 @@ pub record IsLogged (e : Event) (old new : DeskState) : Type 0 where
 -- list, machine, spool and board are as they were, and what was kept is kept. The journal's disk has the event or not
 pub record IsUnlogged (e : Event) (old new : DeskState) : Type 0 where
   pub list : list_at new ≡ list_at old
-  pub state : state_of new.work.journal ≡ after_fault e (state_of old.work.journal)
+  pub state : state_of new.work.journal ≡ after_fault e (stamp_for (plan_at old) e) (state_of old.work.journal)
+  pub held_for : StaysHeld (plan_at old) old.work.journal new.work.journal
   pub machine : new.work.machine ≡ old.work.machine
   pub spool : new.work.spool ≡ old.work.spool
   pub lead : new.lead ≡ old.lead

@@ -1,5 +1,5 @@
 -- What a desk holds, and what is true of it between two calls.
-use Rattle.std.specs.Prelude.{◌≡◌, ℕ, List, Option, reverse}
+use Rattle.std.specs.Prelude.{◌≡◌, ℕ, Option, reverse}
 use Rattle.conc_types.specs.declared.event.Event.{Event}
 use Rattle.conc_types.specs.declared.plan.Plan.{Plan}
 use Rattle.conc_board.specs.declared.lead.Lead.{Lead}

@@ -221,7 +221,7 @@ impl<'a> Desk<'a> {
         ensures unlogged { OnErr result (IsUnlogged event self.old self.new) }
         ensures fault { OnErr result (Rose (D.state journal.old).faults (D.state journal.new).faults
             ⊎ IsTrue (has_faulted (state_of self.old.work.journal))) }
-        ensures survives { SurvivesFor self.old.work.journal (list_at self.old)
+        ensures survives { SurvivesFor self.old.work (list_at self.old)
             (list_at self.old ++ event ∷ []) (D.state journal.old) (D.state journal.new) }
     {
         let receipt = add_event(&mut self.work, journal, event)?;

@@ -1,13 +1,14 @@
-ghost use Rattle.std.specs.Prelude.{◌≡◌, ℕ, ◌<◌, IfErr, IfOk, IfSome, IsErrOf, IsNone, IsSome, List, None, OnErr, OnOk, Some};
+ghost use Rattle.std.specs.Prelude.{◌≡◌, ℕ, ◌<◌, IfErr, IfOk, IfSome, IsErrOf, IsNone, IsSome, None, OnErr, OnOk, Some};
 ghost use Rattle.std.specs.Option.{ForSome, option_map};
+ghost use Rattle.conc_types.specs.declared.digests.Digests.{Digests};
 ghost use Rattle.conc_law.specs.Law.{Finished};
 ghost use Rattle.conc_resolver_choice.specs.Choices.{event_of, HasItsText};
 ghost use Rattle.conc_outside.specs.Counts.{Rose};
 ghost use Rattle.conc_disk.specs.Left.{EachImage};
 ghost use Rattle.conc_journal.specs.Journals.{state_of};
-ghost use Rattle.conc_journal.specs.declared.journal.JournalState.TheVariants.{Begun};
 ghost use Rattle.conc_journal.specs.Receipts.{IsNextOf};
 ghost use Rattle.conc_run_state.specs.Disks.{disks};
+ghost use Rattle.conc_run_state.specs.Inputs.{IsBegunFor};
 ghost use Rattle.conc_resolver_alone.specs.Runs.{LacksMemory};
 ghost use Rattle.conc_run_steps.specs.Going.{WentOn};
 ghost use Rattle.conc_run_steps.specs.Steps.{any_disk, FitInTurn, IsFinished, IsReady, IsTied, left_in, next_in, plan_in, readings_in};
@@ -58,9 +59,10 @@ pub(crate) fn step<D: Disk, E: Disk>(
     ensures ready { OnOk result (IsReady work.new (D.state journal.new) (E.state spool.new)) }
     ensures receipt { IfOk result (λ logged. IfSome logged
         (IsNextOf (Some (list_in work.old)) (λ list. list ≡ list_in work.new))) }
-    ensures fits { (digest : List ℕ) (from : ℕ) → state_of work.old.journal ≡ Begun digest
+    ensures fits { (digests : Digests) (from : ℕ)
+        → IsBegunFor (plan_in work.old) digests work.old.journal
         → EachImage (AreStored (plan_in work.old) from (list_in work.old)) (E.state spool.old)
-        → FitInTurn (plan_in work.old) digest from (disks (D.state journal.old)
+        → FitInTurn (plan_in work.old) digests from (disks (D.state journal.old)
         (D.state journal.new) (E.state spool.old) (E.state spool.new)) }
     ensures less { IfOk result (λ logged. IsSome logged → left_in work.new < left_in work.old) }
     ensures finished { IfOk result (λ logged. IsNone logged → IsFinished work.new) }

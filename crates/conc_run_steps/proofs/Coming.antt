@@ -1,6 +1,7 @@
 -- An event that comes next may be logged, and its text fits the spool.
 use Rattle.std.proofs.Common.{◌≡◌, ℕ, ◌+◌, ◌<◌, ◌≤◌, true, false, List, [], ◌∷◌, ◌++◌, length, reverse, Option, None, Some, refl, sym, ◌∙◌, ap, subst, arith, append_assoc, length-append}
 use Rattle.std.specs.Option.{option_map}
+use Rattle.std.specs.Prelude.{unwrap_or}
 use Rattle.std.proofs.lemmas.Bool.{and_parts, lt-ltb}
 use Rattle.std.proofs.lemmas.List.Folds.{list_any-append}
 use Rattle.std.proofs.lemmas.Option.{same_Some}
@@ -30,13 +31,15 @@ use Rattle.conc_law.proofs.Options.{and_then-some, map-some}
 use Rattle.conc_law.proofs.Outcomes.{close_outcome, end_outcome}
 use Rattle.conc_law.proofs.Positions.{reverse-push}
 use Rattle.conc_machine_readings.specs.declared.life.LifeReadings.{LifeReadings}
-use Rattle.conc_machine.specs.StandsFor.{readings_of}
+use Rattle.conc_machine.specs.StandsFor.{readings_of, StandsFor}
 use Rattle.conc_machine.specs.declared.machine.Machine.{Machine}
 use Rattle.conc_resolver_choice.specs.Choices.{HasItsText}
 use Rattle.conc_resolver_choice.proofs.Pushes.{is_lawful-more}
 use Rattle.conc_disk.specs.Disk.{DiskState}
 use Rattle.conc_journal_image.specs.Fields.{has_record}
-use Rattle.conc_journal.specs.Journals.{room_of}
+use Rattle.conc_journal.specs.Journals.{room_of, state_of}
+use Rattle.conc_journal.specs.Journals.{IsOn as JournalIsOn}
+use Rattle.conc_journal.specs.JournalStates.{takes_events}
 use Rattle.conc_restart.specs.Need.{IsOfOneLife, need}
 use Rattle.conc_restart.proofs.LivesFit.{life_fits}
 use Rattle.conc_spool.specs.Spools.{used_of}
@@ -44,7 +47,7 @@ use Rattle.conc_spool.specs.Spools.{IsOn as SpoolIsOn}
 use Rattle.conc_spool.specs.declared.spool.Spool.{Spool}
 use Rattle.conc_run_state.specs.Works.{AreTied, HasPendingText, HasRoom, list_in}
 use Rattle.conc_run_state.specs.declared.work.Work.{Work}
-use Rattle.conc_run_steps.specs.Steps.{IsReady, MayLog, next_in, plan_in, readings_in}
+use Rattle.conc_run_steps.specs.Steps.{any_disk, IsReady, IsTied, MayLog, next_in, plan_in, readings_in}
 use Rattle.conc_run_steps.proofs.Extents.{used-below, used-push}
 
 -- ---- lists that are lawful
@@ -206,3 +209,22 @@ tied-pending plan readings e work spool journal disk disk' tied more on text = r
   journal_on = tied.journal_on;
   spool_on = on;
 }
+
+-- ---- and after its event is logged
+
+pub tied-added : (old new : Work) (e : Event) (journal journal' : DiskState) → IsTied (Some e) old journal any_disk → Lawful (plan_in old) (readings_in old) (list_in old ++ e ∷ []) → plan_in new ≡ plan_in old
+    → readings_of new.machine ≡ readings_of old.machine → StandsFor new.machine (e ∷ reverse (list_in old)) → list_in new ≡ list_in old ++ e ∷ [] → state_of new.journal ≡ state_of old.journal → new.spool ≡ old.spool
+    → JournalIsOn new.journal journal' → IsTied None new journal' any_disk
+tied-added old new e journal journal' tied lawful plan known stands added state spool on =
+    let same : readings_in new ≡ readings_in old = ap (λ (o : Option (List Reading)). unwrap_or o []) known in
+    record {
+      plan_is = refl;
+      readings_are = known ∙ tied.readings_are ∙ ap (λ (l : List Reading). Some l) (sym same);
+      stands = subst (StandsFor new.machine) (sym (ap reverse added ∙ reverse-push (list_in old) e)) stands;
+      lawful = subst (λ (z : Plan × List Reading × List Event). Lawful z.0 z.1 z.2) (λ i. (sym plan i, sym same i, sym added i)) lawful;
+      takes = ap takes_events state ∙ tied.takes;
+      used_is = ap (λ (s : Spool). used_of s) spool ∙ tied.used_is ∙ ap (λ (l : List Event). used (reverse l)) (sym added);
+      pending_text = tt;
+      journal_on = on;
+      spool_on = tt;
+    }

@@ -1,9 +1,10 @@
 -- What a run makes of its work, event by event.
-use Rattle.std.proofs.Common.{◌≡◌, ◌⊎◌, inl, inr, ℕ, zero, suc, ◌<◌, ◌≤◌, Bool, false, ◌||◌, List, [], ◌∷◌, ◌++◌, length, reverse, Option, None, Some, refl, sym, ◌∙◌, ap, subst, arith, append_assoc, append-nil}
+use Rattle.std.proofs.Common.{◌≡◌, ◌⊎◌, inl, inr, ℕ, zero, suc, ◌<◌, ◌≤◌, Bool, false, ◌||◌, List, [], ◌∷◌, ◌++◌, length, reverse, Option, None, Some, refl, sym, ◌∙◌, ap, subst, le_refl, arith, append_assoc, append-nil}
 use Rattle.std.specs.Prelude.{IfSome, IsSomeAnd, MatchOption, slice_get}
 use Rattle.std.proofs.lemmas.Bool.{cases_lt}
 use Rattle.std.proofs.lemmas.List.Folds.{list_any-append}
 use Rattle.std.proofs.lemmas.Option.{same_Some, slice_get_within}
+use Rattle.conc_types.specs.declared.digests.Digests.{Digests}
 use Rattle.conc_types.specs.declared.event.Event.{Event}
 use Rattle.conc_types.specs.declared.event.Event.TheVariants as event
 use Rattle.conc_types.specs.declared.event.Extent.{Extent}
@@ -19,9 +20,10 @@ use Rattle.conc_disk.specs.Disk.{DiskState, SeenFollows}
 use Rattle.conc_disk.specs.Left.{EachImage, LeavesOnly}
 use Rattle.conc_disk.proofs.Leaving.{if_some-any, leaves-none, leaves-twice, leaves-wider}
 use Rattle.conc_journal.specs.Journals.{list_of, state_of}
-use Rattle.conc_journal.specs.JournalStates.{has_faulted, state_digest}
-use Rattle.conc_journal.specs.declared.journal.JournalState.TheVariants.{Begun}
+use Rattle.conc_journal.specs.JournalStates.{has_faulted, state_label}
+use Rattle.conc_journal.specs.declared.journal.Journal.{Journal}
 use Rattle.conc_spool.specs.Spools.{Agrees, KeepsBelow, used_of}
+use Rattle.conc_run_state.specs.Inputs.{IsBegunFor, IsHeldFor}
 use Rattle.conc_run_state.specs.Lists.{GoesOn, IsPrefix, longest_of}
 use Rattle.conc_run_state.specs.Survival.{Survives}
 use Rattle.conc_run_state.specs.Stored.{AreStored}
@@ -29,11 +31,11 @@ use Rattle.conc_run_state.specs.Works.{AreReady, AreTied, list_in, longest_in}
 use Rattle.conc_run_state.specs.declared.work.Work.{Work}
 use Rattle.conc_run_state.specs.Disks.{disks}
 use Rattle.conc_run_steps.specs.Going.{TellsReport, WentOn}
-use Rattle.conc_run_steps.specs.Steps.{SurvivesFor, StoresOn}
+use Rattle.conc_run_steps.specs.Steps.{plan_in, StaysHeld, StoresOn, SurvivesFor}
 use Rattle.conc_run_steps.proofs.Extents.{used-more}
 use Rattle.conc_run_state.proofs.Prefixes.{prefix-self}
 use Rattle.conc_run_state.proofs.Surviving.{survives-wider}
-use Rattle.conc_run_steps.proofs.Logs.{sound-begun, sound-whole}
+use Rattle.conc_run_steps.proofs.Logs.{begun-held, sound-held, sound-whole}
 use Rattle.conc_run_steps.proofs.Texts.{agrees-on}
 
 -- where no append met a fault, the disk has at most the list
@@ -83,8 +85,10 @@ module _ (plan : Plan) (readings : List Reading) (old new : Work) (journal spool
     };
     last_is = inl (longest ∙ sym (ap (λ j. list_of j) same));
     stored = λ from. subst (λ (l : List Event). EachImage (AreStored plan from (list_in old)) spool → EachImage (AreStored plan from l) spool') (sym longest) (stores.stored from);
-    digest = ap (λ j. state_digest (state_of j)) same;
-    journal = λ digest begun. leaves-none (Survives digest (list_in old) (longest_in new)) journal;
+    label = ap (λ j. state_label (state_of j)) same;
+    held = λ digests begun. subst (λ (j : Journal). IsHeldFor plan digests j) (sym same) (begun-held plan digests old.journal begun);
+    journal = λ digests begun. leaves-none (Survives plan digests (list_in old) (longest_in new)) journal;
+    journal_faults = le_refl journal.faults;
     spool = stores.left;
     spool_now = stores.now;
   }
@@ -93,13 +97,14 @@ module _ (plan : Plan) (readings : List Reading) (old new : Work) (journal spool
 
 module _ (plan : Plan) (readings : List Reading) (old new : Work) (e : Event) (pending : Option Event) (journal journal' spool spool' : DiskState) (none : is_resume e ≡ false)
     (longest : longest_in new ≡ list_in old ++ e ∷ []) (told : TellsReport plan e) where
-  pub went-one : AreTied plan readings pending new journal' spool' → Lawful plan readings (list_in old ++ e ∷ [])
+  pub went-one : plan_in old ≡ plan → AreTied plan readings pending new journal' spool' → Lawful plan readings (list_in old ++ e ∷ [])
       → (longest_in new ≡ list_in new) ⊎ ((e : Event) × (longest_in new ≡ list_in new ++ e ∷ []))
       → StoresOn plan (used_of old.spool) (list_in old) (list_in old ++ e ∷ []) spool spool'
-      → state_digest (state_of new.journal) ≡ state_digest (state_of old.journal)
-      → SurvivesFor old.journal (list_in old) (list_in old ++ e ∷ []) journal journal'
+      → state_label (state_of new.journal) ≡ state_label (state_of old.journal)
+      → StaysHeld plan old.journal new.journal
+      → SurvivesFor old (list_in old) (list_in old ++ e ∷ []) journal journal'
       → WentOn plan readings (disks journal journal' spool spool') old new
-  went-one tied lawful last_is stores digest left = record {
+  went-one own tied lawful last_is stores label held left = record {
     pending = pending;
     tied = tied;
     list = record {
@@ -111,8 +116,12 @@ module _ (plan : Plan) (readings : List Reading) (old new : Work) (e : Event) (p
     };
     last_is = last_is;
     stored = λ from. subst (λ (l : List Event). EachImage (AreStored plan from (list_in old)) spool → EachImage (AreStored plan from l) spool') (sym longest) (stores.stored from);
-    digest = digest;
-    journal = λ d begun. subst (λ (l : List Event). LeavesOnly (Survives d (list_in old) l) journal journal') (sym longest) (left d begun);
+    label = label;
+    held = held;
+    journal = λ digests begun.
+        subst (λ (z : Plan × List Event). LeavesOnly (Survives z.0 digests (list_in old) z.1) journal journal') (λ i. (own i, sym longest i))
+        (left.images digests (subst (λ (p : Plan). IsBegunFor p digests old.journal) (sym own) begun));
+    journal_faults = left.faults;
     spool = stores.left;
     spool_now = stores.now;
   }
@@ -166,11 +175,8 @@ module _ (plan : Plan) (readings : List Reading) (old mid new : Work) (journal j
     fewer : used_of old.spool ≤ used_of mid.spool
     fewer = omega (arith, begins, ready.tied.used_is, used-more (list_in old) goes.added, ap (λ l. used (reverse l)) goes.all)
 
-    still-begun : (digest : List ℕ) → state_of old.journal ≡ Begun digest → state_of mid.journal ≡ Begun digest
-    still-begun digest begun =
-        let is = sound-begun (state_of mid.journal) ready.tied.takes ready.sound in
-        let same : Some is.0 ≡ Some digest = sym (ap state_digest is.1) ∙ first.digest ∙ ap state_digest begun in
-        is.1 ∙ ap (λ d. Begun d) (same_Some is.0 digest same)
+    still-begun : (digests : Digests) → IsBegunFor plan digests old.journal → IsBegunFor plan digests mid.journal
+    still-begun digests begun = sound-held plan digests mid.journal ready.tied.takes ready.sound (first.held digests begun)
 
     pub went-twice : WentOn plan readings (disks journal journal'' spool spool'') old new
     went-twice = record {
@@ -179,16 +185,18 @@ module _ (plan : Plan) (readings : List Reading) (old mid new : Work) (journal j
       list = goes-twice plan readings (list_in old) (list_in mid) (longest_in new) goes second.list;
       last_is = second.last_is;
       stored = λ from stored. second.stored from (subst (λ (l : List Event). EachImage (AreStored plan from l) spool') whole (first.stored from stored));
-      digest = second.digest ∙ first.digest;
-      journal = λ digest begun.
-          let kind = Survives digest (list_in old) (longest_in new) in
+      label = second.label ∙ first.label;
+      held = λ digests begun. second.held digests (still-begun digests begun);
+      journal = λ digests begun.
+          let kind = Survives plan digests (list_in old) (longest_in new) in
           let before : IsPrefix (list_in old) (list_in mid) = (goes.added, goes.all) in
           let behind : IsPrefix (longest_in mid) (longest_in new) = (second.list.added, second.list.all ∙ ap (λ l. l ++ second.list.added) (sym whole)) in
           leaves-twice kind journal journal' journal''
-          (leaves-wider (Survives digest (list_in old) (longest_in mid)) kind journal journal' (first.journal digest begun)
-          (if_some-any journal.seen (λ bytes image. survives-wider digest (list_in old) (list_in old) (longest_in mid) (longest_in new) image (prefix-self (list_in old)) behind)))
-          (leaves-wider (Survives digest (list_in mid) (longest_in new)) kind journal' journal'' (second.journal digest (still-begun digest begun))
-          (if_some-any journal'.seen (λ bytes image. survives-wider digest (list_in old) (list_in mid) (longest_in new) (longest_in new) image before (prefix-self (longest_in new)))));
+          (leaves-wider (Survives plan digests (list_in old) (longest_in mid)) kind journal journal' (first.journal digests begun)
+          (if_some-any journal.seen (λ bytes image. survives-wider plan digests (list_in old) (list_in old) (longest_in mid) (longest_in new) image (prefix-self (list_in old)) behind)))
+          (leaves-wider (Survives plan digests (list_in mid) (longest_in new)) kind journal' journal'' (second.journal digests (still-begun digests begun))
+          (if_some-any journal'.seen (λ bytes image. survives-wider plan digests (list_in old) (list_in mid) (longest_in new) (longest_in new) image before (prefix-self (longest_in new)))));
+      journal_faults = omega (arith, first.journal_faults, second.journal_faults);
       spool =
           leaves-twice (KeepsBelow (used_of old.spool) spool) spool spool' spool'' first.spool
           (leaves-wider (KeepsBelow (used_of mid.spool) spool') (KeepsBelow (used_of old.spool) spool) spool' spool'' second.spool (keeps-below (used_of old.spool) (used_of mid.spool) spool spool' fewer first.spool_now));

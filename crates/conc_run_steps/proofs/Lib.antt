@@ -1,5 +1,6 @@
 pub mod Extents
 pub mod Coming
+pub mod Stamped
 pub mod Texts
 pub mod Logs
 pub mod Pending

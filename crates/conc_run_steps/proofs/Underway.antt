@@ -1,11 +1,10 @@
 -- A run that is under way.
-use Rattle.std.proofs.Common.{◌≡◌, ℕ, List, [], Option, Some, IfSome, refl, sym, ◌∙◌, ap, subst, arith}
+use Rattle.std.proofs.Common.{◌≡◌, List, [], Option, Some, IfSome, refl, sym, ◌∙◌, ap, subst, arith}
 use Rattle.std.specs.Prelude.{unwrap_or}
 use Rattle.conc_types.specs.declared.plan.Plan.{Plan}
 use Rattle.conc_types.specs.declared.script.Reading.{Reading}
 use Rattle.conc_disk.specs.Disk.{DiskState}
 use Rattle.conc_journal.specs.Journals.{state_of}
-use Rattle.conc_journal.specs.declared.journal.JournalState.TheVariants.{Begun}
 use Rattle.conc_machine.specs.StandsFor.{readings_of}
 use Rattle.conc_run_state.specs.Works.{AreReady, list_in}
 use Rattle.conc_run_state.specs.declared.work.Work.{Work}
@@ -15,7 +14,6 @@ use Rattle.conc_run_steps.specs.Steps.{IsReady, plan_in, readings_in}
 use Rattle.conc_run_steps.proofs.Going.{went-none, went-twice}
 use Rattle.conc_run_steps.proofs.Texts.{stores-still}
 use Rattle.conc_spool.specs.Spools.{used_of}
-use Rattle.conc_run_steps.proofs.Logs.{sound-begun}
 
 -- a run that does nothing
 pub went-still : (work : Work) (journal spool : DiskState) → IsReady work journal spool → IfSome spool.seen spool.may_leave → WentOn (plan_in work) (readings_in work) (disks journal journal spool spool) work work
@@ -63,14 +61,11 @@ module _ (first mid new : Work) (journal journal' journal'' spool spool' spool''
       under.began.tied.used_is under.went
       (by-mid (λ p l. WentOn p l (disks journal' journal'' spool' spool'') mid new) more)
 
-  begun : (digest : List ℕ) × (state_of mid.journal ≡ Begun digest)
-  begun = sound-begun (state_of mid.journal) under.ready.tied.takes under.ready.sound
-
   pub underway-more : IsReady new journal'' spool'' → state_of new.journal ≡ state_of mid.journal → IsUnderway first new (disks journal journal'' spool spool'')
   underway-more ready state = record {
     began = under.began;
     ready = ready;
     went = went-further;
     state = state ∙ under.state;
-    faults = omega (arith, under.faults, (more.journal begun.0 begun.1).faults);
+    faults = omega (arith, under.faults, more.journal_faults);
   }

@@ -1,8 +1,11 @@
 -- What a step of a run takes and leaves, by the plan and the readings that the machine has.
-use Rattle.std.specs.Prelude.{◌≡◌, ℕ, ◌<◌, List, [], ◌∷◌, ◌++◌, Option, reverse, unwrap_or, IsFalse, IsTrue}
+use Rattle.std.specs.Prelude.{ℕ, ◌<◌, ◌≤◌, List, [], ◌∷◌, ◌++◌, Option, reverse, unwrap_or, IsFalse, IsTrue}
+use Rattle.conc_types.specs.declared.digests.Digests.{Digests}
 use Rattle.conc_types.specs.declared.event.Event.{Event}
+use Rattle.conc_types.specs.declared.event.Event.TheVariants as event
 use Rattle.conc_types.specs.declared.plan.Plan.{Plan}
 use Rattle.conc_types.specs.declared.script.Reading.{Reading}
+use Rattle.conc_types.specs.Plans.{stamp}
 use Rattle.conc_law.specs.Alone.{next_alone}
 use Rattle.conc_law.specs.Law.{Finished, Lawful}
 use Rattle.conc_law.specs.Remaining.{remaining}
@@ -12,11 +15,11 @@ use Rattle.conc_journal_image.specs.Fields.{has_record}
 use Rattle.conc_journal.specs.Journals.{room_of, state_of}
 use Rattle.conc_journal.specs.JournalStates.{has_faulted}
 use Rattle.conc_journal.specs.declared.journal.Journal.{Journal}
-use Rattle.conc_journal.specs.declared.journal.JournalState.TheVariants.{Begun}
 use Rattle.conc_machine.specs.StandsFor.{plan_of, readings_of}
 use Rattle.conc_spool.specs.Spools.{Agrees, KeepsBelow}
 use Rattle.conc_run_state.specs.Disks.{Disks, disks}
 use Rattle.conc_run_state.specs.Fits.{FitThroughout}
+use Rattle.conc_run_state.specs.Inputs.{IsBegunFor, IsHeldFor}
 use Rattle.conc_run_state.specs.Survival.{Survives}
 use Rattle.conc_run_state.specs.Stored.{AreStored}
 use Rattle.conc_run_state.specs.Works.{AreReady, AreTied, list_in}
@@ -54,6 +57,11 @@ left_in work = remaining (plan_in work) (readings_in work) (reverse (list_in wor
 
 -- ---- one event
 
+-- the stamp with which an event is journaled: the plan's for a command, and 0 for every other event
+abbrev pub stamp_for : Plan → Event → ℕ
+stamp_for plan (event.Command number) = unwrap_or (stamp plan number) 0
+stamp_for plan e = 0
+
 -- the event may come next, and the journal can take it
 pub record MayLog (work : Work) (event : Event) : Type 0 where
   pub lawful : Lawful (plan_in work) (readings_in work) (list_in work ++ event ∷ [])
@@ -68,13 +76,22 @@ pub record StoresOn (plan : Plan) (used : ℕ) (first second : List Event) (befo
   pub left : LeavesOnly (KeepsBelow used before) before after
   pub now : SeenFollows (Agrees used) before after
 
--- at each moment the disk of a journal that is begun had a list between these
-abbrev pub SurvivesFor : Journal → List Event → List Event → DiskState → DiskState → Type 0
-SurvivesFor journal first last before after =
-    (digest : List ℕ) → state_of journal ≡ Begun digest → LeavesOnly (Survives digest first last) before after
+-- Where the journal is begun for an input, its disk had a list between these at each moment. In any case the count of faults of the
+-- disk does not fall.
+pub record SurvivesFor (work : Work) (first last : List Event) (before after : DiskState) : Type 0 where
+  pub faults : before.faults ≤ after.faults
+  pub images : (digests : Digests) → IsBegunFor (plan_in work) digests work.journal → LeavesOnly (Survives (plan_in work) digests first last) before after
+
+-- where a journal is begun for an input, it is so still
+abbrev pub StaysBegun : Plan → Journal → Journal → Type 0
+StaysBegun plan old new = (digests : Digests) → IsBegunFor plan digests old → IsBegunFor plan digests new
+
+-- where a journal was begun for an input, it is that of the input, with the event whose append met a fault, if one did
+abbrev pub StaysHeld : Plan → Journal → Journal → Type 0
+StaysHeld plan old new = (digests : Digests) → IsBegunFor plan digests old → IsHeldFor plan digests new
 
 -- first the spool's disk alone is written, and then the journal's, and throughout each the two fit
-abbrev pub FitInTurn : Plan → List ℕ → ℕ → Disks → Type 0
-FitInTurn plan digest from d =
-    FitThroughout plan digest from (disks d.journal_before d.journal_before d.spool_before d.spool_after)
-    × FitThroughout plan digest from (disks d.journal_before d.journal_after d.spool_after d.spool_after)
+abbrev pub FitInTurn : Plan → Digests → ℕ → Disks → Type 0
+FitInTurn plan digests from d =
+    FitThroughout plan digests from (disks d.journal_before d.journal_before d.spool_before d.spool_after)
+    × FitThroughout plan digests from (disks d.journal_before d.journal_after d.spool_after d.spool_after)

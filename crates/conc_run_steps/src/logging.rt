@@ -5,7 +5,7 @@ ghost use Rattle.conc_journal.specs.JournalStates.{after_fault, has_faulted};
 ghost use Rattle.conc_journal_image.specs.Fields.{has_record};
 ghost use Rattle.conc_law.specs.Law.{Lawful};
 ghost use Rattle.conc_outside.specs.Counts.{Rose};
-ghost use Rattle.conc_run_steps.specs.Steps.{any_disk, IsTied, MayLog, plan_in, readings_in, SurvivesFor};
+ghost use Rattle.conc_run_steps.specs.Steps.{any_disk, IsTied, MayLog, plan_in, readings_in, stamp_for, StaysBegun, StaysHeld, SurvivesFor};
 ghost use Rattle.conc_run_state.specs.Works.{list_in};
 ghost use Rattle.conc_run_state.specs.declared.error.RunFail.TheVariants as RunFail;
 
@@ -13,7 +13,17 @@ use crate::JournalFault;
 use conc_disk::Disk;
 use conc_journal::Receipt;
 use conc_run_state::{RunFail, Work};
-use conc_types::Event;
+use conc_types::{Event, Plan};
+
+// The stamp with which an event is journaled: the plan's for a command, and 0 for every other event.
+fn stamp_due(plan: &Plan, event: Event) -> u64
+    ensures { result ≡ stamp_for plan.now event }
+{
+    match event {
+        Event::Command { number } => plan.stamp(number).unwrap_or(0),
+        _ => 0,
+    }
+}
 
 /// Adds an event to the journal, and then takes it into the machine. After a fault the machine has not taken
 /// it, and the journal's disk has it or not; where an earlier append had met one nothing is done. The spool
@@ -35,6 +45,8 @@ pub fn add_event<D: Disk>(
         (λ list. list ≡ list_in work.new)) }
     ensures state { OnOk result (state_of work.new.journal ≡ state_of work.old.journal) }
     ensures room { OnOk result (room_of work.new.journal + 1 ≡ room_of work.old.journal) }
+    ensures begun_for { OnOk result (StaysBegun (plan_in work.old) work.old.journal
+        work.new.journal) }
 
     // A fault.
     ensures not_logged { OnErr result (IsTied (Some event) work.new (D.state journal.new)
@@ -42,18 +54,21 @@ pub fn add_event<D: Disk>(
     ensures as_before { OnErr result (list_in work.new ≡ list_in work.old) }
     ensures machine { OnErr result (work.new.machine ≡ work.old.machine) }
     ensures failed { OnErr result (state_of work.new.journal
-        ≡ after_fault event (state_of work.old.journal)) }
+        ≡ after_fault event (stamp_for (plan_in work.old) event) (state_of work.old.journal)) }
+    ensures held_for { OnErr result (StaysHeld (plan_in work.old) work.old.journal
+        work.new.journal) }
     ensures fault { OnErr result (Rose (D.state journal.old).faults (D.state journal.new).faults
         ⊎ IsTrue (has_faulted (state_of work.old.journal))) }
 
     // A crash at any moment, and what stays.
-    ensures survives { SurvivesFor work.old.journal (list_in work.old)
+    ensures survives { SurvivesFor work.old (list_in work.old)
         (list_in work.old ++ event ∷ []) (D.state journal.old) (D.state journal.new) }
     ensures plan { plan_in work.new ≡ plan_in work.old }
     ensures readings { readings_in work.new ≡ readings_in work.old }
     ensures spool { work.new.spool ≡ work.old.spool }
 {
-    match work.journal.append(journal, event) {
+    let stamp = stamp_due(work.machine.plan(), event);
+    match work.journal.append(journal, event, stamp) {
         Ok(receipt) => {
             work.machine.apply(event);
             Ok(receipt)
@@ -81,18 +96,22 @@ pub fn log_event<D: Disk, E: Disk>(
         (λ list. list ≡ list_in work.new)) }
     ensures state { OnOk result (state_of work.new.journal ≡ state_of work.old.journal) }
     ensures room { OnOk result (room_of work.new.journal + 1 ≡ room_of work.old.journal) }
+    ensures begun_for { OnOk result (StaysBegun (plan_in work.old) work.old.journal
+        work.new.journal) }
 
     // A fault.
     ensures not_logged { OnErr result (IsTied (Some event) work.new (D.state journal.new)
         (E.state spool.now)) }
     ensures as_before { OnErr result (list_in work.new ≡ list_in work.old) }
     ensures failed { OnErr result (state_of work.new.journal
-        ≡ after_fault event (state_of work.old.journal)) }
+        ≡ after_fault event (stamp_for (plan_in work.old) event) (state_of work.old.journal)) }
+    ensures held_for { OnErr result (StaysHeld (plan_in work.old) work.old.journal
+        work.new.journal) }
     ensures fault { OnErr result (Rose (D.state journal.old).faults (D.state journal.new).faults) }
     ensures cause { IfErr result (λ e. e ≡ RunFail.JournalFault) }
 
     // A crash at any moment, and what stays.
-    ensures survives { SurvivesFor work.old.journal (list_in work.old)
+    ensures survives { SurvivesFor work.old (list_in work.old)
         (list_in work.old ++ event ∷ []) (D.state journal.old) (D.state journal.new) }
     ensures plan { plan_in work.new ≡ plan_in work.old }
     ensures readings { readings_in work.new ≡ readings_in work.old }

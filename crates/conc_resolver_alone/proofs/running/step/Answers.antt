@@ -51,7 +51,7 @@ returns-in_err-log_event-in-Some-clause-went_on g c =
     let logged = c.log_event.ensures in
     went-unlogged c.args.work.now c.store_text.new.work (g.D.Disk.state c.args.journal.now) (g.E.Disk.state c.args.spool.now) (g.E.Disk.state c.store_text.new.spool) c.requires.ready c.store_text.ensures.machine c.store_text.ensures.journal
     c.log_event.new.work c.in-Some.next.event (g.D.Disk.state c.log_event.new.journal) (no-resume c.args.work.now c.in-Some.next.event next) (tells-report (plan_in c.args.work.now) c.in-Some.next.event c.in-Some.next.text (c.in_ok-next.ensures.text c.in-Some.next c.in-Some.is)) (may-log c.args.work.now c.in-Some.next.event c.in-Some.next.text (g.D.Disk.state c.args.journal.now) (g.E.Disk.state c.args.spool.now) c.requires.ready (sym c.in_ok-next.ensures.event ∙ ap (option_map event_of) c.in-Some.is) (c.in_ok-next.ensures.text c.in-Some.next c.in-Some.is)).lawful text.pending.takes text.stored logged.survives logged.plan logged.readings
-    (Some c.in-Some.next.event) c.in_err-log_event-in-Some.ensures.not_logged c.in_err-log_event-in-Some.ensures.as_before c.in_err-log_event-in-Some.ensures.failed
+    (Some c.in-Some.next.event) c.in_err-log_event-in-Some.ensures.not_logged c.in_err-log_event-in-Some.ensures.as_before c.in_err-log_event-in-Some.ensures.failed c.in_err-log_event-in-Some.ensures.held_for
 
 pub returns-in-None-clause-finished : goal.returns-in-None-clause-finished
 returns-in-None-clause-finished g c = λ _.
@@ -67,7 +67,7 @@ returns-in_ok-log_event-in-Some-clause-went_on g c =
     let done = c.in_ok-log_event-in-Some.ensures in
     went-logged c.args.work.now c.store_text.new.work (g.D.Disk.state c.args.journal.now) (g.E.Disk.state c.args.spool.now) (g.E.Disk.state c.store_text.new.spool) c.requires.ready c.store_text.ensures.machine c.store_text.ensures.journal
     c.log_event.new.work c.in-Some.next.event (g.D.Disk.state c.log_event.new.journal) (no-resume c.args.work.now c.in-Some.next.event next) (tells-report (plan_in c.args.work.now) c.in-Some.next.event c.in-Some.next.text (c.in_ok-next.ensures.text c.in-Some.next c.in-Some.is)) (may-log c.args.work.now c.in-Some.next.event c.in-Some.next.text (g.D.Disk.state c.args.journal.now) (g.E.Disk.state c.args.spool.now) c.requires.ready (sym c.in_ok-next.ensures.event ∙ ap (option_map event_of) c.in-Some.is) (c.in_ok-next.ensures.text c.in-Some.next c.in-Some.is)).lawful text.pending.takes text.stored logged.survives logged.plan logged.readings
-    done.logged done.added done.state
+    done.logged done.added done.state done.begun_for
 
 pub returns-in_ok-log_event-in-Some-clause-ready : goal.returns-in_ok-log_event-in-Some-clause-ready
 returns-in_ok-log_event-in-Some-clause-ready g c =
@@ -127,42 +127,42 @@ returns-in_ok-log_event-in-Some-clause-alone g c =
     c.in_ok-log_event-in-Some.ensures.logged c.in_ok-log_event-in-Some.ensures.added c.in_ok-log_event-in-Some.ensures.state)
 
 pub returns-in_err-next-clause-fits : goal.returns-in_err-next-clause-fits
-returns-in_err-next-clause-fits g c = λ digest from begun stored.
+returns-in_err-next-clause-fits g c = λ digests from begun stored.
     let journal = c.args.journal.now in
     let spool = c.args.spool.now in
-    turn-still c.args.work.now digest from (g.D.Disk.state journal) (g.E.Disk.state spool) c.requires.ready begun stored (g.met.D.Disk.only_now journal) (g.met.E.Disk.only_now spool) (g.met.E.Disk.seen_is_left spool)
+    turn-still c.args.work.now digests from (g.D.Disk.state journal) (g.E.Disk.state spool) c.requires.ready begun stored (g.met.D.Disk.only_now journal) (g.met.E.Disk.only_now spool) (g.met.E.Disk.seen_is_left spool)
 
 pub returns-in-None-clause-fits : goal.returns-in-None-clause-fits
-returns-in-None-clause-fits g c = λ digest from begun stored.
+returns-in-None-clause-fits g c = λ digests from begun stored.
     let journal = c.args.journal.now in
     let spool = c.args.spool.now in
-    turn-still c.args.work.now digest from (g.D.Disk.state journal) (g.E.Disk.state spool) c.requires.ready begun stored (g.met.D.Disk.only_now journal) (g.met.E.Disk.only_now spool) (g.met.E.Disk.seen_is_left spool)
+    turn-still c.args.work.now digests from (g.D.Disk.state journal) (g.E.Disk.state spool) c.requires.ready begun stored (g.met.D.Disk.only_now journal) (g.met.E.Disk.only_now spool) (g.met.E.Disk.seen_is_left spool)
 
 pub returns-in_err-store_text-in-Some-clause-fits : goal.returns-in_err-store_text-in-Some-clause-fits
-returns-in_err-store_text-in-Some-clause-fits g c = λ digest from begun stored.
+returns-in_err-store_text-in-Some-clause-fits g c = λ digests from begun stored.
     let journal = c.args.journal.now in
     let spool = c.args.spool.now in
     let spool' = c.store_text.new.spool in
-    turn-unstored c.args.work.now c.store_text.new.work digest from (g.D.Disk.state journal) (g.E.Disk.state spool) (g.E.Disk.state spool') c.requires.ready c.store_text.ensures.machine c.store_text.ensures.journal begun stored
+    turn-unstored c.args.work.now c.store_text.new.work digests from (g.D.Disk.state journal) (g.E.Disk.state spool) (g.E.Disk.state spool') c.requires.ready c.store_text.ensures.machine c.store_text.ensures.journal begun stored
     (g.met.D.Disk.only_now journal) (g.met.E.Disk.only_now spool) (g.met.E.Disk.seen_is_left spool) (g.met.E.Disk.only_now spool') (g.met.E.Disk.seen_is_left spool')
     c.in_err-store_text-in-Some.ensures.not_stored c.in_err-store_text-in-Some.ensures.as_before
 
 pub returns-in_err-log_event-in-Some-clause-fits : goal.returns-in_err-log_event-in-Some-clause-fits
-returns-in_err-log_event-in-Some-clause-fits g c = λ digest from begun stored.
+returns-in_err-log_event-in-Some-clause-fits g c = λ digests from begun stored.
     let journal = c.args.journal.now in
     let spool = c.args.spool.now in
     let spool' = c.store_text.new.spool in
     let text = c.in_ok-store_text-in-Some.ensures in
-    turn-logged c.args.work.now c.store_text.new.work digest from (g.D.Disk.state journal) (g.E.Disk.state spool) (g.E.Disk.state spool') c.requires.ready c.store_text.ensures.machine c.store_text.ensures.journal begun stored
+    turn-logged c.args.work.now c.store_text.new.work digests from (g.D.Disk.state journal) (g.E.Disk.state spool) (g.E.Disk.state spool') c.requires.ready c.store_text.ensures.machine c.store_text.ensures.journal begun stored
     (g.met.D.Disk.only_now journal) (g.met.E.Disk.only_now spool) (g.met.E.Disk.seen_is_left spool) (g.met.E.Disk.only_now spool') (g.met.E.Disk.seen_is_left spool')
     c.in-Some.next.event (g.D.Disk.state c.log_event.new.journal) (c.store_text.ensures.may (may-log c.args.work.now c.in-Some.next.event c.in-Some.next.text (g.D.Disk.state c.args.journal.now) (g.E.Disk.state c.args.spool.now) c.requires.ready (sym c.in_ok-next.ensures.event ∙ ap (option_map event_of) c.in-Some.is) (c.in_ok-next.ensures.text c.in-Some.next c.in-Some.is))) text.pending text.stored c.log_event.ensures.survives
 
 pub returns-in_ok-log_event-in-Some-clause-fits : goal.returns-in_ok-log_event-in-Some-clause-fits
-returns-in_ok-log_event-in-Some-clause-fits g c = λ digest from begun stored.
+returns-in_ok-log_event-in-Some-clause-fits g c = λ digests from begun stored.
     let journal = c.args.journal.now in
     let spool = c.args.spool.now in
     let spool' = c.store_text.new.spool in
     let text = c.in_ok-store_text-in-Some.ensures in
-    turn-logged c.args.work.now c.store_text.new.work digest from (g.D.Disk.state journal) (g.E.Disk.state spool) (g.E.Disk.state spool') c.requires.ready c.store_text.ensures.machine c.store_text.ensures.journal begun stored
+    turn-logged c.args.work.now c.store_text.new.work digests from (g.D.Disk.state journal) (g.E.Disk.state spool) (g.E.Disk.state spool') c.requires.ready c.store_text.ensures.machine c.store_text.ensures.journal begun stored
     (g.met.D.Disk.only_now journal) (g.met.E.Disk.only_now spool) (g.met.E.Disk.seen_is_left spool) (g.met.E.Disk.only_now spool') (g.met.E.Disk.seen_is_left spool')
     c.in-Some.next.event (g.D.Disk.state c.log_event.new.journal) (c.store_text.ensures.may (may-log c.args.work.now c.in-Some.next.event c.in-Some.next.text (g.D.Disk.state c.args.journal.now) (g.E.Disk.state c.args.spool.now) c.requires.ready (sym c.in_ok-next.ensures.event ∙ ap (option_map event_of) c.in-Some.is) (c.in_ok-next.ensures.text c.in-Some.next c.in-Some.is))) text.pending text.stored c.log_event.ensures.survives

@@ -35,12 +35,12 @@ add_event-requires-clause-spelled g c =
 pub returns-in_err-receipt-clause-survives : goal.returns-in_err-receipt-clause-survives
 returns-in_err-receipt-clause-survives g c =
     let old = g.D.Disk.state c.args.journal.now in let new = g.D.Disk.state c.add_event.new.journal in
-    subst (λ (d : DeskState). SurvivesFor d.work.journal (list_at d) (list_at d ++ c.args.event ∷ []) old new) c.self.view_is c.add_event.ensures.survives
+    subst (λ (d : DeskState). SurvivesFor d.work (list_at d) (list_at d ++ c.args.event ∷ []) old new) c.self.view_is c.add_event.ensures.survives
 
 pub returns-clause-survives : goal.returns-clause-survives
 returns-clause-survives g c =
     let old = g.D.Disk.state c.args.journal.now in let new = g.D.Disk.state c.add_event.new.journal in
-    subst (λ (d : DeskState). SurvivesFor d.work.journal (list_at d) (list_at d ++ c.args.event ∷ []) old new) c.self.view_is c.add_event.ensures.survives
+    subst (λ (d : DeskState). SurvivesFor d.work (list_at d) (list_at d ++ c.args.event ∷ []) old new) c.self.view_is c.add_event.ensures.survives
 
 pub invariant_of-self-2 : goal.invariant_of-self-2
 invariant_of-self-2 g c =

@@ -1,11 +1,11 @@
-use Rattle.std.proofs.Common.{◌≡◌, Some, false, reverse, sym, subst, ap, ◌∙◌, arith}
+use Rattle.std.proofs.Common.{◌≡◌, false, reverse, sym, subst, ap, ◌∙◌}
 use Rattle.conc_types.specs.declared.event.RequestId.{RequestId}
 use Rattle.conc_types.specs.declared.plan.Plan.{Plan}
 use Rattle.conc_types.specs.Plans.{request}
 use Rattle.conc_law.specs.Facts.{facts_of}
 use Rattle.conc_law.proofs.Comes.{same_request}
 use Rattle.conc_law.proofs.Numbering.{numbered_plan}
-use Rattle.conc_board.specs.Seats.{lead_state_of, plan_of}
+use Rattle.conc_board.specs.Seats.{lead_state_of}
 use Rattle.conc_board_seats.specs.declared.views.LeadState.{LeadState}
 use Rattle.conc_board_seats.specs.Rule.{exclude}
 use Rattle.conc_board_seats.specs.LeadStates.{IsGone, IsLetOrGone}
