@@ -5,6 +5,7 @@ ghost use Rattle.conc_journal_digest.specs.Inputs.{framed, framed_table, input_d
 
 use conc_types::Digests;
 use sha2::{Digest, Sha256};
+use std::thread::{Threads, join};
 
 /// The SHA-256 digests of the files that a run is given, which take them in one by one as they are read:
 /// the setup, the script, and then each table under its name, each with its length before it, so that no
@@ -23,13 +24,14 @@ fn add_framed(hasher: &mut Sha256, bytes: &[u8])
     hasher.update(bytes);
 }
 
-// Takes in a table, by its name and its bytes.
-fn add_table_to(hasher: &mut Sha256, name: &[u8], bytes: &[u8])
-    ensures { (m : List ℕ) → Holds256 hasher.old m
-        → Holds256 hasher.new (m ++ framed_table (name.now, bytes.now)) }
+// The hasher with one more table, by its name and its bytes.
+fn extended(mut hasher: Sha256, name: &[u8], bytes: &[u8]) -> Sha256
+    ensures { (m : List ℕ) → Holds256 hasher m
+        → Holds256 result (m ++ framed_table (name.now, bytes.now)) }
 {
-    add_framed(hasher, name);
-    add_framed(hasher, bytes);
+    add_framed(&mut hasher, name);
+    add_framed(&mut hasher, bytes);
+    hasher
 }
 
 impl InputDigest {
@@ -48,15 +50,38 @@ impl InputDigest {
         InputDigest { full, base }
     }
 
-    /// Takes in the next table, by its name and its bytes.
+    /// The digest with the next table, by its name and its bytes.
     #[tactic(auto, using(crate::proofs::Messages::message_more, crate::proofs::Messages::base_message_more))]
-    pub fn add_table(&mut self, name: &[u8], bytes: &[u8])
+    pub fn with_table(self, name: &[u8], bytes: &[u8]) -> InputDigest
         ensures { (setup script : List ℕ) (tables : List (List ℕ × List ℕ))
-            → HasTaken self.old setup script tables
-            → HasTaken self.new setup script (tables ++ (name.now, bytes.now) ∷ []) }
+            → HasTaken self setup script tables
+            → HasTaken result setup script (tables ++ (name.now, bytes.now) ∷ []) }
     {
-        add_table_to(&mut self.full, name, bytes);
-        add_table_to(&mut self.base, name, bytes);
+        InputDigest {
+            full: extended(self.full, name, bytes),
+            base: extended(self.base, name, bytes),
+        }
+    }
+
+    /// The same, with each of the two digests in a thread of its own, where one can be made.
+    #[tactic(auto, using(crate::proofs::Messages::message_more, crate::proofs::Messages::base_message_more))]
+    pub fn with_table_on_threads<R: Threads + Sync>(
+        self,
+        rt: &R,
+        name: &[u8],
+        bytes: &[u8],
+    ) -> InputDigest
+        ensures { (setup script : List ℕ) (tables : List (List ℕ × List ℕ))
+            → HasTaken self setup script tables
+            → HasTaken result setup script (tables ++ (name.now, bytes.now) ∷ []) }
+    {
+        let InputDigest { full, base } = self;
+        let (full, base) = join(
+            rt,
+            move || extended(full, name, bytes),
+            move || extended(base, name, bytes),
+        );
+        InputDigest { full, base }
     }
 
     /// The digests of what was taken in.

@@ -18,6 +18,7 @@ use conc_outside_clock::Clock;
 use conc_plan::make_plan;
 use conc_types::{Digests, FileKind, Name, Plan, ReadFail, Readings, Seq};
 use std::alloc::Global;
+use std::thread::Threads;
 
 /// What files give, once all are accepted.
 #[derive(Drop)]
@@ -51,9 +52,10 @@ fn fail_without_plan(fail: ReadFail, setup: Name, script: Name) -> InputFail
 }
 
 // Reads the tables of the setup, and makes the plan of what was read.
-fn plan_from<F: Shelf>(
+fn plan_from<F: Shelf, R: Threads + Sync>(
     alloc: Global,
     shelf: &mut F,
+    threads: Option<&R>,
     start: Start,
     setup: Name,
     script: Name,
@@ -71,12 +73,22 @@ fn plan_from<F: Shelf>(
         → IfErr result (FailsWith (sources old before) (sources (F.state shelf.new) after)
         (named setup script clock)) }
 {
-    let mut digest = start.digest;
-    let tables = match read_tables(alloc, shelf, start.setup.tables.as_slice(), &mut digest) {
-        Ok(tables) => tables,
+    let Start {
+        setup: setup_read,
+        script: script_read,
+        digest,
+    } = start;
+    let (tables, digest) = match read_tables(
+        alloc,
+        shelf,
+        threads,
+        setup_read.tables.as_slice(),
+        digest,
+    ) {
+        Ok(read) => read,
         Err(fail) => return Err(fail),
     };
-    match make_plan(alloc, start.setup, start.script, Seq::from_vec(tables)) {
+    match make_plan(alloc, setup_read, script_read, Seq::from_vec(tables)) {
         Ok(plan) => Ok(Accepted {
             plan,
             digests: digest.finish(),
@@ -87,10 +99,12 @@ fn plan_from<F: Shelf>(
 
 /// Reads the files with these names in the order setup, script, tables, each of them judged before the
 /// next one is read, and makes the plan of what they say. The first file that is lacking, that cannot be
-/// read or that is refused ends the call. Then the plan may be refused.
-pub fn accept<F: Shelf>(
+/// read or that is refused ends the call. Then the plan may be refused. With threads each table is read
+/// and digested beside each other, where threads can be made, with the same answers.
+pub fn accept<F: Shelf, R: Threads + Sync>(
     alloc: Global,
     shelf: &mut F,
+    threads: Option<&R>,
     setup: Name,
     script: Name,
 ) -> Result<Accepted, InputFail>
@@ -106,16 +120,17 @@ pub fn accept<F: Shelf>(
         Ok(start) => start,
         Err(fail) => return Err(fail),
     };
-    plan_from(alloc, shelf, start, setup, script)
+    plan_from(alloc, shelf, threads, start, setup, script)
 }
 
 /// Does what `accept` does, with a clock that is read between the script and the tables. A clock with the
 /// name `system` is no file: its one reading is the moment that `clock` gives, which is not asked
 /// otherwise. A clock that gives no moment ends the call.
-pub fn accept_timed<F: Shelf, C: Clock>(
+pub fn accept_timed<F: Shelf, C: Clock, R: Threads + Sync>(
     alloc: Global,
     shelf: &mut F,
     clock: &mut C,
+    threads: Option<&R>,
     setup: Name,
     script: Name,
     file: Name,
@@ -136,7 +151,7 @@ pub fn accept_timed<F: Shelf, C: Clock>(
         Ok(readings) => readings,
         Err(fail) => return Err(fail),
     };
-    match plan_from(alloc, shelf, start, setup, script) {
+    match plan_from(alloc, shelf, threads, start, setup, script) {
         Ok(accepted) => Ok((accepted, readings)),
         Err(fail) => Err(fail),
     }

@@ -1,6 +1,7 @@
-ghost use Rattle.std.specs.Prelude.{◌≡◌, ◌+◌, ◌≤◌, IfErr, IfOk, IsTrue, List, length, Ok, Some, ℕ};
+ghost use Rattle.std.specs.Prelude.{◌≡◌, ◌+◌, ◌++◌, ◌∷◌, [], ◌≤◌, IfErr, IfOk, IsTrue, List, length, Ok, Some, ℕ};
 ghost use Rattle.conc_types.specs.declared.refusal.FileKind.TheVariants as kind;
 ghost use Rattle.conc_types.specs.Scripts.{are_commands};
+ghost use Rattle.conc_journal_digest.specs.Taken.{HasTaken};
 ghost use Rattle.conc_outside.specs.Files.{Gives, IsLater};
 ghost use Rattle.conc_setup.specs.Setups.{fault_in, setup_in};
 ghost use Rattle.conc_script.specs.Clock.{clock_fault, SpellsClock};
@@ -10,13 +11,15 @@ ghost use Rattle.conc_top_inputs.specs.Refusals.{fault_of_table};
 ghost use Rattle.conc_top_inputs.specs.FileFails.{Ends, EndsUnread};
 ghost use Rattle.conc_top_inputs.specs.Ways.{file_fail_for};
 
+use crate::beside::read_and_digest;
 use crate::error::FileFail;
+use conc_journal_digest::InputDigest;
 use conc_outside::{Shelf, ShelfFail};
 use conc_script::{read_clock, read_script};
 use conc_setup::read_setup;
-use conc_tables::read_table;
 use conc_types::{FileKind, Name, ReadFail, Readings, Refusal, RefusalKind, Script, Setup, Table};
 use std::alloc::Global;
+use std::thread::Threads;
 
 // The most bytes that all tables together may have.
 const MOST_BYTES: usize = 134_217_728;
@@ -104,20 +107,25 @@ pub(crate) fn judge_clock<F: Shelf>(
     }
 }
 
-// The table with this number under this name, and its bytes, where the tables before it have `before`
-// bytes.
-pub(crate) fn judge_table<F: Shelf>(
+// The table with this number under this name, its bytes, and the digest with them, where the tables before
+// it have `before` bytes.
+pub(crate) fn judge_table<F: Shelf, R: Threads + Sync>(
     alloc: Global,
     shelf: &mut F,
+    threads: Option<&R>,
     name: &Name,
     number: u32,
     before: usize,
-) -> Result<(Table, Vec<u8>), FileFail>
+    digest: InputDigest,
+) -> Result<(Table, Vec<u8>, InputDigest), FileFail>
     requires { before ≤ 134217728 }
     ensures later { IsLater (F.state shelf.old) (F.state shelf.new) }
     ensures ok { IfOk result (λ p. Gives (F.state shelf.old).files name.now p.1.items
         × SpellsTable p.1.items p.0) }
     ensures fit { IfOk result (λ p. before + length p.1.items ≤ 134217728) }
+    ensures digest { IfOk result (λ p. (setup script : List ℕ)
+        (tables : List (List ℕ × List ℕ)) → HasTaken digest setup script tables
+        → HasTaken p.2 setup script (tables ++ (name.now, p.1.items) ∷ [])) }
     ensures err { IfErr result (Ends (F.state shelf.old) (F.state shelf.new)
         (λ bytes fault. fault_of_table before bytes ≡ Some fault) (kind.Table number) name.now) }
 {
@@ -129,8 +137,9 @@ pub(crate) fn judge_table<F: Shelf>(
             kind: RefusalKind::TooLarge,
         }));
     }
-    match read_table(alloc, &bytes, number) {
-        Ok(table) => Ok((table, bytes)),
+    let (read, digest) = read_and_digest(threads, alloc, &bytes, number, name.as_bytes(), digest);
+    match read {
+        Ok(table) => Ok((table, bytes, digest)),
         Err(fail) => Err(file_fail_of(fail)),
     }
 }

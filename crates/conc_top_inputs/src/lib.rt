@@ -3,6 +3,7 @@
 #![tactic(auto)]
 
 mod accepting;
+mod beside;
 mod clocks;
 mod error;
 mod given;

@@ -14,6 +14,7 @@ use conc_journal_digest::InputDigest;
 use conc_outside::Shelf;
 use conc_types::{Name, Script, Setup, Table};
 use std::alloc::Global;
+use std::thread::Threads;
 
 // What a setup and a script say.
 #[derive(Drop)]
@@ -54,35 +55,35 @@ pub(crate) fn read_start<F: Shelf>(
     })
 }
 
-// Reads the tables with these names, each of them judged before the next one is read, and takes them
-// into the digest.
-pub(crate) fn read_tables<F: Shelf>(
+// The tables with these names, each of them judged before the next one is read, and the digest with them.
+pub(crate) fn read_tables<F: Shelf, R: Threads + Sync>(
     alloc: Global,
     shelf: &mut F,
+    threads: Option<&R>,
     names: &[Name],
-    digest: &mut InputDigest,
-) -> Result<Vec<Table>, InputFail>
+    mut digest: InputDigest,
+) -> Result<(Vec<Table>, InputDigest), InputFail>
     requires { length names.now ≤ 64 }
     ensures later { IsLater (F.state shelf.old) (F.state shelf.new) }
-    ensures ok { IfOk result (λ tables. HasTablesIn (F.state shelf.old).files names.now digest.old
-        digest.new tables.items) }
+    ensures ok { IfOk result (λ p. HasTablesIn (F.state shelf.old).files names.now digest p.1
+        p.0.items) }
     ensures err { IfErr result (FailsInTables (F.state shelf.old) (F.state shelf.new) names.now) }
 {
     let mut tables = Vec::new(alloc);
     let mut total = 0;
     let mut number = 0;
     for name in names {
-        match judge_table(alloc, shelf, name, number, total) {
-            Ok((table, bytes)) => {
+        match judge_table(alloc, shelf, threads, name, number, total, digest) {
+            Ok((table, bytes, longer)) => {
                 if tables.push(table).is_err() {
                     return Err(InputFail::NoMemory);
                 }
-                digest.add_table(name.as_bytes(), &bytes);
+                digest = longer;
                 total += bytes.len();
             }
             Err(file_fail) => return Err(fail_at(alloc, file_fail, name)),
         }
         number += 1;
     }
-    Ok(tables)
+    Ok((tables, digest))
 }
