@@ -89,7 +89,15 @@ pub(crate) fn check_files<F: Shelf, O: Sink, C: Clock>(
         result }
     ensures later { IsLater (F.state shelf.old) (F.state shelf.new) }
 {
-    let (accepted, readings) = match accept_timed(alloc, shelf, clock, setup, script, file) {
+    let (accepted, readings) = match accept_timed(
+        alloc,
+        shelf,
+        clock,
+        None::<&HostRuntime>,
+        setup,
+        script,
+        file,
+    ) {
         Ok(given) => given,
         Err(fail) => return Exit::from(fail),
     };

@@ -10,21 +10,33 @@ pub enum Exit {
     /// The words are no command line.
     Usage,
     /// A file, with its name, is refused.
-    Refused { refusal: Refusal, name: Name },
+    Refused {
+        refusal: Refusal,
+        name: Name,
+    },
     /// There is no file with this name.
-    Absent { name: Name },
+    Absent {
+        name: Name,
+    },
     /// The file with this name could not be read.
-    ReadFault { name: Name },
+    ReadFault {
+        name: Name,
+    },
     /// The output could not be written.
     WriteFault,
     /// One of the two disks failed.
-    DiskFault { disk: DiskName },
+    DiskFault {
+        disk: DiskName,
+    },
     /// The clock of the system gave no moment.
     ClockFault,
     /// What stands on the journal's disk is no journal.
     NotJournal,
     /// The journal is that of other files: in its version it has `found` where these files have `given`.
-    OtherInput { found: [u8; 32], given: [u8; 32] },
+    OtherInput {
+        found: [u8; 32],
+        given: [u8; 32],
+    },
     /// The journal is that of another script: it has this command with the stamp `found`, and the script
     /// with `given`, which is 0 where the script has no such command.
     OtherScript {
@@ -33,17 +45,26 @@ pub enum Exit {
         given: u64,
     },
     /// The journal has `len` records, and no room for the `need` that the run may add.
-    JournalFull { len: u64, need: u64 },
+    JournalFull {
+        len: u64,
+        need: u64,
+    },
     /// There was no memory.
     NoMemory,
     /// The journal's record with this number, from 1, is broken or not lawful, or its extent ends past
     /// the spool.
-    Unlawful { number: u64 },
+    Unlawful {
+        number: u64,
+    },
     /// The line with this number, from 1, of the text of a history is no event line, its event is not
     /// lawful, or it differs from the table.
-    NotLawful { line: u64 },
+    NotLawful {
+        line: u64,
+    },
     /// The request with this number has not ended with a report.
-    NotEnded { number: u32 },
+    NotEnded {
+        number: u32,
+    },
 }
 
 impl Exit {

@@ -184,7 +184,15 @@ pub(crate) fn run_files_plain<F: Shelf, O: Sink, D: Disk, E: Disk, C: Clock>(
         result }
     ensures later { IsLater (F.state shelf.old) (F.state shelf.new) }
 {
-    let (accepted, readings) = match accept_timed(alloc, shelf, clock, setup, script, file) {
+    let (accepted, readings) = match accept_timed(
+        alloc,
+        shelf,
+        clock,
+        None::<&HostRuntime>,
+        setup,
+        script,
+        file,
+    ) {
         Ok(given) => given,
         Err(fail) => return Exit::from(fail),
     };
@@ -231,7 +239,7 @@ pub(crate) fn run_files<
             alloc, shelf, out, journal, spool, clock, setup, script, file,
         );
     }
-    let given = match accept_timed(alloc, shelf, clock, setup, script, file) {
+    let given = match accept_timed(alloc, shelf, clock, Some(rt), setup, script, file) {
         Ok(given) => given,
         Err(fail) => return Exit::from(fail),
     };
