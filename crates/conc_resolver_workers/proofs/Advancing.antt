@@ -1,15 +1,13 @@
 -- Steps of the resolver, one after another.
-use Rattle.std.proofs.Common.{◌≡◌, ◌⊎◌, ℕ, ◌≤◌, Bool, true, List, Option, None, Result, Ok, Err, IfSome, refl, sym, ◌∙◌, ap, subst, arith, inl, inr}
+use Rattle.std.proofs.Common.{◌≡◌, ◌⊎◌, ℕ, ◌≤◌, Bool, true, List, Option, Result, Ok, Err, IfSome, refl, sym, ◌∙◌, ap, subst, arith, inl, inr}
 use Rattle.conc_types.specs.declared.event.Event.{Event}
 use Rattle.conc_types.specs.declared.event.RequestId.{RequestId}
-use Rattle.conc_types.specs.declared.plan.Plan.{Plan}
 use Rattle.std.specs.Prelude.{OnOk}
 use Rattle.conc_law.specs.Law.{Finished}
 use Rattle.conc_disk.specs.Disk.{DiskState}
 use Rattle.conc_outside.specs.Counts.{Rose}
 use Rattle.conc_journal.specs.Journals.{state_of}
 use Rattle.conc_board.specs.declared.board.Board.{Board}
-use Rattle.conc_board.specs.Seats.{places_of_lead}
 use Rattle.conc_run_state.specs.Disks.{Disks, disks}
 use Rattle.conc_run_state.specs.Works.{list_in}
 use Rattle.conc_run_state.specs.declared.error.RunFail.{RunFail}
@@ -18,7 +16,7 @@ use Rattle.conc_run_state.specs.declared.work.Work.{Work}
 use Rattle.conc_run_steps.specs.Going.{IsUnderway, WentOn}
 use Rattle.conc_run_steps.specs.Steps.{plan_in, readings_in}
 use Rattle.conc_run_steps.proofs.Underway.{by-first, underway-more, underway-still, went-further, went-still}
-use Rattle.conc_desk.specs.Desks.{IsAt, list_at, MovesOne, plan_at}
+use Rattle.conc_desk.specs.Desks.{list_at, MovesOne, plan_at}
 use Rattle.conc_desk.specs.State.{DeskState}
 use Rattle.conc_resolver_workers.specs.Resolving.{Advances, Concludes, Halts, IsAtWork, Resolves, StaysAt}
 use Rattle.conc_resolver_workers.specs.Runs.{AwaitsReport}

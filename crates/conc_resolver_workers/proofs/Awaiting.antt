@@ -1,12 +1,12 @@
 -- A request that has the go, and whose report found no memory.
-use Rattle.std.proofs.Common.{◌≡◌, Bool, true, false, List, reverse, Option, Some, Err, is_some, refl, sym, ◌∙◌, ap, subst}
+use Rattle.std.proofs.Common.{◌≡◌, Bool, true, false, reverse, Option, Some, Err, is_some, refl, sym, ◌∙◌, ap, subst}
 use Rattle.conc_types.specs.declared.event.PlaceId.{PlaceId}
 use Rattle.conc_types.specs.declared.event.RequestId.{RequestId}
 use Rattle.conc_types.specs.declared.facts.Facts.{Facts}
 use Rattle.conc_types.specs.declared.plan.Plan.{Plan}
 use Rattle.conc_types.specs.Plans.{request}
 use Rattle.conc_types.specs.Words.{some_and}
-use Rattle.conc_law.specs.State.{facts_at, is_running, is_stopping, state}
+use Rattle.conc_law.specs.State.{facts_at, is_stopping, state}
 use Rattle.conc_law.proofs.FactsAt.{facts_at-state}
 use Rattle.conc_law.proofs.Numbering.{numbered_plan}
 use Rattle.conc_board.specs.declared.board.Board.{Board}

@@ -1,6 +1,6 @@
 -- Which events may come next at a desk.
-use Rattle.std.proofs.Common.{◌≡◌, ℕ, Bool, true, false, ◌&&◌, ◌==◌, List, [], ◌∷◌, ◌++◌, reverse, Option, None, Some, is_some, is_none, refl, sym, ◌∙◌, ap, subst}
-use Rattle.std.specs.Option.{option_and_then, option_map, option_or}
+use Rattle.std.proofs.Common.{◌≡◌, Bool, true, false, ◌&&◌, ◌==◌, List, [], ◌∷◌, ◌++◌, reverse, Option, None, Some, is_some, is_none, refl, sym, ◌∙◌, ap, subst}
+use Rattle.std.specs.Option.{option_and_then, option_or}
 use Rattle.std.proofs.lemmas.Bool.{and_from, cond-false}
 use Rattle.conc_types.specs.declared.event.Event.{Event}
 use Rattle.conc_types.specs.declared.event.Event.TheVariants as event
@@ -23,7 +23,7 @@ use Rattle.conc_law.proofs.Positions.{reverse-push}
 use Rattle.conc_resolver_choice.proofs.Pushes.{is_lawful-more}
 use Rattle.conc_machine.specs.StandsFor.{plan_of, readings_of, StandsFor}
 use Rattle.conc_machine.specs.declared.machine.Machine.{Machine}
-use Rattle.conc_desk.specs.Desks.{lead_state_at, list_at, plan_at}
+use Rattle.conc_desk.specs.Desks.{list_at, plan_at}
 use Rattle.conc_desk.specs.Logging.{IsItsTurn, WasSeen}
 use Rattle.conc_desk.specs.State.{DeskState}
 

@@ -1,10 +1,9 @@
 -- The end that a desk keeps.
-use Rattle.std.proofs.Common.{◌≡◌, false, List, reverse, Option, None, Some, refl, subst}
+use Rattle.std.proofs.Common.{◌≡◌, false, List, None, Some, refl, subst}
 use Rattle.conc_types.specs.declared.event.Event.{Event}
 use Rattle.conc_types.specs.declared.event.Event.TheVariants as event
 use Rattle.conc_types.specs.declared.event.RequestId.{RequestId}
 use Rattle.conc_types.specs.declared.plan.Plan.{Plan}
-use Rattle.conc_types.specs.declared.plan.Req.{Req}
 use Rattle.conc_types.specs.Plans.{request}
 use Rattle.conc_law.specs.Alone.{end_of}
 use Rattle.conc_law.specs.Kinds.{is_resume}

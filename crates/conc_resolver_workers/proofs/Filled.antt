@@ -1,16 +1,14 @@
 -- The lanes, step by step of the resolver.
-use Rattle.std.proofs.Common.{◌≡◌, ◌⊎◌, inl, inr, ℕ, ◌+◌, ◌≤◌, Bool, true, false, List, [], ◌∷◌, ◌++◌, drop, length, length-append, reverse, take, Option, Some, Result, Ok, Err, append-nil, append_assoc, ◌||◌, refl, sym, ◌∙◌, ap, ap₂, subst, arith, take_all}
+use Rattle.std.proofs.Common.{◌≡◌, inl, inr, ℕ, ◌≤◌, Bool, true, false, List, [], ◌∷◌, ◌++◌, drop, length, length-append, reverse, take, Some, Result, Ok, Err, append-nil, append_assoc, ◌||◌, refl, sym, ◌∙◌, ap, ap₂, subst, arith, take_all}
 use Rattle.std.specs.List.{list_any}
-use Rattle.std.proofs.lemmas.List.{drop-append-le, drop_all, take-append-le}
+use Rattle.std.proofs.lemmas.List.{drop-append-le, take-append-le}
 use Rattle.conc_types.specs.declared.event.Event.{Event}
 use Rattle.conc_types.specs.declared.event.Event.TheVariants as event
 use Rattle.conc_types.specs.declared.event.RequestId.{RequestId}
 use Rattle.conc_types.specs.declared.plan.Plan.{Plan}
-use Rattle.conc_types.specs.declared.script.Reading.{Reading}
-use Rattle.conc_types.specs.Plans.{request}
 use Rattle.conc_law.specs.Kinds.{is_resume}
 use Rattle.conc_law.specs.Law.{LawfulSoFar}
-use Rattle.conc_board_lanes.specs.Lanes.{are_shorter, IsLeadPassOf, joined_by, plan_of, puts_of}
+use Rattle.conc_board_lanes.specs.Lanes.{are_shorter, IsLeadPassOf, plan_of, puts_of}
 use Rattle.conc_board_lanes.specs.Puts.{lets_of, lists_for, puts, waiting_to_start}
 use Rattle.conc_board_lanes.specs.Rooms.{room_for}
 use Rattle.conc_board_lanes.specs.declared.lanes.Lanes.{Lanes}

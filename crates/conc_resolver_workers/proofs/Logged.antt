@@ -1,8 +1,7 @@
 -- An event that is logged at a desk, and told.
-use Rattle.std.proofs.Common.{◌≡◌, ◌⊎◌, ℕ, ◌+◌, ◌≤◌, Bool, true, false, List, [], ◌∷◌, ◌++◌, length, Option, None, Some, Result, Ok, Err, IfSome, refl, sym, ◌∙◌, ap, subst, inl, inr, le_refl}
+use Rattle.std.proofs.Common.{◌≡◌, ◌⊎◌, ◌+◌, ◌≤◌, Bool, true, false, List, [], ◌∷◌, ◌++◌, length, Option, None, Some, Result, Ok, Err, refl, sym, ◌∙◌, ap, subst, inl, inr, le_refl}
 use Rattle.std.specs.Prelude.{◌↔◌, IfErr, OnErr, OnOk, unwrap_or}
 use Rattle.conc_types.specs.declared.event.Event.{Event}
-use Rattle.conc_types.specs.declared.event.Event.TheVariants as event
 use Rattle.conc_types.specs.declared.plan.Plan.{Plan}
 use Rattle.conc_types.specs.declared.script.Reading.{Reading}
 use Rattle.conc_disk.specs.Disk.{DiskState}
@@ -29,11 +28,10 @@ use Rattle.conc_run_state.specs.declared.error.RunFail.{RunFail}
 use Rattle.conc_run_state.specs.declared.error.RunFail.TheVariants as run_fail
 use Rattle.conc_run_state.specs.declared.work.Work.{Work}
 use Rattle.conc_run_steps.specs.Going.{IsUnderway, TellsReport, WentOn}
-use Rattle.conc_run_steps.specs.Steps.{any_disk, IsReady, IsTied, plan_in, readings_in, StoresOn, SurvivesFor}
+use Rattle.conc_run_steps.specs.Steps.{any_disk, IsTied, plan_in, readings_in, StoresOn, SurvivesFor}
 use Rattle.conc_restart.specs.Need.{need}
 use Rattle.conc_run_steps.proofs.Coming.{lawful-past}
 use Rattle.conc_run_steps.proofs.Going.{went-none}
-use Rattle.conc_run_steps.proofs.Logs.{sound-begun}
 use Rattle.conc_run_steps.proofs.Stepping.{ready-logged, tied-by, went-logged, went-unlogged}
 use Rattle.conc_desk.specs.Desks.{IsAt, list_at, plan_at}
 use Rattle.conc_desk.specs.Keeping.{SameList}
@@ -49,18 +47,12 @@ with-disks : (pending : Option Event) (work : Work) (journal spool : DiskState) 
     → HasPendingText (plan_in work) (list_in work) spool pending → IsTied pending work journal spool
 with-disks pending work journal spool parts journal_on spool_on text = tied-by (plan_in work) (readings_in work) pending work any_disk journal any_disk spool refl refl journal_on spool_on text parts
 
--- no count of faults falls
-went-faults : (old new : Work) (journal journal' spool spool' : DiskState) → IsReady old journal spool → WentOn (plan_in old) (readings_in old) (disks journal journal' spool spool') old new → journal.faults ≤ journal'.faults
-went-faults old new journal journal' spool spool' ready went =
-    let begun = sound-begun (state_of old.journal) ready.tied.takes ready.sound in
-    (went.journal begun.0 begun.1).faults
-
 -- From one desk the text of an event is stored, or none is, and then the event is logged.
 module _ (board : Board) (old mid new : DeskState) (journal journal' spool spool' : DiskState) (told : Option (List Event)) (takes : List Event → Type 0) (at_work : IsAtWork board old journal spool told takes)
     (machine : mid.work.machine ≡ old.work.machine) (same : mid.work.journal ≡ old.work.journal) (spool_on : SpoolIsOn mid.work.spool spool')
     (e : Event) (none : is_resume e ≡ false) (tells : TellsReport (plan_at old) e) (lawful : Lawful (plan_at old) (readings_in old.work) (list_at old ++ e ∷ []))
     (stores : StoresOn (plan_at old) (used_of old.work.spool) (list_at old) (list_at old ++ e ∷ []) spool spool')
-    (survives : SurvivesFor mid.work.journal (list_at mid) (list_at mid ++ e ∷ []) journal journal') (at : IsAt board new)
+    (survives : SurvivesFor mid.work (list_at mid) (list_at mid ++ e ∷ []) journal journal') (at : IsAt board new)
     (mid_places : places_of_lead mid.lead ≡ places_of_lead old.lead) where
   takes_events' : takes_events (state_of mid.work.journal) ≡ true
   takes_events' = ap (λ (j : Journal). takes_events (state_of j)) same ∙ at_work.ready.tied.takes
@@ -85,13 +77,13 @@ module _ (board : Board) (old mid new : DeskState) (journal journal' spool spool
 
     pub under-logged : IsUnderway old.work new.work (disks journal journal' spool spool')
     under-logged =
-        let went = went-logged old.work mid.work journal spool spool' at_work.ready machine same new.work e journal' none tells lawful takes_events' stores survives logged.plan logged.readings new-tied logged.list logged.state in
+        let went = went-logged old.work mid.work journal spool spool' at_work.ready machine same new.work e journal' none tells lawful takes_events' stores survives logged.plan logged.readings new-tied logged.list logged.state logged.begun_for in
         record {
           began = at_work.ready;
           ready = ready-logged old.work mid.work journal spool spool' at_work.ready machine same new.work e journal' none tells lawful takes_events' stores survives logged.plan logged.readings new-tied logged.list logged.state logged.room;
           went = went;
           state = logged.state ∙ ap (λ (j : Journal). state_of j) same;
-          faults = went-faults old.work new.work journal journal' spool spool' at_work.ready went;
+          faults = went.journal_faults;
         }
 
     pub new-plan : plan_at new ≡ plan_at old
@@ -149,7 +141,7 @@ module _ (board : Board) (old mid new : DeskState) (journal journal' spool spool
     went = went-unlogged old.work mid.work journal spool spool' at_work.ready machine same new.work e journal' none tells lawful takes_events' stores survives
         (ap (λ (m : Machine). plan_of m) unlogged.machine) (ap (λ (m : Machine). unwrap_or (readings_of m) []) unlogged.machine) kept
         (with-disks kept new.work journal' spool' (subst (λ (k : Option Event). IsTied k new.work any_disk any_disk) is_kept parts) on (subst (λ (s : Spool). SpoolIsOn s spool') (sym unlogged.spool) spool_on) text)
-        unlogged.list unlogged.state;
+        unlogged.list unlogged.state unlogged.held_for;
     journal_fault = λ is. rose fault;
     spool_fault = λ is. cc;
     memory = λ is. cc;

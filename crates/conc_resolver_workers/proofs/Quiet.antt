@@ -1,6 +1,5 @@
 -- Steps of the resolver that let no request.
-use Rattle.std.proofs.Common.{◌≡◌, inl, inr, true, false, List, [], ◌∷◌, ◌++◌, reverse, Option, None, Some, Result, Ok, Err, append-nil, append_assoc, refl, sym, ◌∙◌, ap, subst}
-use Rattle.std.specs.List.{list_any}
+use Rattle.std.proofs.Common.{◌≡◌, inl, inr, false, List, [], ◌∷◌, ◌++◌, Option, Some, Result, Ok, Err, append-nil, append_assoc, refl, sym, ◌∙◌, ap, subst}
 use Rattle.conc_types.specs.declared.event.Event.{Event}
 use Rattle.conc_types.specs.declared.event.Event.TheVariants as event
 use Rattle.conc_types.specs.declared.event.Extent.{Extent}
@@ -24,7 +23,7 @@ use Rattle.conc_run_state.specs.Works.{list_in}
 use Rattle.conc_run_state.specs.declared.error.RunFail.{RunFail}
 use Rattle.conc_run_state.specs.declared.work.Work.{Work}
 use Rattle.conc_run_steps.specs.Steps.{plan_in}
-use Rattle.conc_desk.specs.Desks.{list_at, plan_at, SameWork}
+use Rattle.conc_desk.specs.Desks.{list_at, SameWork}
 use Rattle.conc_desk.specs.Keeping.{end_in, SameList}
 use Rattle.conc_desk.specs.Logging.{IsLogged, IsUnlogged}
 use Rattle.conc_desk.specs.State.{DeskState}

@@ -1,9 +1,8 @@
 -- A request that waits to start.
-use Rattle.std.proofs.Common.{◌≡◌, ℕ, ◌<◌, List, length, get_or, reverse, sym, ◌∙◌, ap, subst}
+use Rattle.std.proofs.Common.{◌≡◌, ℕ, ◌<◌, List, length, get_or, sym, subst}
 use Rattle.conc_types.specs.declared.event.RequestId.{RequestId}
 use Rattle.conc_types.specs.declared.plan.Plan.{Plan}
 use Rattle.conc_types.specs.declared.plan.Req.{Req}
-use Rattle.conc_types.specs.Plans.{request}
 use Rattle.conc_law.specs.Words.{Has}
 use Rattle.conc_law.proofs.Numbering.{numbered_plan}
 use Rattle.conc_board.specs.declared.board.Board.{Board}

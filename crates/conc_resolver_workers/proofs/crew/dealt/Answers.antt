@@ -1,4 +1,4 @@
-use Rattle.std.proofs.Common.{◌≡◌, ◌≢◌, ◌%◌, ◌+◌, ◌∙◌, List, ap, subst, sym}
+use Rattle.std.proofs.Common.{◌+◌, ◌∙◌, List, ap, subst, sym}
 use Rattle.conc_types.specs.declared.event.PlaceId.{PlaceId}
 use Rattle.conc_resolver_workers.proofs.Crews.{DealtBelow, dealt-more, dealt-skip}
 use Rattle.conc_resolver_workers.proofs.crew.dealt.Goals.{else-index-threads, then-index-threads+in_ok-push}

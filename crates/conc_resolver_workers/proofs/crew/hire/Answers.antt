@@ -1,4 +1,4 @@
-use Rattle.std.proofs.Common.{rules, ◌≡◌, ◌<◌, ◌+◌, ◌++◌, ◌∷◌, [], ℕ, All, List, length, get_or, None, sym, ◌∙◌, ap, subst, arith, length-append}
+use Rattle.std.proofs.Common.{rules, ◌≡◌, ◌<◌, ◌+◌, ◌++◌, ◌∷◌, [], ℕ, List, length, get_or, None, sym, ap, subst, arith, length-append}
 use Rattle.conc_board_lanes.specs.Lanes.{AreHandPasses}
 use Rattle.conc_board_lanes.specs.declared.lanes.HandPass.{HandPass}
 use Rattle.conc_resolver_workers.specs.Crews.{AreDealt, HasPass}

@@ -1,4 +1,4 @@
-use Rattle.std.proofs.Common.{◌≡◌, ◌<◌, List, reverse, Option, None, Some, Ok, Err, inl, refl, sym, ◌∙◌, ap, subst}
+use Rattle.std.proofs.Common.{◌<◌, List, reverse, Option, Some, Ok, Err, inl, sym, ◌∙◌, ap, subst}
 use Rattle.conc_types.specs.declared.event.Event.{Event}
 use Rattle.conc_types.specs.declared.plan.Plan.{Plan}
 use Rattle.conc_journal.specs.Journals.{list_of, room_of}

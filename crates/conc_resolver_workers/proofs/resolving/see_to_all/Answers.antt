@@ -1,4 +1,4 @@
-use Rattle.std.proofs.Common.{◌≡◌, refl, ◌∙◌}
+use Rattle.std.proofs.Common.{refl, ◌∙◌}
 use Rattle.std.proofs.lemmas.Result.{err_from_is_err_and}
 use Rattle.conc_resolver_workers.proofs.Advancing.{after-err, after-ok, begins, handed-on}
 use Rattle.conc_resolver_workers.proofs.Filled.{fills-handed}

@@ -1,4 +1,3 @@
-use Rattle.std.proofs.Common.{◌≡◌}
 use Rattle.conc_resolver_workers.proofs.Advancing.{begins}
 use Rattle.conc_resolver_workers.proofs.Filled.{fills-none}
 use Rattle.conc_resolver_workers.proofs.resolving.see_to_started.Goals as goal

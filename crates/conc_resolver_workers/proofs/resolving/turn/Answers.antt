@@ -1,7 +1,5 @@
-use Rattle.std.proofs.Common.{◌≡◌, ◌∙◌}
+use Rattle.std.proofs.Common.{◌∙◌}
 use Rattle.std.proofs.lemmas.Result.{err_from_is_err_and}
-use Rattle.conc_run_steps.specs.Steps.{readings_in}
-use Rattle.conc_resolver_workers.proofs.Coming.{finished-at}
 use Rattle.conc_resolver_workers.proofs.Advancing.{after-err, after-ok, handed-on}
 use Rattle.conc_resolver_workers.proofs.Filled.{filled-quiet, fills-handed, partly-quiet}
 use Rattle.conc_resolver_workers.proofs.resolving.turn.Goals as goal
