@@ -18,7 +18,7 @@ use conc_script::read_script;
 use conc_setup::read_setup;
 use conc_tables::read_table;
 use conc_types::{
-    Event, Extent, Moment, Outcome, Phase, PlaceId, Plan, ReadFail, RequestId, Seq, Status,
+    Digests, Event, Extent, Moment, Outcome, Phase, PlaceId, Plan, ReadFail, RequestId, Seq, Status,
 };
 use conc_view::{Naming, Opened, Publisher, Snapshot, Told, Watcher, new_view};
 use conc_watch::{Watchers, put_watch_lines};
@@ -68,6 +68,12 @@ const TWO_ENDED: Event = Event::Ended {
         offset: 39,
         length: 39,
     }),
+};
+
+// Those of no input.
+const DIGESTS: Digests = Digests {
+    full: [0; 32],
+    base: [0; 32],
 };
 
 // The events of a run, each with how many requests are pending, running, completed and inactive after it.
@@ -129,11 +135,11 @@ fn begun(alloc: Global, disk: &mut MemDisk) -> Result<Journal, Fail>
     ensures none { IfOk result (λ journal. journal_list journal ≡ []) }
 {
     let opened = Journal::open_on(alloc, disk)?;
-    if opened.broken.is_some() || opened.digest.is_some() {
+    if opened.broken.is_some() || opened.label.is_some() {
         return Err("the disk is not empty".into());
     }
     let mut journal = opened.journal;
-    journal.begin(disk, &[0; 32])?;
+    journal.begin(disk, &DIGESTS)?;
     journal.reserve(EVENTS.len() as u64)?;
     Ok(journal)
 }

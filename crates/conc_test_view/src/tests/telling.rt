@@ -43,7 +43,7 @@ pub(super) fn tell<'p, J: Naming, R: Wait + Abort>(
     if !machine.judge(&event) {
         panic!(rt; "the event is not lawful");
     }
-    let Ok(receipt) = journal.append(disk, event) else {
+    let Ok(receipt) = journal.append(disk, event, 0) else {
         panic!(rt; "the disk failed");
     };
     machine.apply(event);
