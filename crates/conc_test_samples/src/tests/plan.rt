@@ -53,12 +53,7 @@ const STAMPS_OF_SIX: [u64; 6] = [
 ];
 
 // The plan of a script for a setup.
-fn plan_of(
-    rt: &impl Abort,
-    alloc: Global,
-    setup: &[u8],
-    script: &[u8],
-) -> Result<Plan, ReadFail> {
+fn plan_of(rt: &impl Abort, alloc: Global, setup: &[u8], script: &[u8]) -> Result<Plan, ReadFail> {
     let setup = read_setup(alloc, setup)?;
     let script = read_script(alloc, script, &setup)?;
     let mut tables = Vec::new(alloc);

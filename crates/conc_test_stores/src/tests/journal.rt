@@ -352,7 +352,11 @@ fn each_gate_is_told(rt: HostRuntime) -> Result<(), Fail> {
 #[test]
 fn the_gate_of_the_version_is_told(rt: HostRuntime) -> Result<(), Fail> {
     for value in 0..=255 {
-        let version = if value == 0 { Version::One } else { Version::Two };
+        let version = if value == 0 {
+            Version::One
+        } else {
+            Version::Two
+        };
         let want = Ok((Some(version), 9, None));
         let found = found_with(&rt, rt.alloc(), NINE_IN_TWO, 63, value)?;
         same_at(&rt, found, want, value);

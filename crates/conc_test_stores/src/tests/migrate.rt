@@ -4,9 +4,7 @@ ghost use Rattle.conc_journal.specs.Journals.{IsOn};
 ghost use Rattle.conc_journal_image.specs.Fields.{has_record};
 
 use super::expect::{same, same_at};
-use super::images::{
-    BASE, COMMAND, DIGEST, DIGESTS, NINE_IN_ONE, NINE_IN_TWO, STAMPS, TICK,
-};
+use super::images::{BASE, COMMAND, DIGEST, DIGESTS, NINE_IN_ONE, NINE_IN_TWO, STAMPS, TICK};
 use super::journal::{bytes_on, disk_of, in_turn};
 use conc_disk::Disk;
 use conc_disk_devices::MemDisk;
@@ -96,7 +94,11 @@ fn goes_on_in_version_2(rt: HostRuntime) -> Result<(), Fail> {
     assert!(rt; migrate(&rt, &mut journal, &mut disk, &[]));
     assert!(rt; journal.events().len() == 1);
     journal.reserve(1)?;
-    same(&rt, append(&rt, &mut journal, &mut disk, COMMAND, STAMPS[0]), None);
+    same(
+        &rt,
+        append(&rt, &mut journal, &mut disk, COMMAND, STAMPS[0]),
+        None,
+    );
     let bytes = bytes_on(alloc, &mut disk)?;
     same(&rt, bytes.get(..128), NINE_IN_TWO.get(..128));
     same(&rt, bytes.len(), 129);
@@ -123,7 +125,9 @@ fn version_of<Rt: Abort>(
 // Opening makes three calls. A migration writes each of the two stamps and the base digest, syncs, writes the version,
 // and syncs.
 const FIRST: u64 = 3;
+
 const VERSION: u64 = 7;
+
 const BEHIND: u64 = 9;
 
 #[test]
@@ -139,7 +143,11 @@ fn a_stop_leaves_one_version_or_the_other(rt: HostRuntime) -> Result<(), Fail> {
             let version = version_of(&rt, alloc, &mut crashed, (call, choice))?;
             let may_be_one = call < BEHIND;
             let may_be_two = call >= VERSION;
-            let may = if version == Version::One { may_be_one } else { may_be_two };
+            let may = if version == Version::One {
+                may_be_one
+            } else {
+                may_be_two
+            };
             assert!(rt; may, "{call} {choice}: {version:?}");
         }
     }
@@ -152,7 +160,12 @@ fn fail_at<Rt: Abort>(rt: &Rt, alloc: Global, call: u64) -> Result<MemDisk, Fail
     let (mut journal, _) = opened(rt, alloc, &mut disk)?;
     assert!(rt; journal.events().len() == 9);
     journal.reserve(1)?;
-    same_at(rt, migrate(rt, &mut journal, &mut disk, &STAMPS), false, call);
+    same_at(
+        rt,
+        migrate(rt, &mut journal, &mut disk, &STAMPS),
+        false,
+        call,
+    );
     let after = append(rt, &mut journal, &mut disk, COMMAND, 0);
     same_at(rt, after, Some(AppendFail::Failed), call);
     same_at(rt, journal.events(), in_turn().as_slice(), call);
@@ -166,8 +179,17 @@ fn after_a_fault_of_a_migration_the_next_one_goes_on(rt: HostRuntime) -> Result<
     for call in FIRST..BEHIND {
         let mut disk = fail_at(&rt, alloc, call)?;
         // The version was written before the last call.
-        let wanted = if call > VERSION { Version::Two } else { Version::One };
-        same_at(&rt, version_of(&rt, alloc, &mut disk, (call, 0))?, wanted, call);
+        let wanted = if call > VERSION {
+            Version::Two
+        } else {
+            Version::One
+        };
+        same_at(
+            &rt,
+            version_of(&rt, alloc, &mut disk, (call, 0))?,
+            wanted,
+            call,
+        );
         let (mut journal, _) = opened(&rt, alloc, &mut disk)?;
         if wanted == Version::One {
             assert!(rt; migrate(&rt, &mut journal, &mut disk, &STAMPS));
