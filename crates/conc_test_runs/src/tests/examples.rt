@@ -31,7 +31,7 @@
 //! - `journal-length COUNT`: so many bytes in the journal. `journal-at PLACE`: the bytes that the lines make stand there.
 //! - `spool-text`: the lines are what the spool has.
 //! - `disks-stay`: both disks have what the call found.
-//! - `goes-on`: the journal begins with the records that the call found in it.
+//! - `goes-on`: the journal begins with the records that the call found in it; of a journal of version 1 the stamps may be others.
 //! - `starts-once`: no request that ended in its output starts again.
 //! - `finished`: a check of its output over the same files calls it lawful and finished.
 
@@ -99,17 +99,31 @@ fn begun(alloc: Global) -> Example<'static> {
     }
 }
 
+// Whether a journal of version 2 has 32 bytes of one of version 1, at this place: the second half of the header has the digest, and in
+// a command's record all but its stamp stays.
+fn is_migrated(place: usize, old: &[u8], new: &[u8]) -> bool {
+    if place == 1 {
+        old.get(..16) == new.get(..16)
+    } else {
+        old.get(1) == Some(&2) && old.get(..12) == new.get(..12) && old.get(20..) == new.get(20..)
+    }
+}
+
 // Whether a journal has the header and each record, behind an open gate, that was found in it.
 fn goes_on(found: &[u8], journal: &[u8]) -> bool {
     if found.get(64) != Some(&1) {
         return true;
     }
+    let is_old = found.get(63) == Some(&0);
     for (place, record) in found.chunks(32).enumerate() {
         if place > 1 && record.first() != Some(&1) {
             break;
         }
         let from = place.saturating_mul(32);
-        if journal.get(from..from.saturating_add(record.len())) != Some(record) {
+        let Some(kept) = journal.get(from..from.saturating_add(record.len())) else {
+            return false;
+        };
+        if kept != record && !(is_old && is_migrated(place, record, kept)) {
             return false;
         }
     }
