@@ -32,6 +32,7 @@ MOST_SUBMISSIONS = 1200
 LAST_READING = "2025-04-02T10:00:00\n"
 
 HEADER = 64
+VERSION = 63
 MAGIC = b"conc journal 1\n"
 # gate, kind, outcome, 0, first, second, wide, length, 0
 RECORD = struct.Struct(">BBBBIIQI8s")
@@ -39,7 +40,7 @@ OUTCOMES = ("", "Normal", "Warning", "Error", "Terminated")
 # Each kind of event, and the fields that its record fills.
 KINDS = {
     1: ("tick", {"wide"}),
-    2: ("do", {"first"}),
+    2: ("do", {"first", "wide"}),
     3: ("open", {"first"}),
     4: ("stage", {"first", "second"}),
     5: ("close", {"outcome", "first"}),
@@ -81,10 +82,11 @@ def event_of(record, number):
 
 
 def read_journal(data):
-    """The digest and the events of a journal; no digest where it is not begun."""
+    """The two digests and the events of a journal of version 2; no digest where it is not begun."""
     if len(data) <= 1 or data[0] == 0:
         return None, []
-    demand(len(data) > HEADER and data[1:16] == MAGIC and not data[48:HEADER].strip(b"\0"), "the file is no journal")
+    demand(len(data) > HEADER and data[1:16] == MAGIC, "the file is no journal")
+    demand(data[VERSION] == 1, "the journal is not of version 2")
     events = []
     at = HEADER
     while data[at]:
@@ -92,7 +94,7 @@ def read_journal(data):
         demand(len(data) > at + RECORD.size, f"record {number} of the journal is cut off")
         events.append(event_of(data[at : at + RECORD.size], number))
         at += RECORD.size
-    return data[16:48], events
+    return data[16:VERSION], events
 
 
 def bytes_of(file):
