@@ -94,16 +94,24 @@ bytes 1 7 0 0 0 0 0 1 0 0 0 0 0 0 0 0 0 0 0 0 0 0 0 0 0 0 0 0 0 0 0 0
 bytes 0
 "#;
 
-// The header that the journal then has, and the stamps of the two commands that were done.
+// The journal then has the base digest, whose version a crash may leave as any value but 0, and the stamps of the two commands that were
+// done; and the script may grow.
 const OF_VERSION_2: &str = r#"== journal-at 0
 bytes 1
 text conc journal 1
 bytes 10
 bytes 225 255 188 191 254 4 216 38 249 172 44 86 109 234 255 168 30 148 168 110 32 240 253 182 130 119 162 245 120 24 89 173
-bytes 79 35 50 141 156 136 27 76 161 140 213 97 212 242 162 1
+bytes 79 35 50 141 156 136 27 76 161 140 213 97 212 242 162
+== journal-at 64
 bytes 1 1 0 0 0 0 0 0 0 0 0 0 0 0 0 14 223 87 102 144 0 0 0 0 0 0 0 0 0 0 0 0
 bytes 1 2 0 0 0 0 0 1 0 0 0 0 28 114 212 251 147 134 3 194 0 0 0 0 0 0 0 0 0 0 0 0
 bytes 1 2 0 0 0 0 0 2 0 0 0 0 196 223 247 107 215 158 48 8 0 0 0 0 0 0 0 0 0 0 0 0
+== script
+2025-03-03T09:00:00,submit,P,ann,,,,
+2025-03-03T09:00:00,submit,P,ann,,,,
+2025-03-03T10:00:00,submit,P,ann,,,,
+== call status a.toml a.csv
+== ends 0
 "#;
 
 // Of the runs behind a crash or a fault some have no workers, and some 4.
