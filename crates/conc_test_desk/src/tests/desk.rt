@@ -28,8 +28,8 @@ use conc_setup::read_setup;
 use conc_tables::read_table;
 use conc_time::place_count;
 use conc_types::{
-    Event, Extent, NoMemory, Outcome, Phase, PlaceId, Plan, ReadFail, Readings, RequestId, Seq,
-    Status,
+    Digests, Event, Extent, NoMemory, Outcome, Phase, PlaceId, Plan, ReadFail, Readings, RequestId,
+    Seq, Status,
 };
 use std::alloc::Global;
 use std::fmt::Debug;
@@ -60,6 +60,12 @@ const HOLDS: &[u8] = b"at,do,what,user,priority,start,domain,argument
 2025-03-03T09:00:00,submit,P,ann,,,,
 2025-03-03T09:05:00,hold,1,,,,,
 ";
+
+// Those of no input.
+const DIGESTS: Digests = Digests {
+    full: [0; 32],
+    base: [0; 32],
+};
 
 const ONE: RequestId = RequestId { number: 1 };
 
@@ -126,7 +132,7 @@ fn begin<'p, Rt: Abort>(
     ensures room { IfSome result (λ work. 16 ≤ room_of work.journal) }
 {
     let Disks { journal, spool } = disks;
-    match open(alloc, plan, readings, &[0; 32], journal, spool) {
+    match open(alloc, plan, readings, &DIGESTS, journal, spool) {
         Ok(work) => {
             if work.journal.room() < 16 {
                 panic!(rt; "the journal has little room");
