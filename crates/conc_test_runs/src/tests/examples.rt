@@ -25,6 +25,7 @@
 //!
 //! - `ends NUMBER`: this status and, where the lines are not empty, with the line that tells the exit. A call whose status is not 0
 //!   printed nothing.
+//! - `other-stamps FOUND GIVEN`: it told a command of another script, which has these stamps in the journal and in the script.
 //! - `prints`: the lines are its output, where a `*` stands for any byte. `prints-lines COUNT`: so many lines.
 //! - `watched COUNT`: its output is the lines, a history, and behind it lines of so many watchers (`is_watched`).
 //! - `judged`: a check of its output over the same files answers with the lines.
@@ -91,6 +92,7 @@ fn begun(alloc: Global) -> Example<'static> {
         went_on: true,
         ended: Ended {
             number: 0,
+            stamps: None,
             text: Vec::new(alloc),
             line: Vec::new(alloc),
             journal: Vec::new(alloc),
@@ -263,6 +265,10 @@ fn is_met<Rt: Abort + Threads + Wait + Sync>(
             u64::from(ended.number) == number_of(rt, rest)
                 && ended.line.as_slice() == lines.as_bytes()
                 && (ended.number == 0 || ended.text.is_empty())
+        }
+        "other-stamps" => {
+            let (found, given) = rest.split_once(' ').expect(rt, step);
+            ended.stamps == Some((number_of(rt, found), number_of(rt, given)))
         }
         "prints" => is_like(&text_of(alloc, lines)?, &ended.text),
         "watched" => has_watched(alloc, ended, lines, number_of(rt, rest))?,

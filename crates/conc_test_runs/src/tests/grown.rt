@@ -89,7 +89,7 @@ a,2,15
 b,1,20
 total,3,35
 =====
-a script may grow: with 4 threads
+a script may grow: with 4 threads, and 2 watchers
 == script
 2025-03-03T09:00:00,submit,P,ann,,,,
 2025-03-03T09:00:00,submit,P,ann,,,,
@@ -102,9 +102,9 @@ a script may grow: with 4 threads
 == clock
 2025-03-03T09:00:00
 2025-03-03T10:00:00
-== call run a.toml a.csv a.clock --threads 4
+== call run a.toml a.csv a.clock --threads 4 --watch 2
 == ends 0
-== prints
+== watched 2
 tick 2025-03-03T09:00:00
 do 1
 do 2
@@ -125,8 +125,6 @@ end 3 Normal 78 39
 1 Completed Normal P
 2 Completed Normal P
 3 Completed Normal P
-== judged
-lawful 16 finished
 == journal-length 577
 == journal-at 0
 bytes 1
@@ -353,6 +351,7 @@ pub(crate) const OTHER: &str =
 == run
 == ends 16
 other script: 1
+== other-stamps 2049934957383910338 2859935939216515390
 == disks-stay
 == call status a.toml a.csv
 == ends 16
@@ -378,6 +377,7 @@ another script is told by the first command that was done and is another one: th
 == run
 == ends 16
 other script: 2
+== other-stamps 14186329393791381512 12020536901168028536
 == disks-stay
 == call status a.toml a.csv
 == ends 16
@@ -403,6 +403,7 @@ another script is told by the first command that was done and is another one: co
 == run
 == ends 16
 other script: 2
+== other-stamps 14186329393791381512 16777989802814758104
 == disks-stay
 == call status a.toml a.csv
 == ends 16
@@ -427,6 +428,7 @@ another script is told by the first command that was done and is another one: th
 == run
 == ends 16
 other script: 2
+== other-stamps 14186329393791381512 0
 == disks-stay
 == call status a.toml a.csv
 == ends 16
@@ -450,6 +452,7 @@ another script is told by the first command that was done and is another one: th
 == run
 == ends 16
 other script: 1
+== other-stamps 2049934957383910338 0
 == disks-stay
 == call status a.toml a.csv
 == ends 16
@@ -476,6 +479,7 @@ another script is told by the first command that was done and is another one: th
 == run
 == ends 16
 other script: 1
+== other-stamps 2049934957383910338 11647455880270414568
 == disks-stay
 == call status a.toml a.csv
 == ends 16
@@ -500,6 +504,32 @@ put 0 at 147
 == run
 == ends 16
 other script: 2
+== disks-stay
+=====
+another script is told by the number of no command: it is 9
+== script
+2025-03-03T09:00:00,submit,P,ann,,,,
+2025-03-03T09:00:00,submit,P,ann,,,,
+== run
+== journal
+put 9 at 103
+== run
+== ends 16
+other script: 9
+== other-stamps 2049934957383910338 0
+== disks-stay
+=====
+another script is told by the number of no command: it is 0
+== script
+2025-03-03T09:00:00,submit,P,ann,,,,
+2025-03-03T09:00:00,submit,P,ann,,,,
+== run
+== journal
+put 0 at 103
+== run
+== ends 16
+other script: 0
+== other-stamps 2049934957383910338 0
 == disks-stay
 =====
 another script is no script that is spelled in another way: the defaults are written, and who holds does not count

@@ -347,6 +347,50 @@ first 77
 unlawful record: 9
 == disks-stay
 =====
+a journal of version 1 stays as it is where a run is refused: its second record has the number of no command
+== script
+2025-03-03T09:00:00,submit,P,ann,,,,
+2025-03-03T09:00:00,submit,P,ann,,,,
+== journal
+bytes 1
+text conc journal 1
+bytes 10
+bytes 225 255 188 191 254 4 216 38 249 172 44 86 109 234 255 168 30 148 168 110 32 240 253 182 130 119 162 245 120 24 89 173
+zeros 16
+bytes 1 1 0 0 0 0 0 0 0 0 0 0 0 0 0 14 223 87 102 144 0 0 0 0 0 0 0 0 0 0 0 0
+bytes 1 2 0 0 0 0 0 1 0 0 0 0 0 0 0 0 0 0 0 0 0 0 0 0 0 0 0 0 0 0 0 0
+bytes 1 2 0 0 0 0 0 2 0 0 0 0 0 0 0 0 0 0 0 0 0 0 0 0 0 0 0 0 0 0 0 0
+bytes 1 6 0 0 0 0 0 1 0 0 0 0 0 0 0 0 0 0 0 0 0 0 0 0 0 0 0 0 0 0 0 0
+bytes 1 7 0 0 0 0 0 1 0 0 0 0 0 0 0 0 0 0 0 0 0 0 0 0 0 0 0 0 0 0 0 0
+bytes 1 8 1 0 0 0 0 1 0 0 0 0 0 0 0 0 0 0 0 0 0 0 0 39 0 0 0 0 0 0 0 0
+bytes 1 6 0 0 0 0 0 2 0 0 0 0 0 0 0 0 0 0 0 0 0 0 0 0 0 0 0 0 0 0 0 0
+bytes 1 7 0 0 0 0 0 2 0 0 0 0 0 0 0 0 0 0 0 0 0 0 0 0 0 0 0 0 0 0 0 0
+bytes 1 8 1 0 0 0 0 2 0 0 0 0 0 0 0 0 0 0 0 39 0 0 0 39 0 0 0 0 0 0 0 0
+bytes 0
+== spool
+text key,count,sum
+bytes 10
+text a,2,15
+bytes 10
+text b,1,20
+bytes 10
+text total,3,35
+bytes 10
+text key,count,sum
+bytes 10
+text a,2,15
+bytes 10
+text b,1,20
+bytes 10
+text total,3,35
+bytes 10
+== journal
+put 9 at 103
+== run
+== ends 13
+unlawful record: 2
+== disks-stay
+=====
 the byte of the version is a gate: any value but 0 is version 2
 == script
 2025-03-03T09:00:00,submit,P,ann,,,,
