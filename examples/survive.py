@@ -1,7 +1,8 @@
 """What the runs of examples/survive left, read from the bytes of their files as docs/FORMATS.md tells.
 
 survive.py judge FOLDER OUT            the journal in FOLDER holds the events that a run printed into the file OUT, and
-                                       the spool reaches to the end of their reports
+                                       the stamps of the script's commands; the spool reaches to the end of their
+                                       reports
 survive.py stop PROGRAM EXAMPLE ROOM   ends runs of an example at 30 moments, each in a folder of ROOM, and judges what
                                        they left and what the next run makes of it: first runs without workers, and
                                        then runs with 4 threads, each continued with another number of threads
@@ -10,6 +11,7 @@ It ends with status 1 at the first difference.
 """
 
 import csv
+import hashlib
 import io
 import math
 import shutil
@@ -20,6 +22,11 @@ import time
 from collections import namedtuple
 from datetime import datetime, timedelta
 from pathlib import Path
+
+try:
+    import tomllib
+except ImportError:  # before Python 3.11 no stamp is made here
+    tomllib = None
 
 STOPS = 30
 # In seconds: a shorter run is made longer, so that the moments fall within it, and all runs together take no longer.
@@ -34,6 +41,7 @@ LAST_READING = "2025-04-02T10:00:00\n"
 HEADER = 64
 VERSION = 63
 MAGIC = b"conc journal 1\n"
+WORDS = ("submit", "hold", "unhold", "cancel", "terminate")
 # gate, kind, outcome, 0, first, second, wide, length, 0
 RECORD = struct.Struct(">BBBBIIQI8s")
 OUTCOMES = ("", "Normal", "Warning", "Error", "Terminated")
@@ -95,6 +103,35 @@ def read_journal(data):
         events.append(event_of(data[at : at + RECORD.size], number))
         at += RECORD.size
     return data[16:VERSION], events
+
+
+def seconds_of(moment):
+    return (datetime.fromisoformat(moment) - datetime(1, 1, 1)) // timedelta(seconds=1)
+
+
+def coding_of(order, items):
+    """The coding of a command, a record of the script."""
+    at, word, what, user, priority, start, domain, argument = order
+    coding = struct.pack(">QB", seconds_of(at), WORDS.index(word) + 1)
+    if word != "submit":
+        return coding + struct.pack(">I", int(what))
+    coding += struct.pack(">BIBQ", *items[what], int(priority or 50), seconds_of(start or at))
+    texts = (text.encode() for text in (user, domain or "Standard", argument))
+    return coding + b"".join(struct.pack(">I", len(text)) + text for text in texts)
+
+
+def stamps_of(folder):
+    """The stamps of the commands of a.csv."""
+    setup = tomllib.loads((folder / "a.toml").read_text())
+    items = {}
+    for kind, key in enumerate(("program", "set"), start=1):
+        items.update((entry["name"], (kind, number)) for number, entry in enumerate(setup.get(key, ())))
+    last = bytes(32)
+    stamps = []
+    for order in list(csv.reader((folder / "a.csv").read_text().splitlines()))[1:]:
+        last = hashlib.sha256(last + coding_of(order, items)).digest()
+        stamps.append(int.from_bytes(last[:8], "big"))
+    return stamps
 
 
 def bytes_of(file):
@@ -162,6 +199,11 @@ def judge(folder, out):
     kept = read_kept(folder)
     judge_lines(kept, event_lines(out.read_text()), {})
     reports_of(kept)
+    if tomllib:
+        stamps = stamps_of(folder)
+        for event in kept.events:
+            same = event.word != "do" or event.wide == stamps[event.first - 1]
+            demand(same, f"command {event.first} has another stamp than the script's")
 
 
 # ---- runs that are ended

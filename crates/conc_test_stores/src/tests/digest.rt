@@ -6,8 +6,6 @@ use conc_types::Digests;
 // without the script, which is `00 .. 02 ab`.
 #[test]
 fn digests_an_input(rt: HostRuntime) {
-    let mut digest = InputDigest::new(b"s", b"ab");
-    digest.add_table(b"t.csv", b"k,v");
     let wanted = Digests {
         full: [
             0xd9, 0x3c, 0x51, 0xe1, 0x4e, 0x6c, 0x14, 0xc2, 0x7d, 0x12, 0x8d, 0x8f, 0x5e, 0x2a,
@@ -20,5 +18,8 @@ fn digests_an_input(rt: HostRuntime) {
             0x4a, 0x2e, 0x99, 0x9e,
         ],
     };
+    let digest = InputDigest::new(b"s", b"ab").with_table(b"t.csv", b"k,v");
+    same(&rt, digest.finish(), wanted);
+    let digest = InputDigest::new(b"s", b"ab").with_table_on_threads(&rt, b"t.csv", b"k,v");
     same(&rt, digest.finish(), wanted);
 }
