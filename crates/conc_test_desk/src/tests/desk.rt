@@ -61,12 +61,6 @@ const HOLDS: &[u8] = b"at,do,what,user,priority,start,domain,argument
 2025-03-03T09:05:00,hold,1,,,,,
 ";
 
-// Those of no input.
-const DIGESTS: Digests = Digests {
-    full: [0; 32],
-    base: [0; 32],
-};
-
 const ONE: RequestId = RequestId { number: 1 };
 
 const HERE: PlaceId = PlaceId { index: 0 };
@@ -132,7 +126,11 @@ fn begin<'p, Rt: Abort>(
     ensures room { IfSome result (λ work. 16 ≤ room_of work.journal) }
 {
     let Disks { journal, spool } = disks;
-    match open(alloc, plan, readings, &DIGESTS, journal, spool) {
+    let digests = Digests {
+        full: [0; 32],
+        base: [0; 32],
+    };
+    match open(alloc, plan, readings, &digests, journal, spool) {
         Ok(work) => {
             if work.journal.room() < 16 {
                 panic!(rt; "the journal has little room");

@@ -70,12 +70,6 @@ const TWO_ENDED: Event = Event::Ended {
     }),
 };
 
-// Those of no input.
-const DIGESTS: Digests = Digests {
-    full: [0; 32],
-    base: [0; 32],
-};
-
 // The events of a run, each with how many requests are pending, running, completed and inactive after it.
 const EVENTS: [(Event, [u32; 4]); 9] = [
     (
@@ -139,7 +133,11 @@ fn begun(alloc: Global, disk: &mut MemDisk) -> Result<Journal, Fail>
         return Err("the disk is not empty".into());
     }
     let mut journal = opened.journal;
-    journal.begin(disk, &DIGESTS)?;
+    let digests = Digests {
+        full: [0; 32],
+        base: [0; 32],
+    };
+    journal.begin(disk, &digests)?;
     journal.reserve(EVENTS.len() as u64)?;
     Ok(journal)
 }
