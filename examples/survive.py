@@ -60,7 +60,7 @@ KINDS = {
 }
 
 Event = namedtuple("Event", "word outcome first second wide length")
-Kept = namedtuple("Kept", "digest events spool")
+Kept = namedtuple("Kept", "digest events stamps spool")
 Whole = namedtuple("Whole", "kept text lines places duration")
 
 
@@ -90,19 +90,22 @@ def event_of(record, number):
 
 
 def read_journal(data):
-    """The two digests and the events of a journal of version 2; no digest where it is not begun."""
+    """The digest, the events and the stamps of a journal: no digest where it is not begun, and no stamps in version 1."""
     if len(data) <= 1 or data[0] == 0:
-        return None, []
+        return None, [], []
     demand(len(data) > HEADER and data[1:16] == MAGIC, "the file is no journal")
-    demand(data[VERSION] == 1, "the journal is not of version 2")
-    events = []
+    events, stamps = [], []
     at = HEADER
     while data[at]:
         number = len(events) + 1
         demand(len(data) > at + RECORD.size, f"record {number} of the journal is cut off")
-        events.append(event_of(data[at : at + RECORD.size], number))
+        event = event_of(data[at : at + RECORD.size], number)
+        if event.word == "do":
+            stamps.append(event.wide)
+            event = event._replace(wide=0)
+        events.append(event)
         at += RECORD.size
-    return data[16:VERSION], events
+    return (data[16:VERSION], events, stamps) if data[VERSION] else (data[16:48], events, None)
 
 
 def seconds_of(moment):
@@ -195,15 +198,20 @@ def judge_lines(kept, lines, places):
     demand(len(set(places.values())) == len(places), "two places are printed alike")
 
 
+def judge_stamps(kept, folder):
+    """Demands that the journal is of version 2 and has the stamps of the script's commands."""
+    demand(kept.stamps is not None, "the journal is of version 1")
+    if tomllib:
+        stamps = stamps_of(folder)
+        wanted = [stamps[event.first - 1] for event in kept.events if event.word == "do"]
+        demand(kept.stamps == wanted, "the commands have other stamps than in the script")
+
+
 def judge(folder, out):
     kept = read_kept(folder)
     judge_lines(kept, event_lines(out.read_text()), {})
+    judge_stamps(kept, folder)
     reports_of(kept)
-    if tomllib:
-        stamps = stamps_of(folder)
-        for event in kept.events:
-            same = event.word != "do" or event.wide == stamps[event.first - 1]
-            demand(same, f"command {event.first} has another stamp than the script's")
 
 
 # ---- runs that are ended
@@ -244,6 +252,12 @@ def fresh(example, folder, changed):
     for name, text in changed.items():
         (folder / name).write_bytes(text.encode())
     return folder
+
+
+def lay_disks(example, folder):
+    """Puts into the folder the disks that an older program left, where the example has such."""
+    for disk in (example / "before").glob("conc.*"):
+        shutil.copy(disk, folder)
 
 
 def longer(example, count):
@@ -334,6 +348,7 @@ def stop_and_go_on(program, folder, delay, whole):
     judge_left(left, whole)
     text = run(words_of(program), folder)
     kept = read_kept(folder)
+    judge_stamps(kept, folder)
     judge_next(left, kept, text, whole)
     return left, kept, took
 
@@ -353,6 +368,7 @@ def stop_and_go_on_in_threads(program, folder, delay, whole, others):
     reports_of(left)
     text = run(words_of(program, others), folder)
     kept, lines, count = read_kept(folder), event_lines(text), len(left.events)
+    judge_stamps(kept, folder)
     judge_lines(kept, lines, whole.places)
     demand(kept.events[:count] == left.events, "the history does not begin with the events that were left")
     if count > 0:
@@ -368,6 +384,7 @@ def go_on(program, folder, threads, makers, known):
     text = run(words_of(program, threads), folder)
     kept, lines = read_kept(folder), event_lines(text)
     count = len(left.events)
+    judge_stamps(kept, folder)
     judge_lines(kept, lines, {})
     demand(kept.events[:count] == left.events, "the history does not begin with the events that were left")
     ended = {event.first for event in left.events if event.word == "end"}
