@@ -1,7 +1,8 @@
 """What the runs of examples/survive left, read from the bytes of their files as docs/FORMATS.md tells.
 
 survive.py judge FOLDER OUT            the journal in FOLDER holds the events that a run printed into the file OUT, and
-                                       the spool reaches to the end of their reports
+                                       the stamps of the script's commands; the spool reaches to the end of their
+                                       reports
 survive.py stop PROGRAM EXAMPLE ROOM   ends runs of an example at 30 moments, each in a folder of ROOM, and judges what
                                        they left and what the next run makes of it: first runs without workers, and
                                        then runs with 4 threads, each continued with another number of threads
@@ -10,6 +11,7 @@ It ends with status 1 at the first difference.
 """
 
 import csv
+import hashlib
 import io
 import math
 import shutil
@@ -20,6 +22,11 @@ import time
 from collections import namedtuple
 from datetime import datetime, timedelta
 from pathlib import Path
+
+try:
+    import tomllib
+except ImportError:  # before Python 3.11 no stamp is made here
+    tomllib = None
 
 STOPS = 30
 # In seconds: a shorter run is made longer, so that the moments fall within it, and all runs together take no longer.
@@ -32,14 +39,16 @@ MOST_SUBMISSIONS = 1200
 LAST_READING = "2025-04-02T10:00:00\n"
 
 HEADER = 64
+VERSION = 63
 MAGIC = b"conc journal 1\n"
+WORDS = ("submit", "hold", "unhold", "cancel", "terminate")
 # gate, kind, outcome, 0, first, second, wide, length, 0
 RECORD = struct.Struct(">BBBBIIQI8s")
 OUTCOMES = ("", "Normal", "Warning", "Error", "Terminated")
 # Each kind of event, and the fields that its record fills.
 KINDS = {
     1: ("tick", {"wide"}),
-    2: ("do", {"first"}),
+    2: ("do", {"first", "wide"}),
     3: ("open", {"first"}),
     4: ("stage", {"first", "second"}),
     5: ("close", {"outcome", "first"}),
@@ -51,7 +60,7 @@ KINDS = {
 }
 
 Event = namedtuple("Event", "word outcome first second wide length")
-Kept = namedtuple("Kept", "digest events spool")
+Kept = namedtuple("Kept", "digest events stamps spool")
 Whole = namedtuple("Whole", "kept text lines places duration")
 
 
@@ -81,18 +90,51 @@ def event_of(record, number):
 
 
 def read_journal(data):
-    """The digest and the events of a journal; no digest where it is not begun."""
+    """The digest, the events and the stamps of a journal: no digest where it is not begun, and no stamps in version 1."""
     if len(data) <= 1 or data[0] == 0:
-        return None, []
-    demand(len(data) > HEADER and data[1:16] == MAGIC and not data[48:HEADER].strip(b"\0"), "the file is no journal")
-    events = []
+        return None, [], []
+    demand(len(data) > HEADER and data[1:16] == MAGIC, "the file is no journal")
+    events, stamps = [], []
     at = HEADER
     while data[at]:
         number = len(events) + 1
         demand(len(data) > at + RECORD.size, f"record {number} of the journal is cut off")
-        events.append(event_of(data[at : at + RECORD.size], number))
+        event = event_of(data[at : at + RECORD.size], number)
+        if event.word == "do":
+            stamps.append(event.wide)
+            event = event._replace(wide=0)
+        events.append(event)
         at += RECORD.size
-    return data[16:48], events
+    return (data[16:VERSION], events, stamps) if data[VERSION] else (data[16:48], events, None)
+
+
+def seconds_of(moment):
+    return (datetime.fromisoformat(moment) - datetime(1, 1, 1)) // timedelta(seconds=1)
+
+
+def coding_of(order, items):
+    """The coding of a command, a record of the script."""
+    at, word, what, user, priority, start, domain, argument = order
+    coding = struct.pack(">QB", seconds_of(at), WORDS.index(word) + 1)
+    if word != "submit":
+        return coding + struct.pack(">I", int(what))
+    coding += struct.pack(">BIBQ", *items[what], int(priority or 50), seconds_of(start or at))
+    texts = (text.encode() for text in (user, domain or "Standard", argument))
+    return coding + b"".join(struct.pack(">I", len(text)) + text for text in texts)
+
+
+def stamps_of(folder):
+    """The stamps of the commands of a.csv."""
+    setup = tomllib.loads((folder / "a.toml").read_text())
+    items = {}
+    for kind, key in enumerate(("program", "set"), start=1):
+        items.update((entry["name"], (kind, number)) for number, entry in enumerate(setup.get(key, ())))
+    last = bytes(32)
+    stamps = []
+    for order in list(csv.reader((folder / "a.csv").read_text().splitlines()))[1:]:
+        last = hashlib.sha256(last + coding_of(order, items)).digest()
+        stamps.append(int.from_bytes(last[:8], "big"))
+    return stamps
 
 
 def bytes_of(file):
@@ -156,9 +198,19 @@ def judge_lines(kept, lines, places):
     demand(len(set(places.values())) == len(places), "two places are printed alike")
 
 
+def judge_stamps(kept, folder):
+    """Demands that the journal is of version 2 and has the stamps of the script's commands."""
+    demand(kept.stamps is not None, "the journal is of version 1")
+    if tomllib:
+        stamps = stamps_of(folder)
+        wanted = [stamps[event.first - 1] for event in kept.events if event.word == "do"]
+        demand(kept.stamps == wanted, "the commands have other stamps than in the script")
+
+
 def judge(folder, out):
     kept = read_kept(folder)
     judge_lines(kept, event_lines(out.read_text()), {})
+    judge_stamps(kept, folder)
     reports_of(kept)
 
 
@@ -200,6 +252,12 @@ def fresh(example, folder, changed):
     for name, text in changed.items():
         (folder / name).write_bytes(text.encode())
     return folder
+
+
+def lay_disks(example, folder):
+    """Puts into the folder the disks that an older program left, where the example has such."""
+    for disk in (example / "before").glob("conc.*"):
+        shutil.copy(disk, folder)
 
 
 def longer(example, count):
@@ -290,6 +348,7 @@ def stop_and_go_on(program, folder, delay, whole):
     judge_left(left, whole)
     text = run(words_of(program), folder)
     kept = read_kept(folder)
+    judge_stamps(kept, folder)
     judge_next(left, kept, text, whole)
     return left, kept, took
 
@@ -309,6 +368,7 @@ def stop_and_go_on_in_threads(program, folder, delay, whole, others):
     reports_of(left)
     text = run(words_of(program, others), folder)
     kept, lines, count = read_kept(folder), event_lines(text), len(left.events)
+    judge_stamps(kept, folder)
     judge_lines(kept, lines, whole.places)
     demand(kept.events[:count] == left.events, "the history does not begin with the events that were left")
     if count > 0:
@@ -324,6 +384,7 @@ def go_on(program, folder, threads, makers, known):
     text = run(words_of(program, threads), folder)
     kept, lines = read_kept(folder), event_lines(text)
     count = len(left.events)
+    judge_stamps(kept, folder)
     judge_lines(kept, lines, {})
     demand(kept.events[:count] == left.events, "the history does not begin with the events that were left")
     ended = {event.first for event in left.events if event.word == "end"}

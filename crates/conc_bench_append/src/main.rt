@@ -12,7 +12,7 @@ use conc_disk::Disk;
 use conc_disk_devices::open_disk;
 use conc_journal::{Journal, JournalFail};
 use conc_journal_image::MOST_RECORDS;
-use conc_types::{Event, Moment, read_decimal};
+use conc_types::{Digests, Event, Moment, read_decimal};
 use std::alloc::Global;
 use std::env;
 use std::process::ExitCode;
@@ -22,6 +22,12 @@ const TICK: Event = Event::Tick {
     moment: Moment {
         seconds: 63_876_589_200,
     },
+};
+
+// Those of no input.
+const DIGESTS: Digests = Digests {
+    full: [0; 32],
+    base: [0; 32],
 };
 
 // Why nothing was told.
@@ -60,7 +66,7 @@ fn begun<D: Disk>(alloc: Global, disk: &mut D, count: u64) -> Result<Journal, Fa
     if count > MOST_RECORDS - journal.events().len() as u64 {
         return Err(Fail::Full);
     }
-    if opened.digest.is_none() && journal.begin(disk, &[0; 32]).is_err() {
+    if opened.label.is_none() && journal.begin(disk, &DIGESTS).is_err() {
         return Err(Fail::Disk);
     }
     match journal.reserve(count) {
@@ -78,7 +84,7 @@ fn append<D: Disk>(alloc: Global, disk: &mut D, count: u64) -> Result<usize, Fai
     let mut journal = begun(alloc, disk, count)?;
     let mut left = count;
     while left > 0 {
-        match journal.append(disk, TICK) {
+        match journal.append(disk, TICK, 0) {
             Ok(_) => left -= 1,
             Err(_) => return Err(Fail::Disk),
         }

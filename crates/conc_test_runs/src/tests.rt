@@ -4,20 +4,27 @@ mod examples;
 mod exits;
 mod faults;
 mod files;
+mod grown;
 mod journals;
 mod kinds;
 mod threads;
+mod versions;
 mod watching;
 mod worked;
 
 use examples::check_examples;
 use exits::EXITS;
-use faults::{check_crashes_of_journal, check_crashes_of_spool, check_cuts, check_faults};
+use faults::{
+    check_crashes_of_journal, check_crashes_of_migration, check_crashes_of_spool, check_cuts,
+    check_faults, check_faults_of_migration,
+};
 use files::FILES;
+use grown::{GROWN, OTHER};
 use journals::{AFTER_A_FAULT, JOURNALS};
 use kinds::KINDS;
 use std::test::Fail;
 use threads::{ANY_THREADS, THREADS, check_two_at_once};
+use versions::VERSIONS;
 use watching::WATCHED;
 use worked::{check_histories, check_runs, check_runs_on_threads};
 
@@ -66,6 +73,19 @@ fn what_stands_on_disks_is_continued_or_refused(rt: HostRuntime) -> Result<(), F
     check_examples(&rt, rt.alloc(), JOURNALS)
 }
 
+#[test]
+fn a_script_may_grow_and_may_not_change(rt: HostRuntime) -> Result<(), Fail> {
+    for examples in [GROWN, OTHER] {
+        check_examples(&rt, rt.alloc(), examples)?;
+    }
+    Ok(())
+}
+
+#[test]
+fn a_journal_of_version_1_is_read_and_brought_to_version_2(rt: HostRuntime) -> Result<(), Fail> {
+    check_examples(&rt, rt.alloc(), VERSIONS)
+}
+
 // So often the runs on threads are done: each may come to another order.
 const ROUNDS: u64 = 8;
 
@@ -90,6 +110,13 @@ fn after_a_crash_in_each_call_of_the_journal_the_next_run_goes_on(
 }
 
 #[test]
+fn after_a_crash_in_each_call_of_a_run_that_migrates_the_next_run_goes_on(
+    rt: HostRuntime,
+) -> Result<(), Fail> {
+    check_crashes_of_migration(&rt, rt.alloc())
+}
+
+#[test]
 fn after_a_crash_in_each_call_of_the_spool_the_next_run_goes_on(
     rt: HostRuntime,
 ) -> Result<(), Fail> {
@@ -99,6 +126,13 @@ fn after_a_crash_in_each_call_of_the_spool_the_next_run_goes_on(
 #[test]
 fn after_each_single_fault_the_next_run_goes_on(rt: HostRuntime) -> Result<(), Fail> {
     check_faults(&rt, rt.alloc())
+}
+
+#[test]
+fn after_each_single_fault_of_a_run_that_migrates_the_next_run_goes_on(
+    rt: HostRuntime,
+) -> Result<(), Fail> {
+    check_faults_of_migration(&rt, rt.alloc())
 }
 
 #[test]

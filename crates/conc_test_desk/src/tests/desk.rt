@@ -28,8 +28,8 @@ use conc_setup::read_setup;
 use conc_tables::read_table;
 use conc_time::place_count;
 use conc_types::{
-    Event, Extent, NoMemory, Outcome, Phase, PlaceId, Plan, ReadFail, Readings, RequestId, Seq,
-    Status,
+    Digests, Event, Extent, NoMemory, Outcome, Phase, PlaceId, Plan, ReadFail, Readings, RequestId,
+    Seq, Status,
 };
 use std::alloc::Global;
 use std::fmt::Debug;
@@ -126,7 +126,11 @@ fn begin<'p, Rt: Abort>(
     ensures room { IfSome result (λ work. 16 ≤ room_of work.journal) }
 {
     let Disks { journal, spool } = disks;
-    match open(alloc, plan, readings, &[0; 32], journal, spool) {
+    let digests = Digests {
+        full: [0; 32],
+        base: [0; 32],
+    };
+    match open(alloc, plan, readings, &digests, journal, spool) {
         Ok(work) => {
             if work.journal.room() < 16 {
                 panic!(rt; "the journal has little room");

@@ -4,7 +4,7 @@ use conc_outside::MemSink;
 use conc_outside_clock::MemClock;
 use conc_outside_gate::{FreeGate, Gate};
 use conc_test_worked::{file_of, shelf_with};
-use conc_top::{conc, exit_text};
+use conc_top::{Exit, conc, exit_text};
 use conc_types::{Moment, Name, NoMemory};
 use std::alloc::Global;
 use std::sync::Wait;
@@ -67,11 +67,12 @@ pub(crate) struct Given<'a> {
     pub(crate) crashes: Crashes,
 }
 
-// What a call ended with: its status, its output, the line that tells its exit, and what its disks read as then, or
-// as a crash leaves them.
+// What a call ended with: its status, the stamps of the journal and of the script where these are others, its output, the line that
+// tells its exit, and what its disks read as then, or as a crash leaves them.
 #[derive(Drop)]
 pub(crate) struct Ended {
     pub(crate) number: u8,
+    pub(crate) stamps: Option<(u64, u64)>,
     pub(crate) text: Vec<u8>,
     pub(crate) line: Vec<u8>,
     pub(crate) journal: Vec<u8>,
@@ -148,6 +149,14 @@ fn files_of(alloc: Global, given: Given<'_>) -> Result<Vec<(Name, Vec<u8>)>, Fai
     Ok(files)
 }
 
+// The stamps of a command in the journal and in another script.
+fn stamps_in(exit: &Exit) -> Option<(u64, u64)> {
+    match exit {
+        Exit::OtherScript { found, given, .. } => Some((*found, *given)),
+        _ => None,
+    }
+}
+
 // The one call of the program, over a shelf, a sink, a clock and disks in memory, whose disks read as these bytes.
 // Each worker goes through the gate.
 pub(crate) fn call_through<Rt: Threads + Wait + Sync, G: Gate + Sync>(
@@ -182,6 +191,7 @@ pub(crate) fn call_through<Rt: Threads + Wait + Sync, G: Gate + Sync>(
     );
     Ok(Ended {
         number: exit.number(),
+        stamps: stamps_in(&exit),
         text: out.bytes().to_vec(alloc)?,
         line: exit_text(alloc, &exit)?,
         journal: journal.image(alloc, given.crashes.journal.0, given.crashes.journal.1)?,

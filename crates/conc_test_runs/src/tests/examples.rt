@@ -25,13 +25,14 @@
 //!
 //! - `ends NUMBER`: this status and, where the lines are not empty, with the line that tells the exit. A call whose status is not 0
 //!   printed nothing.
+//! - `other-stamps FOUND GIVEN`: it told a command of another script, which has these stamps in the journal and in the script.
 //! - `prints`: the lines are its output, where a `*` stands for any byte. `prints-lines COUNT`: so many lines.
 //! - `watched COUNT`: its output is the lines, a history, and behind it lines of so many watchers (`is_watched`).
 //! - `judged`: a check of its output over the same files answers with the lines.
 //! - `journal-length COUNT`: so many bytes in the journal. `journal-at PLACE`: the bytes that the lines make stand there.
 //! - `spool-text`: the lines are what the spool has.
 //! - `disks-stay`: both disks have what the call found.
-//! - `goes-on`: the journal begins with the records that the call found in it.
+//! - `goes-on`: the journal begins with the records that the call found in it; of a journal of version 1 the stamps may be others.
 //! - `starts-once`: no request that ended in its output starts again.
 //! - `finished`: a check of its output over the same files calls it lawful and finished.
 
@@ -91,6 +92,7 @@ fn begun(alloc: Global) -> Example<'static> {
         went_on: true,
         ended: Ended {
             number: 0,
+            stamps: None,
             text: Vec::new(alloc),
             line: Vec::new(alloc),
             journal: Vec::new(alloc),
@@ -99,17 +101,31 @@ fn begun(alloc: Global) -> Example<'static> {
     }
 }
 
+// Whether a journal of version 2 has 32 bytes of one of version 1, at this place: the second half of the header has the digest, and in
+// a command's record all but its stamp stays.
+fn is_migrated(place: usize, old: &[u8], new: &[u8]) -> bool {
+    if place == 1 {
+        old.get(..16) == new.get(..16)
+    } else {
+        old.get(1) == Some(&2) && old.get(..12) == new.get(..12) && old.get(20..) == new.get(20..)
+    }
+}
+
 // Whether a journal has the header and each record, behind an open gate, that was found in it.
 fn goes_on(found: &[u8], journal: &[u8]) -> bool {
     if found.get(64) != Some(&1) {
         return true;
     }
+    let is_old = found.get(63) == Some(&0);
     for (place, record) in found.chunks(32).enumerate() {
         if place > 1 && record.first() != Some(&1) {
             break;
         }
         let from = place.saturating_mul(32);
-        if journal.get(from..from.saturating_add(record.len())) != Some(record) {
+        let Some(kept) = journal.get(from..from.saturating_add(record.len())) else {
+            return false;
+        };
+        if kept != record && !(is_old && is_migrated(place, record, kept)) {
             return false;
         }
     }
@@ -249,6 +265,10 @@ fn is_met<Rt: Abort + Threads + Wait + Sync>(
             u64::from(ended.number) == number_of(rt, rest)
                 && ended.line.as_slice() == lines.as_bytes()
                 && (ended.number == 0 || ended.text.is_empty())
+        }
+        "other-stamps" => {
+            let (found, given) = rest.split_once(' ').expect(rt, step);
+            ended.stamps == Some((number_of(rt, found), number_of(rt, given)))
         }
         "prints" => is_like(&text_of(alloc, lines)?, &ended.text),
         "watched" => has_watched(alloc, ended, lines, number_of(rt, rest))?,

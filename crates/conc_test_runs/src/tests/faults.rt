@@ -75,6 +75,45 @@ bytes 0
 "#,
 ];
 
+// A journal of version 1, whose first request ran at a crash: its run brings it to version 2 before it goes on.
+const OF_VERSION_1: &str = r#"a journal of version 1 has a request that ran at a crash
+== script
+2025-03-03T09:00:00,submit,P,ann,,,,
+2025-03-03T09:00:00,submit,P,ann,,,,
+== journal
+bytes 1
+text conc journal 1
+bytes 10
+bytes 225 255 188 191 254 4 216 38 249 172 44 86 109 234 255 168 30 148 168 110 32 240 253 182 130 119 162 245 120 24 89 173
+zeros 16
+bytes 1 1 0 0 0 0 0 0 0 0 0 0 0 0 0 14 223 87 102 144 0 0 0 0 0 0 0 0 0 0 0 0
+bytes 1 2 0 0 0 0 0 1 0 0 0 0 0 0 0 0 0 0 0 0 0 0 0 0 0 0 0 0 0 0 0 0
+bytes 1 2 0 0 0 0 0 2 0 0 0 0 0 0 0 0 0 0 0 0 0 0 0 0 0 0 0 0 0 0 0 0
+bytes 1 6 0 0 0 0 0 1 0 0 0 0 0 0 0 0 0 0 0 0 0 0 0 0 0 0 0 0 0 0 0 0
+bytes 1 7 0 0 0 0 0 1 0 0 0 0 0 0 0 0 0 0 0 0 0 0 0 0 0 0 0 0 0 0 0 0
+bytes 0
+"#;
+
+// The journal then has the base digest, whose version a crash may leave as any value but 0, and the stamps of the two commands that were
+// done; and the script may grow.
+const OF_VERSION_2: &str = r#"== journal-at 0
+bytes 1
+text conc journal 1
+bytes 10
+bytes 225 255 188 191 254 4 216 38 249 172 44 86 109 234 255 168 30 148 168 110 32 240 253 182 130 119 162 245 120 24 89 173
+bytes 79 35 50 141 156 136 27 76 161 140 213 97 212 242 162
+== journal-at 64
+bytes 1 1 0 0 0 0 0 0 0 0 0 0 0 0 0 14 223 87 102 144 0 0 0 0 0 0 0 0 0 0 0 0
+bytes 1 2 0 0 0 0 0 1 0 0 0 0 28 114 212 251 147 134 3 194 0 0 0 0 0 0 0 0 0 0 0 0
+bytes 1 2 0 0 0 0 0 2 0 0 0 0 196 223 247 107 215 158 48 8 0 0 0 0 0 0 0 0 0 0 0 0
+== script
+2025-03-03T09:00:00,submit,P,ann,,,,
+2025-03-03T09:00:00,submit,P,ann,,,,
+2025-03-03T10:00:00,submit,P,ann,,,,
+== call status a.toml a.csv
+== ends 0
+"#;
+
 // Of the runs behind a crash or a fault some have no workers, and some 4.
 const COUNTS: [&str; 2] = ["0", "4"];
 
@@ -147,12 +186,13 @@ fn check_second_crash<Rt: Abort + Threads + Wait + Sync>(
 fn check_crash_of_journal<Rt: Abort + Threads + Wait + Sync>(
     rt: &Rt,
     alloc: Global,
+    row: &str,
     place: (u64, u64),
     goes_on: &str,
     seen: &mut Vec<Vec<u8>>,
 ) -> Result<(), Fail> {
     let (call, choice) = place;
-    let crash = format!(in alloc; "{TWO_REQUESTS}== crash journal {call} {choice}\n== run\n")?;
+    let crash = format!(in alloc; "{row}== crash journal {call} {choice}\n== run\n")?;
     let _ = check_example(rt, alloc, &format!(in alloc; "{crash}{goes_on}")?)?;
     let image = check_example(rt, alloc, &crash)?.journal;
     if image.first() == Some(&1) || seen.iter().any(|one| one.as_slice() == image.as_slice()) {
@@ -162,22 +202,42 @@ fn check_crash_of_journal<Rt: Abort + Threads + Wait + Sync>(
     check_second_crash(rt, alloc, &crash, goes_on)
 }
 
-pub(crate) fn check_crashes_of_journal<Rt: Abort + Threads + Wait + Sync>(
+// A crash within each call of the journal's disk, of which there are so many at least. The run behind it ends with what is said.
+fn check_crashes_of<Rt: Abort + Threads + Wait + Sync>(
     rt: &Rt,
     alloc: Global,
+    row: &str,
+    least: u64,
+    ends: &str,
 ) -> Result<(), Fail> {
-    let calls = calls_of(rt, alloc, TWO_REQUESTS, "journal", 7)?;
-    assert!(rt; calls >= 20, "{calls}");
+    let calls = calls_of(rt, alloc, row, "journal", 7)?;
+    assert!(rt; calls >= least, "{calls}");
     let mut seen = Vec::new(alloc);
     for threads in COUNTS {
-        let goes_on = GOES_ON.replace(alloc, "THREADS", threads)?;
+        let run = GOES_ON.replace(alloc, "THREADS", threads)?;
+        let goes_on = format!(in alloc; "{run}{ends}")?;
         for call in 0..calls {
             for choice in 0..8 {
-                check_crash_of_journal(rt, alloc, (call, choice), &goes_on, &mut seen)?;
+                check_crash_of_journal(rt, alloc, row, (call, choice), &goes_on, &mut seen)?;
             }
         }
     }
     Ok(())
+}
+
+pub(crate) fn check_crashes_of_journal<Rt: Abort + Threads + Wait + Sync>(
+    rt: &Rt,
+    alloc: Global,
+) -> Result<(), Fail> {
+    check_crashes_of(rt, alloc, TWO_REQUESTS, 20, "")
+}
+
+// Where the crash came, each image has the records of the old journal, and the next run leaves one of version 2.
+pub(crate) fn check_crashes_of_migration<Rt: Abort + Threads + Wait + Sync>(
+    rt: &Rt,
+    alloc: Global,
+) -> Result<(), Fail> {
+    check_crashes_of(rt, alloc, OF_VERSION_1, 20, OF_VERSION_2)
 }
 
 // A call of the spool's disk fails, and all later ones, and of the images that a crash within it may leave the next run finds each one.
@@ -245,6 +305,19 @@ pub(crate) fn check_faults<Rt: Abort + Threads + Wait + Sync>(
                 check_faults_of(rt, alloc, &row.replace(alloc, "SCOPE", scope)?, &goes_on)?;
             }
         }
+    }
+    Ok(())
+}
+
+// The same for a run that brings a journal of version 1 to version 2.
+pub(crate) fn check_faults_of_migration<Rt: Abort + Threads + Wait + Sync>(
+    rt: &Rt,
+    alloc: Global,
+) -> Result<(), Fail> {
+    for threads in COUNTS {
+        let run = GOES_ON.replace(alloc, "THREADS", threads)?;
+        let goes_on = format!(in alloc; "{run}{OF_VERSION_2}")?;
+        check_faults_of(rt, alloc, OF_VERSION_1, &goes_on)?;
     }
     Ok(())
 }

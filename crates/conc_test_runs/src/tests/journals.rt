@@ -271,7 +271,7 @@ first 77
 unlawful record: 9
 == disks-stay
 =====
-a journal that is not this run's is refused: the setup has one more comment; another program made the digests
+a journal that is not this run's is refused: the setup has one more comment; another program made the digests of all but the script, of which 15 bytes are told
 == script
 2025-03-03T09:00:00,submit,P,ann,,,,
 2025-03-03T09:00:00,submit,P,ann,,,,
@@ -291,7 +291,7 @@ name = "M"
 # a comment
 == run
 == ends 10
-other input: e1ffbcbffe04d826f9ac2c566deaffa81e94a86e20f0fdb68277a2f5781859ad bf827e172a9c4bb7781c5a7e6f7af23aa35d22469aef24e361812108178b8799
+other input: 4f23328d9c881b4ca18cd561d4f2a20000000000000000000000000000000000 c309a4707cfecf8b869a1730b6bc8c0000000000000000000000000000000000
 == disks-stay
 =====
 a journal without room for a life is refused: it has 1,048,570 records, of ticks at 2025-03-03T09:00:00 and resumes in turn
@@ -313,6 +313,14 @@ first 0
 == run
 == ends 11
 journal full: 1048570 13
+== disks-stay
+== journal
+put 0 at 63
+== run
+In version 1 too, and it stays of this version.
+== ends 11
+journal full: 1048570 13
+== disks-stay
 =====
 what stands on the disks is judged in its order: a disk without a byte is begun
 == run
@@ -402,7 +410,7 @@ text texts
 == ends 9
 not a journal
 =====
-what stands on the disks is judged in its order: the digest of another input is told before an open gate without a record, and before the spool's disk
+what stands on the disks is judged in its order: in a journal of version 1 the digest of another input is told before an open gate without a record, and before the spool's disk
 == run
 == journal
 first 16

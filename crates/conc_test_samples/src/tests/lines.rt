@@ -260,6 +260,7 @@ fn plan(rt: &impl Abort, alloc: Global) -> Result<Plan, NoMemory> {
         },
         tables: none(alloc),
         requests: none(alloc),
+        stamps: none(alloc),
     })
 }
 

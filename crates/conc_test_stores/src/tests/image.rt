@@ -2,10 +2,12 @@ ghost use Rattle.std.specs.Prelude.{◌<◌};
 
 use super::expect::{same, same_at};
 use conc_journal_image::{
-    Header, has_record, header_of, judge_header, read_record, read_records, record_of,
+    Header, Label, Version, has_record, header_of, judge_header, read_record, read_records,
+    record_of,
 };
-use conc_types::{Event, Extent, Moment, Outcome, PlaceId, RequestId};
+use conc_types::{Digests, Event, Extent, Moment, Outcome, PlaceId, RequestId};
 use std::alloc::Global;
+use std::process::Abort;
 use std::test::Fail;
 
 const TICK: &[u8; 31] =
@@ -13,6 +15,12 @@ const TICK: &[u8; 31] =
 
 const COMMAND: &[u8; 31] =
     b"\x02\0\0\x01\x02\x03\x04\0\0\0\0\0\0\0\0\0\0\0\0\0\0\0\0\0\0\0\0\0\0\0\0";
+
+// The same command with the stamp 0x1112131415161718.
+const STAMPED: &[u8; 31] =
+    b"\x02\0\0\x01\x02\x03\x04\0\0\0\0\x11\x12\x13\x14\x15\x16\x17\x18\0\0\0\0\0\0\0\0\0\0\0\0";
+
+const STAMP: u64 = 0x1112_1314_1516_1718;
 
 const OPEN: &[u8; 31] = b"\x03\0\0\0\0\0\x07\0\0\0\0\0\0\0\0\0\0\0\0\0\0\0\0\0\0\0\0\0\0\0\0";
 
@@ -105,7 +113,23 @@ fn reads_and_writes_records(rt: HostRuntime) {
     for (bytes, event) in RECORDS {
         same(&rt, read_record(bytes), Some(event));
         assert!(rt; has_record(&event), "{event:?}");
-        same_at(&rt, record_of(event), *bytes, event);
+        same_at(&rt, record_of(event, 0), *bytes, event);
+    }
+}
+
+// A command has its stamp in its record, and no other event has one.
+#[test]
+fn writes_the_stamp_of_a_command_alone(rt: HostRuntime) {
+    for (bytes, event) in RECORDS {
+        assert!(rt; has_record(&event), "{event:?}");
+        let wanted = if matches!(event, Event::Command { .. }) {
+            STAMPED
+        } else {
+            bytes
+        };
+        let found = record_of(event, STAMP);
+        same_at(&rt, found, *wanted, event);
+        same(&rt, read_record(&found), Some(event));
     }
 }
 
@@ -144,9 +168,10 @@ fn tells_events_without_a_record(rt: HostRuntime) {
 }
 
 // Where no field of the event is, no byte but 0 may stand.
-static USED: [(&[u8; 31], &[u8; 31]); 11] = [
+static USED: [(&[u8; 31], &[u8; 31]); 12] = [
     (TICK, b"x..........xxxxxxxx............"),
-    (COMMAND, b"x..xxxx........................"),
+    (COMMAND, b"x..xxxx....xxxxxxxx............"),
+    (STAMPED, b"x..xxxx....xxxxxxxx............"),
     (OPEN, b"x..xxxx........................"),
     (STAGE, b"x..xxxxxxxx...................."),
     (CLOSE, b"xx.xxxx........................"),
@@ -260,44 +285,110 @@ fn finds_events(rt: HostRuntime) -> Result<(), Fail> {
     Ok(())
 }
 
+// Two commands with stamps, and one behind a gate that is closed.
+#[test]
+fn finds_stamps(rt: HostRuntime) -> Result<(), Fail> {
+    let pieces: [&[u8]; 5] = [b"\x01", COMMAND, b"\xff", STAMPED, b"\0"];
+    let mut image = image_of(rt.alloc(), &pieces)?;
+    image.extend_from_slice(STAMPED)?;
+    image.push(1)?;
+    let found = read_records(rt.alloc(), &image)?;
+    same(&rt, found.broken, None);
+    same(&rt, found.events.len(), 2);
+    same(&rt, found.stamps.as_slice(), [0, STAMP].as_slice());
+    let pieces: [&[u8]; 5] = [b"\x01", TICK, b"\x01", STAMPED, b"\x01"];
+    let found = read_records(rt.alloc(), &image_of(rt.alloc(), &pieces)?)?;
+    same(&rt, found.broken, Some(3));
+    same(&rt, found.stamps.as_slice(), [STAMP].as_slice());
+    Ok(())
+}
+
 const DIGEST: [u8; 32] = [7; 32];
 
-const BEGUN: Header = Header::Begun { digest: DIGEST };
+const BASE: [u8; 15] = *b"the base digest";
 
-// The header of this digest behind an open gate, and the gate of the first record.
-fn begun_image(alloc: Global) -> Result<Vec<u8>, Fail> {
+// Behind its first 15 bytes the base digest does not count.
+const DIGESTS: Digests = Digests {
+    full: DIGEST,
+    base: *b"the base digest, and 17 others..",
+};
+
+// What a header of this version says with this base digest.
+fn header(version: Version, base: [u8; 15]) -> Header {
+    Header::Begun {
+        label: Label {
+            version,
+            digest: DIGEST,
+            base,
+        },
+    }
+}
+
+// The header of this digest behind an open gate, these bytes 48 to 63, and the gate of the first record.
+fn begun_image(alloc: Global, rest: &[u8; 16]) -> Result<Vec<u8>, Fail> {
     let mut image = b"\x01conc journal 1\n".to_vec(alloc)?;
     image.extend_from_slice(&DIGEST)?;
-    image.extend_from_slice(&[0; 17])?;
+    image.extend_from_slice(rest)?;
+    image.push(0)?;
     Ok(image)
 }
 
-// A byte with this value in its place.
-static HEADERS: [(usize, u8, Header); 7] = [
-    (0, 0, Header::NotBegun),
-    (0, 255, BEGUN),
-    (1, b'C', Header::Foreign),
-    (14, b'2', Header::Foreign),
-    (48, 1, Header::Foreign),
-    (63, 1, Header::Foreign),
-    (64, 1, BEGUN),
-];
+// An image with a whole header of this meaning, and what it means with another byte.
+fn check_header<Rt: Abort>(
+    rt: &Rt,
+    alloc: Global,
+    image: &[u8],
+    begun: Header,
+    headers: &[(usize, u8, Header)],
+) -> Result<(), Fail> {
+    same(rt, image.len(), 65);
+    for (length, want) in [(65, begun), (64, Header::Foreign), (1, Header::NotBegun)] {
+        let front = image.get(..length).expect(rt, "a part of the header");
+        same_at(rt, judge_header(front), want, length);
+    }
+    for &(at, value, want) in headers {
+        let mut other = image.to_vec(alloc)?;
+        assert!(rt; at < other.len());
+        other[at] = value;
+        same_at(rt, judge_header(&other), want, at);
+    }
+    Ok(())
+}
 
 #[test]
 fn judges_headers(rt: HostRuntime) -> Result<(), Fail> {
-    let image = begun_image(rt.alloc())?;
-    same(&rt, image.len(), 65);
-    let header = header_of(&DIGEST);
-    same(&rt, image.get(1..65), Some(header.as_slice()));
-    for (length, want) in [(65, BEGUN), (64, Header::Foreign), (1, Header::NotBegun)] {
-        let front = image.get(..length).expect(&rt, "a part of the header");
-        same_at(&rt, judge_header(front), want, length);
-    }
-    for (at, value, want) in HEADERS {
-        let mut other = image.clone()?;
-        assert!(rt; at < other.len());
-        other[at] = value;
-        same_at(&rt, judge_header(&other), want, at);
-    }
-    Ok(())
+    let image = begun_image(rt.alloc(), b"the base digest\x01")?;
+    let written = header_of(&DIGESTS);
+    same(&rt, image.get(1..65), Some(written.as_slice()));
+    let begun = header(Version::Two, BASE);
+    let headers = [
+        (0, 0, Header::NotBegun),
+        (0, 255, begun),
+        (1, b'C', Header::Foreign),
+        (14, b'2', Header::Foreign),
+        (63, 0, header(Version::One, BASE)),
+        (63, 2, begun),
+        (63, 255, begun),
+        (64, 1, begun),
+    ];
+    check_header(&rt, rt.alloc(), &image, begun, &headers)
+}
+
+// In version 1 bytes 48 to 62 mean nothing.
+#[test]
+fn judges_headers_of_version_1(rt: HostRuntime) -> Result<(), Fail> {
+    let image = begun_image(rt.alloc(), &[0; 16])?;
+    let begun = header(Version::One, [0; 15]);
+    let first = header(Version::One, [1, 0, 0, 0, 0, 0, 0, 0, 0, 0, 0, 0, 0, 0, 0]);
+    let last = header(Version::One, [0, 0, 0, 0, 0, 0, 0, 0, 0, 0, 0, 0, 0, 0, 1]);
+    let headers = [
+        (0, 0, Header::NotBegun),
+        (0, 255, begun),
+        (1, b'C', Header::Foreign),
+        (14, b'2', Header::Foreign),
+        (48, 1, first),
+        (62, 1, last),
+        (64, 1, begun),
+    ];
+    check_header(&rt, rt.alloc(), &image, begun, &headers)
 }

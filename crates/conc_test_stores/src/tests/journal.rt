@@ -1,51 +1,22 @@
-ghost use Rattle.std.specs.Prelude.{◌≡◌, [], IfOk};
+ghost use Rattle.std.specs.Prelude.{◌≡◌, [], IfOk, IsTrue};
+ghost use Rattle.conc_journal.specs.JournalStates.{takes_events};
 ghost use Rattle.conc_journal.specs.Journals.{IsOn, list_of, room_of, state_of};
-ghost use Rattle.conc_journal.specs.declared.journal.JournalState.TheVariants.{Begun};
 
 use super::expect::{same, same_at};
+use super::images::{
+    COMMAND, DIGESTS, NINE_IN_ONE, NINE_IN_TWO, STAMPS, TICK, TWO_IN_ONE, TWO_IN_TWO,
+};
 use conc_disk::Disk;
 use conc_disk_devices::MemDisk;
 use conc_journal::{AppendFail, Journal, JournalFail, Receipt, Silent, Teller};
-use conc_journal_image::has_record;
-use conc_types::{Event, Extent, Moment, Outcome, PlaceId, RequestId};
+use conc_journal_image::{Version, has_record};
+use conc_types::{Event, Extent, Outcome, PlaceId, RequestId};
 use std::alloc::Global;
 use std::process::Abort;
 use std::test::Fail;
 
-const DIGEST: [u8; 32] = *b"abcdefghijklmnopqrstuvwxyz012345";
-
-// The header, a tick at 2025-03-03T09:00:00 and the first command, but for the gate of the next record.
-const TWO_RECORDS: &[u8; 128] = b"\x01conc journal 1\n\
-    abcdefghijklmnopqrstuvwxyz012345\
-    \0\0\0\0\0\0\0\0\0\0\0\0\0\0\0\0\
-    \x01\x01\0\0\0\0\0\0\0\0\0\0\0\0\0\x0e\xdfWf\x90\0\0\0\0\0\0\0\0\0\0\0\0\
-    \x01\x02\0\0\0\0\0\x01\0\0\0\0\0\0\0\0\0\0\0\0\0\0\0\0\0\0\0\0\0\0\0\0";
-
-// The header, the nine records of `in_turn`, one on a line, and the gate of the next one: 353 bytes.
-const NINE_RECORDS: &[u8; 353] = b"\x01conc journal 1\n\
-    abcdefghijklmnopqrstuvwxyz012345\
-    \0\0\0\0\0\0\0\0\0\0\0\0\0\0\0\0\
-    \x01\x01\0\0\0\0\0\0\0\0\0\0\0\0\0\x0e\xdf\x57\x66\x90\0\0\0\0\0\0\0\0\0\0\0\0\
-    \x01\x02\0\0\0\0\0\x01\0\0\0\0\0\0\0\0\0\0\0\0\0\0\0\0\0\0\0\0\0\0\0\0\
-    \x01\x02\0\0\0\0\0\x02\0\0\0\0\0\0\0\0\0\0\0\0\0\0\0\0\0\0\0\0\0\0\0\0\
-    \x01\x06\0\0\0\0\0\x01\0\0\0\0\0\0\0\0\0\0\0\0\0\0\0\0\0\0\0\0\0\0\0\0\
-    \x01\x07\0\0\0\0\0\x01\0\0\0\0\0\0\0\0\0\0\0\0\0\0\0\0\0\0\0\0\0\0\0\0\
-    \x01\x08\x01\0\0\0\0\x01\0\0\0\0\0\0\0\0\0\0\0\0\0\0\0\x27\0\0\0\0\0\0\0\0\
-    \x01\x06\0\0\0\0\0\x02\0\0\0\0\0\0\0\0\0\0\0\0\0\0\0\0\0\0\0\0\0\0\0\0\
-    \x01\x07\0\0\0\0\0\x02\0\0\0\0\0\0\0\0\0\0\0\0\0\0\0\0\0\0\0\0\0\0\0\0\
-    \x01\x08\x01\0\0\0\0\x02\0\0\0\0\0\0\0\0\0\0\0\x27\0\0\0\x27\0\0\0\0\0\0\0\0\
-    \0";
-
-const TICK: Event = Event::Tick {
-    moment: Moment {
-        seconds: 63_876_589_200,
-    },
-};
-
-const COMMAND: Event = Event::Command { number: 1 };
-
 // A disk that has these bytes, and whose calls with these numbers fail.
-fn disk_of(alloc: Global, bytes: &[u8], fails: &[u64]) -> Result<MemDisk, Fail> {
+pub(super) fn disk_of(alloc: Global, bytes: &[u8], fails: &[u64]) -> Result<MemDisk, Fail> {
     let bytes = bytes.to_vec(alloc)?;
     Ok(MemDisk::new(alloc, bytes, fails.to_vec(alloc)?))
 }
@@ -53,15 +24,15 @@ fn disk_of(alloc: Global, bytes: &[u8], fails: &[u64]) -> Result<MemDisk, Fail> 
 // A journal that is begun on a disk where none was, with room for two events.
 fn begun<Rt: Abort>(rt: &Rt, alloc: Global, disk: &mut MemDisk) -> Result<Journal, Fail>
     ensures on { IfOk result (λ journal. IsOn journal (⟦<MemDisk as Disk>⟧.state disk.new)) }
-    ensures stage { IfOk result (λ journal. state_of journal ≡ Begun DIGEST) }
+    ensures takes { IfOk result (λ journal. IsTrue (takes_events (state_of journal))) }
     ensures list { IfOk result (λ journal. list_of journal ≡ []) }
     ensures room { IfOk result (λ journal. room_of journal ≡ 2) }
 {
     let opened = Journal::open_on(alloc, disk)?;
     assert!(rt; opened.broken.is_none());
-    assert!(rt; opened.digest.is_none());
+    assert!(rt; opened.label.is_none());
     let mut journal = opened.journal;
-    journal.begin(disk, &DIGEST)?;
+    journal.begin(disk, &DIGESTS)?;
     journal.reserve(2)?;
     Ok(journal)
 }
@@ -73,15 +44,15 @@ fn two_events<Rt: Abort>(
     disk: &mut MemDisk,
 ) -> Result<(Journal, Receipt), Fail> {
     let mut journal = begun(rt, alloc, disk)?;
-    let first = journal.append(disk, TICK)?;
+    let first = journal.append(disk, TICK, 0)?;
     same(rt, (first.number(), first.event()), (1, TICK));
-    let second = journal.append(disk, COMMAND)?;
+    let second = journal.append(disk, COMMAND, STAMPS[0])?;
     same(rt, (second.number(), second.event()), (2, COMMAND));
     Ok((journal, second))
 }
 
 // What the disk has.
-fn bytes_on(alloc: Global, disk: &mut MemDisk) -> Result<Vec<u8>, Fail> {
+pub(super) fn bytes_on(alloc: Global, disk: &mut MemDisk) -> Result<Vec<u8>, Fail> {
     let length = disk.len()?;
     let mut bytes = vec![in alloc; 0; length as usize]?;
     disk.read(0, &mut bytes)?;
@@ -97,7 +68,7 @@ fn writes_the_format(rt: HostRuntime) -> Result<(), Fail> {
     same(&rt, journal.room(), 0);
     let bytes = bytes_on(alloc, &mut disk)?;
     same(&rt, bytes.len(), 129);
-    same(&rt, bytes.get(..128), Some(TWO_RECORDS.as_slice()));
+    same(&rt, bytes.get(..128), Some(TWO_IN_TWO.as_slice()));
     same(&rt, bytes.last(), Some(&0));
     Ok(())
 }
@@ -142,9 +113,9 @@ fn a_stop_leaves_the_list_with_the_event_or_without(rt: HostRuntime) -> Result<(
 // Begins a journal and adds to it, where the call with this number fails.
 fn fail_at<Rt: Abort>(rt: &Rt, alloc: Global, disk: &mut MemDisk, call: u64) -> Result<(), Fail> {
     let mut journal = begun(rt, alloc, disk)?;
-    let failed = journal.append(disk, TICK).err();
+    let failed = journal.append(disk, TICK, 0).err();
     same_at(rt, failed, Some(AppendFail::DiskFault), call);
-    let after = journal.append(disk, COMMAND).err();
+    let after = journal.append(disk, COMMAND, STAMPS[0]).err();
     same_at(rt, after, Some(AppendFail::Failed), call);
     assert!(rt; journal.events().is_empty());
     Ok(())
@@ -165,19 +136,45 @@ fn after_a_fault_nothing_is_added(rt: HostRuntime) -> Result<(), Fail> {
     Ok(())
 }
 
-// What is found: whether a journal is begun, how many events it has, and the record that is broken.
-type Told = Result<(bool, usize, Option<u64>), JournalFail>;
+// What is found: the version of a journal that is begun, how many events it has, and the record that is broken.
+type Found = Result<(Option<Version>, usize, Option<u64>), JournalFail>;
 
-fn told<Rt: Abort>(rt: &Rt, alloc: Global, bytes: &[u8]) -> Result<Told, Fail> {
+fn found<Rt: Abort>(rt: &Rt, alloc: Global, bytes: &[u8]) -> Result<Found, Fail> {
     let mut disk = disk_of(alloc, bytes, &[])?;
     Ok(match Journal::open_on(alloc, &mut disk) {
         Ok(opened) => Ok((
-            opened.digest.is_some(),
+            opened.label.map(|label| label.version),
             opened.journal.events().len(),
             opened.broken,
         )),
         Err(fail) => Err(fail),
     })
+}
+
+// The same, with whether it is begun in the place of the version.
+type Told = Result<(bool, usize, Option<u64>), JournalFail>;
+
+fn of_version(told: Told, version: Version) -> Found {
+    match told {
+        Ok((begun, count, broken)) => Ok((begun.then_some(version), count, broken)),
+        Err(fail) => Err(fail),
+    }
+}
+
+const VERSIONS: [Version; 2] = [Version::One, Version::Two];
+
+fn two_of(version: Version) -> &'static [u8; 128] {
+    match version {
+        Version::One => TWO_IN_ONE,
+        Version::Two => TWO_IN_TWO,
+    }
+}
+
+pub(super) fn nine_of(version: Version) -> &'static [u8; 353] {
+    match version {
+        Version::One => NINE_IN_ONE,
+        Version::Two => NINE_IN_TWO,
+    }
 }
 
 // So many bytes of the two records and some others, and what is found there.
@@ -202,13 +199,16 @@ static FOUND: [(usize, &[u8], Told); 11] = [
 #[test]
 fn opens_what_stands_there(rt: HostRuntime) -> Result<(), Fail> {
     let alloc = rt.alloc();
-    for (front, rest, want) in FOUND {
-        let front = TWO_RECORDS
-            .get(..front)
-            .expect(&rt, "a part of the records");
-        let mut bytes = front.to_vec(alloc)?;
-        bytes.extend_from_slice(rest)?;
-        same_at(&rt, told(&rt, alloc, &bytes)?, want, (front, rest));
+    for version in VERSIONS {
+        for (front, rest, want) in FOUND {
+            let front = two_of(version)
+                .get(..front)
+                .expect(&rt, "a part of the records");
+            let mut bytes = front.to_vec(alloc)?;
+            bytes.extend_from_slice(rest)?;
+            let want = of_version(want, version);
+            same_at(&rt, found(&rt, alloc, &bytes)?, want, (front, rest));
+        }
     }
     Ok(())
 }
@@ -216,7 +216,7 @@ fn opens_what_stands_there(rt: HostRuntime) -> Result<(), Fail> {
 // ---- nine records
 
 // A program that is incompatible with itself is submitted twice, and runs at the one place.
-fn in_turn() -> [Event; 9] {
+pub(super) fn in_turn() -> [Event; 9] {
     let one = RequestId { number: 1 };
     let two = RequestId { number: 2 };
     let place = PlaceId { index: 0 };
@@ -244,6 +244,15 @@ fn in_turn() -> [Event; 9] {
     ]
 }
 
+// The stamp with which an event of these is added.
+fn stamp_of(event: &Event) -> u64 {
+    match *event {
+        Event::Command { number: 1 } => STAMPS[0],
+        Event::Command { .. } => STAMPS[1],
+        _ => 0,
+    }
+}
+
 fn append_all<Rt: Abort>(
     rt: &Rt,
     journal: &mut Journal,
@@ -256,7 +265,7 @@ fn append_all<Rt: Abort>(
         return Ok(());
     };
     assert!(rt; journal.takes_events() && journal.room() > 0 && has_record(event));
-    journal.append(disk, *event)?;
+    journal.append(disk, *event, stamp_of(event))?;
     append_all(rt, journal, disk, rest)
 }
 
@@ -270,9 +279,11 @@ fn nine_records_have_353_bytes(rt: HostRuntime) -> Result<(), Fail> {
     append_all(&rt, &mut journal, &mut disk, &in_turn())?;
     let bytes = bytes_on(alloc, &mut disk)?;
     same(&rt, bytes.len(), 353);
-    same(&rt, bytes.as_slice(), NINE_RECORDS.as_slice());
+    same(&rt, bytes.as_slice(), NINE_IN_TWO.as_slice());
+    same(&rt, journal.stamps(), STAMPS.as_slice());
     let opened = Journal::open_on(alloc, &mut disk)?;
     same(&rt, opened.journal.events(), in_turn().as_slice());
+    same(&rt, opened.journal.stamps(), STAMPS.as_slice());
     Ok(())
 }
 
@@ -292,43 +303,63 @@ fn wanted(length: usize) -> Told {
 #[test]
 fn each_length_is_told(rt: HostRuntime) -> Result<(), Fail> {
     let alloc = rt.alloc();
-    for length in 0..354 {
-        let front = NINE_RECORDS
-            .get(..length)
-            .expect(&rt, "a part of the records");
-        same_at(&rt, told(&rt, alloc, front)?, wanted(length), length);
+    for version in VERSIONS {
+        for length in 0..354 {
+            let front = nine_of(version)
+                .get(..length)
+                .expect(&rt, "a part of the records");
+            let want = of_version(wanted(length), version);
+            same_at(&rt, found(&rt, alloc, front)?, want, length);
+        }
     }
     Ok(())
 }
 
 // What is found of these bytes with this value in a place.
-fn told_with<Rt: Abort>(
+fn found_with<Rt: Abort>(
     rt: &Rt,
     alloc: Global,
     bytes: &[u8],
     at: usize,
     value: u8,
-) -> Result<Told, Fail> {
+) -> Result<Found, Fail> {
     let mut other = bytes.to_vec(alloc)?;
     assert!(rt; at < other.len());
     other[at] = value;
-    told(rt, alloc, &other)
+    found(rt, alloc, &other)
 }
 
 #[test]
 fn each_gate_is_told(rt: HostRuntime) -> Result<(), Fail> {
     let alloc = rt.alloc();
+    let one = Some(Version::One);
     for value in 0..=255 {
         // What the gate of the last record shuts out, and that of the header.
         let (last, header) = if value == 0 {
-            ((true, 8, None), (false, 0, None))
+            ((one, 8, None), (None, 0, None))
         } else {
-            ((true, 9, None), (true, 9, None))
+            ((one, 9, None), (one, 9, None))
         };
-        let found = told_with(&rt, alloc, NINE_RECORDS, 320, value)?;
+        let found = found_with(&rt, alloc, NINE_IN_ONE, 320, value)?;
         same_at(&rt, found, Ok(last), value);
-        let found = told_with(&rt, alloc, NINE_RECORDS, 0, value)?;
+        let found = found_with(&rt, alloc, NINE_IN_ONE, 0, value)?;
         same_at(&rt, found, Ok(header), value);
+    }
+    Ok(())
+}
+
+// The last byte of the header is a gate too, that of version 2.
+#[test]
+fn the_gate_of_the_version_is_told(rt: HostRuntime) -> Result<(), Fail> {
+    for value in 0..=255 {
+        let version = if value == 0 {
+            Version::One
+        } else {
+            Version::Two
+        };
+        let want = Ok((Some(version), 9, None));
+        let found = found_with(&rt, rt.alloc(), NINE_IN_TWO, 63, value)?;
+        same_at(&rt, found, want, value);
     }
     Ok(())
 }
@@ -340,7 +371,7 @@ type Record = (u8, u8, u8, u8, u8);
 // may stand.
 static KINDS: [(Record, &[u8; 31]); 11] = [
     ((1, 0, 0, 9, 0), b"x..........xxxxxxxx............"),
-    ((2, 0, 9, 0, 0), b"x..xxxx........................"),
+    ((2, 0, 9, 9, 0), b"x..xxxx....xxxxxxxx............"),
     ((3, 0, 9, 0, 0), b"x..xxxx........................"),
     ((4, 0, 9, 0, 0), b"x..xxxxxxxx...................."),
     ((5, 2, 9, 0, 0), b"xx.xxxx........................"),
@@ -353,13 +384,13 @@ static KINDS: [(Record, &[u8; 31]); 11] = [
 ];
 
 // The journal of nine events with another third record, whose gate is open.
-fn with_third(alloc: Global, third: Record) -> Result<Vec<u8>, Fail> {
+fn with_third(alloc: Global, version: Version, third: Record) -> Result<Vec<u8>, Fail> {
     let (kind, outcome, first, offset, length) = third;
-    let mut bytes = TWO_RECORDS.to_vec(alloc)?;
+    let mut bytes = two_of(version).to_vec(alloc)?;
     bytes.extend_from_slice(&[1, kind, outcome, 0, 0, 0, 0, first, 0, 0, 0, 0])?;
     bytes.extend_from_slice(&[0, 0, 0, 0, 0, 0, 0, offset, 0, 0, 0, length])?;
     bytes.extend_from_slice(&[0; 8])?;
-    for byte in NINE_RECORDS.iter().skip(160) {
+    for byte in nine_of(version).iter().skip(160) {
         bytes.push(*byte)?;
     }
     Ok(bytes)
@@ -368,13 +399,17 @@ fn with_third(alloc: Global, third: Record) -> Result<Vec<u8>, Fail> {
 #[test]
 fn each_broken_spelling_is_told(rt: HostRuntime) -> Result<(), Fail> {
     let alloc = rt.alloc();
-    for (good, used) in KINDS {
-        let bytes = with_third(alloc, good)?;
-        same_at(&rt, told(&rt, alloc, &bytes)?, Ok((true, 9, None)), good);
-        for at in 0..31 {
-            if used[at] == b'.' {
-                let stray = told_with(&rt, alloc, &bytes, 129 + at, 1)?;
-                same_at(&rt, stray, Ok((true, 2, Some(3))), (good, at));
+    for version in VERSIONS {
+        let whole = Ok((Some(version), 9, None));
+        let broken = Ok((Some(version), 2, Some(3)));
+        for (good, used) in KINDS {
+            let bytes = with_third(alloc, version, good)?;
+            same_at(&rt, found(&rt, alloc, &bytes)?, whole, good);
+            for at in 0..31 {
+                if used[at] == b'.' {
+                    let stray = found_with(&rt, alloc, &bytes, 129 + at, 1)?;
+                    same_at(&rt, stray, broken, (good, at));
+                }
             }
         }
     }
@@ -401,14 +436,12 @@ static OUT_OF_RANGE: [Record; 10] = [
 #[test]
 fn each_value_out_of_range_is_told(rt: HostRuntime) -> Result<(), Fail> {
     let alloc = rt.alloc();
-    for broken in OUT_OF_RANGE {
-        let bytes = with_third(alloc, broken)?;
-        same_at(
-            &rt,
-            told(&rt, alloc, &bytes)?,
-            Ok((true, 2, Some(3))),
-            broken,
-        );
+    for version in VERSIONS {
+        let want = Ok((Some(version), 2, Some(3)));
+        for broken in OUT_OF_RANGE {
+            let bytes = with_third(alloc, version, broken)?;
+            same_at(&rt, found(&rt, alloc, &bytes)?, want, broken);
+        }
     }
     Ok(())
 }
