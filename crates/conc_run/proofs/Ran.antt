@@ -1,10 +1,10 @@
 -- What is left where a life was begun and the run went on.
-use Rattle.std.proofs.Common.{◌≡◌, ◌≢◌, ◌⊎◌, inr, ℕ, ◌≤◌, List, reverse, Some, IfSome, IsFalse, IsTrue, sym, ◌∙◌, ap, subst, arith}
+use Rattle.std.proofs.Common.{◌≡◌, ◌≢◌, ◌⊎◌, inr, ℕ, ◌≤◌, List, reverse, IfSome, IsFalse, IsTrue, sym, ◌∙◌, ap, subst, arith}
 use Rattle.std.proofs.lemmas.Option.{IfSome_then}
 use Rattle.conc_types.specs.declared.event.Event.{Event}
 use Rattle.conc_disk.specs.Disk.{DiskState, SeenFollows, Stays}
 use Rattle.conc_disk.specs.Left.{EachImage, LeavesOnly}
-use Rattle.conc_journal.specs.Journals.{FitsState, list_of, stamps_held, state_of}
+use Rattle.conc_journal.specs.Journals.{FitsState, stamps_held, state_of}
 use Rattle.conc_journal.specs.JournalStates.{state_label}
 use Rattle.conc_journal.specs.declared.journal.JournalState.{JournalState}
 use Rattle.conc_law.specs.Alone.{Alone, opening}
@@ -15,7 +15,7 @@ use Rattle.conc_resolver_alone.specs.Runs.{LacksMemory}
 use Rattle.conc_resolver_workers.specs.Runs.{AwaitsReport}
 use Rattle.conc_run_state.specs.Causes.{HasCause, is_journal_fault, is_refusal}
 use Rattle.conc_run_state.specs.Disks.{disks}
-use Rattle.conc_run_state.specs.Inputs.{IsBegunFor, IsHeldFor}
+use Rattle.conc_run_state.specs.Inputs.{IsHeldFor}
 use Rattle.conc_run_steps.specs.Going.{WentOn}
 use Rattle.conc_spool.specs.Spools.{Agrees, used_of}
 use Rattle.conc_run_state.specs.Handed.{Handed, IsTaken, IsUntouched}

@@ -1,5 +1,5 @@
 -- What a run that was cut short says of its teller.
-use Rattle.std.proofs.Common.{◌≢◌, ◌⊎◌, inl, inr, ⊎_elim, ℕ, Bool, List, Some, IsTrue}
+use Rattle.std.proofs.Common.{◌≢◌, inl, inr, ⊎_elim, ℕ, Bool, List, Some, IsTrue}
 use Rattle.conc_types.specs.declared.event.Event.{Event}
 use Rattle.conc_law.specs.Alone.{opening}
 use Rattle.conc_run_state.specs.Handed.{Handed}
