@@ -43,9 +43,9 @@ fn one_table(alloc: Global, table: Table) -> Result<Seq<Table>, NoMemory>
 }
 
 fn digests_of(inputs: &Inputs) -> Digests {
-    let mut digest = InputDigest::new(&inputs.setup, &inputs.script);
-    digest.add_table(TABLE_NAME, &inputs.table);
-    digest.finish()
+    InputDigest::new(&inputs.setup, &inputs.script)
+        .with_table(TABLE_NAME, &inputs.table)
+        .finish()
 }
 
 /// What the files give that are made of this seed with so many submissions. Want of memory is its only
