@@ -4,4 +4,4 @@ pub mod Starts
 pub mod RightLives
 pub mod Crashed
 pub mod Ended
-pub mod Grown
+pub mod Growing

@@ -1,5 +1,5 @@
 use Rattle.conc_journal.specs.Opens.{events_of}
-use Rattle.conc_run_laws.proofs.Grown.{fit-grown}
+use Rattle.conc_run_laws.proofs.Growing.{fit-grown}
 use Rattle.conc_run_laws.proofs.grown.a_grown_script_fits.Goals as goal
 
 pub returns : goal.returns
