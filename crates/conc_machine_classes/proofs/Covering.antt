@@ -1,8 +1,8 @@
 -- All classes that exclude a class stand where its entries and marks lead to.
-use Rattle.std.proofs.Common.{◌≡◌, ◌⊎◌, ℕ, suc, ◌+◌, ◌<◌, ◌≤◌, ◌%◌, ◌==◌, Bool, true, false, not, ◌&&◌, ◌||◌, List, [], ◌∷◌, ◌++◌, length, get_or, take, Option, None, Some, refl, sym, ◌∙◌, ap, subst, arith, inl, inr}
-use Rattle.std.specs.Prelude.{slice_get, if◌then◌else◌}
-use Rattle.std.specs.List.{filter, flat_map, list_any}
-use Rattle.std.proofs.lemmas.Bool.{and_from, and_parts, both_ways, cases_Bool, eq-eqb, eqb-true, ne_eqb, or_cases}
+use Rattle.std.proofs.Common.{◌≡◌, ◌⊎◌, ℕ, ◌<◌, ◌%◌, ◌==◌, Bool, true, false, not, ◌&&◌, ◌||◌, List, [], ◌∷◌, ◌++◌, length, Some, refl, sym, ◌∙◌, ap, subst, inl, inr}
+use Rattle.std.specs.Prelude.{slice_get}
+use Rattle.std.specs.List.{flat_map, list_any}
+use Rattle.std.proofs.lemmas.Bool.{and_parts, both_ways, cases_Bool, eq-eqb, or_cases}
 use Rattle.std.proofs.lemmas.Slice.Eq.{bytes_eq-Decides}
 use Rattle.conc_types.specs.declared.item.Entry.{Entry}
 use Rattle.conc_types.specs.declared.item.Item.{Item}
@@ -13,7 +13,7 @@ use Rattle.conc_law.specs.Words.{Has, item_eq}
 use Rattle.conc_law.proofs.Options.{some_and-some}
 use Rattle.conc_machine_classes.specs.Candidates.{AddsNear, covered, has_reach, joined, owning}
 use Rattle.conc_machine_classes.specs.Keys.{bytes_key, domain_key, item_key, parent_key}
-use Rattle.conc_machine_classes.specs.Kinds.{covers_item, kind_at, Kind, one_domain, owns, reaches}
+use Rattle.conc_machine_classes.specs.Kinds.{covers_item, kind_at, one_domain, owns, reaches}
 use Rattle.conc_machine_classes.specs.Rivals.{claimed_by, claims, either_claims, heads_clash, IsClaim}
 use Rattle.conc_machine_classes.specs.Shelf.{bucket, IsPut}
 use Rattle.conc_machine_classes.specs.Shelves.{AreShelves, members}

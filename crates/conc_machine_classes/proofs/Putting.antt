@@ -1,5 +1,5 @@
 -- A class more on each shelf.
-use Rattle.std.proofs.Common.{◌≡◌, ◌⊎◌, ℕ, suc, ◌<◌, ◌≤◌, ◌==◌, List, [], ◌∷◌, ◌++◌, length, Some, refl, sym, ◌∙◌, ap, subst, inl, inr, arith}
+use Rattle.std.proofs.Common.{◌≡◌, ◌⊎◌, ℕ, suc, ◌<◌, ◌==◌, List, [], ◌∷◌, ◌++◌, length, Some, sym, ◌∙◌, ap, subst, inl, inr, arith}
 use Rattle.std.specs.Prelude.{slice_get, slice_set, if◌then◌else◌, IsTrue}
 use Rattle.std.specs.Option.{option_map_or}
 use Rattle.std.proofs.lemmas.Bool.{cases_eq, eq-eqb, ne_eqb}
@@ -8,10 +8,9 @@ use Rattle.conc_law.specs.Exclusion.{runs_alone}
 use Rattle.conc_law.specs.Words.{Has}
 use Rattle.conc_machine_classes.specs.Keys.{domain_key, item_key, parent_key}
 use Rattle.conc_machine_classes.specs.Kinds.{kind_at}
-use Rattle.conc_machine_classes.specs.Shelf.{bucket, IsPut, IsShelf}
+use Rattle.conc_machine_classes.specs.Shelf.{bucket, IsPut}
 use Rattle.conc_machine_classes.specs.Shelves.{AreShelvesTo}
 use Rattle.conc_machine_classes.specs.declared.kinds.Head.{Head}
-use Rattle.conc_machine_classes.specs.declared.shelf.Shelf.{Shelf}
 use Rattle.conc_machine_classes.specs.declared.shelves.Shelves.{Shelves}
 use Rattle.conc_machine_classes.proofs.Covering.{has-last, has-left, put-kept, put-taken}
 use Rattle.conc_machine_classes.proofs.Pushes.{get-one, get-set_other, get-set_same}

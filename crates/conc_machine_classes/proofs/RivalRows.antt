@@ -1,22 +1,17 @@
 -- Which classes exclude a class: by a claim, and row by row.
-use Rattle.std.proofs.Common.{◌≡◌, ℕ, suc, ◌+◌, ◌<◌, Bool, true, false, ◌&&◌, ◌||◌, List, [], ◌∷◌, ◌++◌, length, get_or, take, Some, sym, ◌∙◌, ap, arith, inl, inr}
-use Rattle.std.specs.Prelude.{slice_get, if◌then◌else◌}
+use Rattle.std.proofs.Common.{◌≡◌, ℕ, Bool, true, ◌&&◌, ◌||◌, List, sym, ◌∙◌, ap, inl, inr}
 use Rattle.std.specs.List.{list_any}
 use Rattle.std.specs.Str.{bytes_eq}
 use Rattle.std.proofs.lemmas.Bool.{cases_Bool}
-use Rattle.std.proofs.lemmas.List.{append-nil, length-take}
-use Rattle.std.proofs.lemmas.Option.{slice_get-get_or, slice_get_within}
 use Rattle.std.proofs.lemmas.Slice.Eq.{bytes_eq-Decides}
 use Rattle.conc_types.specs.declared.item.Entry.{Entry}
 use Rattle.conc_types.specs.declared.plan.Plan.{Plan}
 use Rattle.conc_law.specs.Exclusion.{runs_alone}
-use Rattle.conc_law.proofs.Positions.{take-suc_at}
 use Rattle.conc_machine_classes.specs.declared.kinds.Head.{Head}
 use Rattle.conc_machine_classes.specs.declared.rivals.Claim.{Claim}
 use Rattle.conc_machine_classes.specs.Kinds.{covers_item, kind_excludes, kind_at, kinds_clash, one_domain, owns, reaches}
-use Rattle.conc_machine_classes.specs.Places.{places_from}
-use Rattle.conc_machine_classes.specs.Rivals.{claimed_by, claims, either_claims, heads_clash, IsClaim, row_of}
-use Rattle.conc_machine_classes.proofs.Passing.{any_filtered, any_filtered_by, places-push}
+use Rattle.conc_machine_classes.specs.Rivals.{claimed_by, claims, either_claims, heads_clash, IsClaim}
+use Rattle.conc_machine_classes.proofs.Passing.{any_filtered, any_filtered_by}
 
 -- ---- by a claim
 

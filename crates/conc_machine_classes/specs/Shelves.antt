@@ -1,5 +1,5 @@
 -- Where the classes stand that entries and marks speak of.
-use Rattle.std.specs.Prelude.{◌≡◌, ℕ, ◌<◌, IsTrue, List, [], ◌++◌, length, Some, slice_get, if◌then◌else◌}
+use Rattle.std.specs.Prelude.{◌≡◌, ℕ, ◌<◌, IsTrue, List, [], length, Some, slice_get, if◌then◌else◌}
 use Rattle.conc_types.specs.declared.item.Entry.{Entry}
 use Rattle.conc_types.specs.declared.plan.Plan.{Plan}
 use Rattle.conc_law.specs.Exclusion.{is_set_scope, runs_alone}
