@@ -1,12 +1,18 @@
-ghost use Rattle.std.specs.Prelude.{◌≡◌, ◌∷◌, IfOk, List, reverse, slice_get};
+ghost use Rattle.std.specs.Prelude.{◌≡◌, ◌∷◌, IfOk, List, Some, false, reverse, slice_get};
 ghost use Rattle.conc_types.specs.declared.event.Event.{Event};
-ghost use Rattle.conc_law_effects.specs.Advance.{all_after, IsAfter, one_by};
+ghost use Rattle.conc_types.specs.declared.event.Event.TheVariants as event;
+ghost use Rattle.conc_types.specs.declared.facts.Facts.{Facts};
+ghost use Rattle.conc_law_effects.specs.Advance as advance_spec;
+ghost use Rattle.conc_law_effects.specs.Advance.{all_after, IsAfter, named_by, one_by};
+ghost use Rattle.conc_law.specs.Kinds.{act_of};
 ghost use Rattle.conc_law.specs.State as spec;
 ghost use Rattle.conc_machine_reach.specs.Spans.{AreSpans, LeavesOthers};
+ghost use Rattle.conc_history_replay.specs.Changes as changes_spec;
 
-use conc_law_effects::{begin, facts_after, mark_done, named_facts, tick_of, used_after};
+use crate::changes::{acts, alone_after, is_entered, named_alone};
+use conc_law_effects::{act, begin, facts_after, mark_done, named_facts, tick_of, used_after};
 use conc_machine_reach::{Span, Spans};
-use conc_types::{Event, Facts, NoMemory, Plan, Seq, State};
+use conc_types::{Event, Facts, NoMemory, Plan, RequestId, Seq, State};
 use std::alloc::Global;
 
 // Makes the facts of the request at an index what they are after an event.
@@ -31,13 +37,78 @@ fn step_within(plan: &Plan, named: Facts, e: Event, facts: &mut Seq<Facts>, span
     }
 }
 
+// Makes the facts of the request that a let, a start or an end names what they are after it.
+fn step_alone(plan: &Plan, e: Event, facts: &mut Seq<Facts>, id: RequestId)
+    requires { changes_spec.named_alone e ≡ Some id }
+    ensures { (named : Facts) → facts.new ≡ all_after plan.now named e plan.now.requests facts.old }
+{
+    if id.number == 0 {
+        return;
+    }
+    if id.number as usize > plan.requests.len() {
+        return;
+    }
+    let i = id.number as usize - 1;
+    if let Some(own) = facts.as_slice().get(i).copied() {
+        facts.set(i, alone_after(e, own));
+    }
+}
+
+// Makes the facts of the request at an index what they are after a command that does no more than
+// enter requests.
+fn enter_at(plan: &Plan, number: u32, facts: &mut Seq<Facts>, i: usize)
+    requires { changes_spec.acts (act_of plan.now (event.Command number)) ≡ false }
+    ensures { (named : Facts) → facts.new ≡ one_by plan.now named (event.Command number) facts.old
+        i (slice_get plan.now.requests i) (slice_get facts.old i) }
+{
+    if let Some(r) = plan.requests.as_slice().get(i) {
+        if let Some(own) = facts.as_slice().get(i).copied() {
+            let entered = is_entered(number, r, own);
+            facts.set(i, Facts { entered, ..own });
+        }
+    }
+}
+
+// Makes the facts of all requests what they are after such a command, which changes those within a
+// span alone.
+fn enter_within(plan: &Plan, number: u32, facts: &mut Seq<Facts>, span: Span)
+    requires quiet { changes_spec.acts (act_of plan.now (event.Command number)) ≡ false }
+    requires leaves { LeavesOthers plan.now (event.Command number) span }
+    ensures { (named : Facts) → facts.new
+        ≡ all_after plan.now named (event.Command number) plan.now.requests facts.old }
+{
+    for index in span.from..span.to {
+        enter_at(plan, number, facts, index);
+    }
+}
+
+// Makes the facts of all requests what they are after an event. What most events are is asked first:
+// they change the facts of one request, or enter some.
+fn step_all(plan: &Plan, spans: &Spans, e: Event, facts: &mut Seq<Facts>)
+    requires { AreSpans plan.now spans.now }
+    ensures { facts.new ≡ all_after plan.now
+        (advance_spec.named_facts facts.old (named_by plan.now e)) e plan.now.requests facts.old }
+{
+    if let Some(id) = named_alone(e) {
+        step_alone(plan, e, facts, id);
+        return;
+    }
+    if let Event::Command { number } = e {
+        if !acts(act(plan, e)) {
+            enter_within(plan, number, facts, spans.reach(plan, e));
+            return;
+        }
+    }
+    let named = named_facts(plan, facts.as_slice(), e);
+    step_within(plan, named, e, facts, spans.reach(plan, e));
+}
+
 /// Takes one more event into the state.
 pub fn take_in(plan: &Plan, spans: &Spans, state: &mut State, e: Event)
     requires { AreSpans plan.now spans.now }
     ensures { IsAfter plan.now state.old state.new e }
 {
-    let named = named_facts(plan, state.facts.as_slice(), e);
-    step_within(plan, named, e, &mut state.facts, spans.reach(plan, e));
+    step_all(plan, spans, e, &mut state.facts);
     mark_done(&mut state.done, e);
     state.used = used_after(state.used, e);
     state.time = tick_of(e).or(state.time);
