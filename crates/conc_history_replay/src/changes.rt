@@ -2,7 +2,7 @@ ghost use Rattle.std.specs.Prelude.{◌≡◌, ◌==◌, ◌||◌};
 ghost use Rattle.std.specs.Option.{option_copied};
 ghost use Rattle.conc_history_replay.specs.Changes as spec;
 
-use conc_types::{Act, Event, Facts, Req, RequestId};
+use conc_types::{Act, Event, Facts, Req};
 
 // ---- commands that enter requests and do nothing else
 
@@ -26,19 +26,9 @@ pub(crate) fn is_entered(number: u32, r: &Req, own: Facts) -> bool
 
 // ---- events that change the facts of one request alone
 
-/// The request that a let, a start or an end names, of which alone it changes the facts.
-pub(crate) fn named_alone(e: Event) -> Option<RequestId>
-    ensures { result ≡ spec.named_alone e }
-{
-    match e {
-        Event::LetOut { request } => Some(request),
-        Event::Started { request, .. } => Some(request),
-        Event::Ended { request, .. } => Some(request),
-        _ => None,
-    }
-}
-
-/// The facts of that request after the event.
+/// The facts of the request that a let, a start or an end names after it. Where the kind of the event is
+/// known, the other kinds cost nothing.
+#[inline(always)]
 pub(crate) fn alone_after(e: Event, own: Facts) -> Facts
     ensures { result ≡ spec.alone_after e own }
 {

@@ -1,15 +1,16 @@
 ghost use Rattle.std.specs.Prelude.{◌≡◌, ◌∷◌, IfOk, List, Some, false, reverse, slice_get};
+ghost use Rattle.std.specs.Option.{option_or};
 ghost use Rattle.conc_types.specs.declared.event.Event.{Event};
 ghost use Rattle.conc_types.specs.declared.event.Event.TheVariants as event;
 ghost use Rattle.conc_types.specs.declared.facts.Facts.{Facts};
 ghost use Rattle.conc_law_effects.specs.Advance as advance_spec;
-ghost use Rattle.conc_law_effects.specs.Advance.{all_after, IsAfter, named_by, one_by};
-ghost use Rattle.conc_law.specs.Kinds.{act_of};
+ghost use Rattle.conc_law_effects.specs.Advance.{all_after, done_after, IsAfter, one_by};
+ghost use Rattle.conc_law.specs.Kinds.{act_of, tick_of};
 ghost use Rattle.conc_law.specs.State as spec;
 ghost use Rattle.conc_machine_reach.specs.Spans.{AreSpans, LeavesOthers};
 ghost use Rattle.conc_history_replay.specs.Changes as changes_spec;
 
-use crate::changes::{acts, alone_after, is_entered, named_alone};
+use crate::changes::{acts, alone_after, is_entered};
 use conc_law_effects::{act, begin, facts_after, mark_done, named_facts, tick_of, used_after};
 use conc_machine_reach::{Span, Spans};
 use conc_types::{Event, Facts, NoMemory, Plan, RequestId, Seq, State};
@@ -38,6 +39,7 @@ fn step_within(plan: &Plan, named: Facts, e: Event, facts: &mut Seq<Facts>, span
 }
 
 // Makes the facts of the request that a let, a start or an end names what they are after it.
+#[inline(always)]
 fn step_alone(plan: &Plan, e: Event, facts: &mut Seq<Facts>, id: RequestId)
     requires { changes_spec.named_alone e ≡ Some id }
     ensures { (named : Facts) → facts.new ≡ all_after plan.now named e plan.now.requests facts.old }
@@ -82,37 +84,83 @@ fn enter_within(plan: &Plan, number: u32, facts: &mut Seq<Facts>, span: Span)
     }
 }
 
-// Makes the facts of all requests what they are after an event. What most events are is asked first:
-// they change the facts of one request, or enter some.
-fn step_all(plan: &Plan, spans: &Spans, e: Event, facts: &mut Seq<Facts>)
-    requires { AreSpans plan.now spans.now }
-    ensures { facts.new ≡ all_after plan.now
-        (advance_spec.named_facts facts.old (named_by plan.now e)) e plan.now.requests facts.old }
+// Makes all that stands but the facts what it is after an event.
+#[inline(always)]
+fn settle(state: &mut State, e: Event)
+    ensures empty { state.new.empty ≡ false }
+    ensures time { state.new.time ≡ option_or (tick_of e) state.old.time }
+    ensures used { state.new.used ≡ advance_spec.used_after state.old.used e }
+    ensures done { state.new.done ≡ done_after state.old.done e }
+    ensures facts { state.new.facts ≡ state.old.facts }
 {
-    if let Some(id) = named_alone(e) {
-        step_alone(plan, e, facts, id);
-        return;
-    }
-    if let Event::Command { number } = e {
-        if !acts(act(plan, e)) {
-            enter_within(plan, number, facts, spans.reach(plan, e));
-            return;
-        }
-    }
-    let named = named_facts(plan, facts.as_slice(), e);
-    step_within(plan, named, e, facts, spans.reach(plan, e));
-}
-
-/// Takes one more event into the state.
-pub fn take_in(plan: &Plan, spans: &Spans, state: &mut State, e: Event)
-    requires { AreSpans plan.now spans.now }
-    ensures { IsAfter plan.now state.old state.new e }
-{
-    step_all(plan, spans, e, &mut state.facts);
     mark_done(&mut state.done, e);
     state.used = used_after(state.used, e);
     state.time = tick_of(e).or(state.time);
     state.empty = false;
+}
+
+// Takes a let, a start or an end into the state.
+#[inline(always)]
+fn take_in_alone(plan: &Plan, state: &mut State, e: Event, id: RequestId)
+    requires { changes_spec.named_alone e ≡ Some id }
+    ensures { IsAfter plan.now state.old state.new e }
+{
+    step_alone(plan, e, &mut state.facts, id);
+    settle(state, e);
+}
+
+// Takes any event into the state.
+fn take_in_any(plan: &Plan, spans: &Spans, state: &mut State, e: Event)
+    requires { AreSpans plan.now spans.now }
+    ensures { IsAfter plan.now state.old state.new e }
+{
+    let named = named_facts(plan, state.facts.as_slice(), e);
+    step_within(plan, named, e, &mut state.facts, spans.reach(plan, e));
+    settle(state, e);
+}
+
+// Takes a command into the state. Most commands do no more than enter requests.
+fn take_in_command(plan: &Plan, spans: &Spans, state: &mut State, number: u32)
+    requires { AreSpans plan.now spans.now }
+    ensures { IsAfter plan.now state.old state.new (event.Command number) }
+{
+    let e = Event::Command { number };
+    if acts(act(plan, e)) {
+        take_in_any(plan, spans, state, e);
+        return;
+    }
+    enter_within(plan, number, &mut state.facts, spans.reach(plan, e));
+    settle(state, e);
+}
+
+/// Takes one more event into the state. What most events are is asked first: they change the facts of
+/// one request, or enter some.
+pub fn take_in(plan: &Plan, spans: &Spans, state: &mut State, e: Event)
+    requires { AreSpans plan.now spans.now }
+    ensures { IsAfter plan.now state.old state.new e }
+{
+    match e {
+        Event::LetOut { request } => {
+            take_in_alone(plan, state, Event::LetOut { request }, request)
+        }
+        Event::Started { request, place } => {
+            take_in_alone(plan, state, Event::Started { request, place }, request)
+        }
+        Event::Ended {
+            request,
+            outcome,
+            extent,
+        } => {
+            let ended = Event::Ended {
+                request,
+                outcome,
+                extent,
+            };
+            take_in_alone(plan, state, ended, request)
+        }
+        Event::Command { number } => take_in_command(plan, spans, state, number),
+        _ => take_in_any(plan, spans, state, e),
+    }
 }
 
 // Takes one more event: the state after some events becomes the state after these and the event.
