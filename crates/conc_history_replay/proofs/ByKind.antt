@@ -22,11 +22,11 @@ use Rattle.conc_law_effects.specs.Step.{begun_after, cancelled_by, cancels_set, 
 use Rattle.conc_law_effects.specs.Advance.{one_by}
 use Rattle.conc_history_replay.specs.Changes.{acts, alone_after, named_alone}
 
-or-none : {T : Type 0} (o : Option T) → option_or o None ≡ o
+pub or-none : {T : Type 0} (o : Option T) → option_or o None ≡ o
 or-none None = refl
 or-none (Some x) = refl
 
-and-false : (b : Bool) → (b && false) ≡ false
+pub and-false : (b : Bool) → (b && false) ≡ false
 and-false true = refl
 and-false false = refl
 

@@ -1,8 +1,14 @@
 ghost use Rattle.std.specs.Prelude.{◌≡◌, ◌==◌, ◌||◌};
 ghost use Rattle.std.specs.Option.{option_copied};
+ghost use Rattle.conc_types.specs.declared.event.Event.TheVariants as event;
+ghost use Rattle.conc_types.specs.declared.facts.Facts.{Facts};
+ghost use Rattle.conc_types.specs.declared.plan.Plan.{Plan};
+ghost use Rattle.conc_law.specs.Words.{id_eq};
+ghost use Rattle.conc_law_effects.specs.Step as step_spec;
 ghost use Rattle.conc_history_replay.specs.Changes as spec;
 
-use conc_types::{Act, Event, Facts, Req};
+use conc_law_effects::facts_after;
+use conc_types::{Act, Event, Facts, Item, Outcome, Plan, Req, RequestId};
 
 // ---- commands that enter requests and do nothing else
 
@@ -50,5 +56,87 @@ pub(crate) fn alone_after(e: Event, own: Facts) -> Facts
             ..own
         },
         _ => own,
+    }
+}
+
+// ---- events of sets
+
+fn is_own(id: RequestId, r: &Req) -> bool
+    ensures { result ≡ id_eq id r.now.number }
+{
+    id.number == r.number.number
+}
+
+fn opens(set: RequestId, r: &Req) -> bool
+    ensures { result ≡ spec.opens set r.now }
+{
+    is_own(set, r) && matches!(r.item, Item::Set(_))
+}
+
+// The facts of a request after a set was opened.
+fn after_open(set: RequestId, r: &Req, own: Facts) -> Facts
+    ensures { (plan : Plan) (named : Facts) → result
+        ≡ step_spec.facts_after plan named (event.OpenSet set) r.now own }
+{
+    if !opens(set, r) {
+        return own;
+    }
+    Facts {
+        opened: true,
+        ..own
+    }
+}
+
+// The facts of a request after a stage of a set began.
+fn after_stage(set: RequestId, stage: u32, r: &Req, own: Facts) -> Facts
+    ensures { (plan : Plan) (named : Facts) → result
+        ≡ step_spec.facts_after plan named (event.Stage set stage) r.now own }
+{
+    if !is_own(set, r) {
+        return own;
+    }
+    let begun = own.begun.with(stage);
+    Facts {
+        stage: Some(stage),
+        begun,
+        ..own
+    }
+}
+
+// The facts of a request after a set was closed. Those of a completed member stay.
+fn after_close(
+    plan: &Plan,
+    named: Facts,
+    set: RequestId,
+    outcome: Outcome,
+    r: &Req,
+    own: Facts,
+) -> Facts
+    ensures { result
+        ≡ step_spec.facts_after plan.now named (event.CloseSet set outcome) r.now own }
+{
+    if is_own(set, r) {
+        return Facts {
+            opened: false,
+            outcome: own.outcome.or(Some(outcome)),
+            ..own
+        };
+    }
+    if own.outcome.is_some() {
+        return own;
+    }
+    facts_after(plan, named, Event::CloseSet { set, outcome }, r, own)
+}
+
+/// The facts of a request after one more event, as `facts_after` gives them; those of sets, which are
+/// the most of the others, are asked for first.
+pub(crate) fn own_after(plan: &Plan, named: Facts, e: Event, r: &Req, own: Facts) -> Facts
+    ensures { result ≡ step_spec.facts_after plan.now named e r.now own }
+{
+    match e {
+        Event::OpenSet { set } => after_open(set, r, own),
+        Event::Stage { set, stage } => after_stage(set, stage, r, own),
+        Event::CloseSet { set, outcome } => after_close(plan, named, set, outcome, r, own),
+        _ => facts_after(plan, named, e, r, own),
     }
 }

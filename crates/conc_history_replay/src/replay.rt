@@ -10,8 +10,8 @@ ghost use Rattle.conc_law.specs.State as spec;
 ghost use Rattle.conc_machine_reach.specs.Spans.{AreSpans, LeavesOthers};
 ghost use Rattle.conc_history_replay.specs.Changes as changes_spec;
 
-use crate::changes::{acts, alone_after, is_entered};
-use conc_law_effects::{act, begin, facts_after, mark_done, named_facts, tick_of, used_after};
+use crate::changes::{acts, alone_after, is_entered, own_after};
+use conc_law_effects::{act, begin, mark_done, named_facts, tick_of, used_after};
 use conc_machine_reach::{Span, Spans};
 use conc_types::{Event, Facts, NoMemory, Plan, RequestId, Seq, State};
 use std::alloc::Global;
@@ -23,7 +23,7 @@ fn step_at(plan: &Plan, named: Facts, e: Event, facts: &mut Seq<Facts>, i: usize
 {
     if let Some(r) = plan.requests.as_slice().get(i) {
         if let Some(own) = facts.as_slice().get(i).copied() {
-            facts.set(i, facts_after(plan, named, e, r, own));
+            facts.set(i, own_after(plan, named, e, r, own));
         }
     }
 }
