@@ -8,3 +8,4 @@ pub mod Turns
 pub mod Runnable
 pub mod FirstStep
 pub mod Places
+pub mod NoneLeft
