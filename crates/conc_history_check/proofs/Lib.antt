@@ -9,3 +9,4 @@ pub mod Runnable
 pub mod FirstStep
 pub mod Places
 pub mod NoneLeft
+pub mod AtIndex
