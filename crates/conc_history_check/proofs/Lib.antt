@@ -8,3 +8,5 @@ pub mod Turns
 pub mod Runnable
 pub mod FirstStep
 pub mod Places
+pub mod NoneLeft
+pub mod AtIndex

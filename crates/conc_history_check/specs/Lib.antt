@@ -1,3 +1,4 @@
+pub mod At
 pub mod Positions
 pub mod Prepared
 pub mod Live

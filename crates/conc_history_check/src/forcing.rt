@@ -1,4 +1,5 @@
 ghost use Rattle.std.specs.Prelude.{◌≡◌};
+ghost use Rattle.std.specs.List.{list_any};
 ghost use Rattle.conc_law.specs.Next as next_spec;
 ghost use Rattle.conc_machine_reach.specs.Spans.{AreSpans};
 ghost use Rattle.conc_history_check.specs.Live.{AreLive};
@@ -10,7 +11,32 @@ use crate::lets::forced_let;
 use crate::prepared::Prepared;
 use conc_law_decisions::{facts_at, forced_command, forced_interrupt, set_step};
 use conc_machine_reach::Spans;
-use conc_types::{Event, Plan, Req, RequestId, Seq, State};
+use conc_types::{Event, Facts, Plan, Req, RequestId, Seq, State};
+
+// ---- interrupts
+
+// Whether these are the facts of a request that ran at the stop of the system.
+fn is_left(own: Facts) -> bool
+    ensures { result ≡ steps_spec.is_left own }
+{
+    own.place.is_some() && !own.started
+}
+
+fn one_is_left(facts: &[Facts]) -> bool
+    ensures { result ≡ list_any steps_spec.is_left facts.now }
+{
+    facts.iter().any(|own| is_left(*own))
+}
+
+// The interrupt that is forced, if one is due. It looks for its request only where there is one.
+fn due_interrupt(plan: &Plan, state: &State) -> Option<Event>
+    ensures { result ≡ next_spec.forced_interrupt plan.now state.now }
+{
+    if one_is_left(state.facts.as_slice()) {
+        return forced_interrupt(plan, state);
+    }
+    None
+}
 
 // ---- steps of sets
 
@@ -54,7 +80,7 @@ pub(crate) fn forced(
     requires live { AreLive plan.now prepared.now.classes state.now live.now }
     ensures { result ≡ next_spec.forced plan.now state.now }
 {
-    if let Some(e) = forced_interrupt(plan, state) {
+    if let Some(e) = due_interrupt(plan, state) {
         return Some(e);
     }
     if let Some(e) = forced_command(plan, state) {

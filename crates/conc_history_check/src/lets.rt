@@ -1,6 +1,7 @@
-ghost use Rattle.std.specs.Prelude.{◌≡◌, false, unwrap_or};
+ghost use Rattle.std.specs.Prelude.{◌≡◌, ◌<◌, Some, false, length, slice_get, unwrap_or};
 ghost use Rattle.std.specs.Bool.{then_some};
 ghost use Rattle.std.specs.Option.{option_and_then, option_map};
+ghost use Rattle.conc_types.specs.declared.plan.Req.{Req};
 ghost use Rattle.conc_types.specs.Words.{numbered};
 ghost use Rattle.conc_law.specs.Next as next_spec;
 ghost use Rattle.conc_law.specs.Next.{can_run};
@@ -8,6 +9,7 @@ ghost use Rattle.conc_law.specs.Words.{Has};
 ghost use Rattle.conc_machine_queue.specs.Least.{least, lesser};
 ghost use Rattle.conc_machine_queue.specs.Turns as turns_spec;
 ghost use Rattle.conc_machine_queue.specs.Turns.{turns_of};
+ghost use Rattle.conc_history_check.specs.At as at_spec;
 ghost use Rattle.conc_history_check.specs.Lets as lets_spec;
 ghost use Rattle.conc_history_check.specs.Live.{AreLive};
 ghost use Rattle.conc_history_check.specs.Prepared.{IsPrepared};
@@ -16,7 +18,7 @@ use crate::free::is_free;
 use crate::prepared::Prepared;
 use conc_law_decisions::{facts_at, has_come, is_completed, is_live, is_waiting, let_event};
 use conc_machine_queue::{request_at_turn, turn};
-use conc_types::{Event, Plan, Req, RequestId, Seq, State};
+use conc_types::{Event, Facts, Plan, Req, RequestId, Seq, State};
 
 fn flag_numbered(flags: &Seq<bool>, number: u32) -> bool
     ensures { result ≡ unwrap_or (numbered flags.now number) false }
@@ -95,6 +97,46 @@ fn better(
     Some(turn)
 }
 
+// Whether a request with these facts waits to be let out, and is not held.
+fn waits(own: Facts) -> bool
+    ensures { result ≡ at_spec.waits own }
+{
+    own.entered && !is_live(own) && !is_completed(own) && !own.held
+}
+
+// Whether the request at an index does. Its facts stand at the same index.
+fn waits_at(state: &State, i: usize) -> bool
+    ensures { result ≡ at_spec.waits_at (slice_get state.now.facts i) }
+{
+    match state.facts.as_slice().get(i) {
+        Some(own) => waits(*own),
+        None => false,
+    }
+}
+
+// The best turn so far, or that of the request at an index where it may be let out and its turn comes
+// before. It looks at the request only where its facts let it wait.
+fn better_at(
+    plan: &Plan,
+    prepared: &Prepared,
+    state: &State,
+    live: &Seq<Option<RequestId>>,
+    best: Option<u64>,
+    i: usize,
+) -> Option<u64>
+    requires prepared { IsPrepared plan.now prepared.now }
+    requires live { AreLive plan.now prepared.now.classes state.now live.now }
+    requires within { i < length plan.now.requests }
+    ensures { (r : Req) → slice_get plan.now.requests i ≡ Some r → result
+        ≡ lesser best (then_some (next_spec.may_let plan.now state.now r) (turns_spec.turn r)) }
+{
+    if !waits_at(state, i) {
+        return best;
+    }
+    let r = &plan.requests.as_slice()[i];
+    better(plan, prepared, state, live, best, r)
+}
+
 // The least turn of the requests that may be let out.
 fn least_turn(
     plan: &Plan,
@@ -107,8 +149,8 @@ fn least_turn(
     ensures { result ≡ least (turns_of (next_spec.may_let plan.now state.now) plan.now.requests) }
 {
     let mut best = None;
-    for r in plan.requests.as_slice() {
-        best = better(plan, prepared, state, live, best, r);
+    for i in 0..plan.requests.len() {
+        best = better_at(plan, prepared, state, live, best, i);
     }
     best
 }

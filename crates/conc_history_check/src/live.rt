@@ -1,10 +1,11 @@
-ghost use Rattle.std.specs.Prelude.{◌≡◌, ◌<◌, IfOk, None, Option, length, map, suc};
+ghost use Rattle.std.specs.Prelude.{◌≡◌, ◌<◌, IfOk, None, Option, length, map, slice_get, suc};
 ghost use Rattle.conc_types.specs.declared.event.RequestId.{RequestId};
 ghost use Rattle.conc_machine_classes.specs.Classes.{AreClasses};
+ghost use Rattle.conc_history_check.specs.At as at_spec;
 ghost use Rattle.conc_history_check.specs.Live as spec;
 ghost use Rattle.conc_history_check.specs.Live.{AreLive, AreLiveTo};
 
-use conc_law_decisions::{facts_at, is_live};
+use conc_law_decisions::is_live;
 use conc_machine_classes::Classes;
 use conc_types::{NoMemory, Plan, RequestId, Seq, State};
 use std::alloc::Global;
@@ -35,6 +36,16 @@ pub(crate) fn noted(live: &Seq<Option<RequestId>>, class: u32) -> Option<Request
     live.as_slice().get(class as usize).copied().flatten()
 }
 
+// Whether the request at an index is live. Its facts stand at the same index.
+fn is_live_at(state: &State, i: usize) -> bool
+    ensures { result ≡ at_spec.live_at (slice_get state.now.facts i) }
+{
+    match state.facts.as_slice().get(i) {
+        Some(own) => is_live(*own),
+        None => false,
+    }
+}
+
 // Notes the request at an index, if it is live.
 fn note(plan: &Plan, classes: &Classes, state: &State, live: &mut Seq<Option<RequestId>>, i: usize)
     requires classes { AreClasses plan.now classes.now }
@@ -42,8 +53,8 @@ fn note(plan: &Plan, classes: &Classes, state: &State, live: &mut Seq<Option<Req
     requires before { AreLiveTo plan.now classes.now state.now i live.old }
     ensures { AreLiveTo plan.now classes.now state.now (suc i) live.new }
 {
-    let q = &plan.requests.as_slice()[i];
-    if is_live(facts_at(state, q)) {
+    if is_live_at(state, i) {
+        let q = &plan.requests.as_slice()[i];
         live.set(classes.class(q) as usize, Some(q.number));
     }
 }

@@ -1,6 +1,7 @@
 //! The state after a list of events, each of which is taken in by the requests that it can change.
 #![tactic(auto)]
 
+mod changes;
 mod replay;
 
 pub use replay::{state_after, take_in};

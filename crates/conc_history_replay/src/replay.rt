@@ -1,12 +1,19 @@
-ghost use Rattle.std.specs.Prelude.{◌≡◌, ◌∷◌, IfOk, List, reverse, slice_get};
+ghost use Rattle.std.specs.Prelude.{◌≡◌, ◌∷◌, IfOk, List, Some, false, reverse, slice_get};
+ghost use Rattle.std.specs.Option.{option_or};
 ghost use Rattle.conc_types.specs.declared.event.Event.{Event};
-ghost use Rattle.conc_law_effects.specs.Advance.{all_after, IsAfter, one_by};
+ghost use Rattle.conc_types.specs.declared.event.Event.TheVariants as event;
+ghost use Rattle.conc_types.specs.declared.facts.Facts.{Facts};
+ghost use Rattle.conc_law_effects.specs.Advance as advance_spec;
+ghost use Rattle.conc_law_effects.specs.Advance.{all_after, done_after, IsAfter, one_by};
+ghost use Rattle.conc_law.specs.Kinds.{act_of, tick_of};
 ghost use Rattle.conc_law.specs.State as spec;
 ghost use Rattle.conc_machine_reach.specs.Spans.{AreSpans, LeavesOthers};
+ghost use Rattle.conc_history_replay.specs.Changes as changes_spec;
 
-use conc_law_effects::{begin, facts_after, mark_done, named_facts, tick_of, used_after};
+use crate::changes::{acts, alone_after, is_entered, own_after};
+use conc_law_effects::{act, begin, mark_done, named_facts, tick_of, used_after};
 use conc_machine_reach::{Span, Spans};
-use conc_types::{Event, Facts, NoMemory, Plan, Seq, State};
+use conc_types::{Event, Facts, NoMemory, Plan, RequestId, Seq, State};
 use std::alloc::Global;
 
 // Makes the facts of the request at an index what they are after an event.
@@ -16,7 +23,7 @@ fn step_at(plan: &Plan, named: Facts, e: Event, facts: &mut Seq<Facts>, i: usize
 {
     if let Some(r) = plan.requests.as_slice().get(i) {
         if let Some(own) = facts.as_slice().get(i).copied() {
-            facts.set(i, facts_after(plan, named, e, r, own));
+            facts.set(i, own_after(plan, named, e, r, own));
         }
     }
 }
@@ -31,17 +38,129 @@ fn step_within(plan: &Plan, named: Facts, e: Event, facts: &mut Seq<Facts>, span
     }
 }
 
-/// Takes one more event into the state.
-pub fn take_in(plan: &Plan, spans: &Spans, state: &mut State, e: Event)
+// Makes the facts of the request that a let, a start or an end names what they are after it.
+#[inline(always)]
+fn step_alone(plan: &Plan, e: Event, facts: &mut Seq<Facts>, id: RequestId)
+    requires { changes_spec.named_alone e ≡ Some id }
+    ensures { (named : Facts) → facts.new ≡ all_after plan.now named e plan.now.requests facts.old }
+{
+    if id.number == 0 {
+        return;
+    }
+    if id.number as usize > plan.requests.len() {
+        return;
+    }
+    let i = id.number as usize - 1;
+    if let Some(own) = facts.as_slice().get(i).copied() {
+        facts.set(i, alone_after(e, own));
+    }
+}
+
+// Makes the facts of the request at an index what they are after a command that does no more than
+// enter requests.
+fn enter_at(plan: &Plan, number: u32, facts: &mut Seq<Facts>, i: usize)
+    requires { changes_spec.acts (act_of plan.now (event.Command number)) ≡ false }
+    ensures { (named : Facts) → facts.new ≡ one_by plan.now named (event.Command number) facts.old
+        i (slice_get plan.now.requests i) (slice_get facts.old i) }
+{
+    if let Some(r) = plan.requests.as_slice().get(i) {
+        if let Some(own) = facts.as_slice().get(i).copied() {
+            let entered = is_entered(number, r, own);
+            facts.set(i, Facts { entered, ..own });
+        }
+    }
+}
+
+// Makes the facts of all requests what they are after such a command, which changes those within a
+// span alone.
+fn enter_within(plan: &Plan, number: u32, facts: &mut Seq<Facts>, span: Span)
+    requires quiet { changes_spec.acts (act_of plan.now (event.Command number)) ≡ false }
+    requires leaves { LeavesOthers plan.now (event.Command number) span }
+    ensures { (named : Facts) → facts.new
+        ≡ all_after plan.now named (event.Command number) plan.now.requests facts.old }
+{
+    for index in span.from..span.to {
+        enter_at(plan, number, facts, index);
+    }
+}
+
+// Makes all that stands but the facts what it is after an event.
+#[inline(always)]
+fn settle(state: &mut State, e: Event)
+    ensures empty { state.new.empty ≡ false }
+    ensures time { state.new.time ≡ option_or (tick_of e) state.old.time }
+    ensures used { state.new.used ≡ advance_spec.used_after state.old.used e }
+    ensures done { state.new.done ≡ done_after state.old.done e }
+    ensures facts { state.new.facts ≡ state.old.facts }
+{
+    mark_done(&mut state.done, e);
+    state.used = used_after(state.used, e);
+    state.time = tick_of(e).or(state.time);
+    state.empty = false;
+}
+
+// Takes a let, a start or an end into the state.
+#[inline(always)]
+fn take_in_alone(plan: &Plan, state: &mut State, e: Event, id: RequestId)
+    requires { changes_spec.named_alone e ≡ Some id }
+    ensures { IsAfter plan.now state.old state.new e }
+{
+    step_alone(plan, e, &mut state.facts, id);
+    settle(state, e);
+}
+
+// Takes any event into the state.
+fn take_in_any(plan: &Plan, spans: &Spans, state: &mut State, e: Event)
     requires { AreSpans plan.now spans.now }
     ensures { IsAfter plan.now state.old state.new e }
 {
     let named = named_facts(plan, state.facts.as_slice(), e);
     step_within(plan, named, e, &mut state.facts, spans.reach(plan, e));
-    mark_done(&mut state.done, e);
-    state.used = used_after(state.used, e);
-    state.time = tick_of(e).or(state.time);
-    state.empty = false;
+    settle(state, e);
+}
+
+// Takes a command into the state. Most commands do no more than enter requests.
+fn take_in_command(plan: &Plan, spans: &Spans, state: &mut State, number: u32)
+    requires { AreSpans plan.now spans.now }
+    ensures { IsAfter plan.now state.old state.new (event.Command number) }
+{
+    let e = Event::Command { number };
+    if acts(act(plan, e)) {
+        take_in_any(plan, spans, state, e);
+        return;
+    }
+    enter_within(plan, number, &mut state.facts, spans.reach(plan, e));
+    settle(state, e);
+}
+
+/// Takes one more event into the state. What most events are is asked first: they change the facts of
+/// one request, or enter some.
+pub fn take_in(plan: &Plan, spans: &Spans, state: &mut State, e: Event)
+    requires { AreSpans plan.now spans.now }
+    ensures { IsAfter plan.now state.old state.new e }
+{
+    match e {
+        Event::LetOut { request } => {
+            take_in_alone(plan, state, Event::LetOut { request }, request)
+        }
+        Event::Started { request, place } => {
+            take_in_alone(plan, state, Event::Started { request, place }, request)
+        }
+        Event::Ended {
+            request,
+            outcome,
+            extent,
+        } => {
+            let ended = Event::Ended {
+                request,
+                outcome,
+                extent,
+            };
+            take_in_alone(plan, state, ended, request)
+        }
+        Event::Command { number } => take_in_command(plan, spans, state, number),
+        _ => take_in_any(plan, spans, state, e),
+    }
 }
 
 // Takes one more event: the state after some events becomes the state after these and the event.

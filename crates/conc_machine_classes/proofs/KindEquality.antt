@@ -17,7 +17,7 @@ use Rattle.conc_machine_classes.specs.Kinds.{covers_item, domain_at, kind_exclud
 
 -- ---- equal kinds
 
-item_eq-true : (a b : Item) → item_eq a b ≡ true → a ≡ b
+pub item_eq-true : (a b : Item) → item_eq a b ≡ true → a ≡ b
 item_eq-true (item.Program x) (item.Program y) h = ap (λ n. item.Program n) (eqb-true x y h)
 item_eq-true (item.Set x) (item.Set y) h = ap (λ n. item.Set n) (eqb-true x y h)
 item_eq-true (item.Program x) (item.Set y) h = cc

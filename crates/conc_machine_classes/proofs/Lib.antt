@@ -4,6 +4,9 @@ pub mod Slots
 pub mod PartitionSteps
 pub mod Passing
 pub mod RivalRows
+pub mod Rising
+pub mod Covering
+pub mod Putting
 pub mod KinMarked
 pub mod Numbered
 pub mod Built

@@ -1,5 +1,9 @@
 pub mod Classes
 pub mod Kinds
+pub mod Keys
+pub mod Shelf
+pub mod Shelves
+pub mod Candidates
 pub mod Places
 pub mod Rivals
 pub mod Partitions

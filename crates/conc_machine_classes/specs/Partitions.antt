@@ -1,10 +1,12 @@
 -- Requests that have a class, and a slot in it.
-use Rattle.std.specs.Prelude.{◌≡◌, ℕ, ◌+◌, ◌<◌, ◌≤◌, ◌==◌, if◌then◌else◌, List, [], ◌∷◌, ◌++◌, length, Some, slice_get, slice_index, slice_set}
+use Rattle.std.specs.Prelude.{◌≡◌, ℕ, ◌+◌, ◌<◌, ◌≤◌, ◌==◌, Bool, if◌then◌else◌, List, [], ◌∷◌, ◌++◌, length, Some, slice_get, slice_index, slice_set}
 use Rattle.conc_types.specs.declared.plan.Plan.{Plan}
 use Rattle.conc_types.specs.declared.plan.Req.{Req}
+use Rattle.conc_types.specs.Words.{some_and}
 use Rattle.conc_machine_classes.specs.declared.kinds.Head.{Head}
 use Rattle.conc_machine_classes.specs.declared.partition.Partition.{Partition}
-use Rattle.conc_machine_classes.specs.Kinds.{kind_at, kind_of}
+use Rattle.conc_machine_classes.specs.Kinds.{Kind, kind_at, kind_eq, kind_of}
+use Rattle.conc_machine_classes.specs.Shelf.{IsShelf}
 
 -- the requests of a class, by the class of each
 abbrev pub picked : ℕ → List ℕ → List Req → List Req
@@ -22,10 +24,15 @@ pub record ArePartitioned (plan : Plan) (rs : List Req) (classes slots sizes : L
   pub located : (i c s : ℕ) (r : Req) → slice_get classes i ≡ Some c → slice_get slots i ≡ Some s → slice_get rs i ≡ Some r → slice_get (picked c classes rs) s ≡ Some r
   pub kinds : (i c : ℕ) (r : Req) (head : Head) → slice_get classes i ≡ Some c → slice_get rs i ≡ Some r → slice_get heads c ≡ Some head → kind_at plan head ≡ kind_of plan r
 
+-- the class with this number is of the kind
+unfoldable pub is_of_kind : Plan → List Head → Kind → ℕ → Bool
+is_of_kind plan heads kind c = some_and (λ head. kind_eq (kind_at plan head) kind) (slice_get heads c)
+
 -- these requests have their places, in no more classes than there are requests
 pub record IsPartition (plan : Plan) (rs : List Req) (s : Partition) : Type 0 where
   pub located : ArePartitioned plan rs s.classes.items s.slots.items s.sizes.items s.heads.items
   pub few : length s.heads.items ≤ length rs
+  pub shelf : IsShelf s.shelf
 
 -- one more request has the class, and its next slot
 pub record IsJoined (old new : Partition) (c : ℕ) : Type 0 where
@@ -33,6 +40,7 @@ pub record IsJoined (old new : Partition) (c : ℕ) : Type 0 where
   pub slots : new.slots.items ≡ old.slots.items ++ slice_index old.sizes.items c ∷ []
   pub sizes : new.sizes.items ≡ slice_set old.sizes.items c (slice_index old.sizes.items c + 1)
   pub heads : new.heads.items ≡ old.heads.items
+  pub shelf : new.shelf ≡ old.shelf
 
 -- one more request has a new class, and its first slot
 pub record IsOpened (old new : Partition) (head : Head) : Type 0 where
@@ -40,3 +48,4 @@ pub record IsOpened (old new : Partition) (head : Head) : Type 0 where
   pub slots : new.slots.items ≡ old.slots.items ++ 0 ∷ []
   pub sizes : new.sizes.items ≡ old.sizes.items ++ 1 ∷ []
   pub heads : new.heads.items ≡ old.heads.items ++ head ∷ []
+  pub shelf : IsShelf new.shelf

@@ -1,7 +1,8 @@
 -- Which classes exclude a class.
-use Rattle.std.specs.Prelude.{◌≡◌, ℕ, Bool, ◌&&◌, ◌||◌, List, map}
+use Rattle.std.specs.Prelude.{◌≡◌, ℕ, Bool, ◌&&◌, ◌||◌, List, map, slice_get}
 use Rattle.std.specs.List.{filter, list_any}
 use Rattle.conc_types.specs.declared.plan.Plan.{Plan}
+use Rattle.conc_types.specs.Words.{some_and}
 use Rattle.conc_law.specs.Exclusion.{runs_alone}
 use Rattle.conc_machine_classes.specs.declared.kinds.Head.{Head}
 use Rattle.conc_machine_classes.specs.declared.rivals.Claim.{Claim}
@@ -30,6 +31,10 @@ either_claims plan claim other same = claims claim other same || claimed_by plan
 
 unfoldable pub heads_clash : Plan → Head → Head → Bool
 heads_clash plan a b = kinds_clash plan.setup (kind_at plan a) (kind_at plan b)
+
+-- the class with this number excludes the class with this head
+unfoldable pub clashes_at : Plan → List Head → Head → ℕ → Bool
+clashes_at plan heads head c = some_and (heads_clash plan head) (slice_get heads c)
 
 -- the classes with these heads that exclude the class with this head
 unfoldable pub row_of : Plan → List Head → Head → List ℕ

@@ -25,8 +25,9 @@ fn is_same_parent(a: Option<Item>, b: Option<Item>) -> bool
     }
 }
 
+/// The domain of the request at an index.
 #[tactic(auto, unfolding(crate::specs::Kinds::domain_at))]
-fn domain(plan: &Plan, index: u32) -> &[u8]
+pub(crate) fn domain(plan: &Plan, index: u32) -> &[u8]
     ensures { result.now ≡ domain_at plan.now index }
 {
     match plan.requests.as_slice().get(index as usize) {

@@ -1,9 +1,15 @@
 ghost use Rattle.std.specs.Prelude.{◌≡◌, ◌+◌, ◌<◌, ◌≤◌, ◌^◌, IfOk, OnOk, Some, length, slice_get, slice_index, suc, take};
-ghost use Rattle.std.specs.List.{position};
-ghost use Rattle.conc_machine_classes.specs.Kinds.{kind_at, kind_eq};
+ghost use Rattle.std.specs.List.{find};
+ghost use Rattle.std.specs.Option.{option_copied};
+ghost use Rattle.conc_machine_classes.specs.Keys as keys_spec;
+ghost use Rattle.conc_machine_classes.specs.Kinds.{kind_at};
+ghost use Rattle.conc_machine_classes.specs.Partitions as spec;
 ghost use Rattle.conc_machine_classes.specs.Partitions.{IsJoined, IsOpened, IsPartition};
+ghost use Rattle.conc_machine_classes.specs.Shelf.{IsShelf, bucket};
 
+use crate::keys::kind_key;
 use crate::kinds::{Head, are_one_kind, head_of};
+use crate::shelf::Shelf;
 use conc_types::{NoMemory, Plan, Req};
 use std::alloc::Global;
 
@@ -14,15 +20,30 @@ pub(crate) struct Partition {
     pub slots: Vec<u32>,
     pub sizes: Vec<u32>,
     pub heads: Vec<Head>,
+    /// Each class by its kind.
+    pub shelf: Shelf,
 }
 
-fn class_of(plan: &Plan, heads: &[Head], head: Head) -> Option<usize>
-    ensures { result ≡ position (λ h. kind_eq (kind_at plan.now h) (kind_at plan.now head))
-        heads.now }
+// Whether the class with this number is of the kind.
+#[tactic(auto, unfolding(crate::specs::Partitions::is_of_kind))]
+fn is_of_kind(plan: &Plan, heads: &[Head], class: u32, head: Head) -> bool
+    ensures { result ≡ spec.is_of_kind plan.now heads.now (kind_at plan.now head) class }
 {
-    heads
+    match heads.get(class as usize) {
+        Some(other) => are_one_kind(plan, *other, head),
+        None => false,
+    }
+}
+
+// The class of this kind, if there is one.
+fn class_of<'a>(plan: &Plan, heads: &[Head], shelf: &'a Shelf, head: Head) -> Option<&'a u32>
+    ensures { option_copied result ≡ find (spec.is_of_kind plan.now heads.now (kind_at plan.now head))
+        (bucket shelf.now (keys_spec.kind_key (kind_at plan.now head))) }
+{
+    shelf
+        .bucket(kind_key(plan, head))
         .iter()
-        .position(|other| are_one_kind(plan, *other, head))
+        .find(|class| is_of_kind(plan, heads, **class, head))
 }
 
 // Places one more request, in this class.
@@ -39,8 +60,9 @@ fn join(partition: &mut Partition, class: u32) -> Result<(), NoMemory>
 }
 
 // Places one more request, in a class of its own.
-fn open(partition: &mut Partition, head: Head) -> Result<(), NoMemory>
+fn open(plan: &Plan, partition: &mut Partition, head: Head) -> Result<(), NoMemory>
     requires few { length partition.old.heads.items ≤ 16384 }
+    requires shelf { IsShelf partition.old.shelf }
     ensures { OnOk result (IsOpened partition.old partition.new head) }
 {
     let class = partition.heads.len() as u32;
@@ -48,6 +70,7 @@ fn open(partition: &mut Partition, head: Head) -> Result<(), NoMemory>
     partition.slots.push(0)?;
     partition.sizes.push(1)?;
     partition.heads.push(head)?;
+    partition.shelf.put(kind_key(plan, head), class)?;
     Ok(())
 }
 
@@ -59,9 +82,9 @@ fn slot(plan: &Plan, partition: &mut Partition, index: u32, r: &Req) -> Result<(
         partition.new) }
 {
     let head = head_of(plan, index, r);
-    match class_of(plan, partition.heads.as_slice(), head) {
-        Some(class) => join(partition, class as u32),
-        None => open(partition, head),
+    match class_of(plan, partition.heads.as_slice(), &partition.shelf, head).copied() {
+        Some(class) => join(partition, class),
+        None => open(plan, partition, head),
     }
 }
 
@@ -74,6 +97,7 @@ pub(crate) fn partition_all(alloc: Global, plan: &Plan) -> Result<Partition, NoM
         slots: Vec::with_capacity(alloc, plan.requests.len())?,
         sizes: Vec::new(alloc),
         heads: Vec::new(alloc),
+        shelf: Shelf::new(alloc)?,
     };
     for (i, r) in plan.requests.as_slice().iter().enumerate() {
         slot(plan, &mut partition, i as u32, r)?;

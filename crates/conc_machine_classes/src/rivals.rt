@@ -4,22 +4,25 @@ ghost use Rattle.conc_machine_classes.specs.Kinds as kinds_spec;
 ghost use Rattle.conc_machine_classes.specs.Kinds.{covers_item};
 ghost use Rattle.conc_machine_classes.specs.Rivals as rivals_spec;
 ghost use Rattle.conc_machine_classes.specs.Rivals.{IsClaim, claimed_by, row_of, rows_of};
+ghost use Rattle.conc_machine_classes.specs.Shelves.{AreShelves};
 
+use crate::candidates::candidates;
 use crate::kinds::{Head, are_in_one_domain};
+use crate::shelves::Shelves;
 use conc_rules::{is_same_item, runs_alone};
 use conc_types::{Entry, Item, NoMemory, Plan, Reach, Scope, Seq};
 use std::alloc::Global;
 
-// All that excludes the requests of a class.
+/// All that excludes the requests of a class.
 #[derive(Drop)]
-struct Claim {
-    head: Head,
-    // The entries of its item.
-    owned: Vec<Entry>,
-    // The entries that cover its requests.
-    covering: Vec<Entry>,
-    // Its program runs alone.
-    alone: bool,
+pub(crate) struct Claim {
+    pub head: Head,
+    /// The entries of its item.
+    pub owned: Vec<Entry>,
+    /// The entries that cover its requests.
+    pub covering: Vec<Entry>,
+    /// Its program runs alone.
+    pub alone: bool,
 }
 
 #[tactic(auto, unfolding(crate::specs::Kinds::owns))]
@@ -133,19 +136,55 @@ fn clashes(plan: &Plan, claim: &Claim, other: Head) -> bool
     either_claims(plan, claim, other, same_domain)
 }
 
-// The classes that exclude the class with this head, in rising order.
-fn row(alloc: Global, plan: &Plan, heads: &[Head], head: Head) -> Result<Seq<u32>, NoMemory>
-    requires few { length heads.now ≤ 16384 }
-    ensures { IfOk result (λ row. row ≡ row_of plan.now heads.now head) }
+// Whether the class with this number excludes that of the claim.
+#[tactic(auto, unfolding(crate::specs::Rivals::clashes_at))]
+fn clashes_at(plan: &Plan, heads: &[Head], claim: &Claim, class: u32) -> bool
+    requires { IsClaim plan.now claim.now.head claim.now }
+    ensures { result ≡ rivals_spec.clashes_at plan.now heads.now claim.now.head class }
 {
-    let claim = claim_of(alloc, plan, head)?;
+    match heads.get(class as usize) {
+        Some(other) => clashes(plan, claim, *other),
+        None => false,
+    }
+}
+
+// Those of the classes that exclude that of the claim.
+fn clashing(
+    alloc: Global,
+    plan: &Plan,
+    heads: &[Head],
+    claim: &Claim,
+    found: &[u32],
+) -> Result<Seq<u32>, NoMemory>
+    requires { IsClaim plan.now claim.now.head claim.now }
+    ensures { IfOk result (λ row. row
+        ≡ filter (rivals_spec.clashes_at plan.now heads.now claim.now.head) found.now) }
+{
     let mut row = Vec::new(alloc);
-    for (i, other) in heads.iter().enumerate() {
-        if clashes(plan, &claim, *other) {
-            row.push(i as u32)?;
+    for class in found {
+        if clashes_at(plan, heads, claim, *class) {
+            row.push(*class)?;
         }
     }
     Ok(Seq::from_vec(row))
+}
+
+// The classes that exclude the class with this head, in rising order.
+fn row(
+    alloc: Global,
+    plan: &Plan,
+    heads: &[Head],
+    shelves: &Shelves,
+    head: Head,
+) -> Result<Seq<u32>, NoMemory>
+    requires { AreShelves plan.now heads.now shelves.now }
+    ensures { IfOk result (λ row. row ≡ row_of plan.now heads.now head) }
+{
+    let claim = claim_of(alloc, plan, head)?;
+    let mut found = candidates(alloc, plan, heads, shelves, &claim)?;
+    found.sort_unstable();
+    found.dedup();
+    clashing(alloc, plan, heads, &claim, found.as_slice())
 }
 
 /// For the class of each head the classes that exclude it, in rising order.
@@ -157,9 +196,10 @@ pub(crate) fn all_rows(
     requires few { length heads.now ≤ 16384 }
     ensures { IfOk result (λ rows. rows ≡ rows_of plan.now heads.now heads.now) }
 {
+    let shelves = Shelves::new(alloc, plan, heads)?;
     let mut rows = Vec::with_capacity(alloc, heads.len())?;
     for head in heads {
-        rows.push(row(alloc, plan, heads, *head)?)?;
+        rows.push(row(alloc, plan, heads, &shelves, *head)?)?;
     }
     Ok(Seq::from_vec(rows))
 }

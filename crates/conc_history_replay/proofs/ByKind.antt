@@ -1,0 +1,95 @@
+-- The facts of a request after one more event, by the kind of the event.
+use Rattle.std.proofs.Common.{◌≡◌, ℕ, Bool, true, false, ◌&&◌, ◌||◌, ◌==◌, List, length, Option, None, Some, refl, sym, ◌∙◌, ap}
+use Rattle.std.specs.Prelude.{slice_get, slice_set}
+use Rattle.std.specs.Slice.{IsItemAt}
+use denote.Ref.{Bor}
+use Rattle.std.proofs.lemmas.Bool.{ltb-false}
+use Rattle.std.proofs.lemmas.Option.{slice_get_past, slice_get_read}
+use Rattle.std.specs.Option.{option_copied, option_or}
+use Rattle.conc_types.specs.declared.event.Event.{Event}
+use Rattle.conc_types.specs.declared.event.Event.TheVariants as event
+use Rattle.conc_types.specs.declared.event.RequestId.{RequestId}
+use Rattle.conc_types.specs.declared.facts.Facts.{Facts}
+use Rattle.conc_types.specs.declared.plan.Plan.{Plan}
+use Rattle.conc_types.specs.declared.plan.Req.{Req}
+use Rattle.conc_types.specs.declared.script.Act.{Act}
+use Rattle.conc_types.specs.declared.script.Act.TheVariants as act
+use Rattle.conc_types.specs.Words.{some_and}
+use Rattle.conc_law.specs.Kinds.{act_of}
+use Rattle.conc_law.specs.Plans.{parent}
+use Rattle.conc_law.specs.Words.{id_eq, is_set}
+use Rattle.conc_law_effects.specs.Step.{begun_after, cancelled_by, cancels_set, entered_after, facts_after, held_after, held_by, let_after, opened_after, outcome_by, place_after, stage_after, started_after, terminated_after, unheld_by, unlet_by}
+use Rattle.conc_law_effects.specs.Advance.{one_by}
+use Rattle.conc_history_replay.specs.Changes.{acts, alone_after, named_alone}
+
+pub or-none : {T : Type 0} (o : Option T) → option_or o None ≡ o
+or-none None = refl
+or-none (Some x) = refl
+
+pub and-false : (b : Bool) → (b && false) ≡ false
+and-false true = refl
+and-false false = refl
+
+-- ---- commands that enter requests and do nothing else
+
+-- none is cancelled by what cancels none
+never : (p : Option Req) → some_and (λ (set : Req). false) p ≡ false
+never None = refl
+never (Some set) = refl
+
+pub entered-own : (plan : Plan) (named : Facts) (n : ℕ) (r : Req) (own : Facts) → acts (act_of plan (event.Command n)) ≡ false
+    → facts_after plan named (event.Command n) r own ≡ record own { entered = (n == r.command) || own.entered }
+unfolding facts_after entered_after held_after opened_after stage_after begun_after let_after place_after started_after terminated_after unlet_by held_by cancelled_by unheld_by cancels_set outcome_by
+entered-own plan named n r own h = by (act_of plan (event.Command n)) refl h where
+  by : (a : Option Act) → act_of plan (event.Command n) ≡ a → acts a ≡ false
+      → facts_after plan named (event.Command n) r own ≡ record own { entered = (n == r.command) || own.entered }
+  by None is quiet = rw (is, never (parent plan r), and-false (is_set r.item), or-none own.outcome) refl
+  by (Some (act.Submit item user priority start domain argument)) is quiet =
+      rw (is, never (parent plan r), and-false (is_set r.item), or-none own.outcome) refl
+  by (Some _) is quiet = cc
+
+-- ---- a let, a start or an end
+
+-- what it makes of the request that it names
+pub alone-own : (plan : Plan) (named : Facts) (e : Event) (id : RequestId) (r : Req) (own : Facts) → named_alone e ≡ Some id
+    → id_eq id r.number ≡ true → facts_after plan named e r own ≡ alone_after e own
+unfolding act_of facts_after entered_after held_after opened_after stage_after begun_after let_after place_after started_after terminated_after unlet_by held_by cancelled_by unheld_by outcome_by
+alone-own plan named (event.LetOut q) id r own h same =
+    let is : q ≡ id = cc in
+    rw (ap (λ i. id_eq i r.number) is ∙ same, and-false (is_set r.item), or-none own.outcome) refl
+alone-own plan named (event.Started q p) id r own h same =
+    let is : q ≡ id = cc in
+    rw (ap (λ i. id_eq i r.number) is ∙ same, and-false (is_set r.item), or-none own.outcome) refl
+alone-own plan named (event.Ended q o x) id r own h same =
+    let is : q ≡ id = cc in
+    rw (ap (λ i. id_eq i r.number) is ∙ same, and-false (is_set r.item)) refl
+alone-own plan named _ id r own h same = cc
+
+-- ---- what a slice lends
+
+-- what it lends at an index, copied
+pub copied_at : {X : Type 0} (xs : List X) (i : ℕ) (r : Option (Bor X)) → IsItemAt xs i r → option_copied r ≡ slice_get xs i
+copied_at xs i None h = sym (slice_get_past xs i (ltb-false i (length xs) (sym h.0)))
+copied_at xs i (Some x) h = sym (slice_get_read xs (length xs) i x.now refl h.3.0 h.1)
+
+-- so where it is there, and where it is not
+pub copied_got : {X : Type 0} (xs ys : List X) (i : ℕ) (r : Option (Bor X)) (o p : Option X) → ys ≡ xs → IsItemAt ys i r → o ≡ option_copied r
+    → o ≡ p → slice_get xs i ≡ p
+copied_got xs ys i r o p same lent copied is = ap (λ l. slice_get l i) (sym same) ∙ (sym (copied_at ys i r lent) ∙ (sym copied ∙ is))
+
+-- ---- one request entered
+
+pub entered-at : (plan : Plan) (named : Facts) (n : ℕ) (facts new : List Facts) (i : ℕ) (r : Req) (own : Facts) (b : Bool)
+    → acts (act_of plan (event.Command n)) ≡ false → slice_get plan.requests i ≡ Some r → slice_get facts i ≡ Some own
+    → b ≡ ((n == r.command) || own.entered) → new ≡ slice_set facts i (record own { entered = b })
+    → new ≡ one_by plan named (event.Command n) facts i (slice_get plan.requests i) (slice_get facts i)
+entered-at plan named n facts new i r own b quiet at here entered is =
+    is
+    ∙ (ap (slice_set facts i) (ap (λ z. record own { entered = z }) entered ∙ sym (entered-own plan named n r own quiet))
+    ∙ (sym (ap (λ o. one_by plan named (event.Command n) facts i o (Some own)) at)
+    ∙ sym (ap (one_by plan named (event.Command n) facts i (slice_get plan.requests i)) here)))
+
+-- where one of them is not there, nothing changes
+pub entered-none : (plan : Plan) (named : Facts) (e : Event) (facts : List Facts) (i : ℕ) (r : Option Req) → r ≡ None
+    → facts ≡ one_by plan named e facts i r (slice_get facts i)
+entered-none plan named e facts i r none = ap (λ o. one_by plan named e facts i o (slice_get facts i)) (sym none)
