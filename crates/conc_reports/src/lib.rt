@@ -1,13 +1,17 @@
 //! The report that a run of a program makes of its table.
 #![tactic(auto)]
 
+mod amounts;
 mod columns;
 mod figures;
 mod filters;
 mod groups;
+mod listing;
 mod making;
+mod numbering;
 mod numbers;
 mod quotes;
+mod sieves;
 mod tally;
 
 pub use making::{Made, report};
