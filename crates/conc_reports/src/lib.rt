@@ -6,6 +6,7 @@ mod columns;
 mod figures;
 mod filters;
 mod groups;
+mod keeping;
 mod listing;
 mod making;
 mod numbering;
@@ -14,4 +15,5 @@ mod quotes;
 mod sieves;
 mod tally;
 
+pub use keeping::{keep_columns, keep_for};
 pub use making::{Made, report};
