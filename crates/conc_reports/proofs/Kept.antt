@@ -1,7 +1,7 @@
 -- The cells of a column by what is kept of it.
-use Rattle.std.proofs.Common.{◌≡◌, ◌∙◌, sym, ap, refl, ℕ, ◌<◌, List, [], Option, None, Some, get_or, length, map, arith}
+use Rattle.std.proofs.Common.{◌≡◌, ◌∙◌, sym, ap, refl, ℕ, ◌<◌, List, [], Option, None, Some, get_or, length}
 use Rattle.std.specs.Borrow.{Bor}
-use Rattle.std.specs.Option.{IfSome, option_map}
+use Rattle.std.specs.Option.{option_map}
 use Rattle.std.proofs.lemmas.List.{get_or-map, get_or_read}
 use Rattle.std.proofs.lemmas.Option.{unwrap_or-slice_get}
 use Rattle.conc_types.specs.declared.kept.Numbering.{Numbering}

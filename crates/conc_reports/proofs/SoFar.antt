@@ -1,5 +1,5 @@
 -- One pass over the rows by numbers, row after row.
-use Rattle.std.proofs.Common.{◌≡◌, ◌∙◌, sym, ap, refl, ℕ, ◌+◌, ◌<◌, ◌≤◌, ℤ, pos, arith, true, false, List, [], Option, None, Some, get_or, length}
+use Rattle.std.proofs.Common.{◌≡◌, ◌∙◌, sym, ap, ℕ, ◌+◌, ◌<◌, ◌≤◌, ℤ, pos, arith, true, false, List, [], Option, None, Some, get_or, length}
 use Rattle.std.specs.List.{All}
 use Rattle.std.specs.Option.{IfSome, is_none, option_map}
 use Rattle.std.proofs.lemmas.List.Elements.{All-weaker}

@@ -1,9 +1,7 @@
 use Rattle.std.proofs.Common.{◌≡◌, ◌<◌, ◌∙◌, ap, sym, ℕ, List, get_or, length}
 use Rattle.conc_types.specs.Kept.{cell_of}
-use Rattle.conc_reports.specs.Checks.{holds, meets}
+use Rattle.conc_reports.specs.Checks.{meets}
 use Rattle.conc_reports.specs.Columns.{cell_in, cells_at}
-use Rattle.conc_reports.specs.Sieves.{lets}
-use Rattle.conc_reports.specs.declared.sieves.Sieve.TheVariants as sieve
 use Rattle.conc_reports.proofs.Kept.{cell-at}
 use Rattle.conc_reports.proofs.sieves.sieve_by_numbers.Goals as goal
 
