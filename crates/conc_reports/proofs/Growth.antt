@@ -26,6 +26,18 @@ figures_at-grown m n key value new same updates k =
     ap (option_map shown) (btree_map_updates_str key m n (Some new) updates k)
     ∙ by_key (bytes_eq key k) new value (get_by (λ q. slice_cmp nat_cmp k q.now) m) here
 
+put-by : (b : Bool) (new : Figures) (before : Option Figures) → option_map shown (if b then Some new else before) ≡ (if b then Some (shown new) else option_map shown before)
+put-by true new before = refl
+put-by false new before = refl
+
+-- the figures of one key are put
+pub figures_at-put : (m n : BTreeMap (Bor (List ℕ)) Figures) (key : List ℕ) (new : Figures)
+    → UpdatesBy (λ x y. slice_cmp nat_cmp x.now y.now) (λ k. slice_cmp nat_cmp key k.now) m n (Some new)
+    → (k : List ℕ) → figures_at n k ≡ (if bytes_eq key k then Some (shown new) else figures_at m k)
+figures_at-put m n key new updates k =
+    ap (option_map shown) (btree_map_updates_str key m n (Some new) updates k)
+    ∙ put-by (bytes_eq key k) new (get_by (λ q. slice_cmp nat_cmp k q.now) m)
+
 pub shown-more : (before after : Figures) (value : ℤ) → after.count ≡ before.count + 1 → after.sum ≡ before.sum +ℤ value → shown after ≡ grown value (Some (shown before))
 shown-more before after value count sum = λ i. (count i, sum i)
 

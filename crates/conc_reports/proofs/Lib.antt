@@ -1,6 +1,11 @@
 pub mod Cells
 pub mod Digits
 pub mod Growth
+pub mod Kept
+pub mod Known
+pub mod Listings
+pub mod Numberings
 pub mod Ordered
 pub mod Passing
+pub mod SoFar
 pub mod Texts

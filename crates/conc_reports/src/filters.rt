@@ -83,8 +83,8 @@ pub fn conditions<'a>(
     Ok(conditions)
 }
 
-// Whether both numbers are there, and the first is less.
-fn is_less(a: Option<i64>, b: Option<i64>) -> bool
+/// Whether both numbers are there, and the first is less.
+pub fn is_less(a: Option<i64>, b: Option<i64>) -> bool
     ensures { result ≡ checks_spec.is_less a b }
 {
     match (a, b) {
@@ -93,7 +93,8 @@ fn is_less(a: Option<i64>, b: Option<i64>) -> bool
     }
 }
 
-fn meets(check: Check<'_>, cell: &[u8]) -> bool
+/// Whether a cell meets a check.
+pub fn meets(check: Check<'_>, cell: &[u8]) -> bool
     ensures { result ≡ checks_spec.meets check.entry cell.now }
 {
     match check {

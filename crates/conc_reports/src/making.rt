@@ -13,8 +13,9 @@ ghost use Rattle.conc_reports.specs.Texts.{figures_line, group_of, groups_text, 
 
 use crate::figures::Figures;
 use crate::groups::Groups;
+use crate::listing::tally_table;
 use crate::quotes::put_quoted;
-use crate::tally::{Tallied, Tally, tally_rows};
+use crate::tally::{Tallied, Tally};
 use conc_law::report_is_short;
 use conc_types::{Bytes, Job, MOST_REPORT_BYTES, NoMemory, Outcome, Table, put_decimal};
 use itoa::Buffer;
@@ -205,7 +206,7 @@ fn report_by_rows(
     ensures text { IfOk result (λ made. made.text
         ≡ (report_spec.report job.now argument.now table.now).text) }
 {
-    match tally_rows(alloc, job, argument, table)? {
+    match tally_table(alloc, job, argument, table)? {
         Tallied::Bad(number) => bad_row(alloc, number),
         Tallied::Whole(tally) => report_of_tally(alloc, job, &tally),
     }

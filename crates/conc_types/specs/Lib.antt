@@ -1,6 +1,7 @@
 pub mod Words
 pub mod Texts
 pub mod Decimals
+pub mod Numbers
 pub mod Stages
 pub mod Fields
 pub mod Shifts
@@ -9,6 +10,7 @@ pub mod Setups
 pub mod Scripts
 pub mod Cells
 pub mod Pieces
+pub mod Kept
 pub mod Tables
 pub mod Expansion
 pub mod Plans

@@ -77,11 +77,24 @@ impl Cells {
         Ok(())
     }
 
+    // What the strings' memory is taken from.
+    pub(crate) fn allocator(&self) -> Global {
+        *self.bytes.allocator()
+    }
+
     /// How many strings there are.
     pub fn len(&self) -> usize
         ensures { result ≡ length self.now }
     {
         self.ends.len()
+    }
+
+    /// How many bytes of memory the strings and their places take.
+    pub fn size(&self) -> usize {
+        self.ends
+            .len()
+            .saturating_mul(4)
+            .saturating_add(self.bytes.len())
     }
 
     /// The string at an index, if there is one. It takes the same time at each.

@@ -1,7 +1,5 @@
-use Rattle.std.proofs.Common.{◌≡◌, ◌<◌, ◌≤◌, ◌==◌, true, false, sym, ◌∙◌, ap, length, take, take_all, refl, Some, get_or, arith}
-use Rattle.std.specs.List.{list_all}
-use Rattle.conc_law.specs.Numbers.{is_digit}
-use Rattle.conc_reports.proofs.Digits.{next_digit, NextDigit, no_digits, some_digits, too_few, too_many}
+use Rattle.std.proofs.Common.{◌≡◌, sym, ◌∙◌, ap, take, take_all, refl, Some, get_or, arith}
+use Rattle.conc_reports.proofs.Digits.{next_digit, no_digits, some_digits, too_few, too_many}
 use Rattle.conc_reports.proofs.numbers.value_of.Goals as goal
 use Rattle.conc_reports.proofs.numbers.value_of.Goals.{then-is_empty-via-then-is_empty, then-is_empty-via-else-is_empty+then-bytes-gt19}
 
