@@ -45,6 +45,7 @@ pub record IsOther (digests : Digests) (found given image : List ℕ) : Type 0 w
 -- The journal of another script: it is of version 2 and of the same setup and tables, and this is the first of its commands that the
 -- plan lacks, or that has another stamp than the plan's. The stamp found, and the plan's, which is 0 where the plan has no such command.
 pub record IsOtherScript (plan : Plan) (digests : Digests) (command found given : ℕ) (image : List ℕ) : Type 0 where
+  pub opens : IsTrue (may_open image)
   pub label : Label
   pub labelled : label_of image ≡ Some label
   pub version : label.version ≡ Two
