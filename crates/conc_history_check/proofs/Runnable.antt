@@ -1,5 +1,5 @@
 -- What is kept of a request of the plan, by its number.
-use Rattle.std.proofs.Common.{◌≡◌, Bool, false, List, map, refl, ◌∙◌, ap}
+use Rattle.std.proofs.Common.{◌≡◌, Bool, false, List, map, ◌∙◌, ap}
 use Rattle.std.specs.Prelude.{unwrap_or}
 use Rattle.std.specs.Option.{option_map}
 use Rattle.conc_types.specs.declared.plan.Plan.{Plan}

@@ -1,15 +1,13 @@
 -- The least turn of the requests that may be let out, one request after the other.
-use Rattle.std.proofs.Common.{◌≡◌, ℕ, zero, suc, ◌+◌, ◌<◌, ◌≤◌, Bool, true, false, not, ◌&&◌, List, [], ◌∷◌, length, get_or, drop, Option, None, Some, refl, sym, ◌∙◌, ap, add-one, inl, inr, arith}
-use Rattle.std.specs.Prelude.{if◌then◌else◌, nat_lt}
+use Rattle.std.proofs.Common.{◌≡◌, ℕ, Bool, true, false, ◌&&◌, Option, None, Some, refl, sym}
 use Rattle.std.specs.Bool.{then_some}
-use Rattle.std.proofs.lemmas.Bool.{and_left, and_parts, and_right, cases_lt, le-ltb, lt-ltb, not-true}
+use Rattle.std.proofs.lemmas.Bool.{and_parts, not-true}
 use Rattle.conc_types.specs.declared.facts.State.{State}
 use Rattle.conc_types.specs.declared.plan.Plan.{Plan}
 use Rattle.conc_types.specs.declared.plan.Req.{Req}
-use Rattle.conc_law.specs.Next.{can_run, is_free, is_ready, may_let}
-use Rattle.conc_law.specs.State.{facts_at, has_come, is_completed, is_live, is_waiting}
-use Rattle.conc_machine_queue.specs.Least.{least, lesser}
-use Rattle.conc_machine_queue.specs.Turns.{turn, turns_of}
+use Rattle.conc_law.specs.Next.{is_free, is_ready, may_let}
+use Rattle.conc_law.specs.State.{facts_at, is_live}
+use Rattle.conc_machine_queue.specs.Least.{lesser}
 use Rattle.conc_machine_queue.proofs.LeastTurns.{lesser-none}
 use Rattle.conc_history_check.specs.Lets.{comes_before}
 

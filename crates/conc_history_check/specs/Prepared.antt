@@ -1,5 +1,5 @@
 -- What of a plan alone is used at each position.
-use Rattle.std.specs.Prelude.{◌≡◌, Bool, List, map}
+use Rattle.std.specs.Prelude.{◌≡◌, map}
 use Rattle.conc_types.specs.declared.plan.Plan.{Plan}
 use Rattle.conc_law.specs.Next.{can_run}
 use Rattle.conc_machine_classes.specs.Classes.{AreClasses}

@@ -1,4 +1,4 @@
-use Rattle.std.proofs.Common.{◌≡◌, ◌<◌, length, add-one, arith, ◌∙◌}
+use Rattle.std.proofs.Common.{◌<◌, length, add-one, arith, ◌∙◌}
 use Rattle.conc_history_check.proofs.Cleared.{cleared-more}
 use Rattle.conc_history_check.proofs.findings.clear_flags.Goals as goal
 

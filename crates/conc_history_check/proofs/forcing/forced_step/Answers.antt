@@ -1,6 +1,6 @@
-use Rattle.std.proofs.Common.{◌≡◌, ◌<◌, ◌≤◌, length, get_or, None, sym, ◌∙◌, ap, arith}
+use Rattle.std.proofs.Common.{length, get_or, sym, ◌∙◌, ap, arith}
 use Rattle.conc_law.specs.Next.{forced_step}
-use Rattle.conc_history_check.specs.Steps.{own_step, step_among}
+use Rattle.conc_history_check.specs.Steps.{step_among}
 use Rattle.conc_history_check.proofs.FirstStep.{step-here, step-later, step-none}
 use Rattle.conc_history_check.proofs.forcing.forced_step.Goals as goal
 

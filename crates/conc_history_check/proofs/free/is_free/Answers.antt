@@ -1,5 +1,5 @@
-use Rattle.std.proofs.Common.{◌≡◌, sym, ◌∙◌, ap, Some, None, false}
-use Rattle.conc_machine_classes.specs.Classes.{class_at, excludes_kin_at}
+use Rattle.std.proofs.Common.{sym, ◌∙◌, ap}
+use Rattle.conc_machine_classes.specs.Classes.{excludes_kin_at}
 use Rattle.conc_history_check.specs.Live.{rival_noted}
 use Rattle.conc_history_check.proofs.FreeOnes.{free-none, free-not}
 use Rattle.conc_history_check.proofs.free.is_free.Goals as goal

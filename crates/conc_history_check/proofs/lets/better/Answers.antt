@@ -1,7 +1,7 @@
-use Rattle.std.proofs.Common.{◌≡◌, true, false, sym, ◌∙◌, ap}
+use Rattle.std.proofs.Common.{sym, ◌∙◌}
 use Rattle.std.proofs.lemmas.Bool.{and_from, and_left, and_right}
-use Rattle.conc_law.specs.Next.{is_free, is_ready, may_let}
-use Rattle.conc_history_check.proofs.Turns.{better-before, better-later, better-not, may_let-parts, ready-not_live}
+use Rattle.conc_law.specs.Next.{is_ready}
+use Rattle.conc_history_check.proofs.Turns.{better-before, better-not, may_let-parts, ready-not_live}
 use Rattle.conc_history_check.proofs.lets.better.Goals as goal
 
 pub returns-then-not-is_ready : goal.returns-then-not-is_ready

@@ -1,4 +1,4 @@
-use Rattle.std.proofs.Common.{◌≡◌, ◌+◌, add-one, refl, reverse, take, ◌∙◌}
+use Rattle.std.proofs.Common.{◌+◌, add-one, refl, reverse, take, ◌∙◌}
 use Rattle.std.proofs.lemmas.List.{take_rest}
 use Rattle.std.proofs.lemmas.Option.{slice_get_read}
 use Rattle.conc_history_check.proofs.EachPosition.{lawful_here}

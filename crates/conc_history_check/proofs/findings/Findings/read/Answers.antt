@@ -1,6 +1,5 @@
-use Rattle.std.proofs.Common.{◌≡◌, ◌≤◌, length, reverse, take, arith}
+use Rattle.std.proofs.Common.{reverse, take, arith}
 use Rattle.std.proofs.lemmas.List.{length-reverse, length-take-le}
-use Rattle.conc_law.specs.Readings.{ticks}
 use Rattle.conc_history_check.proofs.Rooms.{state_room, ticks-few}
 use Rattle.conc_history_check.proofs.findings.Findings.read.Goals as goal
 
