@@ -30,6 +30,7 @@ pub trait Pace {
 }
 
 /// One after the other.
+#[derive(Clone, Copy)]
 pub struct InTurn;
 
 impl Pace for InTurn {
@@ -48,6 +49,7 @@ impl Pace for InTurn {
 
 /// Beside each other: the bytes are read in one thread and digested in two others, where threads can be
 /// made.
+#[derive(Drop)]
 pub struct OnThreads<'a, R> {
     pub rt: &'a R,
 }
