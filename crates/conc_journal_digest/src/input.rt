@@ -65,7 +65,7 @@ impl InputDigest {
 
     /// The same, with each of the two digests in a thread of its own, where one can be made.
     #[tactic(auto, using(crate::proofs::Messages::message_more, crate::proofs::Messages::base_message_more))]
-    pub fn with_table_on_threads<R: Threads + Sync>(
+    pub fn with_table_on_threads<R: Threads>(
         self,
         rt: &R,
         name: &[u8],

@@ -12,7 +12,7 @@ use crate::printing::write_text;
 use conc_history_verdict::{Verdict, judge_text};
 use conc_outside::{Shelf, Sink};
 use conc_outside_clock::Clock;
-use conc_top_inputs::{accept_timed, read_file};
+use conc_top_inputs::{InTurn, accept_timed, read_file};
 use conc_types::{Name, NoMemory, Plan, Readings, put_decimal};
 use std::alloc::Global;
 
@@ -90,13 +90,7 @@ pub(crate) fn check_files<F: Shelf, O: Sink, C: Clock>(
     ensures later { IsLater (F.state shelf.old) (F.state shelf.new) }
 {
     let (accepted, readings) = match accept_timed(
-        alloc,
-        shelf,
-        clock,
-        None::<&HostRuntime>,
-        setup,
-        script,
-        file,
+        alloc, shelf, clock, &InTurn, setup, script, file,
     ) {
         Ok(given) => given,
         Err(fail) => return Exit::from(fail),

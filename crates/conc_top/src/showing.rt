@@ -15,7 +15,7 @@ use conc_disk::Disk;
 use conc_history::{put_plan, put_status_table};
 use conc_outside::{Shelf, Sink};
 use conc_run_open::{TextFail, read_list, read_text};
-use conc_top_inputs::accept;
+use conc_top_inputs::{InTurn, accept};
 use conc_types::{Digests, Name, NoMemory, Plan, RequestId};
 use std::alloc::Global;
 
@@ -46,7 +46,7 @@ pub(crate) fn list_files<F: Shelf, O: Sink>(
         result }
     ensures later { IsLater (F.state shelf.old) (F.state shelf.new) }
 {
-    match accept(alloc, shelf, None::<&HostRuntime>, setup, script) {
+    match accept(alloc, shelf, &InTurn, setup, script) {
         Ok(accepted) => print_listing(alloc, &accepted.plan, out),
         Err(fail) => Exit::from(fail),
     }
@@ -93,7 +93,7 @@ pub(crate) fn show_table<F: Shelf, O: Sink, D: Disk>(
     ensures untouched { IsDiskUntouched (D.state journal.old) (D.state journal.new) }
     ensures later { IsLater (F.state shelf.old) (F.state shelf.new) }
 {
-    match accept(alloc, shelf, None::<&HostRuntime>, setup, script) {
+    match accept(alloc, shelf, &InTurn, setup, script) {
         Ok(accepted) => print_table(alloc, &accepted.plan, &accepted.digests, out, journal),
         Err(fail) => Exit::from(fail),
     }
@@ -154,7 +154,7 @@ pub(crate) fn show_report<F: Shelf, O: Sink, D: Disk, E: Disk>(
         (E.state spool.old) (E.state spool.new)) }
     ensures later { IsLater (F.state shelf.old) (F.state shelf.new) }
 {
-    match accept(alloc, shelf, None::<&HostRuntime>, setup, script) {
+    match accept(alloc, shelf, &InTurn, setup, script) {
         Ok(accepted) => print_report(
             alloc,
             &accepted.plan,

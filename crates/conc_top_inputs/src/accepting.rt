@@ -12,13 +12,13 @@ ghost use Rattle.conc_top_inputs.specs.Ways as spec;
 
 use crate::InputFail;
 use crate::clocks::read_readings;
+use crate::pace::Pace;
 use crate::reading::{Start, read_start, read_tables};
 use conc_outside::Shelf;
 use conc_outside_clock::Clock;
 use conc_plan::make_plan;
 use conc_types::{Digests, FileKind, Name, Plan, ReadFail, Readings, Seq};
 use std::alloc::Global;
-use std::thread::Threads;
 
 /// What files give, once all are accepted.
 #[derive(Drop)]
@@ -52,10 +52,10 @@ fn fail_without_plan(fail: ReadFail, setup: Name, script: Name) -> InputFail
 }
 
 // Reads the tables of the setup, and makes the plan of what was read.
-fn plan_from<F: Shelf, R: Threads + Sync>(
+fn plan_from<F: Shelf, P: Pace>(
     alloc: Global,
     shelf: &mut F,
-    threads: Option<&R>,
+    pace: &P,
     start: Start,
     setup: Name,
     script: Name,
@@ -81,7 +81,7 @@ fn plan_from<F: Shelf, R: Threads + Sync>(
     let (tables, digest) = match read_tables(
         alloc,
         shelf,
-        threads,
+        pace,
         setup_read.tables.as_slice(),
         digest,
     ) {
@@ -99,12 +99,12 @@ fn plan_from<F: Shelf, R: Threads + Sync>(
 
 /// Reads the files with these names in the order setup, script, tables, each of them judged before the
 /// next one is read, and makes the plan of what they say. The first file that is lacking, that cannot be
-/// read or that is refused ends the call. Then the plan may be refused. With threads each table is read
-/// and digested beside each other, where threads can be made, with the same answers.
-pub fn accept<F: Shelf, R: Threads + Sync>(
+/// read or that is refused ends the call. Then the plan may be refused. A table is read and digested at
+/// this pace, which changes no answer.
+pub fn accept<F: Shelf, P: Pace>(
     alloc: Global,
     shelf: &mut F,
-    threads: Option<&R>,
+    pace: &P,
     setup: Name,
     script: Name,
 ) -> Result<Accepted, InputFail>
@@ -120,17 +120,17 @@ pub fn accept<F: Shelf, R: Threads + Sync>(
         Ok(start) => start,
         Err(fail) => return Err(fail),
     };
-    plan_from(alloc, shelf, threads, start, setup, script)
+    plan_from(alloc, shelf, pace, start, setup, script)
 }
 
 /// Does what `accept` does, with a clock that is read between the script and the tables. A clock with the
 /// name `system` is no file: its one reading is the moment that `clock` gives, which is not asked
 /// otherwise. A clock that gives no moment ends the call.
-pub fn accept_timed<F: Shelf, C: Clock, R: Threads + Sync>(
+pub fn accept_timed<F: Shelf, C: Clock, P: Pace>(
     alloc: Global,
     shelf: &mut F,
     clock: &mut C,
-    threads: Option<&R>,
+    pace: &P,
     setup: Name,
     script: Name,
     file: Name,
@@ -151,7 +151,7 @@ pub fn accept_timed<F: Shelf, C: Clock, R: Threads + Sync>(
         Ok(readings) => readings,
         Err(fail) => return Err(fail),
     };
-    match plan_from(alloc, shelf, threads, start, setup, script) {
+    match plan_from(alloc, shelf, pace, start, setup, script) {
         Ok(accepted) => Ok((accepted, readings)),
         Err(fail) => Err(fail),
     }

@@ -11,15 +11,14 @@ ghost use Rattle.conc_top_inputs.specs.Refusals.{fault_of_table};
 ghost use Rattle.conc_top_inputs.specs.FileFails.{Ends, EndsUnread};
 ghost use Rattle.conc_top_inputs.specs.Ways.{file_fail_for};
 
-use crate::beside::read_and_digest;
 use crate::error::FileFail;
+use crate::pace::Pace;
 use conc_journal_digest::InputDigest;
 use conc_outside::{Shelf, ShelfFail};
 use conc_script::{read_clock, read_script};
 use conc_setup::read_setup;
 use conc_types::{FileKind, Name, ReadFail, Readings, Refusal, RefusalKind, Script, Setup, Table};
 use std::alloc::Global;
-use std::thread::Threads;
 
 // The most bytes that all tables together may have.
 const MOST_BYTES: usize = 134_217_728;
@@ -109,10 +108,10 @@ pub(crate) fn judge_clock<F: Shelf>(
 
 // The table with this number under this name, its bytes, and the digest with them, where the tables before
 // it have `before` bytes.
-pub(crate) fn judge_table<F: Shelf, R: Threads + Sync>(
+pub(crate) fn judge_table<F: Shelf, P: Pace>(
     alloc: Global,
     shelf: &mut F,
-    threads: Option<&R>,
+    pace: &P,
     name: &Name,
     number: u32,
     before: usize,
@@ -137,7 +136,7 @@ pub(crate) fn judge_table<F: Shelf, R: Threads + Sync>(
             kind: RefusalKind::TooLarge,
         }));
     }
-    let (read, digest) = read_and_digest(threads, alloc, &bytes, number, name.as_bytes(), digest);
+    let (read, digest) = pace.read_and_digest(alloc, &bytes, number, name.as_bytes(), digest);
     match read {
         Ok(table) => Ok((table, bytes, digest)),
         Err(fail) => Err(file_fail_of(fail)),

@@ -3,13 +3,14 @@
 #![tactic(auto)]
 
 mod accepting;
-mod beside;
 mod clocks;
 mod error;
 mod given;
+mod pace;
 mod reading;
 mod single;
 
 pub use accepting::{Accepted, accept, accept_timed};
 pub use error::InputFail;
+pub use pace::{InTurn, OnThreads, Pace};
 pub use single::read_file;

@@ -10,11 +10,11 @@ ghost use Rattle.conc_top_inputs.specs.Reading.{HasStart, HasTablesIn};
 use crate::InputFail;
 use crate::error::fail_at;
 use crate::given::{judge_script, judge_setup, judge_table};
+use crate::pace::Pace;
 use conc_journal_digest::InputDigest;
 use conc_outside::Shelf;
 use conc_types::{Name, Script, Setup, Table};
 use std::alloc::Global;
-use std::thread::Threads;
 
 // What a setup and a script say.
 #[derive(Drop)]
@@ -56,10 +56,10 @@ pub(crate) fn read_start<F: Shelf>(
 }
 
 // The tables with these names, each of them judged before the next one is read, and the digest with them.
-pub(crate) fn read_tables<F: Shelf, R: Threads + Sync>(
+pub(crate) fn read_tables<F: Shelf, P: Pace>(
     alloc: Global,
     shelf: &mut F,
-    threads: Option<&R>,
+    pace: &P,
     names: &[Name],
     mut digest: InputDigest,
 ) -> Result<(Vec<Table>, InputDigest), InputFail>
@@ -73,7 +73,7 @@ pub(crate) fn read_tables<F: Shelf, R: Threads + Sync>(
     let mut total = 0;
     let mut number = 0;
     for name in names {
-        match judge_table(alloc, shelf, threads, name, number, total, digest) {
+        match judge_table(alloc, shelf, pace, name, number, total, digest) {
             Ok((table, bytes, longer)) => {
                 if tables.push(table).is_err() {
                     return Err(InputFail::NoMemory);

@@ -1,0 +1,73 @@
+ghost use Rattle.std.specs.Prelude.{◌++◌, ◌∷◌, [], IfErr, IfOk, List, ℕ};
+ghost use Rattle.conc_journal_digest.specs.Taken.{HasTaken};
+ghost use Rattle.conc_tables.specs.Tables.{SpellsTable, table_fault};
+ghost use Rattle.conc_types.specs.Faults.{IsFailure};
+ghost use Rattle.conc_types.specs.declared.refusal.FileKind.TheVariants as file;
+
+use conc_journal_digest::InputDigest;
+use conc_tables::read_table;
+use conc_types::{ReadFail, Table};
+use std::alloc::Global;
+use std::thread::{Threads, join};
+
+/// How the bytes of a table are read and digested: one after the other, or beside each other.
+pub trait Pace {
+    /// The table that the bytes of the file with this number spell, or why they spell none; and the
+    /// digest with the file under its name.
+    fn read_and_digest(
+        &self,
+        alloc: Global,
+        bytes: &[u8],
+        number: u32,
+        name: &[u8],
+        digest: InputDigest,
+    ) -> (Result<Table, ReadFail>, InputDigest)
+        ensures ok { IfOk result.0 (λ table. SpellsTable bytes.now table) }
+        ensures err { IfErr result.0 (IsFailure (file.Table number) (table_fault bytes.now)) }
+        ensures digest { (setup script : List ℕ) (tables : List (List ℕ × List ℕ))
+            → HasTaken digest setup script tables
+            → HasTaken result.1 setup script (tables ++ (name.now, bytes.now) ∷ []) };
+}
+
+/// One after the other.
+#[derive(Clone, Copy)]
+pub struct InTurn;
+
+impl Pace for InTurn {
+    fn read_and_digest(
+        &self,
+        alloc: Global,
+        bytes: &[u8],
+        number: u32,
+        name: &[u8],
+        digest: InputDigest,
+    ) -> (Result<Table, ReadFail>, InputDigest) {
+        let digest = digest.with_table(name, bytes);
+        (read_table(alloc, bytes, number), digest)
+    }
+}
+
+/// Beside each other: the bytes are read in one thread and digested in two others, where threads can be
+/// made.
+#[derive(Drop)]
+pub struct OnThreads<'a, R> {
+    pub rt: &'a R,
+}
+
+impl<R: Threads> Pace for OnThreads<'_, R> {
+    fn read_and_digest(
+        &self,
+        alloc: Global,
+        bytes: &[u8],
+        number: u32,
+        name: &[u8],
+        digest: InputDigest,
+    ) -> (Result<Table, ReadFail>, InputDigest) {
+        let rt = self.rt;
+        join(
+            rt,
+            move || read_table(alloc, bytes, number),
+            move || digest.with_table_on_threads(rt, name, bytes),
+        )
+    }
+}
