@@ -19,7 +19,7 @@ use conc_outside_clock::Clock;
 use conc_outside_gate::Gate;
 use conc_run::{run_on_threads, run_plan};
 use conc_run_watched::{Watched, run_watched};
-use conc_top_inputs::{Accepted, InTurn, OnThreads, accept_timed};
+use conc_top_inputs::{Accepted, InTurn, OnThreads, accept_run};
 use conc_types::{Digests, Event, Name, NoMemory, Plan, Readings};
 use conc_view::Snapshot;
 use conc_watch::put_watch_lines;
@@ -184,9 +184,7 @@ pub(crate) fn run_files_plain<F: Shelf, O: Sink, D: Disk, E: Disk, C: Clock>(
         result }
     ensures later { IsLater (F.state shelf.old) (F.state shelf.new) }
 {
-    let (accepted, readings) = match accept_timed(
-        alloc, shelf, clock, &InTurn, setup, script, file,
-    ) {
+    let (accepted, readings) = match accept_run(alloc, shelf, clock, &InTurn, setup, script, file) {
         Ok(given) => given,
         Err(fail) => return Exit::from(fail),
     };
@@ -233,7 +231,7 @@ pub(crate) fn run_files<
             alloc, shelf, out, journal, spool, clock, setup, script, file,
         );
     }
-    let given = match accept_timed(alloc, shelf, clock, &OnThreads { rt }, setup, script, file) {
+    let given = match accept_run(alloc, shelf, clock, &OnThreads { rt }, setup, script, file) {
         Ok(given) => given,
         Err(fail) => return Exit::from(fail),
     };

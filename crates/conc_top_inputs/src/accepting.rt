@@ -17,6 +17,7 @@ use crate::reading::{Start, read_start, read_tables};
 use conc_outside::Shelf;
 use conc_outside_clock::Clock;
 use conc_plan::make_plan;
+use conc_reports::keep_columns;
 use conc_types::{Digests, FileKind, Name, Plan, ReadFail, Readings, Seq};
 use std::alloc::Global;
 
@@ -153,6 +154,41 @@ pub fn accept_timed<F: Shelf, C: Clock, P: Pace>(
     };
     match plan_from(alloc, shelf, pace, start, setup, script) {
         Ok(accepted) => Ok((accepted, readings)),
+        Err(fail) => Err(fail),
+    }
+}
+
+// The same, with what the plan's reports ask of columns kept beside the cells.
+fn with_columns(alloc: Global, accepted: Accepted) -> Accepted
+    ensures { result ≡ accepted }
+{
+    let Accepted { plan, digests } = accepted;
+    Accepted {
+        plan: keep_columns(alloc, plan),
+        digests,
+    }
+}
+
+/// Does what `accept_timed` does, and keeps in the tables what the reports of a run ask of their columns.
+pub fn accept_run<F: Shelf, C: Clock, P: Pace>(
+    alloc: Global,
+    shelf: &mut F,
+    clock: &mut C,
+    pace: &P,
+    setup: Name,
+    script: Name,
+    file: Name,
+) -> Result<(Accepted, Readings), InputFail>
+    ensures later { IsLater (F.state shelf.old) (F.state shelf.new) }
+    ensures ok { IfOk result (λ p. IsAccepted
+        (exposed_by (sources (F.state shelf.old) (C.state clock.old))
+        (sources (F.state shelf.new) (C.state clock.new))) (named setup script (Some file))
+        (Some p.1) p.0) }
+    ensures err { IfErr result (FailsWith (sources (F.state shelf.old) (C.state clock.old))
+        (sources (F.state shelf.new) (C.state clock.new)) (named setup script (Some file))) }
+{
+    match accept_timed(alloc, shelf, clock, pace, setup, script, file) {
+        Ok((accepted, readings)) => Ok((with_columns(alloc, accepted), readings)),
         Err(fail) => Err(fail),
     }
 }

@@ -10,7 +10,7 @@ mod pace;
 mod reading;
 mod single;
 
-pub use accepting::{Accepted, accept, accept_timed};
+pub use accepting::{Accepted, accept, accept_run, accept_timed};
 pub use error::InputFail;
 pub use pace::{InTurn, OnThreads, Pace};
 pub use single::read_file;

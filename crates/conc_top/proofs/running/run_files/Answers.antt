@@ -48,7 +48,7 @@ returns-clause-answers g c =
 pub returns-in-Err-clause-answers : goal.returns-in-Err-clause-answers
 returns-in-Err-clause-answers g c =
     let names = named c.args.setup c.args.script (Some c.args.file) in
-    let a = around (g.F.Shelf.state c.args.shelf.now) (g.F.Shelf.state c.accept_timed.new.shelf) (g.C.Clock.state c.args.clock.now) (g.C.Clock.state c.accept_timed.new.clock)
+    let a = around (g.F.Shelf.state c.args.shelf.now) (g.F.Shelf.state c.accept_run.new.shelf) (g.C.Clock.state c.args.clock.now) (g.C.Clock.state c.accept_run.new.clock)
     (sunk (g.O.Sink.state c.args.out.now) (g.O.Sink.state c.args.out.now)) in
     inr (
       subst (IsUnplanned names a) (sym c.from.ensures) (unplanned names a c.in-Err.fail c.in-Err.ensures.err refl),
