@@ -19,11 +19,17 @@ pub(crate) enum JournalState {
     /// No journal was begun here.
     NotBegun,
     /// A `begin` of a header with this label met a fault.
-    BeginFailed { label: Label },
+    BeginFailed {
+        label: Label,
+    },
     /// The header with this label and the list's records are there.
-    Begun { label: Label },
+    Begun {
+        label: Label,
+    },
     /// A record is broken, and nothing may be added.
-    Broken { label: Label },
+    Broken {
+        label: Label,
+    },
     /// An `append` of this event, with this stamp where it is a command, met a fault.
     AppendFailed {
         label: Label,
@@ -31,7 +37,10 @@ pub(crate) enum JournalState {
         stamp: u64,
     },
     /// A `migrate` of a journal with this label, to version 2 with this base digest, met a fault.
-    MigrateFailed { label: Label, base: [u8; 15] },
+    MigrateFailed {
+        label: Label,
+        base: [u8; 15],
+    },
 }
 
 /// The list of a journal with the stamps of its commands, and what is known of its disk, which it does
@@ -69,11 +78,7 @@ impl Journal {
     ghost use Rattle.conc_journal.specs.declared.journal.JournalState.TheVariants.{Begun, BeginFailed, MigrateFailed, NotBegun};
 
     // A journal with these events and the stamps of their commands, without room for more.
-    pub(crate) fn with_events(
-        state: JournalState,
-        events: Vec<Event>,
-        stamps: Vec<u64>,
-    ) -> Journal
+    pub(crate) fn with_events(state: JournalState, events: Vec<Event>, stamps: Vec<u64>) -> Journal
         requires few { vec_len events ≤ MOST_RECORDS }
         requires state { IsTrue (fits_count state (vec_len events)) }
         requires stamped { vec_len stamps ≡ count_by has_stamp events.items }
@@ -272,7 +277,11 @@ impl Journal {
         };
         let before = self.events.len() as u64;
         let number = before + 1;
-        match add_record(disk, offset_behind(before), &record_before_gate(event, stamp)) {
+        match add_record(
+            disk,
+            offset_behind(before),
+            &record_before_gate(event, stamp),
+        ) {
             Ok(()) => {
                 self.push(event, stamp);
                 Ok(Receipt { number, event })

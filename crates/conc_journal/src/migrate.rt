@@ -24,6 +24,7 @@ const STAMP_AT: u64 = 12;
 
 // Where the header has the base digest, and the version.
 const BASE_AT: u64 = 48;
+
 const VERSION_AT: u64 = 63;
 
 // Writes a stamp into the record behind so many others.

@@ -65,12 +65,7 @@ impl InputDigest {
 
     /// The same, with each of the two digests in a thread of its own, where one can be made.
     #[tactic(auto, using(crate::proofs::Messages::message_more, crate::proofs::Messages::base_message_more))]
-    pub fn with_table_on_threads<R: Threads>(
-        self,
-        rt: &R,
-        name: &[u8],
-        bytes: &[u8],
-    ) -> InputDigest
+    pub fn with_table_on_threads<R: Threads>(self, rt: &R, name: &[u8], bytes: &[u8]) -> InputDigest
         ensures { (setup script : List ℕ) (tables : List (List ℕ × List ℕ))
             → HasTaken self setup script tables
             → HasTaken result setup script (tables ++ (name.now, bytes.now) ∷ []) }

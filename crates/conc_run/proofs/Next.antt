@@ -63,8 +63,8 @@ stamp-there plan before after command stamps_before stamps_after found first all
     = sym left ∙ all ∙ right ∙ ap (λ (l : List (Option ℕ)). l ++ Some found ∷ map some stamps_after) (sym first) in
     let behind = append_cancel_left (map (stamp plan) (filter_map command_of before)) (stamp plan command ∷ map (stamp plan) (filter_map command_of after)) (Some found ∷ map some stamps_after) front in
     head-same (stamp plan command) (Some found) (map (stamp plan) (filter_map command_of after)) (map some stamps_after) behind where
-  head-same : (a b : Option ℕ) (xs ys : List (Option ℕ)) → a ∷ xs ≡ b ∷ ys → a ≡ b
-  head-same a b xs ys is = cc
+      head-same : (a b : Option ℕ) (xs ys : List (Option ℕ)) → a ∷ xs ≡ b ∷ ys → a ≡ b
+      head-same a b xs ys is = cc
 
 -- it is another script's
 pub not-other_script : (plan : Plan) (digests : Digests) (command found given : ℕ) (image : List ℕ) → IsOwn plan digests image → IsOtherScript plan digests command found given image → ⊥

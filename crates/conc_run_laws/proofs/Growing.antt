@@ -94,19 +94,19 @@ module _ (plan grown : Plan) (history : List Event) (grows : Grows plan grown hi
   pub same-stamps : map (stamp grown) (filter_map command_of history) ≡ map (stamp plan) (filter_map command_of history)
   same-stamps = same-each (filter_map command_of history) (λ n has.
       sym (list_any-IsPermutation (is_command n) history (reverse history) (IsPermutation-reverse history)) ∙ has-command history n has) where
-    has-command : (events : List Event) (n : ℕ) → Has (filter_map command_of events) n → list_any (is_command n) events ≡ true
-    has-command [] n has = absurd has
-    has-command (event.Command m ∷ events) n (inl same) = or_left (is_command n (event.Command m)) (list_any (is_command n) events) (eq-eqb m n (sym same))
-    has-command (event.Command m ∷ events) n (inr has) = or_right (is_command n (event.Command m)) (list_any (is_command n) events) (has-command events n has)
-    has-command (event.Tick t ∷ events) n has = has-command events n has
-    has-command (event.OpenSet s ∷ events) n has = has-command events n has
-    has-command (event.Stage s k ∷ events) n has = has-command events n has
-    has-command (event.CloseSet s o ∷ events) n has = has-command events n has
-    has-command (event.LetOut r ∷ events) n has = has-command events n has
-    has-command (event.Started r p ∷ events) n has = has-command events n has
-    has-command (event.Ended r o x ∷ events) n has = has-command events n has
-    has-command (event.Resume ∷ events) n has = has-command events n has
-    has-command (event.Interrupt r ∷ events) n has = has-command events n has
+        has-command : (events : List Event) (n : ℕ) → Has (filter_map command_of events) n → list_any (is_command n) events ≡ true
+        has-command [] n has = absurd has
+        has-command (event.Command m ∷ events) n (inl same) = or_left (is_command n (event.Command m)) (list_any (is_command n) events) (eq-eqb m n (sym same))
+        has-command (event.Command m ∷ events) n (inr has) = or_right (is_command n (event.Command m)) (list_any (is_command n) events) (has-command events n has)
+        has-command (event.Tick t ∷ events) n has = has-command events n has
+        has-command (event.OpenSet s ∷ events) n has = has-command events n has
+        has-command (event.Stage s k ∷ events) n has = has-command events n has
+        has-command (event.CloseSet s o ∷ events) n has = has-command events n has
+        has-command (event.LetOut r ∷ events) n has = has-command events n has
+        has-command (event.Started r p ∷ events) n has = has-command events n has
+        has-command (event.Ended r o x ∷ events) n has = has-command events n has
+        has-command (event.Resume ∷ events) n has = has-command events n has
+        has-command (event.Interrupt r ∷ events) n has = has-command events n has
 
 -- ---- whose the journal is
 
