@@ -1,4 +1,5 @@
 // Journals of both versions, byte by byte.
+use conc_journal_image::{Label, Version};
 use conc_types::{Digests, Event, Moment};
 
 pub(super) const DIGEST: [u8; 32] = *b"abcdefghijklmnopqrstuvwxyz012345";
@@ -9,6 +10,13 @@ pub(super) const BASE: [u8; 15] = *b"the base digest";
 pub(super) const DIGESTS: Digests = Digests {
     full: DIGEST,
     base: *b"the base digest, and 17 others..",
+};
+
+// What the header of a journal of version 2 says with these.
+pub(super) const LABEL: Label = Label {
+    version: Version::Two,
+    digest: DIGEST,
+    base: BASE,
 };
 
 pub(super) const TICK: Event = Event::Tick {

@@ -4,7 +4,7 @@ ghost use Rattle.conc_journal.specs.Journals.{IsOn, list_of, room_of, state_of};
 
 use super::expect::{same, same_at};
 use super::images::{
-    COMMAND, DIGESTS, NINE_IN_ONE, NINE_IN_TWO, STAMPS, TICK, TWO_IN_ONE, TWO_IN_TWO,
+    COMMAND, DIGESTS, LABEL, NINE_IN_ONE, NINE_IN_TWO, STAMPS, TICK, TWO_IN_ONE, TWO_IN_TWO,
 };
 use conc_disk::Disk;
 use conc_disk_devices::MemDisk;
@@ -73,7 +73,7 @@ fn writes_the_format(rt: HostRuntime) -> Result<(), Fail> {
     Ok(())
 }
 
-// How many events an image has that a crash in this call may leave.
+// How many events an image has that a crash in this call may leave. Where it is begun it has the label, and the command its stamp.
 fn count_left<Rt: Abort>(
     rt: &Rt,
     alloc: Global,
@@ -85,7 +85,13 @@ fn count_left<Rt: Abort>(
     let mut crashed = MemDisk::new(alloc, image, Vec::new(alloc));
     let opened = Journal::open_on(alloc, &mut crashed)?;
     same_at(rt, opened.broken, None, (call, choice));
-    Ok(opened.journal.events().len())
+    if let Some(label) = opened.label {
+        same_at(rt, label, LABEL, (call, choice));
+    }
+    let count = opened.journal.events().len();
+    let stamps = if count == 2 { &STAMPS[..1] } else { &[] };
+    same_at(rt, opened.journal.stamps(), stamps, (call, choice));
+    Ok(count)
 }
 
 #[test]
