@@ -314,13 +314,6 @@ first 0
 == ends 11
 journal full: 1048570 13
 == disks-stay
-== journal
-put 0 at 63
-== run
-In version 1 too, and it stays of this version.
-== ends 11
-journal full: 1048570 13
-== disks-stay
 =====
 what stands on the disks is judged in its order: a disk without a byte is begun
 == run

@@ -391,6 +391,28 @@ put 9 at 103
 unlawful record: 2
 == disks-stay
 =====
+a journal of version 1 stays as it is where a run is refused: it has no room for a life, with 1,048,570 records
+== script
+2025-03-03T10:00:00,submit,P,ann,,,,
+== run
+== journal
+first 64
+put 0 at 63
+bytes 1 1
+zeros 13
+bytes 14 223 87 102 144
+zeros 12
+bytes 1 9
+zeros 30
+524285 times from 64
+bytes 0
+== spool
+first 0
+== run
+== ends 11
+journal full: 1048570 13
+== disks-stay
+=====
 the byte of the version is a gate: any value but 0 is version 2
 == script
 2025-03-03T09:00:00,submit,P,ann,,,,
