@@ -1,6 +1,7 @@
-use Rattle.std.proofs.Common.{reverse, refl, rules}
+use Rattle.std.proofs.Common.{◌∙◌, ap, reverse, refl, rules}
 use Rattle.conc_run_state.specs.Works.{list_in}
-use Rattle.conc_run_steps.specs.Steps.{plan_in}
+use Rattle.conc_run_steps.specs.Steps.{plan_in, stamp_for}
+use Rattle.conc_types.specs.declared.plan.Plan.{Plan}
 use Rattle.conc_run_steps.proofs.Coming.{tied-added}
 use Rattle.conc_run_steps.proofs.Logs.{append-begun, append-held, append-survives}
 use Rattle.conc_run_steps.proofs.Stamped.{lawful-stamped}
@@ -10,26 +11,26 @@ pub returns-in-Ok-clause-survives : goal.returns-in-Ok-clause-survives
 returns-in-Ok-clause-survives g c =
     let work = c.args.work.now in
     append-survives work c.args.event c.stamp_due-stamp.result (g.D.Disk.state c.args.journal.now) (g.D.Disk.state c.append.new.disk)
-    (lawful-stamped work c.args.event c.stamp_due-stamp.result (cc) c.requires.tied.readings_are c.requires.lawful) c.append.ensures.survives
+    (lawful-stamped work c.args.event c.stamp_due-stamp.result (c.stamp_due-stamp.ensures ∙ ap (λ (p : Plan). stamp_for p c.args.event) c.plan.ensures) c.requires.tied.readings_are c.requires.lawful) c.append.ensures.survives
 
 pub returns-in-Err-clause-survives : goal.returns-in-Err-clause-survives
 returns-in-Err-clause-survives g c =
     let work = c.args.work.now in
     append-survives work c.args.event c.stamp_due-stamp.result (g.D.Disk.state c.args.journal.now) (g.D.Disk.state c.append.new.disk)
-    (lawful-stamped work c.args.event c.stamp_due-stamp.result (cc) c.requires.tied.readings_are c.requires.lawful) c.append.ensures.survives
+    (lawful-stamped work c.args.event c.stamp_due-stamp.result (c.stamp_due-stamp.ensures ∙ ap (λ (p : Plan). stamp_for p c.args.event) c.plan.ensures) c.requires.tied.readings_are c.requires.lawful) c.append.ensures.survives
 
 pub returns-in-Ok-clause-begun_for : goal.returns-in-Ok-clause-begun_for
 returns-in-Ok-clause-begun_for g c =
     let work = c.args.work.now in
     append-begun (plan_in work) work.journal c.append.new.self c.args.event c.stamp_due-stamp.result
-    (lawful-stamped work c.args.event c.stamp_due-stamp.result (cc) c.requires.tied.readings_are c.requires.lawful)
+    (lawful-stamped work c.args.event c.stamp_due-stamp.result (c.stamp_due-stamp.ensures ∙ ap (λ (p : Plan). stamp_for p c.args.event) c.plan.ensures) c.requires.tied.readings_are c.requires.lawful)
     c.in-Ok.ensures.appended c.in-Ok.ensures.stamped c.in-Ok.ensures.state
 
 pub returns-in-Err-clause-held_for : goal.returns-in-Err-clause-held_for
 returns-in-Err-clause-held_for g c =
     let work = c.args.work.now in
     append-held (plan_in work) work.journal c.append.new.self c.args.event c.stamp_due-stamp.result
-    (lawful-stamped work c.args.event c.stamp_due-stamp.result (cc) c.requires.tied.readings_are c.requires.lawful)
+    (lawful-stamped work c.args.event c.stamp_due-stamp.result (c.stamp_due-stamp.ensures ∙ ap (λ (p : Plan). stamp_for p c.args.event) c.plan.ensures) c.requires.tied.readings_are c.requires.lawful)
     c.in-Err.ensures.list c.in-Err.ensures.stamps (search rules)
 
 pub returns-in-Ok-clause-logged : goal.returns-in-Ok-clause-logged
