@@ -3,6 +3,7 @@ mod Added
 mod Appended
 mod Begins
 mod Opening
+mod Reading
 pub mod Steps
 mod Written
 mod Stamping

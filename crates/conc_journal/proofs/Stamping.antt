@@ -1,25 +1,25 @@
 -- Stamps that are written into the records of a journal of version 1.
-use Rattle.std.proofs.Common.{◌≡◌, ◌⊎◌, inl, inr, ℕ, suc, ◌+◌, ◌*◌, ◌^◌, ◌<◌, ◌≤◌, Bool, true, false, List, [], ◌∷◌, ◌++◌, length, get_or, take, drop, Option, Some, None, IfSome, is_some, OnErr, Result, Ok, Err, refl, sym, ap, ◌∙◌, subst, arith, le_refl}
+use Rattle.std.proofs.Common.{◌≡◌, ℕ, ◌+◌, ◌*◌, ◌^◌, ◌<◌, ◌≤◌, false, List, [], ◌∷◌, ◌++◌, length, get_or, take, drop, Option, Some, None, IfSome, is_some, OnErr, Result, Ok, Err, refl, sym, ap, ◌∙◌, subst, arith, le_refl}
 use Rattle.std.specs.Int.{to_be_bytes, w64}
 use Rattle.std.specs.Option.{option_map}
-use Rattle.std.specs.Prelude.{cond, count_by, max, slice_get}
+use Rattle.std.specs.Prelude.{cond, count_by, slice_get}
 use Rattle.std.proofs.lemmas.List.{append-nil, length-append, length-drop, length-take, length-take-le, take_more}
 use Rattle.std.proofs.lemmas.List.Sums.{sum_by_more, sum_by_more_le}
 use Rattle.std.proofs.lemmas.Option.{get_or_from_slice_get, slice_get-get_or}
 use Rattle.conc_types.specs.declared.event.Event.{Event}
 use Rattle.conc_types.specs.declared.event.Event.TheVariants as event
 use Rattle.conc_disk.specs.Disk.{DiskState, Follows, IsLater, Reaches, Torn, written}
-use Rattle.conc_disk.specs.Left.{EachImage, LeavesOnly}
+use Rattle.conc_disk.specs.Left.{EachImage}
 use Rattle.conc_disk.proofs.Leaving.{leaves-none, leaves-step}
 use Rattle.conc_journal_image.specs.Fields.{command_stamp, has_stamp}
-use Rattle.conc_journal_image.specs.Image.{IsJournal, stamp_at, stamps_from}
+use Rattle.conc_journal_image.specs.Image.{stamp_at, stamps_from}
 use Rattle.conc_journal_image.specs.declared.label.Label.{Label}
 use Rattle.conc_journal_image.specs.declared.label.Version.TheVariants.{One}
 use Rattle.conc_journal_image.proofs.Appends.{length-journal}
 use Rattle.conc_journal_image.proofs.Stamps.{stamps_from-last}
 use Rattle.conc_journal_image.proofs.Turns.{stamping-keeps, stamping-stamps}
 use Rattle.conc_journal.specs.Migrating.{HaveStamps, IsOfOne, IsStamping, StaysOfOne}
-use Rattle.conc_journal.proofs.Steps.{each-torn, exposed-if}
+use Rattle.conc_journal.proofs.Steps.{each-torn}
 
 -- what holds of a state holds of it after an error too
 pub on-err : {T E : Type 0} (r : Result T E) (P : Type 0) → P → OnErr r P

@@ -1,13 +1,13 @@
 -- A journal of version 1 that has its stamps becomes one of version 2.
-use Rattle.std.proofs.Common.{◌≡◌, ◌≢◌, ◌⊎◌, inl, inr, ℕ, ◌+◌, ◌*◌, ◌≤◌, List, [], ◌∷◌, ◌++◌, length, get_or, take, drop, Option, Some, None, IfSome, is_some, OnOk, Result, Ok, Err, refl, sym, ap, ◌∙◌, subst, arith}
-use Rattle.std.specs.Prelude.{max, slice_index}
+use Rattle.std.proofs.Common.{◌≡◌, inl, ℕ, ◌+◌, ◌*◌, ◌≤◌, List, [], ◌∷◌, length, get_or, take, drop, Option, Some, None, IfSome, is_some, refl, sym, ap, ◌∙◌, subst, arith}
+use Rattle.std.specs.Prelude.{slice_index}
 use Rattle.std.proofs.lemmas.List.{get_or-take, length-append, length-drop, length-take}
 use Rattle.conc_types.specs.declared.event.Event.{Event}
 use Rattle.conc_disk.specs.Disk.{DiskState, Follows, Reaches, Torn, written}
 use Rattle.conc_disk.specs.Left.{EachImage, HasWritten, LeavesOnly, TornFrom}
 use Rattle.conc_disk.proofs.Leaving.{leaves-twice}
 use Rattle.conc_journal_image.specs.Headers.{migrated}
-use Rattle.conc_journal_image.specs.Image.{base_in, found_in, HasStamps, IsJournal, stamps_from, stamps_in}
+use Rattle.conc_journal_image.specs.Image.{base_in, HasStamps, IsJournal, stamps_from, stamps_in}
 use Rattle.conc_journal_image.specs.declared.label.Label.{Label}
 use Rattle.conc_journal_image.specs.declared.label.Version.TheVariants.{One}
 use Rattle.conc_journal_image.proofs.Appends.{gate_at, length-journal}

@@ -2,6 +2,7 @@ pub mod Acknowledged
 pub mod Journals
 pub mod Left
 pub mod Opens
+pub mod Reading
 pub mod Receipts
 pub mod Records
 pub mod JournalStates

@@ -10,8 +10,8 @@ use Rattle.conc_journal_image.specs.declared.label.Label.{Label}
 use Rattle.conc_journal_image.specs.declared.label.Version.{Version}
 use Rattle.conc_journal_image.specs.declared.label.Version.TheVariants.{One, Two}
 use Rattle.conc_journal_image.specs.Fields.{command_stamp, event_in, IsSpelling}
-use Rattle.conc_journal_image.specs.Image.{base_in, digest_in, found_from, found_in, has_header, HasNext, is_closed, IsJournal, IsLabelled, label_in, stamp_at, stamps_from, stamps_in, Tells, version_in, whole_record, with_event}
-use Rattle.conc_journal_image.proofs.Finding.{found_from-closed, found_from-taken, with_events}
+use Rattle.conc_journal_image.specs.Image.{base_in, digest_in, found_from, found_in, has_header, HasNext, is_closed, IsJournal, IsLabelled, label_in, stamp_at, stamps_from, stamps_in, Tells, version_in, whole_record, with_event, with_events}
+use Rattle.conc_journal_image.proofs.Finding.{found_from-closed, found_from-taken}
 use Rattle.conc_journal_image.proofs.Fronts.{is_closed-front, label_in-front, part-front}
 use Rattle.conc_journal_image.proofs.Stamps.{HasStamps-from, stamp_at-record, stamps_from-last, stamps_from-same, stamps_in-is, stamps_in-same}
 use Rattle.conc_journal_image.proofs.Writes.{drop-written, part-written, take-written}

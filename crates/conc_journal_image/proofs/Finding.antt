@@ -4,7 +4,7 @@ use Rattle.std.specs.Prelude.{not}
 use Rattle.std.specs.Bool.{then_some}
 use Rattle.std.proofs.lemmas.List.{append-nil, append_assoc}
 use Rattle.conc_types.specs.declared.event.Event.{Event}
-use Rattle.conc_journal_image.specs.Image.{breaks_here, ends_here, Found, found_from, found_in, is_closed, whole_record, with_event}
+use Rattle.conc_journal_image.specs.Image.{breaks_here, ends_here, found_from, found_in, is_closed, whole_record, with_event, with_events}
 
 -- ---- one record
 
@@ -27,10 +27,6 @@ unfolding found_from
 found_from-broken more number bytes open_gate whole = rw open_gate (rw whole refl)
 
 -- ---- a loop over records
-
--- what is found behind these events
-abbrev pub with_events : List Event → Found → Found
-with_events events found = record { events = events ++ found.events; broken = found.broken }
 
 -- the number of the first record that is too many
 abbrev pub too_many : ℕ

@@ -1,4 +1,5 @@
 pub mod Moments
+pub mod Pieces
 pub mod Spelled
 pub mod Unique
 pub mod Finding

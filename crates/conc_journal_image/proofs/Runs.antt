@@ -5,8 +5,8 @@ use Rattle.std.proofs.lemmas.Bool.Decides.{nat_tests}
 use Rattle.std.proofs.lemmas.List.{drop-drop, length-drop}
 use Rattle.conc_types.specs.declared.event.Event.{Event}
 use Rattle.conc_journal_image.specs.Fields.{event_in}
-use Rattle.conc_journal_image.specs.Image.{breaks_here, ends_here, Found, found_from, found_in, found_with, is_closed, whole_record, with_event}
-use Rattle.conc_journal_image.proofs.Finding.{found_from-taken, with_events}
+use Rattle.conc_journal_image.specs.Image.{breaks_here, ends_here, Found, found_from, found_in, found_with, is_closed, whole_record, with_event, with_events}
+use Rattle.conc_journal_image.proofs.Finding.{found_from-taken}
 use Rattle.conc_journal_image.proofs.Fronts.{drop-front, is_closed-front, part-front}
 
 -- these events, and no record that is broken

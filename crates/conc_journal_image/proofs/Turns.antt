@@ -1,25 +1,23 @@
 -- From version 1 to version 2: stamps and a base digest are written into a journal, and then its version.
-use Rattle.std.proofs.Common.{◌≡◌, ◌≢◌, ◌⊎◌, inl, inr, ℕ, zero, suc, ◌+◌, ◌*◌, ◌-◌, ◌^◌, ◌<◌, ◌≤◌, ◌==◌, Bool, true, false, List, [], ◌∷◌, ◌++◌, Option, Some, None, length, take, drop, refl, sym, ap, ◌∙◌, subst, arith, IsTrue, IsFalse}
+use Rattle.std.proofs.Common.{◌≡◌, ◌≢◌, ◌⊎◌, inl, inr, ℕ, zero, suc, ◌+◌, ◌*◌, ◌-◌, ◌^◌, ◌<◌, ◌≤◌, ◌==◌, true, false, List, [], ◌∷◌, ◌++◌, Some, None, length, take, drop, refl, sym, ap, ◌∙◌, subst, arith, IsTrue}
 use Rattle.std.specs.Int.{from_be_bytes, to_be_bytes, w64}
 use Rattle.std.specs.Prelude.{cond, if◌then◌else◌, nat_le, slice_get, slice_index}
-use Rattle.std.proofs.lemmas.Bool.{and_parts, cases_eq, eqb-true}
+use Rattle.std.proofs.lemmas.Bool.{cases_eq}
 use Rattle.std.proofs.lemmas.Bool.Decides.{nat_tests}
 use Rattle.std.proofs.lemmas.List.{drop-drop, length-drop, length-take, take-take}
 use Rattle.std.proofs.lemmas.Nat.{from_be_bytes-to_be_bytes_8}
 use Rattle.conc_types.specs.declared.event.Event.{Event}
 use Rattle.conc_types.specs.declared.event.Event.TheVariants as event
-use Rattle.conc_journal_image.specs.declared.fields.Fields.{Fields}
 use Rattle.conc_journal_image.specs.declared.label.Label.{Label}
-use Rattle.conc_journal_image.specs.declared.label.Version.{Version}
 use Rattle.conc_journal_image.specs.declared.label.Version.TheVariants.{One, Two}
-use Rattle.conc_journal_image.specs.Fields.{are_zero, event_in, event_of, fields_of, wide_at, word_at}
-use Rattle.conc_journal_image.specs.Image.{base_in, digest_in, found_from, found_in, has_header, HasStamps, is_closed, IsJournal, IsLabelled, stamp_at, stamps_from, stamps_in, Tells, version_in, whole_record, with_event}
-use Rattle.conc_journal_image.proofs.Appends.{gate_at, has_header-long, header-same, labelled-from, label-same, length-journal, title-same}
+use Rattle.conc_journal_image.specs.Fields.{event_in}
+use Rattle.conc_journal_image.specs.Image.{base_in, digest_in, found_from, found_in, has_header, HasStamps, is_closed, IsJournal, stamp_at, stamps_from, stamps_in, Tells, version_in, whole_record, with_event}
+use Rattle.conc_journal_image.proofs.Appends.{gate_at, has_header-long, header-same, labelled-from, label-same, title-same}
 use Rattle.conc_journal_image.proofs.Finding.{found_from-taken}
 use Rattle.conc_journal_image.proofs.Fronts.{behind-same, drop-front, front-same, is_closed-front, middle-same}
 use Rattle.conc_journal_image.proofs.Runs.{found-suc, found-zero, length-whole, whole, whole_record-same}
-use Rattle.conc_journal_image.proofs.Stamps.{HasStamps-from, stamp_at-part, stamps_from-last, stamps_from-same, stamps_in-is}
-use Rattle.conc_journal_image.proofs.Unique.{command_bytes, length-spelled}
+use Rattle.conc_journal_image.proofs.Stamps.{stamp_at-part, stamps_from-last, stamps_from-same}
+use Rattle.conc_journal_image.proofs.Unique.{command_bytes}
 use Rattle.conc_journal_image.proofs.Writes.{part-written, take-written}
 
 -- ---- a stamp in a record

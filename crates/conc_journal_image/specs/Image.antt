@@ -59,6 +59,10 @@ pub record Found : Type 0 where
 abbrev pub with_event : Event → Found → Found
 with_event e found = record found { events = e ∷ found.events }
 
+-- what is found behind these events
+abbrev pub with_events : List Event → Found → Found
+with_events events found = record { events = events ++ found.events; broken = found.broken }
+
 abbrev pub ends_here : Found
 ends_here = record { events = []; broken = None }
 

@@ -1,4 +1,5 @@
 pub mod Fields
+pub mod Finding
 pub mod Headers
 pub mod Image
 pub mod Layout

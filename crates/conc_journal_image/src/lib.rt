@@ -13,7 +13,7 @@ mod layout;
 mod record;
 
 pub use events::has_record;
-pub use found::{Found, read_records};
+pub use found::{Found, Search};
 pub use header::{Header, header_of, judge_header};
 pub use label::{Label, Version, base_of};
 pub use laws::{

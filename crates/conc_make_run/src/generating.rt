@@ -5,6 +5,7 @@ ghost use Rattle.conc_make_run.specs.Generated.{AreGenerated};
 use conc_journal_digest::InputDigest;
 use conc_make::{Inputs, make};
 use conc_plan::make_plan;
+use conc_reports::keep_columns;
 use conc_script::{read_clock, read_script};
 use conc_setup::read_setup;
 use conc_tables::read_table;
@@ -62,6 +63,7 @@ pub(crate) fn generate(alloc: Global, seed: u64, size: u32) -> Result<Generated,
     let table = accepted(read_table(alloc, &inputs.table, 0))?;
     let tables = one_table(alloc, table)?;
     let plan = accepted(make_plan(alloc, setup, script, tables))?;
+    let plan = keep_columns(alloc, plan);
     let digests = digests_of(&inputs);
     Ok(Generated {
         plan,

@@ -6,8 +6,8 @@ use crate::numbering::numbering_of;
 use conc_types::{Filter, Item, Job, Name, NoMemory, Plan, Program, Req, Seq, Setup, Table, Test};
 use std::alloc::Global;
 
-// A table with fewer rows has nothing kept beside its cells.
-const FEW_ROWS: usize = 1024;
+// A table whose reports look at fewer rows, all together, has nothing kept beside its cells.
+const FEW_LOOKS: usize = 2048;
 
 // Whether so many bytes more may be kept: in all at most half of what the cells take.
 fn has_room(table: &Table, more: usize) -> bool {
@@ -117,6 +117,11 @@ fn reports_on(programs: &[Program], counts: &[usize], name: &Name) -> usize {
     reports
 }
 
+// Whether so many reports on a table of so many rows pay for what is kept of its columns.
+fn is_worth_it(rows: usize, reports: usize) -> bool {
+    reports >= 2 && rows.saturating_mul(reports) >= FEW_LOOKS
+}
+
 fn keep_in(
     alloc: Global,
     programs: &[Program],
@@ -126,7 +131,7 @@ fn keep_in(
 ) -> Result<(), NoMemory>
     ensures { table.new ≡ table.old }
 {
-    if table.row_count() < FEW_ROWS || reports_on(programs, counts, name) < 2 {
+    if !is_worth_it(table.row_count(), reports_on(programs, counts, name)) {
         return Ok(());
     }
     for place in 0..programs.len() {
@@ -158,8 +163,9 @@ fn keep_in_all(
 }
 
 /// The same plan, with what its reports ask of the columns of its tables made once and kept beside the
-/// cells: for a table of 1,024 rows at least that two requests or more report on, and in at most half of
-/// the memory that its cells take. Where there is no memory for it, it is not kept.
+/// cells: for a table that two requests or more report on, which look at 2,048 rows of it at least, all
+/// together, and in at most half of the memory that its cells take. Where there is no memory for it, it is
+/// not kept.
 pub fn keep_columns(alloc: Global, plan: Plan) -> Plan
     ensures { result ≡ plan }
 {

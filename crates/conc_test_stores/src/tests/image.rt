@@ -2,8 +2,7 @@ ghost use Rattle.std.specs.Prelude.{◌<◌};
 
 use super::expect::{same, same_at};
 use conc_journal_image::{
-    Header, Label, Version, has_record, header_of, judge_header, read_record, read_records,
-    record_of,
+    Found, Header, Label, Search, Version, has_record, header_of, judge_header, read_record, record_of,
 };
 use conc_types::{Digests, Event, Extent, Moment, Outcome, PlaceId, RequestId};
 use std::alloc::Global;
@@ -261,20 +260,36 @@ static PIECES: [([&[u8]; 5], usize, Option<u64>); 7] = [
     ([b"\x01", b"\0", TICK, b"\0", b"\0"], 0, Some(1)),
 ];
 
-fn image_of(alloc: Global, pieces: &[&[u8]; 5]) -> Result<Vec<u8>, Fail> {
-    let mut image = vec![in alloc; 0; 64]?;
+fn records_of(alloc: Global, pieces: &[&[u8]; 5]) -> Result<Vec<u8>, Fail> {
+    let mut records = Vec::new(alloc);
     for piece in pieces {
-        image.extend_from_slice(piece)?;
+        records.extend_from_slice(piece)?;
     }
-    Ok(image)
+    Ok(records)
+}
+
+// The events and stamps of these records, and the number of the one that is broken, if one is: 0 where the
+// search ends too early.
+fn found_in(alloc: Global, records: &[u8]) -> Result<(Found, Option<u64>), Fail> {
+    let mut found = Found::with_room(alloc, 1)?;
+    if let Search::Ended { broken } = found.take(records)? {
+        return Ok((found, broken));
+    }
+    let rest = records.get(32 * found.events.len()..).unwrap_or(records);
+    let broken = if rest.len() < 33 {
+        found.broken_behind(rest)
+    } else {
+        Some(0)
+    };
+    Ok((found, broken))
 }
 
 #[test]
 fn finds_events(rt: HostRuntime) -> Result<(), Fail> {
     for (pieces, count, broken) in PIECES {
-        let image = image_of(rt.alloc(), &pieces)?;
-        let found = read_records(rt.alloc(), &image)?;
-        same_at(&rt, found.broken, broken, pieces);
+        let records = records_of(rt.alloc(), &pieces)?;
+        let (found, found_broken) = found_in(rt.alloc(), &records)?;
+        same_at(&rt, found_broken, broken, pieces);
         same_at(
             &rt,
             Some(found.events.as_slice()),
@@ -289,16 +304,16 @@ fn finds_events(rt: HostRuntime) -> Result<(), Fail> {
 #[test]
 fn finds_stamps(rt: HostRuntime) -> Result<(), Fail> {
     let pieces: [&[u8]; 5] = [b"\x01", COMMAND, b"\xff", STAMPED, b"\0"];
-    let mut image = image_of(rt.alloc(), &pieces)?;
-    image.extend_from_slice(STAMPED)?;
-    image.push(1)?;
-    let found = read_records(rt.alloc(), &image)?;
-    same(&rt, found.broken, None);
+    let mut records = records_of(rt.alloc(), &pieces)?;
+    records.extend_from_slice(STAMPED)?;
+    records.push(1)?;
+    let (found, broken) = found_in(rt.alloc(), &records)?;
+    same(&rt, broken, None);
     same(&rt, found.events.len(), 2);
     same(&rt, found.stamps.as_slice(), [0, STAMP].as_slice());
     let pieces: [&[u8]; 5] = [b"\x01", TICK, b"\x01", STAMPED, b"\x01"];
-    let found = read_records(rt.alloc(), &image_of(rt.alloc(), &pieces)?)?;
-    same(&rt, found.broken, Some(3));
+    let (found, broken) = found_in(rt.alloc(), &records_of(rt.alloc(), &pieces)?)?;
+    same(&rt, broken, Some(3));
     same(&rt, found.stamps.as_slice(), [STAMP].as_slice());
     Ok(())
 }

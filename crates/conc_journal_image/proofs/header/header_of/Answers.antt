@@ -1,4 +1,4 @@
-use Rattle.std.proofs.Common.{◌≡◌, [], ◌∷◌, ◌++◌, length, subst, sym, ap, ◌∙◌}
+use Rattle.std.proofs.Common.{[], ◌∷◌, ◌++◌, length, subst, sym, ap, ◌∙◌}
 use Rattle.std.specs.Prelude.{codes, take}
 use Rattle.std.proofs.lemmas.List.{append_assoc}
 use Rattle.conc_journal_image.specs.Headers.{BeginsJournal, label_for}

@@ -1,4 +1,4 @@
-use Rattle.std.proofs.Common.{◌≡◌, ℕ, List, [], ◌++◌, drop, length, take, replicate, refl, ap, ◌∙◌, arith}
+use Rattle.std.proofs.Common.{◌≡◌, ℕ, List, ◌++◌, drop, length, replicate, refl, ap, ◌∙◌, arith}
 use Rattle.std.proofs.lemmas.List.{append-nil, drop_all, drop_at, take_at}
 use borrow.Rule.Slice.PartMut.{put_mid}
 use Rattle.conc_journal_image.proofs.header.joined.Goals as goal

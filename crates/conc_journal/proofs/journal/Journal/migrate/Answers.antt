@@ -8,7 +8,7 @@ use Rattle.conc_journal_image.specs.declared.label.Label.{Label}
 use Rattle.conc_journal_image.specs.declared.label.Version.TheVariants.{One}
 use Rattle.conc_journal.specs.Journals.{FitsState}
 use Rattle.conc_journal.specs.Migrating.{IsOfOne}
-use Rattle.conc_journal.specs.declared.journal.JournalState.TheVariants.{Begun, MigrateFailed}
+use Rattle.conc_journal.specs.declared.journal.JournalState.TheVariants.{MigrateFailed}
 use Rattle.conc_journal.proofs.Acknowledging.{migrate-keeps}
 use Rattle.conc_journal.proofs.Appended.{begun-images, journal-reaches}
 use Rattle.conc_journal.proofs.Versions.{one-images, same-begun}
