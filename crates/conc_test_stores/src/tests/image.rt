@@ -2,7 +2,8 @@ ghost use Rattle.std.specs.Prelude.{◌<◌};
 
 use super::expect::{same, same_at};
 use conc_journal_image::{
-    Found, Header, Label, Search, Version, has_record, header_of, judge_header, read_record, record_of,
+    Found, Header, Label, Search, Version, has_record, header_of, judge_header, read_record,
+    record_of,
 };
 use conc_types::{Digests, Event, Extent, Moment, Outcome, PlaceId, RequestId};
 use std::alloc::Global;
