@@ -122,13 +122,13 @@ fn version_of<Rt: Abort>(
     Ok(label.version)
 }
 
-// Opening makes three calls. A migration writes each of the two stamps and the base digest, syncs, writes the version,
+// Opening makes four calls. A migration writes each of the two stamps and the base digest, syncs, writes the version,
 // and syncs.
-const FIRST: u64 = 3;
+const FIRST: u64 = 4;
 
-const VERSION: u64 = 7;
+const VERSION: u64 = 8;
 
-const BEHIND: u64 = 9;
+const BEHIND: u64 = 10;
 
 #[test]
 fn a_stop_leaves_one_version_or_the_other(rt: HostRuntime) -> Result<(), Fail> {
