@@ -1,8 +1,8 @@
 #!/usr/bin/env bash
 # bench/machine.sh FOLDER.. [-- PEER]
 # For each FOLDER with the files a.toml, a.csv, a.clock and the tables that a.toml names: the time of a run
-# without workers in memory, as LLVM builds it, outside the gate, reading of files and making of the plan
-# apart, and without journal and spool. A program that calls the readers and make_plan, and goes from event to
+# without workers in memory, as LLVM builds it, outside the gate, reading of files and making of the plan, with what it
+# keeps of columns, apart, and without journal and spool. A program that calls the readers and make_plan, and goes from event to
 # event by the machine and next_event, is written into a copy of the repository, proved and built there; it
 # makes the run REPEATS times (20 if REPEATS is not set), and the time of REPEATS
 # runs less that of none, divided by REPEATS, is the time of one. It prints the least of fifteen such
@@ -22,7 +22,7 @@ binary=$work/copy/crates/bench_machine/out/bench_machine
 if [ ! -x "$binary" ]; then
   mkdir -p "$work/copy/crates/bench_machine/src"
   cp -r "$here/crates" "$here/crates.txt" "$here/HANDLES" "$work/copy/" 2>/dev/null || true
-  echo 'bench_machine: conc_resolver_choice conc_machine conc_outside conc_plan conc_script conc_setup conc_tables conc_types' >> "$work/copy/crates.txt"
+  echo 'bench_machine: conc_resolver_choice conc_machine conc_outside conc_plan conc_reports conc_script conc_setup conc_tables conc_types' >> "$work/copy/crates.txt"
   cat > "$work/copy/crates/bench_machine/src/main.rt" <<'R'
 //! Runs a plan without workers, in memory, so many times: REPEATS, in the folder with its files.
 #![tactic(auto)]
@@ -30,6 +30,7 @@ if [ ! -x "$binary" ]; then
 use conc_resolver_choice::next_event;
 use conc_machine::Machine;
 use conc_plan::make_plan;
+use conc_reports::keep_columns;
 use conc_script::{read_clock, read_script};
 use conc_setup::read_setup;
 use conc_tables::read_table;
@@ -71,7 +72,7 @@ fn inputs(rt: &HostRuntime) -> Option<(Plan, Readings)> {
         return None;
     }
     let plan = make_plan(alloc, setup, script, Seq::from_vec(tables)).ok()?;
-    Some((plan, readings))
+    Some((keep_columns(alloc, plan), readings))
 }
 
 fn history(alloc: Global, plan: &Plan, readings: &Readings) -> Option<Vec<Event>> {
