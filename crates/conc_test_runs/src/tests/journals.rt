@@ -482,7 +482,7 @@ zeros 9
 == spool
 first 0
 text texts
-== fails journal 4
+== fails journal 5
 == run
 == ends 13
 unlawful record: 2
@@ -495,7 +495,7 @@ bytes 0
 == spool
 first 0
 text texts
-== fails journal 4
+== fails journal 5
 == run
 == ends 7
 disk fault: journal

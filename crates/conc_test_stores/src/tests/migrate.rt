@@ -122,13 +122,13 @@ fn version_of<Rt: Abort>(
     Ok(label.version)
 }
 
-// Opening makes four calls. A migration writes each of the two stamps and the base digest, syncs, writes the version,
+// Opening makes five calls: it reads the header, the records and the gate behind them. A migration writes each of the two stamps and the base digest, syncs, writes the version,
 // and syncs.
-const FIRST: u64 = 4;
+const FIRST: u64 = 5;
 
-const VERSION: u64 = 8;
+const VERSION: u64 = 9;
 
-const BEHIND: u64 = 10;
+const BEHIND: u64 = 11;
 
 #[test]
 fn a_stop_leaves_one_version_or_the_other(rt: HostRuntime) -> Result<(), Fail> {
