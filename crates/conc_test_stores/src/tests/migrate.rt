@@ -122,8 +122,8 @@ fn version_of<Rt: Abort>(
     Ok(label.version)
 }
 
-// Opening makes five calls: it reads the header, the records and the gate behind them. A migration writes each of the two stamps and the base digest, syncs, writes the version,
-// and syncs.
+// Opening makes five calls: it reads the header, the records and the gate behind them. A migration writes
+// each of the two stamps and the base digest, syncs, writes the version, and syncs.
 const FIRST: u64 = 5;
 
 const VERSION: u64 = 9;
