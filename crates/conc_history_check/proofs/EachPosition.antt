@@ -1,5 +1,5 @@
 -- A history is lawful where the event at each of its positions is.
-use Rattle.std.proofs.Common.{◌≡◌, ◌⊎◌, ℕ, zero, suc, ◌-◌, ◌≤◌, Bool, true, ◌&&◌, if◌then◌else◌, List, [], ◌∷◌, length, take, drop, reverse, Option, None, Some, refl, sym, ◌∙◌, ap, subst, inl, inr, arith}
+use Rattle.std.proofs.Common.{◌≡◌, ◌⊎◌, ℕ, zero, suc, ◌-◌, ◌≤◌, Bool, true, not, ◌&&◌, if◌then◌else◌, List, [], ◌∷◌, length, take, drop, reverse, Option, None, Some, refl, sym, ◌∙◌, ap, subst, inl, inr, arith}
 use Rattle.std.specs.Prelude.{slice_get}
 use Rattle.std.specs.Option.{option_map}
 use Rattle.std.proofs.Math.Seq.{drop-length}
@@ -7,12 +7,14 @@ use Rattle.std.proofs.lemmas.Bool.{and_from, and_parts, ne_eqb}
 use Rattle.std.proofs.lemmas.List.{take_all}
 use Rattle.conc_types.specs.declared.event.Event.{Event}
 use Rattle.conc_types.specs.declared.event.Event.TheVariants as event
+use Rattle.conc_types.specs.declared.event.Moment.{Moment}
+use Rattle.conc_types.specs.declared.facts.State.{State}
 use Rattle.conc_types.specs.declared.plan.Plan.{Plan}
 use Rattle.conc_types.specs.declared.script.Reading.{Reading}
 use Rattle.conc_types.specs.Words.{some_and}
 use Rattle.conc_law.specs.Kinds.{is_resume}
 use Rattle.conc_law.specs.Law.{is_lawful, is_lawful_so_far, may_follow}
-use Rattle.conc_law.specs.Next.{may_come}
+use Rattle.conc_law.specs.Next.{forced, is_allowed, may_come, obeys}
 use Rattle.conc_law.specs.Readings.{next_reading}
 use Rattle.conc_law.specs.State.{state}
 use Rattle.conc_law.proofs.Positions.{reverse-push, slice_get-some, take-suc_at}
@@ -138,3 +140,30 @@ lawful_here plan readings history i f e next at are known =
     ∙ ap (λ n. may_come plan (state plan (reverse (take i history))) n e) known
     ∙ sym (is_lawful_at-suc plan readings history i
     ∙ ap (some_and (may_follow plan (known_before readings (drop (suc i) history)) (reverse (take i history)))) at)
+
+-- ---- an event that is no tick, of which the next reading says nothing
+
+allowed-next : (plan : Plan) (s : State) (next other : Option (Option Reading)) (e : Event) → ((t : Moment) → e ≡ event.Tick t → ⊥)
+    → is_allowed plan s next e ≡ is_allowed plan s other e
+unfolding is_allowed
+allowed-next plan s next other (event.Tick t) h = absurd (h t refl)
+allowed-next plan s next other (event.Started r p) h = refl
+allowed-next plan s next other (event.Ended r o x) h = refl
+allowed-next plan s next other _ h = refl
+
+obeys-next : (plan : Plan) (s : State) (next other : Option (Option Reading)) (e : Event) (due : Option Event) → ((t : Moment) → e ≡ event.Tick t → ⊥)
+    → obeys plan s next e due ≡ obeys plan s other e due
+obeys-next plan s next other e None h = allowed-next plan s next other e h
+obeys-next plan s next other e (Some due) h = refl
+
+may_come-next : (plan : Plan) (s : State) (next other : Option (Option Reading)) (e : Event) → ((t : Moment) → e ≡ event.Tick t → ⊥)
+    → may_come plan s next e ≡ may_come plan s other e
+unfolding may_come
+may_come-next plan s next other e h = ap (λ b. if is_resume e then not s.empty else b) (obeys-next plan s next other e (forced plan s) h)
+
+pub lawful_without : (plan : Plan) (readings : List Reading) (history : List Event) (i : ℕ) (f : Findings) (e : Event) (next : Option (Option Reading))
+    → slice_get history i ≡ Some e → HasTaken plan (reverse (take i history)) f → ((t : Moment) → e ≡ event.Tick t → ⊥)
+    → may_come plan f.state next e ≡ is_lawful_at plan readings history (suc i)
+lawful_without plan readings history i f e next at are h =
+    may_come-next plan f.state next (option_map (λ known. next_reading known (reverse (take i history))) (known_before readings (drop (suc i) history))) e h
+    ∙ lawful_here plan readings history i f e _ at are refl

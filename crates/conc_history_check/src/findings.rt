@@ -3,8 +3,7 @@ ghost use Rattle.conc_types.specs.declared.event.Event.{Event};
 ghost use Rattle.conc_types.specs.declared.facts.Facts.{Facts};
 ghost use Rattle.conc_law.specs.State as state_spec;
 ghost use Rattle.conc_machine_reach.specs.Spans.{AreSpans};
-ghost use Rattle.conc_history_check.specs.Findings as findings_spec;
-ghost use Rattle.conc_history_check.specs.Findings.{AreFindings, HasRoom, HasTaken};
+ghost use Rattle.conc_history_check.specs.Findings.{AreFindings, HasRoom, HasTaken, earlier_after, ticks_after};
 ghost use Rattle.conc_history_check.specs.Prepared.{IsPrepared};
 
 use crate::live::{note_live, room_for_live};
@@ -45,29 +44,6 @@ fn clear_flags(flags: &mut Seq<bool>)
     }
 }
 
-// ---- one more event
-
-// The last tick of the earlier lives, where the last tick of all came at this moment.
-fn earlier_after(now: Option<Moment>, earlier: Option<Moment>, e: Event) -> Option<Moment>
-    ensures { result ≡ findings_spec.earlier_after now earlier e }
-{
-    match e {
-        Event::Resume => now,
-        _ => earlier,
-    }
-}
-
-fn ticks_after(ticks: usize, e: Event) -> usize
-    requires { ticks + 1 < 2 ^ 64 }
-    ensures { result ≡ findings_spec.ticks_after ticks e }
-{
-    match e {
-        Event::Tick { .. } => ticks + 1,
-        Event::Resume => 0,
-        _ => ticks,
-    }
-}
-
 impl Findings {
     /// What no events say, with room for what any events of the plan say.
     pub fn new(alloc: Global, plan: &Plan, prepared: &Prepared) -> Result<Findings, NoMemory>
@@ -96,16 +72,36 @@ impl Findings {
         self.ticks = 0;
     }
 
+    // Notes a tick of the last life, or the end of that life.
+    #[inline(always)]
+    fn note_life(&mut self, e: &Event)
+        requires { self.old.ticks + 1 < 2 ^ 64 }
+        ensures earlier { self.new.earlier
+            ≡ earlier_after self.old.state.time self.old.earlier e.now }
+        ensures ticks { self.new.ticks ≡ ticks_after self.old.ticks e.now }
+        ensures state { self.new.state ≡ self.old.state }
+        ensures live { self.new.live ≡ self.old.live }
+    {
+        match *e {
+            Event::Tick { .. } => self.ticks += 1,
+            Event::Resume => {
+                self.earlier = self.state.time;
+                self.ticks = 0;
+            }
+            _ => {}
+        }
+    }
+
     // Reads one more event.
-    fn take_in(&mut self, plan: &Plan, spans: &Spans, e: Event)
+    #[inline(always)]
+    fn take_in(&mut self, plan: &Plan, spans: &Spans, e: &Event)
         requires spans { AreSpans plan.now spans.now }
         requires few { self.old.ticks + 1 < 2 ^ 64 }
         ensures read { (past : List Event) → HasTaken plan.now past self.old
-            → HasTaken plan.now (e ∷ past) self.new }
+            → HasTaken plan.now (e.now ∷ past) self.new }
         ensures live { self.new.live ≡ self.old.live }
     {
-        self.earlier = earlier_after(self.state.time, self.earlier, e);
-        self.ticks = ticks_after(self.ticks, e);
+        self.note_life(e);
         take_in(plan, spans, &mut self.state, e);
     }
 
@@ -118,7 +114,7 @@ impl Findings {
     {
         self.clear(plan, prepared);
         for e in events {
-            self.take_in(plan, &prepared.spans, *e);
+            self.take_in(plan, &prepared.spans, e);
         }
         note_live(plan, &prepared.classes, &self.state, &mut self.live);
     }

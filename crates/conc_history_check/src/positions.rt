@@ -41,7 +41,8 @@ fn known_next(
     Some(next_reading(plan, readings, findings))
 }
 
-/// Whether the event at an index may follow those before it, which were read.
+/// Whether the event at an index may follow those before it, which were read. The next reading is looked
+/// for only where it is a tick.
 pub(crate) fn is_lawful_at(
     plan: &Plan,
     prepared: &Prepared,
@@ -55,13 +56,10 @@ pub(crate) fn is_lawful_at(
     requires read { AreFindings plan.now prepared.now (reverse (take i events.now)) findings.now }
     ensures { result ≡ positions_spec.is_lawful_at plan.now readings.now.list events.now (i + 1) }
 {
-    let next = known_next(plan, readings, findings, &events[i + 1..]);
-    may_come(
-        plan,
-        prepared,
-        &findings.state,
-        &findings.live,
-        next,
-        events[i],
-    )
+    let e = events[i];
+    let next = match e {
+        Event::Tick { .. } => known_next(plan, readings, findings, &events[i + 1..]),
+        _ => None,
+    };
+    may_come(plan, prepared, &findings.state, &findings.live, next, e)
 }

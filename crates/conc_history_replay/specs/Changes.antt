@@ -33,3 +33,12 @@ alone_after _ own = own
 -- r is the set that is opened
 abbrev pub opens : RequestId → Req → Bool
 opens set r = id_eq set r.number && is_set r.item
+
+-- the one request whose facts the event can change, for most kinds of events
+abbrev pub named_one : Event → Option RequestId
+named_one (event.OpenSet q) = Some q
+named_one (event.Stage q k) = Some q
+named_one (event.LetOut q) = Some q
+named_one (event.Started q p) = Some q
+named_one (event.Ended q o x) = Some q
+named_one _ = None

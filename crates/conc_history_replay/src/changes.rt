@@ -130,6 +130,7 @@ fn after_close(
 
 /// The facts of a request after one more event, as `facts_after` gives them; those of sets, which are
 /// the most of the others, are asked for first.
+#[inline(always)]
 pub(crate) fn own_after(plan: &Plan, named: Facts, e: Event, r: &Req, own: Facts) -> Facts
     ensures { result ≡ step_spec.facts_after plan.now named e r.now own }
 {

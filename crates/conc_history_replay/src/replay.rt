@@ -17,6 +17,7 @@ use conc_types::{Event, Facts, NoMemory, Plan, RequestId, Seq, State};
 use std::alloc::Global;
 
 // Makes the facts of the request at an index what they are after an event.
+#[inline(always)]
 fn step_at(plan: &Plan, named: Facts, e: Event, facts: &mut Seq<Facts>, i: usize)
     ensures { facts.new ≡ one_by plan.now named e facts.old i (slice_get plan.now.requests i)
         (slice_get facts.old i) }
@@ -26,6 +27,19 @@ fn step_at(plan: &Plan, named: Facts, e: Event, facts: &mut Seq<Facts>, i: usize
             facts.set(i, own_after(plan, named, e, r, own));
         }
     }
+}
+
+// Makes the facts of the one request that an event can change what they are after it. The event is none
+// that cancels.
+#[inline(always)]
+fn step_one(plan: &Plan, e: Event, facts: &mut Seq<Facts>, id: RequestId)
+    requires { changes_spec.named_one e ≡ Some id }
+    ensures { facts.new ≡ all_after plan.now spec.no_facts e plan.now.requests facts.old }
+{
+    if id.number == 0 {
+        return;
+    }
+    step_at(plan, Facts::NONE, e, facts, id.number as usize - 1);
 }
 
 // Makes the facts of all requests what they are after an event that changes those within a span alone.
@@ -109,24 +123,37 @@ fn take_in_alone(plan: &Plan, state: &mut State, e: Event, id: RequestId)
     settle(state, e);
 }
 
-// Takes any event into the state.
-fn take_in_any(plan: &Plan, spans: &Spans, state: &mut State, e: Event)
-    requires { AreSpans plan.now spans.now }
+// Takes the opening or a stage of a set into the state.
+#[inline(always)]
+fn take_in_one(plan: &Plan, state: &mut State, e: Event, id: RequestId)
+    requires { changes_spec.named_one e ≡ Some id }
     ensures { IsAfter plan.now state.old state.new e }
 {
+    step_one(plan, e, &mut state.facts, id);
+    settle(state, e);
+}
+
+// Takes any event into the state.
+#[inline(never)]
+fn take_in_any(plan: &Plan, spans: &Spans, state: &mut State, e: &Event)
+    requires { AreSpans plan.now spans.now }
+    ensures { IsAfter plan.now state.old state.new e.now }
+{
+    let e = *e;
     let named = named_facts(plan, state.facts.as_slice(), e);
     step_within(plan, named, e, &mut state.facts, spans.reach(plan, e));
     settle(state, e);
 }
 
 // Takes a command into the state. Most commands do no more than enter requests.
+#[inline(always)]
 fn take_in_command(plan: &Plan, spans: &Spans, state: &mut State, number: u32)
     requires { AreSpans plan.now spans.now }
     ensures { IsAfter plan.now state.old state.new (event.Command number) }
 {
     let e = Event::Command { number };
     if acts(act(plan, e)) {
-        take_in_any(plan, spans, state, e);
+        take_in_any(plan, spans, state, &e);
         return;
     }
     enter_within(plan, number, &mut state.facts, spans.reach(plan, e));
@@ -134,12 +161,13 @@ fn take_in_command(plan: &Plan, spans: &Spans, state: &mut State, number: u32)
 }
 
 /// Takes one more event into the state. What most events are is asked first: they change the facts of
-/// one request, or enter some.
-pub fn take_in(plan: &Plan, spans: &Spans, state: &mut State, e: Event)
+/// one request, or enter some. It is put into its caller, since a history is taken in event by event.
+#[inline(always)]
+pub fn take_in(plan: &Plan, spans: &Spans, state: &mut State, e: &Event)
     requires { AreSpans plan.now spans.now }
-    ensures { IsAfter plan.now state.old state.new e }
+    ensures { IsAfter plan.now state.old state.new e.now }
 {
-    match e {
+    match *e {
         Event::LetOut { request } => {
             take_in_alone(plan, state, Event::LetOut { request }, request)
         }
@@ -159,15 +187,19 @@ pub fn take_in(plan: &Plan, spans: &Spans, state: &mut State, e: Event)
             take_in_alone(plan, state, ended, request)
         }
         Event::Command { number } => take_in_command(plan, spans, state, number),
+        Event::OpenSet { set } => take_in_one(plan, state, Event::OpenSet { set }, set),
+        Event::Stage { set, stage } => {
+            take_in_one(plan, state, Event::Stage { set, stage }, set)
+        }
         _ => take_in_any(plan, spans, state, e),
     }
 }
 
 // Takes one more event: the state after some events becomes the state after these and the event.
-fn advance(plan: &Plan, spans: &Spans, state: &mut State, e: Event)
+fn advance(plan: &Plan, spans: &Spans, state: &mut State, e: &Event)
     requires { AreSpans plan.now spans.now }
     ensures { (past : List Event) → state.old ≡ spec.state plan.now past
-        → state.new ≡ spec.state plan.now (e ∷ past) }
+        → state.new ≡ spec.state plan.now (e.now ∷ past) }
 {
     take_in(plan, spans, state, e);
 }
@@ -180,7 +212,7 @@ pub fn state_after(alloc: Global, plan: &Plan, events: &[Event]) -> Result<State
     let spans = Spans::new(alloc, plan)?;
     let mut state = begin(alloc, plan)?;
     for e in events {
-        advance(plan, &spans, &mut state, *e);
+        advance(plan, &spans, &mut state, e);
     }
     Ok(state)
 }

@@ -2,10 +2,10 @@ ghost use Rattle.std.specs.Prelude.{◌≡◌, ◌≤◌, ◌∷◌, [], IfErr, 
 ghost use Rattle.conc_types.specs.declared.error.ReadFail.TheVariants.{NoMemory as out_of_memory};
 ghost use Rattle.conc_make_run.specs.Generated.{AreGenerated};
 
+use conc_columns::keep_columns;
 use conc_journal_digest::InputDigest;
 use conc_make::{Inputs, make};
 use conc_plan::make_plan;
-use conc_reports::keep_columns;
 use conc_script::{read_clock, read_script};
 use conc_setup::read_setup;
 use conc_tables::read_table;

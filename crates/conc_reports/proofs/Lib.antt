@@ -2,9 +2,7 @@ pub mod Cells
 pub mod Digits
 pub mod Growth
 pub mod Kept
-pub mod Known
 pub mod Listings
-pub mod Numberings
 pub mod Ordered
 pub mod Passing
 pub mod SoFar

@@ -17,7 +17,6 @@ use crate::reading::{Start, read_start, read_tables};
 use conc_outside::Shelf;
 use conc_outside_clock::Clock;
 use conc_plan::make_plan;
-use conc_reports::keep_columns;
 use conc_types::{Digests, FileKind, Name, Plan, ReadFail, Readings, Seq};
 use std::alloc::Global;
 
@@ -159,12 +158,12 @@ pub fn accept_timed<F: Shelf, C: Clock, P: Pace>(
 }
 
 // The same, with what the plan's reports ask of columns kept beside the cells.
-fn with_columns(alloc: Global, accepted: Accepted) -> Accepted
+fn with_columns<P: Pace>(alloc: Global, pace: &P, accepted: Accepted) -> Accepted
     ensures { result ≡ accepted }
 {
     let Accepted { plan, digests } = accepted;
     Accepted {
-        plan: keep_columns(alloc, plan),
+        plan: pace.keep_columns(alloc, plan),
         digests,
     }
 }
@@ -188,7 +187,7 @@ pub fn accept_run<F: Shelf, C: Clock, P: Pace>(
         (sources (F.state shelf.new) (C.state clock.new)) (named setup script (Some file))) }
 {
     match accept_timed(alloc, shelf, clock, pace, setup, script, file) {
-        Ok((accepted, readings)) => Ok((with_columns(alloc, accepted), readings)),
+        Ok((accepted, readings)) => Ok((with_columns(alloc, pace, accepted), readings)),
         Err(fail) => Err(fail),
     }
 }

@@ -1,16 +1,18 @@
-ghost use Rattle.std.specs.Prelude.{◌++◌, ◌∷◌, [], IfErr, IfOk, List, ℕ};
+ghost use Rattle.std.specs.Prelude.{◌≡◌, ◌++◌, ◌∷◌, [], IfErr, IfOk, List, ℕ};
 ghost use Rattle.conc_journal_digest.specs.Taken.{HasTaken};
 ghost use Rattle.conc_tables.specs.Tables.{SpellsTable, table_fault};
 ghost use Rattle.conc_types.specs.Faults.{IsFailure};
 ghost use Rattle.conc_types.specs.declared.refusal.FileKind.TheVariants as file;
 
+use conc_columns::{keep_columns, keep_columns_on_threads};
 use conc_journal_digest::InputDigest;
 use conc_tables::read_table;
-use conc_types::{ReadFail, Table};
+use conc_types::{Plan, ReadFail, Table};
 use std::alloc::Global;
 use std::thread::{Threads, join};
 
-/// How the bytes of a table are read and digested: one after the other, or beside each other.
+/// How the bytes of a table are read and digested, and what reports ask of its columns is made: one after
+/// the other, or beside each other.
 pub trait Pace {
     /// The table that the bytes of the file with this number spell, or why they spell none; and the
     /// digest with the file under its name.
@@ -27,6 +29,10 @@ pub trait Pace {
         ensures digest { (setup script : List ℕ) (tables : List (List ℕ × List ℕ))
             → HasTaken digest setup script tables
             → HasTaken result.1 setup script (tables ++ (name.now, bytes.now) ∷ []) };
+
+    /// The same plan, with what its reports ask of columns kept beside the cells of its tables.
+    fn keep_columns(&self, alloc: Global, plan: Plan) -> Plan
+        ensures { result ≡ plan };
 }
 
 /// One after the other.
@@ -45,10 +51,14 @@ impl Pace for InTurn {
         let digest = digest.with_table(name, bytes);
         (read_table(alloc, bytes, number), digest)
     }
+
+    fn keep_columns(&self, alloc: Global, plan: Plan) -> Plan {
+        keep_columns(alloc, plan)
+    }
 }
 
-/// Beside each other: the bytes are read in one thread and digested in two others, where threads can be
-/// made.
+/// Beside each other, where threads can be made: the bytes are read in one thread and digested in two
+/// others, and the columns of a table are made in up to four.
 #[derive(Drop)]
 pub struct OnThreads<'a, R> {
     pub rt: &'a R,
@@ -69,5 +79,9 @@ impl<R: Threads> Pace for OnThreads<'_, R> {
             move || read_table(alloc, bytes, number),
             move || digest.with_table_on_threads(rt, name, bytes),
         )
+    }
+
+    fn keep_columns(&self, alloc: Global, plan: Plan) -> Plan {
+        keep_columns_on_threads(self.rt, alloc, plan)
     }
 }

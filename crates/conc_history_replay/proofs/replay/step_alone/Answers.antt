@@ -1,14 +1,14 @@
 use Rattle.std.proofs.Common.{◌≡◌, ◌-◌, None, Some, ◌∙◌, ap, arith}
 use Rattle.std.specs.Prelude.{slice_get, slice_set}
 use Rattle.conc_history_replay.proofs.ByKind.{copied_got}
-use Rattle.conc_history_replay.proofs.OneAlone.{alone-missing, alone-past, alone-there, alone-zero}
+use Rattle.conc_history_replay.proofs.OneAlone.{alone-missing, alone-past, alone-there, alone-zero, one-of-alone}
 use Rattle.conc_history_replay.proofs.replay.step_alone.Goals as goal
 
 pub returns-then-id-eq0 : goal.returns-then-id-eq0
-returns-then-id-eq0 c = λ named. alone-zero c.args.plan.now named c.args.e c.args.id _ c.requires c.if-id-eq0.true
+returns-then-id-eq0 c = λ named. alone-zero c.args.plan.now named c.args.e c.args.id _ (one-of-alone c.args.e c.args.id c.requires) c.if-id-eq0.true
 
 pub returns-then-id-len : goal.returns-then-id-len
-returns-then-id-len c = λ named. alone-past c.args.plan.now named c.args.e c.args.id _ c.requires (omega (arith, c.if-id-len.true, c.len.ensures))
+returns-then-id-len c = λ named. alone-past c.args.plan.now named c.args.e c.args.id _ (one-of-alone c.args.e c.args.id c.requires) (omega (arith, c.if-id-len.true, c.len.ensures))
 
 pub returns-in-Some : goal.returns-in-Some
 returns-in-Some c = λ named.

@@ -1,7 +1,7 @@
 ghost use Rattle.std.specs.Prelude.{◌≡◌, ◌<◌, ◌≤◌, ℕ, IfOk, IfSome, length};
 ghost use Rattle.std.specs.List.{All};
 ghost use Rattle.conc_types.specs.Kept.{IsNumbering, cell_of};
-ghost use Rattle.conc_reports.specs.Numberings.{IsFoundAt};
+ghost use Rattle.conc_columns.specs.Numberings.{IsFoundAt};
 
 use conc_types::{NoMemory, Numbering, Table};
 use std::alloc::Global;

@@ -1,9 +1,9 @@
 use Rattle.std.proofs.Common.{◌≡◌, ◌≤◌, ◌<◌, length}
 use Rattle.std.specs.List.{All}
 use Rattle.conc_types.specs.Kept.{cell_of}
-use Rattle.conc_reports.specs.declared.numbering.TheConstants.{MOST_NUMBERS, SLOTS}
-use Rattle.conc_reports.proofs.Numberings.{IsNumberedBelow}
-use Rattle.conc_reports.proofs.numbering.numbering_of.Given as goal
+use Rattle.conc_columns.specs.declared.numbering.TheConstants.{MOST_NUMBERS, SLOTS}
+use Rattle.conc_columns.proofs.Numberings.{IsNumberedBelow}
+use Rattle.conc_columns.proofs.numbering.numbering_of.Given as goal
 
 abbrev pub invariant-loop-row : goal.invariant-loop-row
 invariant-loop-row l = record {

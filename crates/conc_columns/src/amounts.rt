@@ -2,7 +2,7 @@ ghost use Rattle.std.specs.Prelude.{◌≡◌, ◌≢◌, ◌<◌, IfOk, Some, l
 ghost use Rattle.conc_types.specs.Kept.{AreAmounts};
 ghost use Rattle.conc_types.specs.declared.kept.TheConstants.{NOT_KEPT};
 
-use crate::numbers::whole_number;
+use conc_reports::whole_number;
 use conc_types::{Amounts, NOT_KEPT, NoMemory, Table};
 use std::alloc::Global;
 

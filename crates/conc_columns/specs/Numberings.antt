@@ -1,8 +1,8 @@
 -- How the rows of a column are numbered.
 use Rattle.std.specs.Prelude.{◌≡◌, ◌<◌, ℕ, List, get_or, length}
-use Rattle.conc_reports.specs.declared.numbering.Found.{Found}
-use Rattle.conc_reports.specs.declared.numbering.Found.TheVariants as found
-use Rattle.conc_reports.specs.declared.numbering.TheConstants.{SLOTS}
+use Rattle.conc_columns.specs.declared.numbering.Found.{Found}
+use Rattle.conc_columns.specs.declared.numbering.Found.TheVariants as found
+use Rattle.conc_columns.specs.declared.numbering.TheConstants.{SLOTS}
 
 -- the sample of the number has the cell, or the slot is one
 abbrev pub IsFoundAt : (ℕ → List ℕ) → List ℕ → List ℕ → Found → Type 0

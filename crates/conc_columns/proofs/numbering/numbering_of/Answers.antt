@@ -3,10 +3,10 @@ use Rattle.std.proofs.lemmas.Grind.{common_steps}
 use Rattle.std.proofs.lemmas.List.{length_push}
 use Rattle.std.proofs.lemmas.List.Elements.{All-push, All-same}
 use Rattle.conc_types.specs.Kept.{cell_of}
-use Rattle.conc_reports.specs.declared.numbering.TheConstants.{SLOTS}
-use Rattle.conc_reports.proofs.Numberings.{numbered-found, numbered-new}
-use Rattle.conc_reports.proofs.numbering.numbering_of.Goals as goal
-use Rattle.conc_reports.proofs.numbering.numbering_of.Goals.{in-At+in_ok-push-in-At, in-Vacant+in_ok-push-in-Vacant+in_ok-push-in-Vacant-2}
+use Rattle.conc_columns.specs.declared.numbering.TheConstants.{SLOTS}
+use Rattle.conc_columns.proofs.Numberings.{numbered-found, numbered-new}
+use Rattle.conc_columns.proofs.numbering.numbering_of.Goals as goal
+use Rattle.conc_columns.proofs.numbering.numbering_of.Goals.{in-At+in_ok-push-in-At, in-Vacant+in_ok-push-in-Vacant+in_ok-push-in-Vacant-2}
 
 pub loop-row-preserved : goal.loop-row-preserved
 loop-row-preserved c =

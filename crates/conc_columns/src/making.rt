@@ -1,0 +1,152 @@
+ghost use Rattle.std.specs.Prelude.{IfOk};
+ghost use Rattle.std.specs.List.{All};
+ghost use Rattle.conc_columns.specs.Made.{Stands};
+
+use crate::amounts::amounts_of;
+use crate::asked::Asked;
+use crate::numbering::numbering_of;
+use conc_types::{Amounts, NoMemory, Numbering, Table};
+use std::alloc::Global;
+use std::thread::{Threads, join};
+
+/// What was made of a column.
+#[derive(Drop)]
+pub(crate) enum Made {
+    Numbers(Numbering),
+    Amounts(Amounts),
+    /// The column has too many different cells.
+    Nothing,
+}
+
+/// How what is asked of columns is made: one after the other, or beside each other.
+pub(crate) trait Hands {
+    /// All that is asked of the columns of the table.
+    fn make(&self, alloc: Global, table: &Table, asked: &[Asked]) -> Result<Vec<Made>, NoMemory>
+        ensures { IfOk result (λ made. All (Stands table.now.rows) made.items) };
+}
+
+fn numbers_made(alloc: Global, table: &Table, column: usize) -> Result<Made, NoMemory>
+    ensures { IfOk result (Stands table.now.rows) }
+{
+    if column >= table.columns().len() {
+        return Ok(Made::Nothing);
+    }
+    match numbering_of(alloc, table, column)? {
+        Some(numbering) => Ok(Made::Numbers(numbering)),
+        None => Ok(Made::Nothing),
+    }
+}
+
+fn amounts_made(alloc: Global, table: &Table, column: usize) -> Result<Made, NoMemory>
+    ensures { IfOk result (Stands table.now.rows) }
+{
+    if column >= table.columns().len() {
+        return Ok(Made::Nothing);
+    }
+    Ok(Made::Amounts(amounts_of(alloc, table, column)?))
+}
+
+fn made_of(alloc: Global, table: &Table, asked: Asked) -> Result<Made, NoMemory>
+    ensures { IfOk result (Stands table.now.rows) }
+{
+    match asked {
+        Asked::Numbers(column) => numbers_made(alloc, table, column),
+        Asked::Amounts(column) => amounts_made(alloc, table, column),
+    }
+}
+
+fn make_in_turn(alloc: Global, table: &Table, asked: &[Asked]) -> Result<Vec<Made>, NoMemory>
+    ensures { IfOk result (λ made. All (Stands table.now.rows) made.items) }
+{
+    let mut made = Vec::new(alloc);
+    for one in asked {
+        made.push(made_of(alloc, table, *one)?)?;
+    }
+    Ok(made)
+}
+
+// Both lists in one.
+fn joined(_table: &Table, mut left: Vec<Made>, mut right: Vec<Made>) -> Result<Vec<Made>, NoMemory>
+    requires left { All (Stands _table.now.rows) left.items }
+    requires right { All (Stands _table.now.rows) right.items }
+    ensures { IfOk result (λ made. All (Stands _table.now.rows) made.items) }
+{
+    while let Some(made) = right.pop() {
+        left.push(made)?;
+    }
+    Ok(left)
+}
+
+// Makes one half in a thread of its own, where one can be made.
+fn make_in_two<R: Threads>(
+    rt: &R,
+    alloc: Global,
+    table: &Table,
+    asked: &[Asked],
+) -> Result<Vec<Made>, NoMemory>
+    ensures { IfOk result (λ made. All (Stands table.now.rows) made.items) }
+{
+    let (first, others) = asked.split_at(asked.len() / 2);
+    let (first, others) = join(
+        rt,
+        move || make_in_turn(alloc, table, first),
+        move || make_in_turn(alloc, table, others),
+    );
+    joined(table, first?, others?)
+}
+
+fn make_in_three<R: Threads>(
+    rt: &R,
+    alloc: Global,
+    table: &Table,
+    asked: &[Asked],
+) -> Result<Vec<Made>, NoMemory>
+    ensures { IfOk result (λ made. All (Stands table.now.rows) made.items) }
+{
+    let (first, others) = asked.split_at(asked.len() / 3);
+    let (first, others) = join(
+        rt,
+        move || make_in_turn(alloc, table, first),
+        move || make_in_two(rt, alloc, table, others),
+    );
+    joined(table, first?, others?)
+}
+
+fn make_in_four<R: Threads>(
+    rt: &R,
+    alloc: Global,
+    table: &Table,
+    asked: &[Asked],
+) -> Result<Vec<Made>, NoMemory>
+    ensures { IfOk result (λ made. All (Stands table.now.rows) made.items) }
+{
+    let (first, others) = asked.split_at(asked.len() / 4);
+    let (first, others) = join(
+        rt,
+        move || make_in_turn(alloc, table, first),
+        move || make_in_three(rt, alloc, table, others),
+    );
+    joined(table, first?, others?)
+}
+
+/// One after the other.
+#[derive(Clone, Copy)]
+pub(crate) struct InTurn;
+
+impl Hands for InTurn {
+    fn make(&self, alloc: Global, table: &Table, asked: &[Asked]) -> Result<Vec<Made>, NoMemory> {
+        make_in_turn(alloc, table, asked)
+    }
+}
+
+/// Beside each other, in up to four threads.
+#[derive(Drop)]
+pub(crate) struct OnThreads<'a, R> {
+    pub rt: &'a R,
+}
+
+impl<R: Threads> Hands for OnThreads<'_, R> {
+    fn make(&self, alloc: Global, table: &Table, asked: &[Asked]) -> Result<Vec<Made>, NoMemory> {
+        make_in_four(self.rt, alloc, table, asked)
+    }
+}
