@@ -9,6 +9,9 @@ use conc_types::{Amounts, NoMemory, Numbering, Table};
 use std::alloc::Global;
 use std::thread::{Threads, join};
 
+// In how many threads the columns of a table are made.
+const MOST_PARTS: usize = 4;
+
 /// What was made of a column.
 #[derive(Drop)]
 pub(crate) enum Made {
@@ -77,54 +80,27 @@ fn joined(_table: &Table, mut left: Vec<Made>, mut right: Vec<Made>) -> Result<V
     Ok(left)
 }
 
-// Makes one half in a thread of its own, where one can be made.
-fn make_in_two<R: Threads>(
+// Makes a part in a thread of its own, where one can be made, and the others likewise, so many in all.
+fn make_in_parts<R: Threads>(
     rt: &R,
     alloc: Global,
     table: &Table,
     asked: &[Asked],
+    parts: usize,
 ) -> Result<Vec<Made>, NoMemory>
     ensures { IfOk result (λ made. All (Stands table.now.rows) made.items) }
 {
-    let (first, others) = asked.split_at(asked.len() / 2);
+    if parts <= 1 {
+        return make_in_turn(alloc, table, asked);
+    }
+    let (first, others) = asked.split_at(asked.len() / parts);
+    let fewer = parts - 1;
     let (first, others) = join(
         rt,
         move || make_in_turn(alloc, table, first),
-        move || make_in_turn(alloc, table, others),
-    );
-    joined(table, first?, others?)
-}
-
-fn make_in_three<R: Threads>(
-    rt: &R,
-    alloc: Global,
-    table: &Table,
-    asked: &[Asked],
-) -> Result<Vec<Made>, NoMemory>
-    ensures { IfOk result (λ made. All (Stands table.now.rows) made.items) }
-{
-    let (first, others) = asked.split_at(asked.len() / 3);
-    let (first, others) = join(
-        rt,
-        move || make_in_turn(alloc, table, first),
-        move || make_in_two(rt, alloc, table, others),
-    );
-    joined(table, first?, others?)
-}
-
-fn make_in_four<R: Threads>(
-    rt: &R,
-    alloc: Global,
-    table: &Table,
-    asked: &[Asked],
-) -> Result<Vec<Made>, NoMemory>
-    ensures { IfOk result (λ made. All (Stands table.now.rows) made.items) }
-{
-    let (first, others) = asked.split_at(asked.len() / 4);
-    let (first, others) = join(
-        rt,
-        move || make_in_turn(alloc, table, first),
-        move || make_in_three(rt, alloc, table, others),
+        move || -> Result<Vec<Made>, NoMemory>
+            ensures { IfOk result (λ made. All (Stands table.entry.now.rows) made.items) }
+        { make_in_parts(rt, alloc, table, others, fewer) },
     );
     joined(table, first?, others?)
 }
@@ -147,6 +123,6 @@ pub(crate) struct OnThreads<'a, R> {
 
 impl<R: Threads> Hands for OnThreads<'_, R> {
     fn make(&self, alloc: Global, table: &Table, asked: &[Asked]) -> Result<Vec<Made>, NoMemory> {
-        make_in_four(self.rt, alloc, table, asked)
+        make_in_parts(self.rt, alloc, table, asked, MOST_PARTS)
     }
 }
