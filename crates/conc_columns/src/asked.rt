@@ -22,7 +22,7 @@ impl Asked {
 
 /// What jobs ask of the columns of their table, each once, as far as there is room for it.
 #[derive(Drop)]
-pub(crate) struct Request<'a> {
+pub(crate) struct Wanted<'a> {
     table: &'a Table,
     asked: Vec<Asked>,
     size: usize,
@@ -36,10 +36,10 @@ fn column_of(table: &Table, name: &Name) -> Option<usize> {
         .position(|column| name == column.as_slice())
 }
 
-impl<'a> Request<'a> {
+impl<'a> Wanted<'a> {
     /// Nothing so far.
     pub fn new(alloc: Global, table: &'a Table) -> Self {
-        Request {
+        Wanted {
             table,
             asked: Vec::new(alloc),
             size: 0,

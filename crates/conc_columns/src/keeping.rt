@@ -2,7 +2,7 @@ ghost use Rattle.std.specs.Prelude.{◌≡◌, ◌<◌, length};
 ghost use Rattle.std.specs.List.{All};
 ghost use Rattle.conc_columns.specs.Made.{Stands};
 
-use crate::asked::{Asked, Request, has_room};
+use crate::asked::{Asked, Wanted, has_room};
 use crate::making::{Hands, InTurn, Made, OnThreads};
 use conc_types::{Item, Name, NoMemory, Plan, Program, Req, Seq, Setup, Table};
 use std::alloc::Global;
@@ -86,13 +86,13 @@ fn asked_by(
     name: &Name,
     table: &Table,
 ) -> Result<Vec<Asked>, NoMemory> {
-    let mut request = Request::new(alloc, table);
+    let mut wanted = Wanted::new(alloc, table);
     for place in 0..programs.len() {
         if reports_by(programs, counts, place, name) > 0 {
-            request.add_job(&programs[place].job)?;
+            wanted.add_job(&programs[place].job)?;
         }
     }
-    Ok(request.into_asked())
+    Ok(wanted.into_asked())
 }
 
 fn keep_in<H: Hands>(
