@@ -172,8 +172,8 @@ pub fn keep_columns(alloc: Global, plan: Plan) -> Plan
     keep_with(alloc, &InTurn, plan)
 }
 
-/// Does what `keep_columns` does, with the columns of a table made in up to four threads, where threads
-/// can be made.
+/// Does what `keep_columns` does, with the columns of a large table made in up to four threads, where
+/// threads can be made.
 pub fn keep_columns_on_threads<R: Threads>(rt: &R, alloc: Global, plan: Plan) -> Plan
     ensures { result ≡ plan }
 {

@@ -12,6 +12,9 @@ use std::thread::{Threads, join};
 // In how many threads the columns of a table are made.
 const MOST_PARTS: usize = 4;
 
+// The columns of a table with fewer rows are made before a thread has begun.
+const FEW_ROWS: usize = 8192;
+
 /// What was made of a column.
 #[derive(Drop)]
 pub(crate) enum Made {
@@ -115,7 +118,7 @@ impl Hands for InTurn {
     }
 }
 
-/// Beside each other, in up to four threads.
+/// Beside each other, in up to four threads, where the table has rows enough.
 #[derive(Drop)]
 pub(crate) struct OnThreads<'a, R> {
     pub rt: &'a R,
@@ -123,6 +126,11 @@ pub(crate) struct OnThreads<'a, R> {
 
 impl<R: Threads> Hands for OnThreads<'_, R> {
     fn make(&self, alloc: Global, table: &Table, asked: &[Asked]) -> Result<Vec<Made>, NoMemory> {
-        make_in_parts(self.rt, alloc, table, asked, MOST_PARTS)
+        let parts = if table.row_count() < FEW_ROWS {
+            1
+        } else {
+            MOST_PARTS
+        };
+        make_in_parts(self.rt, alloc, table, asked, parts)
     }
 }
