@@ -29,11 +29,12 @@ fn keep(table: &mut Table, made: Made) -> Result<(), NoMemory>
     }
 }
 
-fn keep_all(table: &mut Table, mut made: Vec<Made>) -> Result<(), NoMemory>
+// Keeps what was made, the first of it first.
+fn keep_all(table: &mut Table, made: Vec<Made>) -> Result<(), NoMemory>
     requires { All (Stands table.old.rows) made.items }
     ensures { table.new ≡ table.old }
 {
-    while let Some(one) = made.pop() {
+    for one in made {
         keep(table, one)?;
     }
     Ok(())

@@ -8,3 +8,4 @@ mod making;
 mod numbering;
 
 pub use keeping::{keep_columns, keep_columns_on_threads};
+pub use making::{InTurn, OnThreads};

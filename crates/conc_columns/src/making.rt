@@ -77,9 +77,7 @@ fn joined(_table: &Table, mut left: Vec<Made>, mut right: Vec<Made>) -> Result<V
     requires right { All (Stands _table.now.rows) right.items }
     ensures { IfOk result (λ made. All (Stands _table.now.rows) made.items) }
 {
-    while let Some(made) = right.pop() {
-        left.push(made)?;
-    }
+    left.append(&mut right)?;
     Ok(left)
 }
 
@@ -108,9 +106,9 @@ fn make_in_parts<R: Threads>(
     joined(table, first?, others?)
 }
 
-/// One after the other.
+/// One thing is done after the other.
 #[derive(Clone, Copy)]
-pub(crate) struct InTurn;
+pub struct InTurn;
 
 impl Hands for InTurn {
     fn make(&self, alloc: Global, table: &Table, asked: &[Asked]) -> Result<Vec<Made>, NoMemory> {
@@ -118,12 +116,13 @@ impl Hands for InTurn {
     }
 }
 
-/// Beside each other, in up to four threads, where the table has rows enough.
+/// Things are done beside each other, where threads can be made.
 #[derive(Drop)]
-pub(crate) struct OnThreads<'a, R> {
+pub struct OnThreads<'a, R> {
     pub rt: &'a R,
 }
 
+// In up to four threads, where the table has rows enough.
 impl<R: Threads> Hands for OnThreads<'_, R> {
     fn make(&self, alloc: Global, table: &Table, asked: &[Asked]) -> Result<Vec<Made>, NoMemory> {
         let parts = if table.row_count() < FEW_ROWS {

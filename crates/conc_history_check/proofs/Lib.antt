@@ -10,3 +10,4 @@ pub mod FirstStep
 pub mod Places
 pub mod NoneLeft
 pub mod AtIndex
+pub mod AllDone

@@ -15,3 +15,8 @@ waits own = own.entered && (not (is_live own) && (not (is_completed own) && not 
 abbrev pub waits_at : Option Facts → Bool
 waits_at None = false
 waits_at (Some own) = waits own
+
+-- it is a set, and open
+abbrev pub open_at : Option Facts → Bool
+open_at None = false
+open_at (Some own) = own.opened

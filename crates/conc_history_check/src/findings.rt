@@ -2,7 +2,6 @@ ghost use Rattle.std.specs.Prelude.{◌≡◌, ◌∷◌, ◌+◌, ◌<◌, ◌^
 ghost use Rattle.conc_types.specs.declared.event.Event.{Event};
 ghost use Rattle.conc_types.specs.declared.facts.Facts.{Facts};
 ghost use Rattle.conc_law.specs.State as state_spec;
-ghost use Rattle.conc_machine_reach.specs.Spans.{AreSpans};
 ghost use Rattle.conc_history_check.specs.Findings.{AreFindings, HasRoom, HasTaken, earlier_after, ticks_after};
 ghost use Rattle.conc_history_check.specs.Prepared.{IsPrepared};
 
@@ -10,7 +9,6 @@ use crate::live::{note_live, room_for_live};
 use crate::prepared::Prepared;
 use conc_history_replay::take_in;
 use conc_law_effects::begin;
-use conc_machine_reach::Spans;
 use conc_types::{Event, Facts, Moment, NoMemory, Plan, RequestId, Seq, State};
 use std::alloc::Global;
 
@@ -94,15 +92,15 @@ impl Findings {
 
     // Reads one more event.
     #[inline(always)]
-    fn take_in(&mut self, plan: &Plan, spans: &Spans, e: &Event)
-        requires spans { AreSpans plan.now spans.now }
+    fn take_in(&mut self, plan: &Plan, prepared: &Prepared, e: &Event)
+        requires prepared { IsPrepared plan.now prepared.now }
         requires few { self.old.ticks + 1 < 2 ^ 64 }
         ensures read { (past : List Event) → HasTaken plan.now past self.old
             → HasTaken plan.now (e.now ∷ past) self.new }
         ensures live { self.new.live ≡ self.old.live }
     {
         self.note_life(e);
-        take_in(plan, spans, &mut self.state, e);
+        take_in(plan, &prepared.spans, &prepared.entries, &mut self.state, e);
     }
 
     /// Reads these events, from the first one on, and nothing else. It takes no memory.
@@ -114,7 +112,7 @@ impl Findings {
     {
         self.clear(plan, prepared);
         for e in events {
-            self.take_in(plan, &prepared.spans, e);
+            self.take_in(plan, prepared, e);
         }
         note_live(plan, &prepared.classes, &self.state, &mut self.live);
     }

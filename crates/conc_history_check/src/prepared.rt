@@ -2,6 +2,7 @@ ghost use Rattle.std.specs.Prelude.{◌≡◌, IfOk, map};
 ghost use Rattle.conc_law.specs.Next as spec;
 ghost use Rattle.conc_history_check.specs.Prepared.{IsPrepared};
 
+use conc_history_replay::Entries;
 use conc_machine_classes::Classes;
 use conc_machine_reach::Spans;
 use conc_rules::can_run;
@@ -13,6 +14,8 @@ use std::alloc::Global;
 pub(crate) struct Prepared {
     /// Where the requests of each command and the members of each set stand.
     pub spans: Spans,
+    /// What the commands enter that do no more.
+    pub entries: Entries,
     pub classes: Classes,
     /// For each request whether it is a set, or of an enabled program and admitted by some manager.
     pub runnable: Seq<bool>,
@@ -32,8 +35,10 @@ impl Prepared {
     pub fn new(alloc: Global, plan: &Plan) -> Result<Prepared, NoMemory>
         ensures { IfOk result (IsPrepared plan.now) }
     {
+        let spans = Spans::new(alloc, plan)?;
         Ok(Prepared {
-            spans: Spans::new(alloc, plan)?,
+            entries: Entries::new(alloc, plan, &spans)?,
+            spans,
             classes: Classes::new(alloc, plan)?,
             runnable: all_runnable(alloc, plan)?,
         })

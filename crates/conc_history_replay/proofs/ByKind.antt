@@ -76,20 +76,3 @@ copied_at xs i (Some x) h = sym (slice_get_read xs (length xs) i x.now refl h.3.
 pub copied_got : {X : Type 0} (xs ys : List X) (i : ℕ) (r : Option (Bor X)) (o p : Option X) → ys ≡ xs → IsItemAt ys i r → o ≡ option_copied r
     → o ≡ p → slice_get xs i ≡ p
 copied_got xs ys i r o p same lent copied is = ap (λ l. slice_get l i) (sym same) ∙ (sym (copied_at ys i r lent) ∙ (sym copied ∙ is))
-
--- ---- one request entered
-
-pub entered-at : (plan : Plan) (named : Facts) (n : ℕ) (facts new : List Facts) (i : ℕ) (r : Req) (own : Facts) (b : Bool)
-    → acts (act_of plan (event.Command n)) ≡ false → slice_get plan.requests i ≡ Some r → slice_get facts i ≡ Some own
-    → b ≡ ((n == r.command) || own.entered) → new ≡ slice_set facts i (record own { entered = b })
-    → new ≡ one_by plan named (event.Command n) facts i (slice_get plan.requests i) (slice_get facts i)
-entered-at plan named n facts new i r own b quiet at here entered is =
-    is
-    ∙ (ap (slice_set facts i) (ap (λ z. record own { entered = z }) entered ∙ sym (entered-own plan named n r own quiet))
-    ∙ (sym (ap (λ o. one_by plan named (event.Command n) facts i o (Some own)) at)
-    ∙ sym (ap (one_by plan named (event.Command n) facts i (slice_get plan.requests i)) here)))
-
--- where one of them is not there, nothing changes
-pub entered-none : (plan : Plan) (named : Facts) (e : Event) (facts : List Facts) (i : ℕ) (r : Option Req) → r ≡ None
-    → facts ≡ one_by plan named e facts i r (slice_get facts i)
-entered-none plan named e facts i r none = ap (λ o. one_by plan named e facts i o (slice_get facts i)) (sym none)

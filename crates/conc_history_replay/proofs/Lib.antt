@@ -1,3 +1,4 @@
 pub mod ByKind
 pub mod OneAlone
 pub mod OfSets
+pub mod OfCommands

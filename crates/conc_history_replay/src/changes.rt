@@ -1,4 +1,4 @@
-ghost use Rattle.std.specs.Prelude.{◌≡◌, ◌==◌, ◌||◌};
+ghost use Rattle.std.specs.Prelude.{◌≡◌};
 ghost use Rattle.std.specs.Option.{option_copied};
 ghost use Rattle.conc_types.specs.declared.event.Event.TheVariants as event;
 ghost use Rattle.conc_types.specs.declared.facts.Facts.{Facts};
@@ -23,39 +23,27 @@ pub(crate) fn acts(act: Option<&Act>) -> bool
     }
 }
 
-/// Whether a request is entered after the command with this number.
-pub(crate) fn is_entered(number: u32, r: &Req, own: Facts) -> bool
-    ensures { result ≡ ((number == r.now.command) || own.entered) }
-{
-    number == r.command || own.entered
-}
-
 // ---- events that change the facts of one request alone
 
-/// The facts of the request that a let, a start or an end names after it. Where the kind of the event is
-/// known, the other kinds cost nothing.
+/// Makes the facts of the request that a let, a start or an end names what they are after it. Where the
+/// kind of the event is known, the other kinds cost nothing.
 #[inline(always)]
-pub(crate) fn alone_after(e: Event, own: Facts) -> Facts
-    ensures { result ≡ spec.alone_after e own }
+pub(crate) fn change_alone(e: Event, own: &mut Facts)
+    ensures { own.new ≡ spec.alone_after e own.old }
 {
     match e {
-        Event::LetOut { .. } => Facts {
-            let_out: true,
-            ..own
-        },
-        Event::Started { place, .. } => Facts {
-            place: Some(place),
-            started: true,
-            terminated: false,
-            ..own
-        },
-        Event::Ended { outcome, .. } => Facts {
-            let_out: false,
-            place: None,
-            outcome: own.outcome.or(Some(outcome)),
-            ..own
-        },
-        _ => own,
+        Event::LetOut { .. } => own.let_out = true,
+        Event::Started { place, .. } => {
+            own.place = Some(place);
+            own.started = true;
+            own.terminated = false;
+        }
+        Event::Ended { outcome, .. } => {
+            own.let_out = false;
+            own.place = None;
+            own.outcome = own.outcome.or(Some(outcome));
+        }
+        _ => {}
     }
 }
 

@@ -2,6 +2,8 @@
 #![tactic(auto)]
 
 mod changes;
+mod entries;
 mod replay;
 
+pub use entries::Entries;
 pub use replay::{state_after, take_in};

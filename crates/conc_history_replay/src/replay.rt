@@ -1,17 +1,19 @@
-ghost use Rattle.std.specs.Prelude.{◌≡◌, ◌∷◌, IfOk, List, Some, false, reverse, slice_get};
+ghost use Rattle.std.specs.Prelude.{◌≡◌, ◌∷◌, IfOk, IsTrue, List, Some, false, reverse, slice_get};
 ghost use Rattle.std.specs.Option.{option_or};
 ghost use Rattle.conc_types.specs.declared.event.Event.{Event};
 ghost use Rattle.conc_types.specs.declared.event.Event.TheVariants as event;
 ghost use Rattle.conc_types.specs.declared.facts.Facts.{Facts};
 ghost use Rattle.conc_law_effects.specs.Advance as advance_spec;
 ghost use Rattle.conc_law_effects.specs.Advance.{all_after, done_after, IsAfter, one_by};
-ghost use Rattle.conc_law.specs.Kinds.{act_of, tick_of};
+ghost use Rattle.conc_law.specs.Kinds.{tick_of};
 ghost use Rattle.conc_law.specs.State as spec;
-ghost use Rattle.conc_machine_reach.specs.Spans.{AreSpans, LeavesOthers};
+ghost use Rattle.conc_machine_reach.specs.Spans.{AreSpans, LeavesOthers, is_within};
 ghost use Rattle.conc_history_replay.specs.Changes as changes_spec;
+ghost use Rattle.conc_history_replay.specs.Entries.{AreEntries, IsEntry};
 
-use crate::changes::{acts, alone_after, is_entered, own_after};
-use conc_law_effects::{act, begin, mark_done, named_facts, tick_of, used_after};
+use crate::changes::{change_alone, own_after};
+use crate::entries::Entries;
+use conc_law_effects::{begin, mark_done, named_facts, used_after};
 use conc_machine_reach::{Span, Spans};
 use conc_types::{Event, Facts, NoMemory, Plan, RequestId, Seq, State};
 use std::alloc::Global;
@@ -65,36 +67,34 @@ fn step_alone(plan: &Plan, e: Event, facts: &mut Seq<Facts>, id: RequestId)
         return;
     }
     let i = id.number as usize - 1;
-    if let Some(own) = facts.as_slice().get(i).copied() {
-        facts.set(i, alone_after(e, own));
+    if let Some(own) = facts.get_mut(i) {
+        change_alone(e, own);
     }
 }
 
-// Makes the facts of the request at an index what they are after a command that does no more than
-// enter requests.
-fn enter_at(plan: &Plan, number: u32, facts: &mut Seq<Facts>, i: usize)
-    requires { changes_spec.acts (act_of plan.now (event.Command number)) ≡ false }
-    ensures { (named : Facts) → facts.new ≡ one_by plan.now named (event.Command number) facts.old
-        i (slice_get plan.now.requests i) (slice_get facts.old i) }
+// Makes the facts of the request at an index what they are after the command that enters it and does no
+// more.
+fn enter_at(_plan: &Plan, _number: u32, facts: &mut Seq<Facts>, _span: Span, i: usize)
+    requires entry { IsEntry _plan.now _number _span }
+    requires within { IsTrue (is_within i _span) }
+    ensures { (named : Facts) → facts.new ≡ one_by _plan.now named (event.Command _number)
+        facts.old i (slice_get _plan.now.requests i) (slice_get facts.old i) }
 {
-    if let Some(r) = plan.requests.as_slice().get(i) {
-        if let Some(own) = facts.as_slice().get(i).copied() {
-            let entered = is_entered(number, r, own);
-            facts.set(i, Facts { entered, ..own });
-        }
+    if let Some(own) = facts.get_mut(i) {
+        own.entered = true;
     }
 }
 
-// Makes the facts of all requests what they are after such a command, which changes those within a
-// span alone.
-fn enter_within(plan: &Plan, number: u32, facts: &mut Seq<Facts>, span: Span)
-    requires quiet { changes_spec.acts (act_of plan.now (event.Command number)) ≡ false }
-    requires leaves { LeavesOthers plan.now (event.Command number) span }
+// Makes the facts of all requests what they are after such a command, which changes those of the span
+// alone.
+#[inline(always)]
+fn enter(plan: &Plan, number: u32, facts: &mut Seq<Facts>, span: Span)
+    requires { IsEntry plan.now number span }
     ensures { (named : Facts) → facts.new
         ≡ all_after plan.now named (event.Command number) plan.now.requests facts.old }
 {
-    for index in span.from..span.to {
-        enter_at(plan, number, facts, index);
+    for i in span.from..span.to {
+        enter_at(plan, number, facts, span, i);
     }
 }
 
@@ -107,9 +107,12 @@ fn settle(state: &mut State, e: Event)
     ensures done { state.new.done ≡ done_after state.old.done e }
     ensures facts { state.new.facts ≡ state.old.facts }
 {
-    mark_done(&mut state.done, e);
+    match e {
+        Event::Tick { moment } => state.time = Some(moment),
+        Event::Command { .. } => mark_done(&mut state.done, e),
+        _ => {}
+    }
     state.used = used_after(state.used, e);
-    state.time = tick_of(e).or(state.time);
     state.empty = false;
 }
 
@@ -145,26 +148,43 @@ fn take_in_any(plan: &Plan, spans: &Spans, state: &mut State, e: &Event)
     settle(state, e);
 }
 
-// Takes a command into the state. Most commands do no more than enter requests.
+// Takes a command into the state that does no more than enter the requests of the span.
 #[inline(always)]
-fn take_in_command(plan: &Plan, spans: &Spans, state: &mut State, number: u32)
-    requires { AreSpans plan.now spans.now }
+fn take_in_entry(plan: &Plan, state: &mut State, number: u32, span: Span)
+    requires { IsEntry plan.now number span }
     ensures { IsAfter plan.now state.old state.new (event.Command number) }
 {
-    let e = Event::Command { number };
-    if acts(act(plan, e)) {
-        take_in_any(plan, spans, state, &e);
-        return;
+    enter(plan, number, &mut state.facts, span);
+    settle(state, Event::Command { number });
+}
+
+// Takes a command into the state. Most commands do no more than enter requests.
+#[inline(always)]
+fn take_in_command(
+    plan: &Plan,
+    spans: &Spans,
+    entries: &Entries,
+    state: &mut State,
+    e: &Event,
+    number: u32,
+)
+    requires is { e.now ≡ event.Command number }
+    requires spans { AreSpans plan.now spans.now }
+    requires entries { AreEntries plan.now entries.now }
+    ensures { IsAfter plan.now state.old state.new e.now }
+{
+    match entries.span(plan, number) {
+        Some(span) => take_in_entry(plan, state, number, span),
+        None => take_in_any(plan, spans, state, e),
     }
-    enter_within(plan, number, &mut state.facts, spans.reach(plan, e));
-    settle(state, e);
 }
 
 /// Takes one more event into the state. What most events are is asked first: they change the facts of
 /// one request, or enter some. It is put into its caller, since a history is taken in event by event.
 #[inline(always)]
-pub fn take_in(plan: &Plan, spans: &Spans, state: &mut State, e: &Event)
-    requires { AreSpans plan.now spans.now }
+pub fn take_in(plan: &Plan, spans: &Spans, entries: &Entries, state: &mut State, e: &Event)
+    requires spans { AreSpans plan.now spans.now }
+    requires entries { AreEntries plan.now entries.now }
     ensures { IsAfter plan.now state.old state.new e.now }
 {
     match *e {
@@ -186,7 +206,7 @@ pub fn take_in(plan: &Plan, spans: &Spans, state: &mut State, e: &Event)
             };
             take_in_alone(plan, state, ended, request)
         }
-        Event::Command { number } => take_in_command(plan, spans, state, number),
+        Event::Command { number } => take_in_command(plan, spans, entries, state, e, number),
         Event::OpenSet { set } => take_in_one(plan, state, Event::OpenSet { set }, set),
         Event::Stage { set, stage } => {
             take_in_one(plan, state, Event::Stage { set, stage }, set)
@@ -196,12 +216,13 @@ pub fn take_in(plan: &Plan, spans: &Spans, state: &mut State, e: &Event)
 }
 
 // Takes one more event: the state after some events becomes the state after these and the event.
-fn advance(plan: &Plan, spans: &Spans, state: &mut State, e: &Event)
-    requires { AreSpans plan.now spans.now }
+fn advance(plan: &Plan, spans: &Spans, entries: &Entries, state: &mut State, e: &Event)
+    requires spans { AreSpans plan.now spans.now }
+    requires entries { AreEntries plan.now entries.now }
     ensures { (past : List Event) → state.old ≡ spec.state plan.now past
         → state.new ≡ spec.state plan.now (e.now ∷ past) }
 {
-    take_in(plan, spans, state, e);
+    take_in(plan, spans, entries, state, e);
 }
 
 /// The state after these events of the plan, which stand in the order in which they came. Each event
@@ -210,9 +231,10 @@ pub fn state_after(alloc: Global, plan: &Plan, events: &[Event]) -> Result<State
     ensures { IfOk result (λ s. s ≡ spec.state plan.now (reverse events.now)) }
 {
     let spans = Spans::new(alloc, plan)?;
+    let entries = Entries::new(alloc, plan, &spans)?;
     let mut state = begin(alloc, plan)?;
     for e in events {
-        advance(plan, &spans, &mut state, e);
+        advance(plan, &spans, &entries, &mut state, e);
     }
     Ok(state)
 }

@@ -71,7 +71,7 @@ around_cover plan p q a b span first second cover = record {
   inside = omega (arith, cover.inside, first.inside, second.inside);
 }
 
-around_command : (plan : Plan) (spans : Spans) (n : ℕ) → AreSpans plan spans → IsAround plan (λ r. n == r.command) (span_of_command spans n)
+pub around_command : (plan : Plan) (spans : Spans) (n : ℕ) → AreSpans plan spans → IsAround plan (λ r. n == r.command) (span_of_command spans n)
 around_command plan spans n are = record {
   all = λ i r at h. let same : n ≡ r.command = eqb-true n r.command h in rw same (are.entered i r at);
   inside = are.commands_inside n;

@@ -101,9 +101,9 @@ impl Spans {
         }
     }
 
-    // Where the requests stand that a command enters.
+    /// Where the requests stand that a command enters.
     #[tactic(auto, unfolding(crate::specs::Spans::span_of_command))]
-    fn span_of_command(&self, command: u32) -> Span
+    pub fn span_of_command(&self, command: u32) -> Span
         ensures { result ≡ span_of_command self.now command }
     {
         numbered(self.commands.as_slice(), command)

@@ -11,6 +11,7 @@ mod reading;
 mod single;
 
 pub use accepting::{Accepted, accept, accept_run, accept_timed};
+pub use conc_columns::{InTurn, OnThreads};
 pub use error::InputFail;
-pub use pace::{InTurn, OnThreads, Pace};
+pub use pace::Pace;
 pub use single::read_file;

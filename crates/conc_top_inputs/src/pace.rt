@@ -4,7 +4,7 @@ ghost use Rattle.conc_tables.specs.Tables.{SpellsTable, table_fault};
 ghost use Rattle.conc_types.specs.Faults.{IsFailure};
 ghost use Rattle.conc_types.specs.declared.refusal.FileKind.TheVariants as file;
 
-use conc_columns::{keep_columns, keep_columns_on_threads};
+use conc_columns::{InTurn, OnThreads, keep_columns, keep_columns_on_threads};
 use conc_journal_digest::InputDigest;
 use conc_tables::read_table;
 use conc_types::{Plan, ReadFail, Table};
@@ -35,10 +35,7 @@ pub trait Pace {
         ensures { result ≡ plan };
 }
 
-/// One after the other.
-#[derive(Clone, Copy)]
-pub struct InTurn;
-
+// One after the other.
 impl Pace for InTurn {
     fn read_and_digest(
         &self,
@@ -57,13 +54,8 @@ impl Pace for InTurn {
     }
 }
 
-/// Beside each other, where threads can be made: the bytes are read in one thread and digested in two
-/// others, and the columns of a table are made in up to four.
-#[derive(Drop)]
-pub struct OnThreads<'a, R> {
-    pub rt: &'a R,
-}
-
+// Beside each other, where threads can be made: the bytes are read in one thread and digested in two
+// others.
 impl<R: Threads> Pace for OnThreads<'_, R> {
     fn read_and_digest(
         &self,

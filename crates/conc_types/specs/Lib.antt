@@ -11,6 +11,7 @@ pub mod Scripts
 pub mod Cells
 pub mod Pieces
 pub mod Kept
+pub mod Lent
 pub mod Tables
 pub mod Expansion
 pub mod Plans

@@ -1,5 +1,6 @@
-ghost use Rattle.std.specs.Prelude.{◌≡◌, ◌<◌, ◌↔◌, [], length, slice_set, IsTrue};
-ghost use Rattle.std.specs.Option.{option_copied};
+ghost use Rattle.std.specs.Prelude.{◌≡◌, ◌<◌, ◌↔◌, [], length, slice_get, slice_set, IsTrue};
+ghost use Rattle.std.specs.Borrow.{sem};
+ghost use Rattle.std.specs.Option.{option_copied, option_copied_mut};
 ghost use Rattle.conc_types.specs.Words as spec;
 
 use std::marker::Model;
@@ -19,6 +20,8 @@ impl<T> Model for Seq<T> {
 }
 
 impl<T> Seq<T> {
+    ghost use Rattle.conc_types.specs.Lent.{lends_item};
+
     /// The items of a vector. It takes no memory.
     pub fn from_vec(inner: Vec<T>) -> Self
         ensures { result ≡ inner.items }
@@ -38,6 +41,14 @@ impl<T> Seq<T> {
         ensures { result.now ≡ self.now }
     {
         self.inner.as_slice()
+    }
+
+    /// The item at an index, to write to, if there is one. The others stay as they are.
+    pub fn get_mut(&mut self, index: usize) -> Option<&mut T>
+        ensures* writes_back { sem 𝓛 (lends_item T.row self.entry index result) }
+        ensures value { option_copied_mut result ≡ slice_get self.old index }
+    {
+        self.inner.get_mut(index)
     }
 
     /// How many items there are.

@@ -1,5 +1,9 @@
-use Rattle.std.proofs.Common.{length, get_or, sym, ◌∙◌, ap, arith}
+use Rattle.std.proofs.Common.{◌≡◌, ◌<◌, length, Some, sym, ◌∙◌, arith}
+use Rattle.std.specs.Prelude.{slice_get}
+use Rattle.std.proofs.lemmas.Option.{get_or_from_slice_get}
+use Rattle.conc_types.specs.declared.plan.Req.{Req}
 use Rattle.conc_law.specs.Next.{forced_step}
+use Rattle.conc_law.proofs.Positions.{slice_get-some}
 use Rattle.conc_history_check.specs.Steps.{step_among}
 use Rattle.conc_history_check.proofs.FirstStep.{step-here, step-later, step-none}
 use Rattle.conc_history_check.proofs.forcing.forced_step.Goals as goal
@@ -7,23 +11,25 @@ use Rattle.conc_history_check.proofs.forcing.forced_step.Goals as goal
 pub returns-in-Some : goal.returns-in-Some
 unfolding forced_step step_among
 returns-in-Some c =
-    sym (sym c.loop-r.invariant
-    ∙ step-here c.args.plan.now c.args.state.now c.args.plan.now.requests c.loop-r.r-index c.r-item.result c.in-Some.e
-    (omega (arith, c.loop-r-test.true, ap length c.as_slice-r-items.ensures))
-    (c.r-item.is ∙ ap (λ l. get_or l c.loop-r.r-index c.r-item.result) c.as_slice-r-items.ensures)
-    (sym c.own_step.ensures ∙ c.in-Some.is))
+    let within : c.loop-i.i < length c.args.plan.now.requests = omega (arith, c.loop-i-test.true, c.len-i-end.ensures) in
+    let w : (r : Req) × (slice_get c.args.plan.now.requests c.loop-i.i ≡ Some r) = slice_get-some c.args.plan.now.requests c.loop-i.i within in
+    sym (sym c.loop-i.invariant
+    ∙ step-here c.args.plan.now c.args.state.now c.args.plan.now.requests c.loop-i.i w.0 c.in-Some.e within
+    (sym (get_or_from_slice_get c.args.plan.now.requests c.loop-i.i w.0 w.0 w.1))
+    (sym (c.own_step_at.ensures w.0 w.1) ∙ c.in-Some.is))
 
-pub loop-r-preserved : goal.loop-r-preserved
-loop-r-preserved c =
-    sym (step-later c.args.plan.now c.args.state.now c.args.plan.now.requests c.loop-r.r-index c.r-item.result
-    (omega (arith, c.loop-r-test.true, ap length c.as_slice-r-items.ensures))
-    (c.r-item.is ∙ ap (λ l. get_or l c.loop-r.r-index c.r-item.result) c.as_slice-r-items.ensures)
-    (sym c.own_step.ensures ∙ c.in-None.is))
-    ∙ c.loop-r.invariant
+pub loop-i-preserved : goal.loop-i-preserved
+loop-i-preserved c =
+    let within : c.loop-i.i < length c.args.plan.now.requests = omega (arith, c.loop-i-test.true, c.len-i-end.ensures) in
+    let w : (r : Req) × (slice_get c.args.plan.now.requests c.loop-i.i ≡ Some r) = slice_get-some c.args.plan.now.requests c.loop-i.i within in
+    sym (step-later c.args.plan.now c.args.state.now c.args.plan.now.requests c.loop-i.i w.0 within
+    (sym (get_or_from_slice_get c.args.plan.now.requests c.loop-i.i w.0 w.0 w.1))
+    (sym (c.own_step_at.ensures w.0 w.1) ∙ c.in-None.is))
+    ∙ c.loop-i.invariant
 
 pub returns : goal.returns
 unfolding forced_step step_among
 returns c =
-    sym (sym c.loop-r.invariant
-    ∙ step-none c.args.plan.now c.args.state.now c.args.plan.now.requests c.loop-r.r-index
-    (omega (arith, c.loop-r-test.false, ap length c.as_slice-r-items.ensures)))
+    sym (sym c.loop-i.invariant
+    ∙ step-none c.args.plan.now c.args.state.now c.args.plan.now.requests c.loop-i.i
+    (omega (arith, c.loop-i-test.false, c.len-i-end.ensures)))

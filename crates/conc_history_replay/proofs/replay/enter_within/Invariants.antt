@@ -1,9 +1,0 @@
-use Rattle.std.proofs.Common.{◌≡◌, take}
-use Rattle.conc_types.specs.declared.event.Event.TheVariants as event
-use Rattle.conc_types.specs.declared.facts.Facts.{Facts}
-use Rattle.conc_law_effects.specs.Advance.{all_after}
-use Rattle.conc_history_replay.proofs.replay.enter_within.Given as goal
-
-abbrev pub invariant-loop-index : goal.invariant-loop-index
-invariant-loop-index l =
-    (named : Facts) → l.facts ≡ all_after l.plan named (event.Command l.number) (take l.index l.plan.requests) l.fn.facts
