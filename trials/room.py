@@ -12,6 +12,7 @@ import re
 import shutil
 import subprocess
 import sys
+import threading
 from collections import namedtuple
 from concurrent.futures import ThreadPoolExecutor, as_completed
 from pathlib import Path
@@ -23,9 +24,9 @@ REFUSED, LIMIT, LET_THROUGH, BAD, NOT_TRIED = "refused", "refused by a limit", "
 SAID = {"refused": REFUSED, "NOT REFUSED": LET_THROUGH, "BAD EDIT": BAD, "NOT TRIED": NOT_TRIED}
 LINE = re.compile(r"(?:rt: )?must-fail ([^/\s]+)/(\S+\.edit): (refused|NOT REFUSED|BAD EDIT|NOT TRIED)(.*)")
 
-# What came of the edits of a crate: the kind and the words for each by its name, the processor seconds, and how many an
-# earlier trial had tried.
-Tried = namedtuple("Tried", "results seconds known")
+# What came of the edits of a crate: the kind and the words for each by its name, the processor seconds, how many an earlier
+# trial had tried, and how many were judged in batches.
+Tried = namedtuple("Tried", "results seconds known judged")
 
 
 def stop(why):
@@ -33,24 +34,35 @@ def stop(why):
     sys.exit(2)
 
 
-def all_crates():
-    """The names of the crates, each behind those that it stands on."""
-    below = {}
+def rows():
+    """The lines of crates.txt by the crates that they name, and what each crate uses."""
+    lines, uses = {}, {}
     for line in (ROOT / "crates.txt").read_text().splitlines():
         if line.strip() and not line.startswith("#"):
             head, _, deps = line.partition(":")
-            below[head.split()[0]] = deps.split()
+            lines[head.split()[0]], uses[head.split()[0]] = line, deps.split()
+    return lines, {it: [dep for dep in deps if dep in lines] for it, deps in uses.items()}
+
+
+def in_order(names, uses):
+    """These crates and all that they stand on, each behind those that it stands on."""
     order = {}
 
     def visit(name):
-        if name in below and name not in order:
-            for it in below[name]:
+        if name not in order:
+            for it in uses[name]:
                 visit(it)
             order[name] = True
 
-    for name in below:
+    for name in names:
         visit(name)
     return list(order)
+
+
+def all_crates():
+    """The names of the crates, each behind those that it stands on."""
+    uses = rows()[1]
+    return in_order(uses, uses)
 
 
 def chosen(names):
@@ -92,6 +104,16 @@ def copy_folder(one, other):
             shutil.copyfile(file, other / path)
 
 
+def ran(words, folder, **more):
+    """Runs a command there, and gives its status, what it said and the processor seconds that it took."""
+    how = {"cwd": folder, "stdin": subprocess.DEVNULL, "stdout": subprocess.PIPE, "stderr": subprocess.STDOUT}
+    with subprocess.Popen(words, env={**os.environ, **more}, **how) as it:
+        said = it.stdout.read().decode(errors="replace")
+        _, status, used = os.wait4(it.pid, 0)
+        it.returncode = os.WEXITSTATUS(status) if os.WIFEXITED(status) else -os.WTERMSIG(status)
+    return it.returncode, said, used.ru_utime + used.ru_stime
+
+
 class Room:
     """The copy. Nobody else uses it while this one stands."""
 
@@ -107,6 +129,7 @@ class Room:
         except BlockingIOError:
             print(f"waiting for another trial in {self.at}", file=sys.stderr)
             fcntl.flock(self.lock, fcntl.LOCK_EX)
+        self.building, self.built = threading.Lock(), set()
         self.renew()
 
     def renew(self):
@@ -130,16 +153,27 @@ class Room:
         for name, text in edits.items():
             (folder / name).write_text(text)
 
-    def attempt(self, crate, edits, at_once):
-        """Tries the edits of a crate, so many proofs at once."""
+    def build(self, crate):
+        """Builds the libraries that the crate stands on, each once in a trial, and gives whether they are there, and the processor
+        seconds. No two trials build at a time, since rt must-fail does not wait for another rt."""
+        uses, seconds = rows()[1], 0.0
+        with self.building:
+            tops = [it for it in uses[crate] if not any(it in in_order([dep], uses) for dep in uses[crate] if dep != it)]
+            for top in tops:
+                if top not in self.built:
+                    status, _, more = ran(["rt", "lib", "--jobs", str(jobs())], self.at / "crates" / top)
+                    seconds += more
+                    if status:
+                        return False, seconds
+                    self.built.update(in_order([top], uses))
+        return True, seconds
+
+    def alone(self, crate, edits, at_once):
+        """Tries the edits of a crate one by one, so many proofs at once."""
         self.put(crate, edits)
-        how = {"cwd": self.at, "stdin": subprocess.DEVNULL, "stdout": subprocess.PIPE, "stderr": subprocess.STDOUT}
-        how["env"] = {**os.environ, "RT_JOBS": str(at_once)}
-        with subprocess.Popen(["rt", "must-fail", crate], **how) as it:
-            said = it.stdout.read().decode(errors="replace")
-            _, it.returncode, used = os.wait4(it.pid, 0)
+        _, said, seconds = ran(["rt", "must-fail", crate], self.at, RT_JOBS=str(at_once))
         known = re.search(r"(\d+) of its \d+ must-fail edits were tried by an earlier run", said)
-        return Tried(results_of(crate, edits, said), used.ru_utime + used.ru_stime, int(known[1]) if known else 0)
+        return Tried(results_of(crate, edits, said), seconds, int(known[1]) if known else 0, 0)
 
 
 def results_of(crate, edits, said):

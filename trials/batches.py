@@ -1,0 +1,165 @@
+"""Tries many edits of a crate by one check, for trials/run and trials/mutate.
+
+A function is proved from its own body and the contracts of what it calls, so edits of the bodies of different functions are
+applied together, and rt check --only says of each of these functions whether it is proved. An edit counts as refused where
+these functions are proved without the edits, and with them the check says 'not proved' or 'no proof' of the edit's function,
+and 'proved' of all others that it tells of. Every other edit is left to rt must-fail, which tries it alone: one that lies in
+no one function's body, that does not compile, or whose function is proved all the same.
+
+Each crate has a bench in the copy: a small repository with the crate's own files, and links to those of the crates that it
+stands on. So no other check sees the edits, and several crates are tried at once. What a bench proved is kept for the next
+trial.
+"""
+
+import os
+import re
+import shutil
+
+import bodies
+import room
+
+LINE = re.compile(r"^fn (\S+): (.*)$", re.M)
+# An error that is no failed proof: at code, without the name of a function, or at a word that cannot be read. (rt must-fail
+# calls an edit with such a one a bad edit.)
+ERROR = re.compile(r"^(?:\./)?(src/\S+?|specs/\S+?):(\d+):\d+: error(?:\[\w+\])?: (?:(`[^`]*`): )?(.*)", re.M)
+UNREAD = re.compile(r"is not in scope|has no field|is no name|operand is missing|expected the end|cannot continue")
+UNKNOWN = re.compile(r"has no function `([^`]+)`")
+
+
+def link_folder(one, other):
+    """Gives the other folder the files of the one, as links to the same files."""
+    if one.is_dir():
+        shutil.copytree(one, other, copy_function=os.link)
+
+
+class Bench:
+    """A repository of one crate and what it stands on, in which checks of the edited crate are done."""
+
+    def __init__(self, copy, crate):
+        self.crate, self.at, self.seconds = crate, copy.at / "benches" / crate, 0.0
+        self.home = self.at / "crates" / crate
+        lines, uses = room.rows()
+        names = room.in_order([crate], uses)
+        self.home.mkdir(parents=True, exist_ok=True)
+        (self.at / "crates.txt").write_text("".join(f"{lines[it]}\n" for it in names))
+        shutil.copyfile(copy.at / "HANDLES", self.at / "HANDLES")
+        for it in (self.at / "crates").iterdir():
+            if it.name != crate:
+                shutil.rmtree(it)
+        for name in names[:-1]:
+            for part in ("src", "specs", "proofs", "out/rlib"):
+                link_folder(copy.at / "crates" / name / part, self.at / "crates" / name / part)
+        if not (self.home / "out" / "incremental").is_dir():
+            link_folder(copy.at / "crates" / crate / "out" / "incremental", self.home / "out" / "incremental")
+        self.files = copy.at / "crates" / crate
+        self.texts = {str(it.relative_to(self.files)): it.read_text() for it in sorted(self.files.glob("src/**/*.rt"))}
+
+    def check(self, functions, lines, at_once):
+        """Checks these functions with these lines in place of the crate's own. It gives the status and what was said."""
+        room.copy_folder(self.files, self.home)
+        for path in {path for path, _ in lines}:
+            text = self.texts[path].split("\n")
+            for number in (number for other, number in lines if other == path):
+                text[number] = lines[path, number]
+            (self.home / path).write_text("\n".join(text))
+        only = [word for it in functions for word in ("--only", it)]
+        status, said, seconds = room.ran(["rt", "check", "--jobs", str(at_once), *only], self.home)
+        self.seconds += seconds
+        return status, said
+
+
+def is_of(name, function):
+    """Whether a name is that of the function or of one of its closures."""
+    return name == function or name.replace("::fn::", "::", 1).startswith(function + "::")
+
+
+class Batches:
+    """The edits of a crate that are tried together."""
+
+    def __init__(self, copy, crate, edits, at_once):
+        self.bench, self.at_once = Bench(copy, crate), at_once
+        self.bodies = {path: bodies.bodies_of(text) for path, text in self.bench.texts.items()}
+        lines = {it: bodies.lines_of(text, self.bench.texts) for it, text in edits.items()}
+        homes = {it: bodies.home_of(crate, lines[it], self.bodies) for it in edits if lines[it]}
+        # (the edits that are tried so; what each changes; those that do not compile; and what came of them)
+        self.homes = {it: home for it, home in homes.items() if home}
+        self.lines, self.wrong, self.results = lines, [], {}
+
+    def begin(self):
+        """Looks whether the functions are proved without the edits, and drops those that rattle does not know by these names."""
+        while self.homes:
+            status, said = self.bench.check(sorted({*self.homes.values()}), {}, self.at_once)
+            unknown = UNKNOWN.search(said)
+            if not unknown or unknown[1] not in self.homes.values():
+                told = dict(LINE.findall(said))
+                is_sound = status == 0 and all(told.get(it) == "proved" for it in self.homes.values())
+                return is_sound and re.search(r"^only=\d+ proved=\d+$", said, re.M)
+            self.homes = {it: home for it, home in self.homes.items() if home != unknown[1]}
+        return False
+
+    def rounds(self):
+        """The edits in batches, in each at most one of a function."""
+        left = dict(self.homes)
+        while left:
+            batch = {}
+            for it, home in left.items():
+                batch.setdefault(home, it)
+            yield list(batch.values())
+            left = {it: home for it, home in left.items() if it not in batch.values()}
+
+    def attempt(self, names):
+        """Tries these edits together, and the halves of them where that tells nothing."""
+        lines = {key: line for it in names for key, line in self.lines[it].items()}
+        status, said = self.bench.check([self.homes[it] for it in names], lines, self.at_once)
+        if self.read(names, status, said):
+            return
+        wrong = self.with_errors(names, said)
+        self.wrong += wrong
+        rest = [it for it in names if it not in wrong]
+        if wrong and rest:
+            self.attempt(rest)
+        elif not wrong and len(names) > 1:
+            self.attempt(names[: len(names) // 2])
+            self.attempt(names[len(names) // 2 :])
+
+    def read(self, names, status, said):
+        """Takes what a check said of the edits, and gives whether it is of use."""
+        told = dict(LINE.findall(said))
+        ended = re.search(r"^only=\d+ proved=\d+$", said, re.M)
+        unread = any(not it[2] or UNREAD.search(re.sub(r"`[^`]*`", "", it[3])) for it in ERROR.findall(said))
+        own = {it: [name for name in told if is_of(name, self.homes[it])] for it in names}
+        others = told.keys() - {name for it in own.values() for name in it}
+        if status not in (0, 1) or not ended or unread or any(told[it] != "proved" for it in others):
+            return False
+        for it in names:
+            kinds = {re.match(r"proved$|not proved|no proof|", told[name])[0] for name in own[it]}
+            if self.homes[it] in told and kinds & {"not proved", "no proof"} and "" not in kinds:
+                words = next(f"{name}: {told[name]}" for name in own[it] if told[name] != "proved")
+                self.results[it] = room.REFUSED, words
+        return True
+
+    def with_errors(self, names, said):
+        """The edits in whose functions' bodies an error stands."""
+        at = {(path, int(number) - 1) for path, number, _, _ in ERROR.findall(said)}
+        hit = {bodies.home_of(self.bench.crate, [it], self.bodies) for it in at}
+        return [it for it in names if self.homes[it] in hit]
+
+
+def attempt(copy, crate, edits, at_once):
+    """Tries the edits of a crate, so many proofs at once: in batches, and alone what these leave."""
+    is_built, seconds = copy.build(crate)
+    results, wrong = {}, []
+    if is_built:
+        every = Batches(copy, crate, edits, at_once)
+        if every.begin():
+            for names in every.rounds():
+                every.attempt(names)
+        results, wrong, seconds = dict(every.results), every.wrong, seconds + every.bench.seconds
+    judged, known = len(results), 0
+    left = {it: text for it, text in edits.items() if it not in results and it not in wrong}
+    # (one by one is cheaper for those that do not compile: for several, rt must-fail proves the crate as well)
+    for some in [*({it: edits[it]} for it in wrong), *([left] if left else [])]:
+        found = copy.alone(crate, some, at_once)
+        results.update(found.results)
+        seconds, known = seconds + found.seconds, known + found.known
+    return room.Tried({it: results[it] for it in edits}, seconds, known, judged)
