@@ -3,8 +3,10 @@
 A function is proved from its own body and the contracts of what it calls, so edits of the bodies of different functions are
 applied together, and rt check --only says of each of these functions whether it is proved. An edit counts as refused where
 these functions are proved without the edits, and with them the check says 'not proved' or 'no proof' of the edit's function,
-and 'proved' of all others that it tells of. Every other edit is left to rt must-fail, which tries it alone: one that lies in
-no one function's body, that does not compile, or whose function is proved all the same.
+for a reason of its own: rattle says 'it calls G, which is not proved' of each function above a refused one, and that tells
+nothing of its body. Every other function that the check tells of must be proved, but for such calls. Every other edit is
+left to rt must-fail, which tries it alone: one that lies in no one function's body, that does not compile, or whose function
+is proved all the same.
 
 Each crate has a bench in the copy: a small repository with the crate's own files, and links to those of the crates that it
 stands on. So no other check sees the edits, and several crates are tried at once. What a bench proved is kept for the next
@@ -68,6 +70,21 @@ class Bench:
         return status, said
 
 
+def is_own(name, line, said):
+    """Whether a function's line says that its own proof failed: not only that of a function that it calls, or whose proof it cites."""
+    kind, reasons = re.match(r"(not proved|no proof|)(?:[:;] )?(.*)", line).groups()
+    if kind == "no proof":
+        return any(not it.startswith("it calls ") for it in reasons.split("; "))
+    folder = "/".join(name.split("::")[1:])
+    errors = re.findall(rf"^\./proofs/{re.escape(folder)}/\w+\.antt:\d+:\d+: error: (.*)", said, re.M)
+    return kind == "not proved" and any("was not admitted" not in it for it in errors)
+
+
+def is_above(line):
+    """Whether a function's line says that it is not proved only since it calls others that are not."""
+    return line.startswith("no proof: it calls ") and all(it.startswith("it calls ") for it in line[10:].split("; "))
+
+
 def is_of(name, function):
     """Whether a name is that of the function or of one of its closures."""
     return name == function or name.replace("::fn::", "::", 1).startswith(function + "::")
@@ -129,13 +146,16 @@ class Batches:
         unread = any(not it[2] or UNREAD.search(re.sub(r"`[^`]*`", "", it[3])) for it in ERROR.findall(said))
         own = {it: [name for name in told if is_of(name, self.homes[it])] for it in names}
         others = told.keys() - {name for it in own.values() for name in it}
-        if status not in (0, 1) or not ended or unread or any(told[it] != "proved" for it in others):
+        if status not in (0, 1) or not ended or unread or any(told[it] != "proved" and not is_above(told[it]) for it in others):
             return False
         for it in names:
-            kinds = {re.match(r"proved$|not proved|no proof|", told[name])[0] for name in own[it]}
-            if self.homes[it] in told and kinds & {"not proved", "no proof"} and "" not in kinds:
-                words = next(f"{name}: {told[name]}" for name in own[it] if told[name] != "proved")
-                self.results[it] = room.REFUSED, words
+            failed = [name for name in own[it] if is_own(name, told[name], said)]
+            if self.homes[it] in told and failed and not any(told[name].startswith("could not") for name in own[it]):
+                self.results[it] = room.REFUSED, f"{failed[0]}: {told[failed[0]]}"
+        # (once those that are refused are out, those above them may be judged)
+        again = [it for it in names if it not in self.results and told.get(self.homes[it], "proved") != "proved"]
+        if 0 < len(again) < len(names):
+            self.attempt(again)
         return True
 
     def with_errors(self, names, said):
