@@ -13,6 +13,8 @@ stands on. So no other check sees the edits, and several crates are tried at onc
 trial.
 """
 
+import hashlib
+import json
 import os
 import re
 import shutil
@@ -26,6 +28,39 @@ LINE = re.compile(r"^fn (\S+): (.*)$", re.M)
 ERROR = re.compile(r"^(?:\./)?(src/\S+?|specs/\S+?):(\d+):\d+: error(?:\[\w+\])?: (?:(`[^`]*`): )?(.*)", re.M)
 UNREAD = re.compile(r"is not in scope|has no field|is no name|operand is missing|expected the end|cannot continue")
 UNKNOWN = re.compile(r"has no function `([^`]+)`")
+
+
+# What decides over a verdict beside a crate's files and those below it, and the edit itself.
+JUDGES = (room.ROOT / "trials" / "batches.py", room.ROOT / "trials" / "bodies.py")
+
+
+class Memory:
+    """The edits of a crate that an earlier trial saw refused in batches, while nothing that they stand on has changed."""
+
+    def __init__(self, copy, crate):
+        self.file, self.stands_on = copy.at / "told" / f"{crate}.json", hashlib.sha256()
+        lines, uses = room.rows()
+        self.stands_on.update(room.ran(["rt", "version"], copy.at)[1].encode())
+        for it in JUDGES:
+            self.stands_on.update(it.read_bytes())
+        for name in room.in_order([crate], uses):
+            files = room.files_of(copy.at / "crates" / name)
+            texts = [(str(path), files[path].read_bytes()) for path in sorted(files)]
+            self.stands_on.update(repr((lines[name], texts)).encode())
+        known = json.loads(self.file.read_text()) if self.file.is_file() else {}
+        self.known = known["refused"] if known.get("stands on") == self.stands_on.hexdigest() else {}
+
+    def of(self, edits):
+        """What is known of these edits."""
+        sums = {it: hashlib.sha256(text.encode()).hexdigest() for it, text in edits.items()}
+        return {it: (room.REFUSED, self.known[its]) for it, its in sums.items() if its in self.known}
+
+    def keep(self, edits, results):
+        """Keeps that these edits were refused."""
+        for it, (_, words) in results.items():
+            self.known[hashlib.sha256(edits[it].encode()).hexdigest()] = words
+        self.file.parent.mkdir(exist_ok=True)
+        self.file.write_text(json.dumps({"stands on": self.stands_on.hexdigest(), "refused": self.known}))
 
 
 def link_folder(one, other):
@@ -71,10 +106,10 @@ class Bench:
 
 
 def is_own(name, line, said):
-    """Whether a function's line says that its own proof failed: not only that of a function that it calls, or whose proof it cites."""
+    """Whether a function's line says that its own proof failed, and not only that of one it calls or cites."""
     kind, reasons = re.match(r"(not proved|no proof|)(?:[:;] )?(.*)", line).groups()
     if kind == "no proof":
-        return any(not it.startswith("it calls ") for it in reasons.split("; "))
+        return any(it.startswith(("expected ", "`search` did not prove ")) for it in reasons.split("; "))
     folder = "/".join(name.split("::")[1:])
     errors = re.findall(rf"^\./proofs/{re.escape(folder)}/\w+\.antt:\d+:\d+: error: (.*)", said, re.M)
     return kind == "not proved" and any("was not admitted" not in it for it in errors)
@@ -103,7 +138,7 @@ class Batches:
         self.lines, self.wrong, self.results = lines, [], {}
 
     def begin(self):
-        """Looks whether the functions are proved without the edits, and drops those that rattle does not know by these names."""
+        """Whether the functions are proved without the edits. It drops those that rattle does not know by these names."""
         while self.homes:
             status, said = self.bench.check(sorted({*self.homes.values()}), {}, self.at_once)
             unknown = UNKNOWN.search(said)
@@ -165,18 +200,30 @@ class Batches:
         return [it for it in names if self.homes[it] in hit]
 
 
+def in_batches(copy, crate, edits, at_once):
+    """What came of the edits of a crate that were clearly refused in batches; those that do not compile; processor seconds."""
+    is_built, seconds = copy.build(crate)
+    if not is_built:
+        return {}, [], seconds
+    every = Batches(copy, crate, edits, at_once)
+    if every.begin():
+        for names in every.rounds():
+            every.attempt(names)
+    return every.results, every.wrong, seconds + every.bench.seconds
+
+
 def attempt(copy, crate, edits, at_once):
     """Tries the edits of a crate, so many proofs at once: in batches, and alone what these leave."""
-    is_built, seconds = copy.build(crate)
-    results, wrong = {}, []
-    if is_built:
-        every = Batches(copy, crate, edits, at_once)
-        if every.begin():
-            for names in every.rounds():
-                every.attempt(names)
-        results, wrong, seconds = dict(every.results), every.wrong, seconds + every.bench.seconds
-    judged, known = len(results), 0
-    left = {it: text for it, text in edits.items() if it not in results and it not in wrong}
+    memory = Memory(copy, crate)
+    results = memory.of(edits)
+    known, judged, wrong, seconds = len(results), 0, [], 0.0
+    left = {it: text for it, text in edits.items() if it not in results}
+    if left:
+        found, wrong, seconds = in_batches(copy, crate, left, at_once)
+        memory.keep(left, found)
+        results.update(found)
+        judged = len(found)
+    left = {it: text for it, text in left.items() if it not in results and it not in wrong}
     # (one by one is cheaper for those that do not compile: for several, rt must-fail proves the crate as well)
     for some in [*({it: edits[it]} for it in wrong), *([left] if left else [])]:
         found = copy.alone(crate, some, at_once)

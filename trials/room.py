@@ -1,9 +1,10 @@
 """A copy of this repository in which edits are tried, for trials/run and trials/mutate.
 
 Of Python it needs 3.8 or later, as rt does, and its standard library alone. The copy stands in the folder that TRIALS_ROOM
-names, else in ~/.cache/conc-trials. It is kept, so that a second trial begins with what the first one proved; it takes
-about 2 GB, and may be removed at any time. TRIALS_JOBS says how many proofs are done at once, else as many as there are
-processors. The files are copied as they stand in the checkout, committed or not.
+names, else in ~/.cache/conc-trials. It is kept, so that a second trial begins with what the first one proved; it takes about
+2 GB, beside what the benches keep (trials/batches.py: 20 to 200 MB for each crate tried), and may be removed at any time.
+TRIALS_JOBS says how many proofs are done at once, else as many as there are processors. The files are copied as they stand in
+the checkout, committed or not.
 """
 
 import fcntl
@@ -154,8 +155,8 @@ class Room:
             (folder / name).write_text(text)
 
     def build(self, crate):
-        """Builds the libraries that the crate stands on, each once in a trial, and gives whether they are there, and the processor
-        seconds. No two trials build at a time, since rt must-fail does not wait for another rt."""
+        """Builds the libraries that the crate stands on, each once in a trial. It gives whether they are there, and the
+        processor seconds. One thread builds at a time: rt must-fail, which would build them too, waits for no other rt."""
         uses, seconds = rows()[1], 0.0
         with self.building:
             tops = [it for it in uses[crate] if not any(it in in_order([dep], uses) for dep in uses[crate] if dep != it)]
