@@ -27,6 +27,7 @@ LINE = re.compile(r"^fn (\S+): (.*)$", re.M)
 # calls an edit with such a one a bad edit.)
 ERROR = re.compile(r"^(?:\./)?(src/\S+?|specs/\S+?):(\d+):\d+: error(?:\[\w+\])?: (?:(`[^`]*`): )?(.*)", re.M)
 UNREAD = re.compile(r"is not in scope|has no field|is no name|operand is missing|expected the end|cannot continue")
+GONE = re.compile(r"has no field|is not in scope|has no `|was not admitted")
 UNKNOWN = re.compile(r"has no function `([^`]+)`")
 
 
@@ -89,7 +90,7 @@ class Bench:
         if not (self.home / "out" / "incremental").is_dir():
             link_folder(copy.at / "crates" / crate / "out" / "incremental", self.home / "out" / "incremental")
         self.files = copy.at / "crates" / crate
-        self.texts = {str(it.relative_to(self.files)): it.read_text() for it in sorted(self.files.glob("src/**/*.rt"))}
+        self.texts = {str(it.relative_to(self.files)): it.read_text("utf-8") for it in sorted(self.files.glob("src/**/*.rt"))}
 
     def check(self, functions, lines, at_once):
         """Checks these functions with these lines in place of the crate's own. It gives the status and what was said."""
@@ -98,21 +99,29 @@ class Bench:
             text = self.texts[path].split("\n")
             for number in (number for other, number in lines if other == path):
                 text[number] = lines[path, number]
-            (self.home / path).write_text("\n".join(text))
+            (self.home / path).write_text("\n".join(text), "utf-8")
         only = [word for it in functions for word in ("--only", it)]
         status, said, seconds = room.ran(["rt", "check", "--jobs", str(at_once), *only], self.home)
         self.seconds += seconds
         return status, said
 
 
-def is_own(name, line, said):
-    """Whether a function's line says that its own proof failed, and not only that of one it calls or cites."""
+def unread(said):
+    """Where the code cannot be read, as (file, number of a line from 0)."""
+    plain = [(path, number, name, re.sub(r"`[^`]*`", "", words)) for path, number, name, words in ERROR.findall(said)]
+    return {(path, int(number) - 1) for path, number, name, words in plain if not name or UNREAD.search(words)}
+
+
+def is_own(name, line, said, is_alone):
+    """Whether a function's line says that its own proof failed, and not only that of one it calls or cites. With one edit
+    alone a proof file that names what is gone says so too; with several, the name may have gone by another of them."""
     kind, reasons = re.match(r"(not proved|no proof|)(?:[:;] )?(.*)", line).groups()
     if kind == "no proof":
         return any(it.startswith(("expected ", "`search` did not prove ")) for it in reasons.split("; "))
-    folder = "/".join(name.split("::")[1:])
-    errors = re.findall(rf"^\./proofs/{re.escape(folder)}/\w+\.antt:\d+:\d+: error: (.*)", said, re.M)
-    return kind == "not proved" and any("was not admitted" not in it for it in errors)
+    *folders, last = [re.escape(it) for it in name.split("::")[1:]]
+    folder = "/".join(["proofs", *folders, rf"\+?{last}"])
+    errors = re.findall(rf"^(?:\./)?{folder}/\w+\.antt:\d+:\d+: error: (.*)", said, re.M)
+    return kind == "not proved" and any(is_alone or not GONE.search(it) for it in errors)
 
 
 def is_above(line):
@@ -122,7 +131,8 @@ def is_above(line):
 
 def is_of(name, function):
     """Whether a name is that of the function or of one of its closures."""
-    return name == function or name.replace("::fn::", "::", 1).startswith(function + "::")
+    module, _, last = function.rpartition("::")
+    return name == function or name.startswith(f"{module}::fn::{last}::")
 
 
 class Batches:
@@ -178,25 +188,24 @@ class Batches:
         """Takes what a check said of the edits, and gives whether it is of use."""
         told = dict(LINE.findall(said))
         ended = re.search(r"^only=\d+ proved=\d+$", said, re.M)
-        unread = any(not it[2] or UNREAD.search(re.sub(r"`[^`]*`", "", it[3])) for it in ERROR.findall(said))
         own = {it: [name for name in told if is_of(name, self.homes[it])] for it in names}
         others = told.keys() - {name for it in own.values() for name in it}
-        if status not in (0, 1) or not ended or unread or any(told[it] != "proved" and not is_above(told[it]) for it in others):
+        is_plain = all(told[it] == "proved" or is_above(told[it]) for it in others)
+        if status not in (0, 1) or not ended or unread(said) or not is_plain:
             return False
         for it in names:
-            failed = [name for name in own[it] if is_own(name, told[name], said)]
+            failed = [name for name in own[it] if is_own(name, told[name], said, len(names) == 1)]
             if self.homes[it] in told and failed and not any(told[name].startswith("could not") for name in own[it]):
                 self.results[it] = room.REFUSED, f"{failed[0]}: {told[failed[0]]}"
-        # (once those that are refused are out, those above them may be judged)
+        # (once those that are refused are out, others may be judged)
         again = [it for it in names if it not in self.results and told.get(self.homes[it], "proved") != "proved"]
-        if 0 < len(again) < len(names):
+        if again and len(again) < len(names):
             self.attempt(again)
-        return True
+        return not again or len(again) < len(names)
 
     def with_errors(self, names, said):
         """The edits in whose functions' bodies an error stands."""
-        at = {(path, int(number) - 1) for path, number, _, _ in ERROR.findall(said)}
-        hit = {bodies.home_of(self.bench.crate, [it], self.bodies) for it in at}
+        hit = {bodies.home_of(self.bench.crate, [it], self.bodies) for it in unread(said)}
         return [it for it in names if self.homes[it] in hit]
 
 

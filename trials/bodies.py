@@ -69,8 +69,8 @@ def module_of(crate, path):
 
 
 def lines_of(edit, texts):
-    """The lines that an edit changes, as they then are, by (file, number from 0). None where it cannot be applied to the texts,
-    or where it opens or closes a block."""
+    """The lines that an edit changes, as they then are, by (file, number from 0). None where it cannot be applied to the
+    texts, or where it opens or closes a block."""
     path, old, now, found = "", None, dict(texts), {}
     for line in edit.split("\n"):
         if line.startswith("file: "):
