@@ -5,8 +5,8 @@ applied together, and rt check --only says of each of these functions whether it
 these functions are proved without the edits, and with them the check says 'not proved' or 'no proof' of the edit's function,
 for a reason of its own: rattle says 'it calls G, which is not proved' of each function above a refused one, and that tells
 nothing of its body. Every other function that the check tells of must be proved, but for such calls. Every other edit is
-left to rt must-fail, which tries it alone: one that lies in no one function's body, that does not compile, or whose function
-is proved all the same.
+left to rt must-fail, which tries it alone: one that lies in no one function's body, or in a function that calls itself, that
+does not compile, or whose function is proved all the same.
 
 Each crate has a bench in the copy: a small repository with the crate's own files, and links to those of the crates that it
 stands on. So no other check sees the edits, and several crates are tried at once. What a bench proved is kept for the next
@@ -129,6 +129,11 @@ def is_above(line):
     return line.startswith("no proof: it calls ") and all(it.startswith("it calls ") for it in line[10:].split("; "))
 
 
+def in_cycles(folder):
+    """The names of functions that call themselves or one another: they have one proof, in a folder '+NAME' or '+NAME+NAME'."""
+    return {name for it in folder.glob("proofs/**/+*") for name in re.split(r"[+-]", it.name)}
+
+
 def is_of(name, function):
     """Whether a name is that of the function or of one of its closures."""
     module, _, last = function.rpartition("::")
@@ -143,8 +148,9 @@ class Batches:
         self.bodies = {path: bodies.bodies_of(text) for path, text in self.bench.texts.items()}
         lines = {it: bodies.lines_of(text, self.bench.texts) for it, text in edits.items()}
         homes = {it: bodies.home_of(crate, lines[it], self.bodies) for it in edits if lines[it]}
+        cycles = in_cycles(self.bench.files)
         # (the edits that are tried so; what each changes; those that do not compile; and what came of them)
-        self.homes = {it: home for it, home in homes.items() if home}
+        self.homes = {it: home for it, home in homes.items() if home and home.rpartition("::")[2] not in cycles}
         self.lines, self.wrong, self.results = lines, [], {}
 
     def begin(self):
