@@ -1,6 +1,6 @@
 -- The facts of a request after one more event, by the kind of the event.
 use Rattle.std.proofs.Common.{◌≡◌, ℕ, Bool, true, false, ◌&&◌, ◌||◌, ◌==◌, List, length, Option, None, Some, refl, sym, ◌∙◌, ap}
-use Rattle.std.specs.Prelude.{slice_get, slice_set}
+use Rattle.std.specs.Prelude.{slice_get}
 use Rattle.std.specs.Slice.{IsItemAt}
 use denote.Ref.{Bor}
 use Rattle.std.proofs.lemmas.Bool.{ltb-false}
@@ -19,7 +19,6 @@ use Rattle.conc_law.specs.Kinds.{act_of}
 use Rattle.conc_law.specs.Plans.{parent}
 use Rattle.conc_law.specs.Words.{id_eq, is_set}
 use Rattle.conc_law_effects.specs.Step.{begun_after, cancelled_by, cancels_set, entered_after, facts_after, held_after, held_by, let_after, opened_after, outcome_by, place_after, stage_after, started_after, terminated_after, unheld_by, unlet_by}
-use Rattle.conc_law_effects.specs.Advance.{one_by}
 use Rattle.conc_history_replay.specs.Changes.{acts, alone_after, named_alone}
 
 pub or-none : {T : Type 0} (o : Option T) → option_or o None ≡ o

@@ -1,5 +1,5 @@
 -- A command that does no more than enter requests.
-use Rattle.std.proofs.Common.{◌≡◌, ℕ, zero, suc, ◌+◌, ◌<◌, Bool, true, false, ◌||◌, List, [], ◌∷◌, ◌++◌, length, Option, None, Some, ◌⊎◌, inl, inr, refl, ◌∙◌, sym, ap, subst, arith}
+use Rattle.std.proofs.Common.{◌≡◌, ℕ, zero, suc, ◌+◌, true, false, ◌||◌, List, [], ◌∷◌, ◌++◌, length, Option, None, Some, ◌⊎◌, inl, inr, refl, ◌∙◌, sym, ap, subst, arith}
 use Rattle.std.specs.Prelude.{◌==◌, IfSome, IsTrue, slice_get, slice_set}
 use Rattle.std.proofs.lemmas.Bool.{both_ways, or_cases}
 use Rattle.conc_types.specs.declared.event.Event.TheVariants as event
