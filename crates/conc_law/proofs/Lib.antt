@@ -37,4 +37,3 @@ pub mod Remaining
 pub mod Outcomes
 pub mod Used
 pub mod Finishes
-pub mod rows

@@ -14,13 +14,14 @@ use Rattle.conc_types.specs.Faults.{Fault}
 use Rattle.conc_plan.specs.Faults.{IsFailure, plan_fault}
 use Rattle.conc_script.specs.Clock.{SpellsClock}
 use Rattle.conc_script.specs.Script.{SpellsScript}
+use Rattle.conc_script.proofs.OneScript.{commands-one}
 use Rattle.conc_setup.specs.Setups.{setup_in}
 use Rattle.conc_tables.specs.Tables.{SpellsTable}
+use Rattle.conc_tables.proofs.OneTable.{table-one}
 use Rattle.conc_make.specs.Accepted.{AreAccepted}
 use Rattle.conc_make.specs.Files.{clock_text, script_text, setup_text, table_text}
 use Rattle.conc_make.proofs.TheSetup.{got, reading, setup-is, the_setup}
 use Rattle.conc_make_run.specs.Generated.{AreGenerated}
-use Rattle.conc_make_run.proofs.Values.{commands-one, table-one}
 
 -- what is said of the bytes that were read holds of a text that is the same
 pub read-as : {A : Type 0} (P : List ℕ → A → Type 0) (bytes text : List ℕ) (r : Result A ReadFail) (value : A) → bytes ≡ text → r ≡ Ok value → IfOk r (P bytes) → P text value

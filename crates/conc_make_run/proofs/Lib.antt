@@ -1,4 +1,3 @@
 pub mod Joined
-pub mod Values
 pub mod Accepting
 pub mod EmptyDisks

@@ -18,7 +18,8 @@ use Rattle.conc_law.specs.Law.{LawfulSoFar}
 use Rattle.conc_law.specs.Words.{Has}
 use Rattle.conc_law.proofs.Prefixes.{is_lawful_so_far-prefix}
 use Rattle.conc_run.specs.Whole.{HasBetween, HasLeft, IsFinished}
-use Rattle.conc_run.proofs.Next.{left-good, not-bad, not-closed, not-other, not-other_script}
+pub use Rattle.conc_run.proofs.Next.{not-bad, not-closed, not-other, not-other_script}
+use Rattle.conc_run.proofs.Next.{left-good}
 use Rattle.conc_run_state.specs.Causes.{HasCause, IsOther, IsOtherScript}
 use Rattle.conc_run_state.specs.Handed.{Handed, IsOwnJournal}
 use Rattle.conc_run_state.specs.Judging.{EndWithin, IsBadFor, IsBadRecord}

@@ -4,7 +4,7 @@ use Rattle.conc_types.specs.declared.digests.Digests.{Digests}
 use Rattle.conc_types.specs.declared.event.Event.{Event}
 use Rattle.conc_disk.specs.Disk.{DiskState}
 use Rattle.conc_run.specs.Telling.{LacksTelling}
-use Rattle.conc_run.specs.Whole.{IsCutShort, IsFinished, LacksToTell}
+pub use Rattle.conc_run.specs.Whole.{IsCutShort, IsFinished, LacksToTell}
 use Rattle.conc_run_open.specs.Examined.{IsInHand, list_found, plan_held}
 use Rattle.conc_run_open.specs.declared.examining.Examined.{Examined}
 use Rattle.conc_run_state.specs.Handed.{Handed}

@@ -8,3 +8,4 @@ pub mod ActionRules
 pub mod ReadRecords
 pub mod HeaderRecord
 pub mod ScriptFaults
+pub mod OneScript

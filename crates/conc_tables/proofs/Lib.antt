@@ -1,3 +1,4 @@
 pub mod Fields
 pub mod Names
 pub mod Rows
+pub mod OneTable

@@ -10,10 +10,10 @@ use Rattle.conc_run_state.specs.Handed.{Handed}
 use Rattle.conc_run_state.specs.Survival.{HoldsList}
 use Rattle.conc_run_state.specs.declared.error.HistoryFail.{HistoryFail}
 use Rattle.conc_run_state.specs.declared.error.HistoryFail.TheVariants as history_fail
+use Rattle.conc_run_watched.specs.Ends.{IsCutShort, IsFinished, LacksToTell}
 use Rattle.conc_top.specs.declared.exit.Exit.{Exit}
 use Rattle.conc_top.specs.declared.exit.Exit.TheVariants as exit
 use Rattle.conc_top.specs.Printing.{Prints, Sunk, TookNothing}
-use Rattle.conc_run.specs.Whole.{IsCutShort, IsFinished, LacksToTell}
 use Rattle.conc_types.specs.declared.plan.Plan.{Plan}
 use Rattle.conc_watch.specs.Lines.{AreWatchLines, watch_text}
 use Rattle.conc_top.specs.Runs.{IsHistory, IsRunText, RunEnds}

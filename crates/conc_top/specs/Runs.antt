@@ -9,11 +9,11 @@ use Rattle.conc_law.specs.Overlap.{NoOverlap}
 use Rattle.conc_law.specs.Text.{text_of}
 use Rattle.conc_outside.specs.Counts.{Rose}
 use Rattle.conc_outside.specs.Taken.{Took, TookPrefix}
-use Rattle.conc_run.specs.Whole.{IsCutShort, IsFinished, LacksToTell}
 use Rattle.conc_run_state.specs.Handed.{Handed}
 use Rattle.conc_run_state.specs.Survival.{HoldsList}
 use Rattle.conc_run_state.specs.declared.error.HistoryFail.{HistoryFail}
 use Rattle.conc_run_state.specs.declared.error.HistoryFail.TheVariants as history_fail
+use Rattle.conc_run_watched.specs.Ends.{IsCutShort, IsFinished, LacksToTell}
 use Rattle.conc_top.specs.declared.exit.Exit.{Exit}
 use Rattle.conc_top.specs.declared.exit.Exit.TheVariants as exit
 use Rattle.conc_watch.specs.Lines.{AreWatchLines}

@@ -14,13 +14,14 @@ use Rattle.conc_types.specs.declared.script.Order.{Order}
 use Rattle.conc_types.specs.declared.setup.Setup.{Setup}
 use Rattle.conc_types.specs.declared.table.Table.{Table}
 use Rattle.conc_types.specs.Faults.{Fault}
-use Rattle.conc_make_run.proofs.Values.{commands-one, table-one}
 use Rattle.conc_outside.specs.Files.{Files, Gives}
 use Rattle.conc_plan.specs.Faults.{plan_fault}
 use Rattle.conc_script.specs.Clock.{clock_fault}
 use Rattle.conc_script.specs.Script.{script_fault, SpellsScript}
+use Rattle.conc_script.proofs.OneScript.{commands-one}
 use Rattle.conc_setup.specs.Setups.{fault_in, setup_in}
 use Rattle.conc_tables.specs.Tables.{SpellsTable, table_fault}
+use Rattle.conc_tables.proofs.OneTable.{table-one}
 use Rattle.conc_top_inputs.specs.Given.{HasScript, HasSetup, is_system, IsNext, IsNextTable, Names, Exposed}
 use Rattle.conc_top_inputs.specs.Refusals.{fault_of_table, HasFault, IsInputRefused, IsPlanRefused}
 use Rattle.conc_top_laws.specs.Accepted.{AreAccepted, IsClockAccepted}

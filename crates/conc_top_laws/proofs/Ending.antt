@@ -15,8 +15,7 @@ use Rattle.conc_journal.specs.Opens.{broken_of, events_of, may_open}
 use Rattle.conc_law.proofs.Numbering.{numbered-at}
 use Rattle.conc_outside.specs.Files.{Files, Gives}
 use Rattle.conc_restart.proofs.ReadSoFar.{bad-not_past}
-use Rattle.conc_run.proofs.Next.{not-bad, not-closed, not-other, not-other_script}
-use Rattle.conc_run_laws.proofs.Crashed.{at-some, refuses-for_room}
+use Rattle.conc_run_laws.proofs.Crashed.{at-some, not-bad, not-closed, not-other, not-other_script, refuses-for_room}
 use Rattle.conc_run_open.specs.Listing.{HasListCause, IsBadEvent}
 use Rattle.conc_run_open.specs.Texts.{HasEnd, HasNoEnd}
 use Rattle.conc_run_state.specs.Causes.{IsOther, IsOtherScript}

@@ -1,4 +1,4 @@
-use Rattle.conc_make_run.specs.Summary.{IsSummary}
+use Rattle.conc_top.specs.Answers.{IsSummary}
 use Rattle.conc_top.specs.Printing.{sunk}
 use Rattle.conc_top_laws.proofs.Printed.{prints-done}
 use Rattle.conc_top_laws.proofs.completeness.make_completes.Goals as goal

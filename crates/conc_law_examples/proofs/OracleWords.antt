@@ -20,7 +20,7 @@ use Rattle.conc_law.specs.Stages.{set_step}
 use Rattle.conc_law.specs.State.{facts_at, is_live, is_running, is_stopping, is_waiting, state}
 use Rattle.conc_law.specs.Status.{status_of}
 use Rattle.conc_law.specs.Words.{is_set}
-use Rattle.conc_law.proofs.rows.Plans.{id, moment, start}
+use Rattle.conc_law_examples.proofs.Plans.{id, moment, start}
 
 abbrev pub ended : ℕ → Outcome → ℕ → ℕ → Event
 ended r o offset length = event.Ended (id r) o (Some (record { offset = offset; length = length }))

@@ -1,4 +1,4 @@
--- What the theorems of this folder compute.
+-- What the theorems of this crate compute.
 use Rattle.std.proofs.Common.{◌≡◌, ℕ, zero, suc, Bool, ◌&&◌, List, [], ◌∷◌, reverse, take, Option, None, Some, is_none}
 use Rattle.std.specs.Fmt.{digits}
 use Rattle.conc_types.specs.declared.event.Event.{Event}
@@ -26,7 +26,7 @@ use Rattle.conc_law.specs.Report.{cell, filter_value, passes_filter, passes, pas
 use Rattle.conc_law.specs.Alone.{report_of, first_end, first_start, next_tick, choice, next_alone}
 use Rattle.conc_law.specs.Moments.{days_before_year, is_leap, days_before_month, year_of, day_in_year, month_of, day_in_month, date_text, time_text, moment_text}
 use Rattle.conc_law.specs.Text.{place_word, event_words, item_name, request_line, table_text, events_text, text_of}
-use Rattle.conc_law.proofs.rows.Plans.{texts}
+use Rattle.conc_law_examples.proofs.Plans.{texts}
 
 -- to unfold this is to unfold all definitions of the law
 unfoldable pub the_law : Unit {0}

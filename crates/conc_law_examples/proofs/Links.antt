@@ -11,8 +11,8 @@ use Rattle.conc_types.specs.declared.item.Scope.TheVariants as scope
 use Rattle.conc_types.specs.declared.plan.Plan.{Plan}
 use Rattle.conc_types.specs.declared.setup.Setup.{Setup}
 use Rattle.conc_law.specs.Text.{text_of}
-use Rattle.conc_law.proofs.rows.Plans.{texts, nine, id, program, program_over, entry, plain_manager, stage, last_stage, set, two_stages, setup, submit, plan, once, start, end}
-use Rattle.conc_law.proofs.rows.Computed.{the_law, RunsTo, lawful, finished, lawful_after}
+use Rattle.conc_law_examples.proofs.Plans.{texts, nine, id, program, program_over, entry, plain_manager, stage, last_stage, set, two_stages, setup, submit, plan, once, start, end}
+use Rattle.conc_law_examples.proofs.Computed.{the_law, RunsTo, lawful, finished, lawful_after}
 
 -- ---- links by outcome, and critical stages
 

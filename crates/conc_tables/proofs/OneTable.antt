@@ -1,29 +1,12 @@
--- What a file spells is one value.
-use Rattle.std.proofs.Common.{◌≡◌, ◌∙◌, ◌≤◌, ℕ, List, [], ◌∷◌, Some, ap, length, map, refl, subst, sym}
+-- The table that a file's bytes spell is one.
+use Rattle.std.proofs.Common.{◌≡◌, ◌∙◌, ◌≤◌, ℕ, List, ◌∷◌, ap, length, subst, sym}
 use Rattle.std.specs.Prelude.{IsTrue, Bool}
 use Rattle.std.specs.List.{list_all}
 use Rattle.std.specs.Str.{bytes_eq}
 use Rattle.std.proofs.Props.{props}
-use Rattle.conc_types.specs.declared.script.Script.{Script}
-use Rattle.conc_types.specs.declared.setup.Setup.{Setup}
 use Rattle.conc_types.specs.declared.table.Table.{Table}
 use Rattle.conc_types.specs.Words.{are_distinct, has_length}
-use Rattle.conc_script.specs.Script.{SpellsScript}
 use Rattle.conc_tables.specs.Tables.{SpellsTable}
-
-some-one : {A : Type 0} (xs ys : List A) → map (λ x. Some x) xs ≡ map (λ y. Some y) ys → xs ≡ ys
-some-one [] [] e = refl
-some-one [] (y ∷ ys) e = absurd (cc e)
-some-one (x ∷ xs) [] e = absurd (cc e)
-some-one (x ∷ xs) (y ∷ ys) e =
-    let later : map (λ z. Some z) xs ≡ map (λ z. Some z) ys = cc e in
-    let here : x ≡ y = cc e in
-    cc (here, some-one xs ys later)
-
-pub commands-one : (setup : Setup) (bytes : List ℕ) (a b : Script) → SpellsScript setup bytes a → SpellsScript setup bytes b → a.commands ≡ b.commands
-commands-one setup bytes a b is is' = some-one a.commands b.commands (sym is.commands ∙ is'.commands)
-
--- ---- tables
 
 true-one : (b : Bool) → IsProp (IsTrue b)
 true-one b = hlevel props

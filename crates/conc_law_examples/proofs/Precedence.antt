@@ -13,8 +13,8 @@ use Rattle.conc_types.specs.declared.script.Act.TheVariants as act
 use Rattle.conc_types.specs.declared.script.Order.{Order}
 use Rattle.conc_types.specs.declared.setup.Setup.{Setup}
 use Rattle.conc_law.specs.Text.{text_of}
-use Rattle.conc_law.proofs.rows.Plans.{texts, nine, monday, id, program, entry, plain_manager, setup, plan, once, start, end}
-use Rattle.conc_law.proofs.rows.Computed.{the_law, RunsTo, lawful, finished, lawful_after}
+use Rattle.conc_law_examples.proofs.Plans.{texts, nine, monday, id, program, entry, plain_manager, setup, plan, once, start, end}
+use Rattle.conc_law_examples.proofs.Computed.{the_law, RunsTo, lawful, finished, lawful_after}
 
 abbrev submit_urgent : ℕ → Order
 submit_urgent priority = record { at = nine; act = act.Submit (item.Program 0) (codes "ann") priority nine (codes "Standard") [] }

@@ -2,8 +2,8 @@
 use Rattle.std.proofs.Common.{◌≡◌, ℕ, List, [], ◌∷◌, map, length, pos, neg_ℤ, lit≤, Option, None, Some, refl}
 use Rattle.std.specs.Prelude.{codes, nat_le, IsTrue}
 use Rattle.conc_types.specs.declared.event.Outcome.TheVariants as outcome
-use Rattle.conc_law.proofs.rows.Plans.{texts, few, three_rows, program, program_over}
-use Rattle.conc_law.proofs.rows.Computed.{the_law}
+use Rattle.conc_law_examples.proofs.Plans.{texts, few, three_rows, program, program_over}
+use Rattle.conc_law_examples.proofs.Computed.{the_law}
 use Rattle.std.specs.List.{list_all}
 use Rattle.conc_types.specs.declared.table.Table.{Table}
 use Rattle.conc_types.specs.declared.program.Job.{Job}

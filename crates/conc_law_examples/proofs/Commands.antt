@@ -9,8 +9,8 @@ use Rattle.conc_types.specs.declared.plan.Plan.{Plan}
 use Rattle.conc_types.specs.declared.script.Act.TheVariants as act
 use Rattle.conc_types.specs.declared.script.Reading.{Reading}
 use Rattle.conc_law.specs.Text.{table_text, text_of}
-use Rattle.conc_law.proofs.rows.Plans.{texts, nine, monday, id, program, day_shift, manager, plain_manager, setup, submit, command, plan, reading, start, end}
-use Rattle.conc_law.proofs.rows.Computed.{the_law, RunsTo, lawful, finished, lawful_after}
+use Rattle.conc_law_examples.proofs.Plans.{texts, nine, monday, id, program, day_shift, manager, plain_manager, setup, submit, command, plan, reading, start, end}
+use Rattle.conc_law_examples.proofs.Computed.{the_law, RunsTo, lawful, finished, lawful_after}
 
 -- ---- held, and let again
 

@@ -15,8 +15,8 @@ use Rattle.conc_types.specs.declared.plan.Req.{Req}
 use Rattle.conc_types.specs.declared.script.Order.{Order}
 use Rattle.conc_types.specs.declared.setup.Setup.{Setup}
 use Rattle.conc_law.specs.Text.{item_name, text_of}
-use Rattle.conc_law.proofs.rows.Plans.{texts, nine, id, program, entry, plain_manager, one_stage, two_stages, setup, submit, plan, once, start, end}
-use Rattle.conc_law.proofs.rows.Computed.{the_law, RunsTo, lawful, finished, lawful_after}
+use Rattle.conc_law_examples.proofs.Plans.{texts, nine, id, program, entry, plain_manager, one_stage, two_stages, setup, submit, plan, once, start, end}
+use Rattle.conc_law_examples.proofs.Computed.{the_law, RunsTo, lawful, finished, lawful_after}
 
 -- ---- an entry on a set, under both scopes
 

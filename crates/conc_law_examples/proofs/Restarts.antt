@@ -8,8 +8,8 @@ use Rattle.conc_types.specs.declared.item.Item.TheVariants as item
 use Rattle.conc_types.specs.declared.plan.Plan.{Plan}
 use Rattle.conc_types.specs.declared.setup.Setup.{Setup}
 use Rattle.conc_law.specs.Text.{text_of}
-use Rattle.conc_law.proofs.rows.Plans.{texts, nine, id, program, plain_manager, setup, submit, plan, once, start, end}
-use Rattle.conc_law.proofs.rows.Computed.{the_law, GoesOnTo, lawful, finished, lawful_after}
+use Rattle.conc_law_examples.proofs.Plans.{texts, nine, id, program, plain_manager, setup, submit, plan, once, start, end}
+use Rattle.conc_law_examples.proofs.Computed.{the_law, GoesOnTo, lawful, finished, lawful_after}
 
 abbrev restarted : Bool → Setup
 restarted mark = setup (record (program (codes "P")) { restart = mark } ∷ []) [] (plain_manager ∷ []) [] refl

@@ -17,9 +17,9 @@ use Rattle.conc_types.specs.Expansion.{expansion}
 use Rattle.conc_law.specs.Law.{is_lawful, is_lawful_so_far}
 use Rattle.conc_law.specs.Readings.{next_reading}
 use Rattle.conc_law.specs.Text.{text_of}
-use Rattle.conc_law.proofs.rows.Computed.{the_law, made}
-use Rattle.conc_law.proofs.rows.OracleWords.{ended, answers, request_by}
-use Rattle.conc_law.proofs.rows.Plans.{texts, id, moment, start}
+use Rattle.conc_law_examples.proofs.Computed.{the_law, made}
+use Rattle.conc_law_examples.proofs.OracleWords.{ended, answers, request_by}
+use Rattle.conc_law_examples.proofs.Plans.{texts, id, moment, start}
 
 abbrev c83_setup : Setup
 unfolding texts

@@ -16,3 +16,4 @@ pub mod OracleRestarts
 pub mod OracleWalks
 pub mod OracleRules
 pub mod OracleReports
+pub mod Steady

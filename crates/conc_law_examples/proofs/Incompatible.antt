@@ -15,8 +15,8 @@ use Rattle.conc_types.specs.declared.script.Act.TheVariants as act
 use Rattle.conc_types.specs.declared.script.Order.{Order}
 use Rattle.conc_types.specs.declared.setup.Setup.{Setup}
 use Rattle.conc_law.specs.Text.{text_of}
-use Rattle.conc_law.proofs.rows.Plans.{texts, nine, id, program, entry, plain_manager, one_stage, setup, submit, plan, once, start, end}
-use Rattle.conc_law.proofs.rows.Computed.{the_law, RunsTo, lawful, finished, lawful_after}
+use Rattle.conc_law_examples.proofs.Plans.{texts, nine, id, program, entry, plain_manager, one_stage, setup, submit, plan, once, start, end}
+use Rattle.conc_law_examples.proofs.Computed.{the_law, RunsTo, lawful, finished, lawful_after}
 
 -- ---- a program that is incompatible with itself, submitted twice
 

@@ -11,9 +11,9 @@ use Rattle.conc_types.specs.Shifts.{most_places}
 use Rattle.conc_law.specs.Exclusion.{excludes}
 use Rattle.conc_law.specs.Managers.{admits, places}
 use Rattle.conc_law.specs.Moments.{moment_text}
-use Rattle.conc_law.proofs.rows.Computed.{the_law}
-use Rattle.conc_law.proofs.rows.OracleWords.{request_by}
-use Rattle.conc_law.proofs.rows.Plans.{texts, id, moment}
+use Rattle.conc_law_examples.proofs.Computed.{the_law}
+use Rattle.conc_law_examples.proofs.OracleWords.{request_by}
+use Rattle.conc_law_examples.proofs.Plans.{texts, id, moment}
 
 abbrev d40_setup : Setup
 unfolding texts

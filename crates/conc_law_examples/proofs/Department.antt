@@ -16,8 +16,8 @@ use Rattle.conc_types.specs.declared.script.Order.{Order}
 use Rattle.conc_types.specs.declared.set.SetDef.{SetDef}
 use Rattle.conc_types.specs.declared.setup.Setup.{Setup}
 use Rattle.conc_law.specs.Text.{item_name, table_text}
-use Rattle.conc_law.proofs.rows.Plans.{moment, texts, nine, id, entry, shift, stage, set, no_links, once, start}
-use Rattle.conc_law.proofs.rows.Computed.{the_law, RunsTo, lawful, finished, lawful_after}
+use Rattle.conc_law_examples.proofs.Plans.{moment, texts, nine, id, entry, shift, stage, set, no_links, once, start}
+use Rattle.conc_law_examples.proofs.Computed.{the_law, RunsTo, lawful, finished, lawful_after}
 use Rattle.conc_types.specs.declared.program.Test.TheVariants as test
 use Rattle.conc_types.specs.Expansion.{expansion}
 use Rattle.conc_types.specs.Shifts.{most_places}

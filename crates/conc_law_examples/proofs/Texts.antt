@@ -1,8 +1,8 @@
 -- Texts of moments, names and decimals.
 use Rattle.std.proofs.Common.{◌≡◌, true, false, [], ◌∷◌, map, replicate, None, Some, refl}
 use Rattle.std.specs.Prelude.{codes}
-use Rattle.conc_law.proofs.rows.Plans.{moment, texts, nine}
-use Rattle.conc_law.proofs.rows.Computed.{the_law}
+use Rattle.conc_law_examples.proofs.Plans.{moment, texts, nine}
+use Rattle.conc_law_examples.proofs.Computed.{the_law}
 use Rattle.conc_types.specs.Texts.{is_name}
 use Rattle.conc_types.specs.Decimals.{decimal_value}
 use Rattle.conc_law.specs.Moments.{date_text, moment_text}

@@ -7,8 +7,8 @@ use Rattle.conc_types.specs.declared.program.Test.TheVariants as test
 use Rattle.conc_types.specs.declared.table.Table.{Table}
 use Rattle.conc_law.specs.Numbers.{whole_number}
 use Rattle.conc_law.specs.Report.{less, report}
-use Rattle.conc_law.proofs.rows.Computed.{the_law}
-use Rattle.conc_law.proofs.rows.Plans.{texts}
+use Rattle.conc_law_examples.proofs.Computed.{the_law}
+use Rattle.conc_law_examples.proofs.Plans.{texts}
 
 abbrev t270 : Table
 t270 = record { columns = ((codes "k") ∷ (codes "v") ∷ []); rows = (((codes "x,y") ∷ (codes "5979450135120380791") ∷ []) ∷ ((99 ∷ 114 ∷ 13 ∷ 99 ∷ 114 ∷ []) ∷ (codes "14") ∷ []) ∷ ((195 ∷ 164 ∷ []) ∷ (codes "+0") ∷ []) ∷ ((99 ∷ 114 ∷ 13 ∷ 99 ∷ 114 ∷ []) ∷ (codes "10") ∷ []) ∷ ((0 ∷ []) ∷ (codes "11") ∷ []) ∷ ((codes "a") ∷ (codes "9223372036854775807") ∷ []) ∷ ((0 ∷ []) ∷ (codes "-9223372036854775808") ∷ []) ∷ []); distinct = refl; even = refl; few = lit≤ tt }
