@@ -45,15 +45,26 @@ const SCRIPT: &[u8] = b"at,do,what,user,priority,start,domain,argument
 2025-03-03T09:00:00,submit,Q,ann,,,,
 ";
 
+// The plan of these files. They are not constants here, whose bytes a proof would go through.
+pub(super) fn plan_from(
+    rt: &impl Abort,
+    alloc: Global,
+    setup: &[u8],
+    script: &[u8],
+    table: &[u8],
+) -> Result<Plan, ReadFail> {
+    let setup = read_setup(alloc, setup)?;
+    let script = read_script(alloc, script, &setup)?;
+    let mut tables = Vec::new(alloc);
+    tables.push(read_table(alloc, table, 0)?)?;
+    assert!(rt; tables.len() == setup.tables.len());
+    Ok(make_plan(alloc, setup, script, Seq::from_vec(tables))?)
+}
+
 pub(super) fn plan_of_four(rt: &impl Abort, alloc: Global) -> Result<Plan, ReadFail>
     ensures { IfOk result (λ plan. (count_of_requests plan ≡ 4) × (count_of_places plan ≡ 3)) }
 {
-    let setup = read_setup(alloc, SETUP)?;
-    let script = read_script(alloc, SCRIPT, &setup)?;
-    let mut tables = Vec::new(alloc);
-    tables.push(read_table(alloc, b"k,v\na,1\n", 0)?)?;
-    assert!(rt; tables.len() == setup.tables.len());
-    let plan = make_plan(alloc, setup, script, Seq::from_vec(tables))?;
+    let plan = plan_from(rt, alloc, SETUP, SCRIPT, b"k,v\na,1\n")?;
     assert!(rt; plan.requests.len() == 4);
     assert!(rt; place_count(&plan) == 3);
     Ok(plan)

@@ -2,12 +2,9 @@ ghost use Rattle.std.specs.Prelude.{◌≡◌, ◌<◌, length, IfOk, IsTrue};
 ghost use Rattle.conc_board_lanes.specs.Lanes.{AreHandPasses, are_shorter, IsHandPassOf, IsLeadPassOf, plan_of, puts_of};
 ghost use Rattle.conc_board_lanes.specs.Rooms.{room_for};
 
+use super::board::plan_from;
 use conc_board_lanes::{HandPass, Lanes, LeadPass, lists_grow_by_one};
-use conc_plan::make_plan;
-use conc_script::read_script;
-use conc_setup::read_setup;
-use conc_tables::read_table;
-use conc_types::{Plan, ReadFail, RequestId, Seq};
+use conc_types::{Plan, ReadFail, RequestId};
 use std::alloc::Global;
 use std::process::Abort;
 use std::sync::Wait;
@@ -32,12 +29,7 @@ fn plan_of_five(rt: &impl Abort, alloc: Global) -> Result<Plan, ReadFail>
     ensures managers { IfOk result (λ plan. length plan.setup.managers ≡ 1) }
     ensures room { IfOk result (λ plan. 5 < room_for plan) }
 {
-    let setup = read_setup(alloc, SETUP)?;
-    let script = read_script(alloc, SCRIPT, &setup)?;
-    let mut tables = Vec::new(alloc);
-    tables.push(read_table(alloc, b"k,v\na,1\n", 0)?)?;
-    assert!(rt; tables.len() == setup.tables.len());
-    let plan = make_plan(alloc, setup, script, Seq::from_vec(tables))?;
+    let plan = plan_from(rt, alloc, SETUP, SCRIPT, b"k,v\na,1\n")?;
     assert!(rt; plan.setup.managers.len() == 1);
     assert!(rt; plan.requests.len() == 5);
     Ok(plan)

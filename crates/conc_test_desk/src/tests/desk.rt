@@ -91,15 +91,34 @@ fn same<Rt: Abort, T: PartialEq + Debug + Copy>(rt: &Rt, found: T, want: T) {
 fn plan_of(rt: &impl Abort, alloc: Global, script: &[u8]) -> Result<Plan, ReadFail>
     ensures { IfOk result (λ plan. (count_of_requests plan ≡ 1) × (count_of_places plan ≡ 2)) }
 {
-    let setup = read_setup(alloc, SETUP)?;
-    let script = read_script(alloc, script, &setup)?;
-    let mut tables = Vec::new(alloc);
-    tables.push(read_table(alloc, b"k,v\na,1\n", 0)?)?;
-    assert!(rt; tables.len() == setup.tables.len());
-    let plan = make_plan(alloc, setup, script, Seq::from_vec(tables))?;
+    let plan = plan_from(rt, alloc, SETUP, script, b"k,v\na,1\n")?;
     assert!(rt; plan.requests.len() == 1);
     assert!(rt; place_count(&plan) == 2);
     Ok(plan)
+}
+
+// The plan of these files. They are not constants here, whose bytes a proof would go through.
+fn plan_from(
+    rt: &impl Abort,
+    alloc: Global,
+    setup: &[u8],
+    script: &[u8],
+    table: &[u8],
+) -> Result<Plan, ReadFail> {
+    let setup = read_setup(alloc, setup)?;
+    let script = read_script(alloc, script, &setup)?;
+    let mut tables = Vec::new(alloc);
+    tables.push(read_table(alloc, table, 0)?)?;
+    assert!(rt; tables.len() == setup.tables.len());
+    Ok(make_plan(alloc, setup, script, Seq::from_vec(tables))?)
+}
+
+// Some digests.
+fn digests() -> Digests {
+    Digests {
+        full: [0; 32],
+        base: [0; 32],
+    }
 }
 
 // Two empty disks, whose calls with these numbers fail.
@@ -126,11 +145,7 @@ fn begin<'p, Rt: Abort>(
     ensures room { IfSome result (λ work. 16 ≤ room_of work.journal) }
 {
     let Disks { journal, spool } = disks;
-    let digests = Digests {
-        full: [0; 32],
-        base: [0; 32],
-    };
-    match open(alloc, plan, readings, &digests, journal, spool) {
+    match open(alloc, plan, readings, &digests(), journal, spool) {
         Ok(work) => {
             if work.journal.room() < 16 {
                 panic!(rt; "the journal has little room");

@@ -115,12 +115,31 @@ const ALL: Snapshot = Snapshot {
 
 /// The plan of the two requests.
 pub(super) fn plan_of(rt: &impl Abort, alloc: Global) -> Result<Plan, ReadFail> {
-    let setup = read_setup(alloc, SETUP)?;
-    let script = read_script(alloc, SCRIPT, &setup)?;
+    plan_from(rt, alloc, SETUP, SCRIPT, TABLE)
+}
+
+// The plan of these files. They are not constants here, whose bytes a proof would go through.
+fn plan_from(
+    rt: &impl Abort,
+    alloc: Global,
+    setup: &[u8],
+    script: &[u8],
+    table: &[u8],
+) -> Result<Plan, ReadFail> {
+    let setup = read_setup(alloc, setup)?;
+    let script = read_script(alloc, script, &setup)?;
     let mut tables = Vec::new(alloc);
-    tables.push(read_table(alloc, TABLE, 0)?)?;
+    tables.push(read_table(alloc, table, 0)?)?;
     assert!(rt; tables.len() == setup.tables.len());
     Ok(make_plan(alloc, setup, script, Seq::from_vec(tables))?)
+}
+
+// Some digests.
+fn digests() -> Digests {
+    Digests {
+        full: [0; 32],
+        base: [0; 32],
+    }
 }
 
 // A journal that is begun on an empty disk, with room for the events.
@@ -133,11 +152,7 @@ fn begun(alloc: Global, disk: &mut MemDisk) -> Result<Journal, Fail>
         return Err("the disk is not empty".into());
     }
     let mut journal = opened.journal;
-    let digests = Digests {
-        full: [0; 32],
-        base: [0; 32],
-    };
-    journal.begin(disk, &digests)?;
+    journal.begin(disk, &digests())?;
     journal.reserve(EVENTS.len() as u64)?;
     Ok(journal)
 }
