@@ -22,8 +22,7 @@ use Rattle.conc_board_seats.specs.Words.{IsRequest}
 use Rattle.conc_disk.specs.Disk.{DiskState}
 use Rattle.conc_journal.specs.Journals.{list_of}
 use Rattle.conc_journal.specs.declared.journal.Journal.{Journal}
-use Rattle.conc_machine.specs.StandsFor.{plan_of, readings_of}
-use Rattle.conc_machine.specs.declared.machine.Machine.{Machine}
+use Rattle.conc_run_state.specs.Machines.{Machine, plan_of, readings_of}
 use Rattle.conc_resolver_choice.specs.declared.choosing.Next.{Next}
 use Rattle.conc_run_state.specs.Works.{list_in}
 use Rattle.conc_run_state.specs.declared.work.Work.{Work}

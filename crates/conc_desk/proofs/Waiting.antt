@@ -13,8 +13,7 @@ use Rattle.conc_law.specs.State.{facts_at, is_running, state}
 use Rattle.conc_law.proofs.FactsAt.{facts_at-state}
 use Rattle.conc_law.proofs.Numbering.{found}
 use Rattle.conc_law.proofs.Options.{some_and-some}
-use Rattle.conc_machine.specs.StandsFor.{plan_of, StandsFor}
-use Rattle.conc_machine.specs.declared.machine.Machine.{Machine}
+use Rattle.conc_run_state.specs.Machines.{Machine, plan_of, StandsFor}
 use Rattle.conc_desk.specs.Desks.{IsLetAfter, IsLetIn, list_at}
 use Rattle.conc_desk.specs.State.{DeskState}
 use Rattle.conc_desk_lead.specs.Ties.{WaitsToStart}

@@ -12,8 +12,7 @@ use conc_board::{Board, Lead, Looked, Progress};
 use conc_desk_lead::follow;
 use conc_disk::Disk;
 use conc_journal::Receipt;
-use conc_machine::Machine;
-use conc_run_state::Work;
+use conc_run_state::{Machine, Work};
 use conc_run_steps::{JournalFault, add_event, store_text};
 use conc_types::{Event, PlaceId, Plan, RequestId};
 use std::marker::Model;
@@ -55,7 +54,7 @@ impl<'a> Desk<'a> {
     ghost use Rattle.conc_journal.specs.Journals.{IsOn as JournalIsOn, room_of, state_of};
     ghost use Rattle.conc_journal.specs.Receipts.{IsNextOf};
     ghost use Rattle.conc_desk_lead.specs.Ties.{LeadStatesGoWith};
-    ghost use Rattle.conc_machine.specs.StandsFor.{readings_of, StandsFor};
+    ghost use Rattle.conc_run_state.specs.Machines.{readings_of, StandsFor};
     ghost use Rattle.conc_law.specs.Kinds.{is_resume};
     ghost use Rattle.conc_law.specs.Law.{Lawful};
     ghost use Rattle.conc_outside.specs.Counts.{Rose};

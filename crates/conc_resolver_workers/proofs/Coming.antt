@@ -21,8 +21,7 @@ use Rattle.conc_law.proofs.EqualEvents.{eqb-refl}
 use Rattle.conc_law.proofs.ForcedKinds.{forced_kind, is_forced_kind}
 use Rattle.conc_law.proofs.Positions.{reverse-push}
 use Rattle.conc_resolver_choice.proofs.Pushes.{is_lawful-more}
-use Rattle.conc_machine.specs.StandsFor.{plan_of, readings_of, StandsFor}
-use Rattle.conc_machine.specs.declared.machine.Machine.{Machine}
+use Rattle.conc_run_state.specs.Machines.{Machine, plan_of, readings_of, StandsFor}
 use Rattle.conc_desk.specs.Desks.{list_at, plan_at}
 use Rattle.conc_desk.specs.Logging.{IsItsTurn, WasSeen}
 use Rattle.conc_desk.specs.State.{DeskState}

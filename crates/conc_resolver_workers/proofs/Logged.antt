@@ -17,8 +17,7 @@ use Rattle.conc_journal.specs.JournalStates.{has_faulted, takes_events}
 use Rattle.conc_journal.specs.Receipts.{event_of, IsNextOf, list_with}
 use Rattle.conc_journal.specs.declared.journal.Journal.{Journal}
 use Rattle.conc_journal.specs.declared.receipt.Receipt.{Receipt}
-use Rattle.conc_machine.specs.StandsFor.{plan_of, readings_of}
-use Rattle.conc_machine.specs.declared.machine.Machine.{Machine}
+use Rattle.conc_run_state.specs.Machines.{Machine, plan_of, readings_of}
 use Rattle.conc_spool.specs.Spools.{used_of}
 use Rattle.conc_spool.specs.Spools.{IsOn as SpoolIsOn}
 use Rattle.conc_spool.specs.declared.spool.Spool.{Spool}
@@ -29,7 +28,7 @@ use Rattle.conc_run_state.specs.declared.error.RunFail.TheVariants as run_fail
 use Rattle.conc_run_state.specs.declared.work.Work.{Work}
 use Rattle.conc_run_steps.specs.Going.{IsUnderway, TellsReport, WentOn}
 use Rattle.conc_run_steps.specs.Steps.{any_disk, IsTied, plan_in, readings_in, StoresOn, SurvivesFor}
-use Rattle.conc_restart.specs.Need.{need}
+use Rattle.conc_run_state.specs.Machines.{need}
 use Rattle.conc_run_steps.proofs.Coming.{lawful-past}
 use Rattle.conc_run_steps.proofs.Going.{went-none}
 use Rattle.conc_run_steps.proofs.Stepping.{ready-logged, tied-by, went-logged, went-unlogged}

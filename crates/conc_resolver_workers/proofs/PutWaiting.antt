@@ -25,8 +25,7 @@ use Rattle.conc_board_lanes.proofs.Puts.{puts-begun, puts-shorter}
 use Rattle.conc_desk.specs.Desks.{list_at, plan_at}
 use Rattle.conc_desk.specs.State.{DeskState}
 use Rattle.conc_desk.proofs.Waiting.{are_let, SaysLet}
-use Rattle.conc_machine.specs.StandsFor.{plan_of as machine_plan, StandsFor}
-use Rattle.conc_machine.specs.declared.machine.Machine.{Machine}
+use Rattle.conc_run_state.specs.Machines.{Machine, plan_of as machine_plan, StandsFor}
 use Rattle.conc_resolver_workers.specs.Filling.{AreFilled}
 
 -- those among the first so many requests of a list that wait to start, by number

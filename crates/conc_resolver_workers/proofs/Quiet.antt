@@ -15,8 +15,7 @@ use Rattle.conc_law.specs.State.{facts_at, is_stopping, state}
 use Rattle.conc_law.proofs.Options.{and_then-some}
 use Rattle.conc_board_lanes.specs.Puts.{lets_of}
 use Rattle.conc_board_lanes.proofs.LetsRoom.{lets_of-append}
-use Rattle.conc_machine.specs.StandsFor.{plan_of}
-use Rattle.conc_machine.specs.declared.machine.Machine.{Machine}
+use Rattle.conc_run_state.specs.Machines.{Machine, plan_of}
 use Rattle.conc_journal.specs.Journals.{list_of}
 use Rattle.conc_journal.specs.declared.journal.Journal.{Journal}
 use Rattle.conc_run_state.specs.Works.{list_in}

@@ -207,7 +207,7 @@ fn look_at<R: Wait, D: Disk, E: Disk, T: Teller>(
     }
 }
 
-// The same, and then all that is forced.
+// The same, and where something was done, all that is forced then.
 fn see_to<R: Wait, D: Disk, E: Disk, T: Teller>(
     rt: &R,
     board: &Board,
@@ -227,7 +227,7 @@ fn see_to<R: Wait, D: Disk, E: Disk, T: Teller>(
         (T.may_lack teller.new) result desk.old desk.new }
     ensures fills { Fills lanes.now result desk.old desk.new hints.new.pass }
 {
-    let any = look_at(
+    let done = look_at(
         rt,
         board,
         desk,
@@ -237,17 +237,19 @@ fn see_to<R: Wait, D: Disk, E: Disk, T: Teller>(
         hints.started.as_mut_slice(),
         r,
     )?;
-    settle(
-        rt,
-        board,
-        lanes,
-        desk,
-        journal,
-        spool,
-        teller,
-        &mut hints.pass,
-    )?;
-    Ok(any)
+    if done {
+        settle(
+            rt,
+            board,
+            lanes,
+            desk,
+            journal,
+            spool,
+            teller,
+            &mut hints.pass,
+        )?;
+    }
+    Ok(done)
 }
 
 // Looks at what was started last at a place. True where something was done.

@@ -1,2 +1,3 @@
 pub mod FirstBad
 pub mod Need
+pub mod Machines

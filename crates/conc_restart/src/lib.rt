@@ -1,11 +1,12 @@
-//! What a run needs to go on from a journal: the machine that stands for the journal's list, and the
-//! room that the events of one more life need.
+//! What a run needs to go on from a journal: the machine that stands for the journal's list, which it hands on,
+//! and the room that the events of one more life need.
 #![tactic(auto)]
 
 mod laws;
 mod resuming;
 mod room;
 
+pub use conc_machine::Machine;
 pub use laws::life_fits_need;
 pub use resuming::resume;
 pub use room::need;

@@ -10,7 +10,7 @@ use Rattle.conc_disk.specs.Left.{EachImage, LeavesOnly}
 use Rattle.conc_law.specs.Alone.{opening}
 use Rattle.conc_law.specs.Law.{Lawful}
 use Rattle.conc_law.specs.State.{used}
-use Rattle.conc_machine.specs.StandsFor.{StandsFor}
+use Rattle.conc_restart.specs.Machines.{StandsFor}
 use Rattle.conc_journal.specs.Journals.{list_of, room_of}
 use Rattle.conc_journal.specs.Journals.{IsOn as JournalIsOn}
 use Rattle.conc_journal.specs.JournalStates.{has_faulted, takes_events}

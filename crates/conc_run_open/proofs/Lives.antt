@@ -13,8 +13,7 @@ use Rattle.conc_law.specs.Next.{may_come}
 use Rattle.conc_law.specs.Before.{last_life}
 use Rattle.conc_law.specs.State.{state, used}
 use Rattle.conc_law.proofs.Positions.{is_empty-long, reverse-push}
-use Rattle.conc_machine.specs.StandsFor.{StandsFor}
-use Rattle.conc_machine.specs.declared.machine.Machine.{Machine}
+use Rattle.conc_restart.specs.Machines.{Machine, StandsFor}
 use Rattle.conc_disk.specs.Disk.{DiskState, Stays}
 use Rattle.conc_disk.specs.Left.{EachImage}
 use Rattle.conc_disk.proofs.Leaving.{if_some-both}

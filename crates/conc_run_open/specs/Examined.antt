@@ -8,7 +8,7 @@ use Rattle.conc_disk.specs.Disk.{DiskState}
 use Rattle.conc_law.specs.Alone.{opening}
 use Rattle.conc_law.specs.Law.{LawfulSoFar}
 use Rattle.conc_law.specs.State.{used}
-use Rattle.conc_machine.specs.StandsFor.{plan_of, readings_of, StandsFor}
+use Rattle.conc_restart.specs.Machines.{plan_of, readings_of, StandsFor}
 use Rattle.conc_journal.specs.Journals.{list_of, room_of, state_of}
 use Rattle.conc_journal.specs.Journals.{IsOn as JournalIsOn}
 use Rattle.conc_journal.specs.declared.journal.Journal.{Journal}

@@ -1,7 +1,7 @@
 ghost use Rattle.std.specs.Prelude.{◌≡◌, IfErr, IfOk, IfSome, None, OnOk, reverse, Some};
 ghost use Rattle.conc_journal.specs.Journals.{list_of, room_of, stamps_held, state_of};
 ghost use Rattle.conc_law.specs.Alone.{opening};
-ghost use Rattle.conc_machine.specs.StandsFor.{plan_of, readings_of, StandsFor};
+ghost use Rattle.conc_restart.specs.Machines.{plan_of, readings_of, StandsFor};
 ghost use Rattle.conc_restart.specs.Need as spec;
 ghost use Rattle.conc_spool.specs.Spools.{used_of};
 ghost use Rattle.conc_run_state.specs.Causes.{HasCause};
@@ -16,8 +16,7 @@ use crate::scripts::stamps_due;
 use conc_disk::Disk;
 use conc_journal::{Journal, Opened};
 use conc_journal_image::MOST_RECORDS;
-use conc_machine::Machine;
-use conc_restart::need;
+use conc_restart::{Machine, need};
 use conc_run_state::HistoryFail;
 use conc_spool::Spool;
 use conc_types::{Digests, Event, NoMemory, Plan, Readings};

@@ -1,14 +1,13 @@
 ghost use Rattle.std.specs.Prelude.{◌≡◌, ℕ, ◌<◌, ◌≤◌, IfErr, IfOk, None, OnOk, Option, reverse};
 ghost use Rattle.conc_law.specs.Law.{LawfulSoFar};
 ghost use Rattle.conc_law.specs.State.{used};
-ghost use Rattle.conc_machine.specs.StandsFor.{plan_of, StandsFor};
+ghost use Rattle.conc_restart.specs.Machines.{plan_of, StandsFor};
 ghost use Rattle.conc_run_open.specs.Extents.{counted};
 ghost use Rattle.conc_run_open.specs.Refusals.{IsRefused};
 ghost use Rattle.conc_run_open.specs.Listing.{IsUnlisted};
 
 use crate::extents::first_beyond;
-use conc_machine::Machine;
-use conc_restart::resume;
+use conc_restart::{Machine, resume};
 use conc_run_state::HistoryFail;
 use conc_types::{CheckFail, Event, Plan};
 use std::alloc::Global;

@@ -8,3 +8,4 @@ pub mod Judging
 pub mod Causes
 pub mod Fits
 pub mod Inputs
+pub mod Machines

@@ -12,10 +12,10 @@ use Rattle.conc_law.specs.Law.{Lawful}
 use Rattle.conc_law.specs.State.{used}
 use Rattle.conc_disk.specs.Disk.{DiskState}
 use Rattle.conc_disk.specs.Left.{EachImage}
-use Rattle.conc_machine.specs.StandsFor.{plan_of, readings_of, StandsFor}
 use Rattle.conc_journal.specs.Journals.{list_of, room_of, state_of}
 use Rattle.conc_journal.specs.Journals.{IsOn as JournalIsOn}
 use Rattle.conc_journal.specs.JournalStates.{has_faulted, takes_events}
+use Rattle.conc_restart.specs.Machines.{plan_of, readings_of, StandsFor}
 use Rattle.conc_restart.specs.Need.{IsOfOneLife, need}
 use Rattle.conc_spool.specs.Spools.{used_of}
 use Rattle.conc_spool.specs.Spools.{IsOn as SpoolIsOn}

@@ -5,5 +5,6 @@
 mod error;
 mod work;
 
+pub use conc_restart::Machine;
 pub use error::{DiskName, HistoryFail, RunFail};
 pub use work::Work;

@@ -1,5 +1,5 @@
 use conc_journal::Journal;
-use conc_machine::Machine;
+use conc_restart::Machine;
 use conc_spool::Spool;
 
 /// What a run works on. It does not hold the disks of its journal and its spool, which each call is

@@ -31,8 +31,7 @@ use Rattle.conc_law.proofs.Options.{and_then-some, map-some}
 use Rattle.conc_law.proofs.Outcomes.{close_outcome, end_outcome}
 use Rattle.conc_law.proofs.Positions.{reverse-push}
 use Rattle.conc_machine_readings.specs.declared.life.LifeReadings.{LifeReadings}
-use Rattle.conc_machine.specs.StandsFor.{readings_of, StandsFor}
-use Rattle.conc_machine.specs.declared.machine.Machine.{Machine}
+use Rattle.conc_run_state.specs.Machines.{Machine, readings_of, StandsFor}
 use Rattle.conc_resolver_choice.specs.Choices.{HasItsText}
 use Rattle.conc_resolver_choice.proofs.Pushes.{is_lawful-more}
 use Rattle.conc_disk.specs.Disk.{DiskState}
@@ -40,8 +39,8 @@ use Rattle.conc_journal_image.specs.Fields.{has_record}
 use Rattle.conc_journal.specs.Journals.{room_of, state_of}
 use Rattle.conc_journal.specs.Journals.{IsOn as JournalIsOn}
 use Rattle.conc_journal.specs.JournalStates.{takes_events}
-use Rattle.conc_restart.specs.Need.{IsOfOneLife, need}
-use Rattle.conc_restart.proofs.LivesFit.{life_fits}
+use Rattle.conc_run_state.specs.Machines.{IsOfOneLife, need}
+use Rattle.conc_run_state.proofs.Lives.{life_fits}
 use Rattle.conc_spool.specs.Spools.{used_of}
 use Rattle.conc_spool.specs.Spools.{IsOn as SpoolIsOn}
 use Rattle.conc_spool.specs.declared.spool.Spool.{Spool}

@@ -19,7 +19,7 @@ use Rattle.conc_journal_image.specs.Fields.{command_stamp}
 use Rattle.conc_journal_image.specs.declared.label.Label.{Label}
 use Rattle.conc_journal_image.specs.declared.label.Version.{Version}
 use Rattle.conc_journal_image.specs.declared.label.Version.TheVariants.{One, Two}
-use Rattle.conc_machine.specs.StandsFor.{readings_of}
+use Rattle.conc_run_state.specs.Machines.{readings_of}
 use Rattle.conc_run_state.specs.Inputs.{AreStampsOf, command_of, IsOfInput, NamesInput}
 use Rattle.conc_run_state.specs.Works.{list_in}
 use Rattle.conc_run_state.specs.declared.work.Work.{Work}

@@ -13,8 +13,7 @@ use Rattle.conc_journal.specs.Journals.{list_of, room_of, state_of}
 use Rattle.conc_journal.specs.Journals.{IsOn as JournalIsOn}
 use Rattle.conc_journal.specs.JournalStates.{after_fault, has_faulted, state_label, takes_events}
 use Rattle.conc_journal.specs.declared.journal.Journal.{Journal}
-use Rattle.conc_machine.specs.StandsFor.{plan_of, readings_of}
-use Rattle.conc_machine.specs.declared.machine.Machine.{Machine}
+use Rattle.conc_run_state.specs.Machines.{Machine, plan_of, readings_of}
 use Rattle.conc_spool.specs.Spools.{used_of}
 use Rattle.conc_spool.specs.Spools.{IsOn as SpoolIsOn}
 use Rattle.conc_run_state.specs.Inputs.{IsBegunFor}

@@ -5,7 +5,7 @@ use Rattle.conc_types.specs.declared.plan.Plan.{Plan}
 use Rattle.conc_types.specs.declared.script.Reading.{Reading}
 use Rattle.conc_disk.specs.Disk.{DiskState}
 use Rattle.conc_journal.specs.Journals.{state_of}
-use Rattle.conc_machine.specs.StandsFor.{readings_of}
+use Rattle.conc_run_state.specs.Machines.{readings_of}
 use Rattle.conc_run_state.specs.Works.{AreReady, list_in}
 use Rattle.conc_run_state.specs.declared.work.Work.{Work}
 use Rattle.conc_run_state.specs.Disks.{Disks, disks}

@@ -15,7 +15,7 @@ use Rattle.conc_journal_image.specs.Fields.{has_record}
 use Rattle.conc_journal.specs.Journals.{room_of, state_of}
 use Rattle.conc_journal.specs.JournalStates.{has_faulted}
 use Rattle.conc_journal.specs.declared.journal.Journal.{Journal}
-use Rattle.conc_machine.specs.StandsFor.{plan_of, readings_of}
+use Rattle.conc_run_state.specs.Machines.{plan_of, readings_of}
 use Rattle.conc_spool.specs.Spools.{Agrees, KeepsBelow}
 use Rattle.conc_run_state.specs.Disks.{Disks, disks}
 use Rattle.conc_run_state.specs.Fits.{FitThroughout}

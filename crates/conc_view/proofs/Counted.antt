@@ -19,8 +19,7 @@ use Rattle.conc_law.proofs.Numbering.{numbered-at}
 use Rattle.conc_law.proofs.Positions.{slice_get-some, take-suc_at}
 use Rattle.conc_law.specs.State.{state}
 use Rattle.conc_law.specs.Status.{status_of}
-use Rattle.conc_machine.specs.StandsFor.{plan_of, StandsFor}
-use Rattle.conc_machine.specs.declared.machine.Machine.{Machine}
+use Rattle.conc_restart.specs.Machines.{Machine, plan_of, StandsFor}
 use Rattle.conc_view.specs.Stands.{Stands}
 use Rattle.conc_view.proofs.Replayed.{same_status}
 use Rattle.conc_view.specs.Counts.{count_in, counts_in, counts_with, place_of, same_phase}

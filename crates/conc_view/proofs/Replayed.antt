@@ -8,8 +8,7 @@ use Rattle.conc_types.specs.declared.event.Phase.{Phase}
 use Rattle.conc_types.specs.declared.event.Status.{Status}
 use Rattle.conc_types.specs.declared.plan.Plan.{Plan}
 use Rattle.conc_law.proofs.Positions.{reverse-push, take-suc_at}
-use Rattle.conc_machine.specs.StandsFor.{plan_of, StandsFor}
-use Rattle.conc_machine.specs.declared.machine.Machine.{Machine}
+use Rattle.conc_restart.specs.Machines.{Machine, plan_of, StandsFor}
 use Rattle.conc_view.specs.Stands.{Stands}
 
 -- two standings of a request are the same in one way

@@ -2,7 +2,7 @@
 use Rattle.std.specs.Prelude.{List}
 use Rattle.conc_types.specs.declared.event.Event.{Event}
 use Rattle.conc_types.specs.declared.plan.Plan.{Plan}
-use Rattle.conc_machine.specs.StandsFor.{plan_of}
+use Rattle.conc_restart.specs.Machines.{plan_of}
 use Rattle.conc_view.specs.declared.naming.Naming.{Ghosts}
 use Rattle.conc_view.specs.declared.watcher.Watcher.{Watcher}
 

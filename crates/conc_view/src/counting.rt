@@ -1,11 +1,11 @@
 ghost use Rattle.std.specs.Prelude.{◌≡◌, ◌<◌, ◌≤◌, List};
 ghost use Rattle.std.specs.List.{All};
 ghost use Rattle.conc_types.specs.declared.event.Event.{Event};
-ghost use Rattle.conc_machine.specs.StandsFor.{plan_of};
+ghost use Rattle.conc_restart.specs.Machines.{plan_of};
 ghost use Rattle.conc_view.specs.Counts.{counts_of, counts_with, place_of};
 ghost use Rattle.conc_view.specs.Stands.{Stands};
 
-use conc_machine::Machine;
+use conc_restart::Machine;
 use conc_types::{Phase, RequestId, Status};
 
 fn place_of(phase: Phase) -> usize

@@ -1,6 +1,6 @@
 ghost use Rattle.std.specs.Prelude.{◌≡◌, ◌≤◌, length, take};
 ghost use mathlib.Core.List.{IsPrefix};
-ghost use Rattle.conc_machine.specs.StandsFor.{plan_of};
+ghost use Rattle.conc_restart.specs.Machines.{plan_of};
 ghost use Rattle.conc_view.specs.Stands.{Stands};
 
 use crate::book::Reached;
@@ -9,7 +9,7 @@ use crate::counting::counts;
 use crate::naming::Naming;
 use crate::store::Store;
 use crate::told::Told;
-use conc_machine::Machine;
+use conc_restart::Machine;
 use conc_types::{Event, Phase, RequestId, Status};
 use crossbeam_utils::rule::Unruled;
 use left_right::reader::Reader;

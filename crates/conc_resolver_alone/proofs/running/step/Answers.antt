@@ -9,8 +9,7 @@ use Rattle.conc_resolver_choice.specs.Choices.{event_of, HasItsText}
 use Rattle.conc_law.proofs.Finishes.{next_alone-none}
 use Rattle.conc_journal.specs.Journals.{list_of}
 use Rattle.conc_journal.specs.declared.journal.Journal.{Journal}
-use Rattle.conc_machine.specs.StandsFor.{plan_of, readings_of}
-use Rattle.conc_machine.specs.declared.machine.Machine.{Machine}
+use Rattle.conc_run_state.specs.Machines.{Machine, plan_of, readings_of}
 use Rattle.conc_run_state.specs.Works.{list_in, longest_in}
 use Rattle.conc_run_state.specs.declared.work.Work.{Work}
 use Rattle.conc_run_steps.specs.Going.{TellsReport}

@@ -6,8 +6,7 @@ use Rattle.conc_board_lanes.specs.Lanes.{IsLeadPassOf, puts_of}
 use Rattle.conc_board_lanes.specs.Puts.{lists_for, waits_to_start}
 use Rattle.conc_board_lanes.specs.declared.lanes.LeadPass.{LeadPass}
 use Rattle.conc_desk.specs.Desks.{list_at, plan_at}
-use Rattle.conc_machine.specs.StandsFor.{plan_of}
-use Rattle.conc_machine.specs.declared.machine.Machine.{Machine}
+use Rattle.conc_run_state.specs.Machines.{Machine, plan_of}
 use Rattle.conc_run_steps.specs.Steps.{readings_in}
 use Rattle.conc_run_steps.proofs.Coming.{lawful-past}
 use Rattle.conc_resolver_workers.proofs.Crews.{has-at}

@@ -1,8 +1,7 @@
 use Rattle.std.proofs.Common.{arith, refl, sym, ◌∙◌, ap}
 use Rattle.conc_types.specs.declared.plan.Plan.{Plan}
 use Rattle.conc_board.specs.Seats.{plan_of as board_plan}
-use Rattle.conc_machine.specs.StandsFor.{plan_of}
-use Rattle.conc_machine.specs.declared.machine.Machine.{Machine}
+use Rattle.conc_run_state.specs.Machines.{Machine, plan_of}
 use Rattle.conc_resolver_workers.proofs.Waiting.{request-in}
 use Rattle.conc_resolver_workers.proofs.boarding.withdraw_all.Goals as goal
 

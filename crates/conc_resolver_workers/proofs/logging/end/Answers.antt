@@ -3,8 +3,7 @@ use Rattle.conc_types.specs.declared.event.Event.{Event}
 use Rattle.conc_types.specs.declared.plan.Plan.{Plan}
 use Rattle.conc_journal.specs.Journals.{list_of, room_of}
 use Rattle.conc_journal.specs.declared.journal.Journal.{Journal}
-use Rattle.conc_machine.specs.StandsFor.{plan_of}
-use Rattle.conc_machine.specs.declared.machine.Machine.{Machine}
+use Rattle.conc_run_state.specs.Machines.{Machine, plan_of}
 use Rattle.conc_spool.specs.Spools.{used_of}
 use Rattle.conc_run_state.specs.Disks.{disks}
 use Rattle.conc_run_state.specs.Works.{HasPendingText}

@@ -1,8 +1,7 @@
 use Rattle.std.proofs.Common.{sym, ◌∙◌, ap, subst}
 use Rattle.conc_types.specs.declared.plan.Plan.{Plan}
 use Rattle.conc_board_seats.specs.Words.{IsRequest}
-use Rattle.conc_machine.specs.StandsFor.{plan_of}
-use Rattle.conc_machine.specs.declared.machine.Machine.{Machine}
+use Rattle.conc_run_state.specs.Machines.{Machine, plan_of}
 use Rattle.conc_desk_lead.proofs.Named.{is_request}
 use Rattle.conc_resolver_workers.proofs.Advancing.{after, at-work, begins, stays-moves, stays-twice, still}
 use Rattle.conc_resolver_workers.proofs.Quiet.{quiet-after, quiet-none, quiet-still}

@@ -4,7 +4,7 @@ use Rattle.conc_types.specs.declared.event.Event.{Event}
 use Rattle.conc_law.specs.Alone.{opening}
 use Rattle.conc_law.specs.Law.{LawfulSoFar}
 use Rattle.conc_law.specs.State.{used}
-use Rattle.conc_machine.specs.StandsFor.{StandsFor}
+use Rattle.conc_restart.specs.Machines.{StandsFor}
 use Rattle.conc_run_state.specs.Inputs.{AreStampsOf}
 use Rattle.conc_run_open.proofs.Counting.{counted-is}
 use Rattle.conc_run_open.proofs.Preparing.{cannot_begin-bad, cannot_begin-full}

@@ -1,7 +1,7 @@
 use Rattle.std.proofs.Common.{◌≡◌, ◌<◌, ◌+◌, ◌∙◌, ap, length, refl, subst, sym}
 use Rattle.std.proofs.lemmas.Bool.Decides.{nat_tests}
 use Rattle.std.proofs.Common.{arith}
-use Rattle.conc_machine.specs.StandsFor.{plan_of}
+use Rattle.conc_restart.specs.Machines.{plan_of}
 use Rattle.conc_view.proofs.Counted.{AreCounts, one_counted}
 use Rattle.conc_view.proofs.counting.counts.Goals as goal
 

@@ -1,7 +1,7 @@
 use Rattle.std.proofs.Common.{◌≡◌, refl, Some}
 use Rattle.std.specs.Prelude.{slice_get}
 use Rattle.std.proofs.lemmas.Option.{slice_get_read}
-use Rattle.conc_machine.specs.StandsFor.{plan_of}
+use Rattle.conc_restart.specs.Machines.{plan_of}
 use Rattle.conc_view.proofs.Replayed.{take_more}
 use Rattle.conc_view.proofs.watcher.replay.Goals as goal
 

@@ -1,4 +1,4 @@
-use Rattle.conc_machine.specs.StandsFor.{plan_of}
+use Rattle.conc_restart.specs.Machines.{plan_of}
 use Rattle.conc_view.proofs.Replayed.{HasTaken}
 use Rattle.conc_view.proofs.watcher.replay.Given as goal
 

@@ -2,8 +2,7 @@ use Rattle.std.proofs.Common.{◌≡◌, true, false, reverse, None, Some, Ok, E
 use Rattle.conc_types.specs.declared.plan.Plan.{Plan}
 use Rattle.conc_journal.specs.Journals.{list_of}
 use Rattle.conc_journal.specs.declared.journal.Journal.{Journal}
-use Rattle.conc_machine.specs.StandsFor.{plan_of}
-use Rattle.conc_machine.specs.declared.machine.Machine.{Machine}
+use Rattle.conc_run_state.specs.Machines.{Machine, plan_of}
 use Rattle.conc_run_state.specs.Works.{HasPendingText, list_in}
 use Rattle.conc_run_steps.specs.Steps.{plan_in}
 use Rattle.conc_desk.specs.Desks.{plan_at}
