@@ -8,8 +8,8 @@ nothing of its body. Every other function that the check tells of must be proved
 left to rt must-fail, which tries it alone: one that lies in no one function's body, or in a function that calls itself, that
 does not compile, or whose function is proved all the same.
 
-Each crate has a bench in the copy: a small repository with the crate's own files, and links to those of the crates that it
-stands on. So no other check sees the edits, and several crates are tried at once. What a bench proved is kept for the next
+Each crate has a bench beside the copy: a small repository with the crate's own files, and links to those of the crates that
+it stands on. So no other check sees the edits, and several crates are tried at once. What a bench proved is kept for the next
 trial.
 """
 
@@ -74,7 +74,7 @@ class Bench:
     """A repository of one crate and what it stands on, in which checks of the edited crate are done."""
 
     def __init__(self, copy, crate):
-        self.crate, self.at, self.seconds = crate, copy.at / "benches" / crate, 0.0
+        self.crate, self.at, self.seconds = crate, copy.benches / crate, 0.0
         self.home = self.at / "crates" / crate
         lines, uses = room.rows()
         names = room.in_order([crate], uses)

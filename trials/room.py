@@ -123,6 +123,8 @@ class Room:
             stop("rt is not on the path")
         home = os.environ.get("TRIALS_ROOM") or Path.home() / ".cache" / "conc-trials"
         self.at = Path(home).absolute() / name
+        # (rt reads every crates.txt below the copy, so what is tried in batches stands beside it)
+        self.benches = self.at.with_name(f"{name}-benches")
         (self.at / "crates").mkdir(parents=True, exist_ok=True)
         self.lock = open(self.at / "lock", "w")
         try:
