@@ -5,7 +5,7 @@ ghost use Rattle.conc_test_desk.specs.Driven.{IsDriven, IsPlain, room_at};
 
 use crate::Disks;
 use conc_board::{Board, Looked, Progress};
-use conc_resolver::{Desk, KeepFail, Kept};
+use conc_desk::{Desk, KeepFail, Kept};
 use conc_types::{Event, PlaceId, RequestId};
 use std::process::Abort;
 
