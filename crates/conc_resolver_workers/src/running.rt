@@ -132,8 +132,7 @@ fn run_beside<
     teller: &mut T,
     gate: &G,
     hints: &mut Hints,
-    answer: &mut Result<(), RunFail>,
-)
+) -> Result<(), RunFail>
     requires plan { plan.now ≡ plan_of board.now }
     requires lanes { lanes_spec.plan_of lanes.now ≡ plan.now }
     requires filled { AreFilled lanes.now desk.old hints.old.pass }
@@ -144,13 +143,14 @@ fn run_beside<
     requires free { All (IsFreeWorker board.now) crew.old }
     ensures concludes { Concludes board.now (disks (D.state journal.old) (D.state journal.new)
         (E.state spool.old) (E.state spool.new)) (T.list teller.new) (T.takes teller.new)
-        (T.may_lack teller.new) answer.new desk.old desk.new }
-    ensures fills { Fills lanes.now answer.new desk.old desk.new hints.new.pass }
+        (T.may_lack teller.new) result desk.old desk.new }
+    ensures fills { Fills lanes.now result desk.old desk.new hints.new.pass }
     ensures free { All (IsFreeWorker board.now) crew.new }
     ensures places { SamePlaces crew.old crew.new }
 {
     let arrivals = Arrivals::new();
     let workers = crew.len();
+    let mut answer = Ok(());
     join_mut(
         rt,
         &mut ||
@@ -167,15 +167,16 @@ fn run_beside<
             ensures { Concludes board.entry.now (disks (D.state journal.entry.now)
                 (D.state journal.exit.now) (E.state spool.entry.now) (E.state spool.exit.now))
                 (T.list teller.exit.now) (T.takes teller.exit.now) (T.may_lack teller.exit.now)
-                answer.exit.now desk.entry.now desk.exit.now
-                × Fills lanes.entry.now answer.exit.now desk.entry.now desk.exit.now
+                answer.exit desk.entry.now desk.exit.now
+                × Fills lanes.entry.now answer.exit desk.entry.now desk.exit.now
                 hints.exit.now.pass }
         {
-            *answer = direct_crew(
+            answer = direct_crew(
                 rt, board, lanes, &arrivals, workers, desk, journal, spool, teller, hints,
             );
         },
     );
+    answer
 }
 
 // What a run with workers needs beside its work: a board, its lead, the lanes, the workers, and what the resolver keeps beside
@@ -286,15 +287,12 @@ pub fn run_with_workers<
         → state_of result.work.journal ≡ state_of work.entry.journal }
 {
     let plan = work.machine.plan();
-    let means = match prepare(alloc, plan, threads) {
-        Ok(means) => means,
-        Err(NoMemory) => {
-            return Ran {
-                work,
-                puts: None,
-                answer: Err(RunFail::NoMemory),
-            };
-        }
+    let Ok(means) = prepare(alloc, plan, threads) else {
+        return Ran {
+            work,
+            puts: None,
+            answer: Err(RunFail::NoMemory),
+        };
     };
     let Means {
         board,
@@ -305,8 +303,7 @@ pub fn run_with_workers<
     } = means;
     let mut desk = Desk::new(plan, lead, work);
     put_waiting(rt, &lanes, &desk, &mut hints.pass);
-    let mut answer = Ok(());
-    run_beside(
+    let answer = run_beside(
         rt,
         alloc,
         &board,
@@ -319,7 +316,6 @@ pub fn run_with_workers<
         teller,
         gate,
         &mut hints,
-        &mut answer,
     );
     let (mut lead, work) = desk.into_parts();
     take_in(&board, &mut lead, crew);

@@ -21,8 +21,8 @@ use Rattle.conc_board_lanes.proofs.Lists.{lists_for-none}
 use Rattle.conc_resolver_workers.proofs.Filled.{puts-by}
 use Rattle.conc_resolver_workers.proofs.running.run_with_workers.Goals as goal
 
-pub returns-in-Err-clause-went_on : goal.returns-in-Err-clause-went_on
-returns-in-Err-clause-went_on g c =
+pub returns-in_default-clause-went_on : goal.returns-in_default-clause-went_on
+returns-in_default-clause-went_on g c =
     went-still c.args.work (g.D.Disk.state c.args.journal.now) (g.E.Disk.state c.args.spool.now) c.requires.ready ((g.met.E.Disk g.world.𝓛 g.world.𝓜 g.world.𝓡 ((λ s x. x), (λ x. x), (λ x. x), λ x. x)).seen_is_left c.args.spool.now)
 
 -- ---- the lanes
@@ -36,19 +36,19 @@ put_waiting-requires-clause-empty g c =
 
 pub take_in-requires-clause-free : goal.take_in-requires-clause-free
 take_in-requires-clause-free g c =
-    let us = c.run_beside.new.crew in let ws = c.in-Ok.means.crew.items in
-    let same : SamePlaces ws us = search (rules, c.run_beside.ensures.places) in
+    let us = c.run_beside-answer.new.crew in let ws = c.in-Ok.means.crew.items in
+    let same : SamePlaces ws us = search (rules, c.run_beside-answer.ensures.places) in
     let count : length us ≡ c.in-Ok.means.crew.len = omega (arith, same.long, c.in-Ok.means.crew.ok) in
     let front : us ≡ take c.in-Ok.means.crew.len (us ++ drop (length us) ws) = sym (take-front us (drop (length us) ws)) ∙ ap (λ (n : ℕ). take n (us ++ drop (length us) ws)) count in
-    subst (λ (l : List Worker). (k : ℕ) (d : Worker) → k < length l → IsFreeWorker c.in-Ok.means.board (get_or l k d)) front c.run_beside.ensures.free
+    subst (λ (l : List Worker). (k : ℕ) (d : Worker) → k < length l → IsFreeWorker c.in-Ok.means.board (get_or l k d)) front c.run_beside-answer.ensures.free
 
 pub take_in-requires-clause-covers : goal.take_in-requires-clause-covers
 take_in-requires-clause-covers g c =
-    let us = c.run_beside.new.crew in let ws = c.in-Ok.means.crew.items in let lead' = c.into_parts-lead.result.0 in
-    let same : SamePlaces ws us = search (rules, c.run_beside.ensures.places) in
+    let us = c.run_beside-answer.new.crew in let ws = c.in-Ok.means.crew.items in let lead' = c.into_parts-lead.result.0 in
+    let same : SamePlaces ws us = search (rules, c.run_beside-answer.ensures.places) in
     let count : length us ≡ c.in-Ok.means.crew.len = omega (arith, same.long, c.in-Ok.means.crew.ok) in
     let front : us ≡ take c.in-Ok.means.crew.len (us ++ drop (length us) ws) = sym (take-front us (drop (length us) ws)) ∙ ap (λ (n : ℕ). take n (us ++ drop (length us) ws)) count in
-    let places = ap (λ z. places_of_lead z.0) c.into_parts-lead.ensures.parts ∙ c.run_beside.ensures.concludes.places ∙ ap (λ (l : Lead). places_of_lead l) c.new-desk.ensures.lead in
+    let places = ap (λ z. places_of_lead z.0) c.into_parts-lead.ensures.parts ∙ c.run_beside-answer.ensures.concludes.places ∙ ap (λ (l : Lead). places_of_lead l) c.new-desk.ensures.lead in
     let covers = subst (λ (p : Plan). Covers p c.in-Ok.means.lead ws) (sym c.in-Ok.ensures.board) c.in-Ok.ensures.covers in
     subst (λ (l : List Worker). Covers (plan_of c.in-Ok.means.board) lead' l) front
     (covers-same (plan_of c.in-Ok.means.board) c.in-Ok.means.lead lead' ws us places same covers)
@@ -57,40 +57,40 @@ take_in-requires-clause-covers g c =
 
 pub returns-clause-went_on : goal.returns-clause-went_on
 returns-clause-went_on g c =
-    let d = disks (g.D.Disk.state c.args.journal.now) (g.D.Disk.state c.run_beside.new.journal) (g.E.Disk.state c.args.spool.now) (g.E.Disk.state c.run_beside.new.spool) in
-    subst (λ (z : Work × Work). WentOn (plan_in z.0) (readings_in z.0) d z.0 z.1) (λ i. (c.new-desk.ensures.work i, sym (ap (λ z. z.1) c.into_parts-lead.ensures.parts) i)) c.run_beside.ensures.concludes.went
+    let d = disks (g.D.Disk.state c.args.journal.now) (g.D.Disk.state c.run_beside-answer.new.journal) (g.E.Disk.state c.args.spool.now) (g.E.Disk.state c.run_beside-answer.new.spool) in
+    subst (λ (z : Work × Work). WentOn (plan_in z.0) (readings_in z.0) d z.0 z.1) (λ i. (c.new-desk.ensures.work i, sym (ap (λ z. z.1) c.into_parts-lead.ensures.parts) i)) c.run_beside-answer.ensures.concludes.went
 
 pub returns-clause-finished : goal.returns-clause-finished
 returns-clause-finished g c =
-    subst (λ (z : Work × Work). OnOk c.run_beside.new.answer (Finished (plan_in z.0) (readings_in z.0) (list_in z.1)))
-    (λ i. (c.new-desk.ensures.work i, sym (ap (λ z. z.1) c.into_parts-lead.ensures.parts) i)) c.run_beside.ensures.concludes.finished
+    subst (λ (z : Work × Work). OnOk c.run_beside-answer.result (Finished (plan_in z.0) (readings_in z.0) (list_in z.1)))
+    (λ i. (c.new-desk.ensures.work i, sym (ap (λ z. z.1) c.into_parts-lead.ensures.parts) i)) c.run_beside-answer.ensures.concludes.finished
 
 pub returns-clause-told : goal.returns-clause-told
 returns-clause-told g c =
-    let told = g.T.Teller.list c.run_beside.new.teller in let takes = g.T.Teller.takes c.run_beside.new.teller in
-    subst (λ (z : Work × Work). OnOk c.run_beside.new.answer (IsTold told takes (plan_in z.0) (list_in z.1)))
-    (λ i. (c.new-desk.ensures.work i, sym (ap (λ z. z.1) c.into_parts-lead.ensures.parts) i)) c.run_beside.ensures.concludes.is_told
+    let told = g.T.Teller.list c.run_beside-answer.new.teller in let takes = g.T.Teller.takes c.run_beside-answer.new.teller in
+    subst (λ (z : Work × Work). OnOk c.run_beside-answer.result (IsTold told takes (plan_in z.0) (list_in z.1)))
+    (λ i. (c.new-desk.ensures.work i, sym (ap (λ z. z.1) c.into_parts-lead.ensures.parts) i)) c.run_beside-answer.ensures.concludes.is_told
 
 pub returns-clause-journal_fault : goal.returns-clause-journal_fault
-returns-clause-journal_fault g c = λ is. c.run_beside.ensures.concludes.journal_fault is
+returns-clause-journal_fault g c = λ is. c.run_beside-answer.ensures.concludes.journal_fault is
 
 pub returns-clause-spool_fault : goal.returns-clause-spool_fault
-returns-clause-spool_fault g c = λ is. c.run_beside.ensures.concludes.spool_fault is
+returns-clause-spool_fault g c = λ is. c.run_beside-answer.ensures.concludes.spool_fault is
 
 pub returns-clause-memory : goal.returns-clause-memory
 returns-clause-memory g c = λ is.
-    let told = g.T.Teller.list c.run_beside.new.teller in let lacks = g.T.Teller.may_lack c.run_beside.new.teller in
+    let told = g.T.Teller.list c.run_beside-answer.new.teller in let lacks = g.T.Teller.may_lack c.run_beside-answer.new.teller in
     subst (λ (z : Work × Work). (list_in z.1 ≡ list_in z.0) ⊎ (AwaitsReport (plan_in z.0) (list_in z.1) ⊎ ((lacks ≡ true) × IsUntold told (list_in z.1))))
-    (λ i. (c.new-desk.ensures.work i, sym (ap (λ z. z.1) c.into_parts-lead.ensures.parts) i)) (c.run_beside.ensures.concludes.memory is)
+    (λ i. (c.new-desk.ensures.work i, sym (ap (λ z. z.1) c.into_parts-lead.ensures.parts) i)) (c.run_beside-answer.ensures.concludes.memory is)
 
 pub returns-clause-sound : goal.returns-clause-sound
 returns-clause-sound g c = λ none.
-    ap (λ z. state_of z.1.journal) c.into_parts-lead.ensures.parts ∙ c.run_beside.ensures.concludes.sound none ∙ ap (λ (w : Work). state_of w.journal) c.new-desk.ensures.work
+    ap (λ z. state_of z.1.journal) c.into_parts-lead.ensures.parts ∙ c.run_beside-answer.ensures.concludes.sound none ∙ ap (λ (w : Work). state_of w.journal) c.new-desk.ensures.work
 
 -- ---- what it put
 
 pub returns-clause-puts : goal.returns-clause-puts
 returns-clause-puts g c =
-    let left = c.run_beside.ensures.fills in
-    puts-by c.run_beside.new.answer c.in-Ok.means.lanes (plan_in c.args.work) (list_in c.args.work) c.run_beside.new.desk c.run_beside.new.hints.pass c.into_parts-lead.result.1
+    let left = c.run_beside-answer.ensures.fills in
+    puts-by c.run_beside-answer.result c.in-Ok.means.lanes (plan_in c.args.work) (list_in c.args.work) c.run_beside-answer.new.desk c.run_beside-answer.new.hints.pass c.into_parts-lead.result.1
     (ap (λ z. z.1) c.into_parts-lead.ensures.parts) (c.in-Ok.ensures.lanes ∙ c.plan-plan.ensures) (left.begun_with ∙ c.new-desk.ensures.begun_with) left.filled
