@@ -129,6 +129,11 @@ def is_above(line):
     return line.startswith("no proof: it calls ") and all(it.startswith("it calls ") for it in line[10:].split("; "))
 
 
+def is_proved(line):
+    """Whether a function's line says that it is proved; it may go on, as in `proved, may wait`."""
+    return line.startswith("proved")
+
+
 def in_cycles(folder):
     """The names of functions that call themselves or one another: they have one proof, in a folder '+NAME' or '+NAME+NAME'."""
     return {name for it in folder.glob("proofs/**/+*") for name in re.split(r"[+-]", it.name)}
@@ -160,7 +165,7 @@ class Batches:
             unknown = UNKNOWN.search(said)
             if not unknown or unknown[1] not in self.homes.values():
                 told = dict(LINE.findall(said))
-                is_sound = status == 0 and all(told.get(it) == "proved" for it in self.homes.values())
+                is_sound = status == 0 and all(is_proved(told.get(it, "")) for it in self.homes.values())
                 return is_sound and re.search(r"^only=\d+ proved=\d+$", said, re.M)
             self.homes = {it: home for it, home in self.homes.items() if home != unknown[1]}
         return False
@@ -196,7 +201,7 @@ class Batches:
         ended = re.search(r"^only=\d+ proved=\d+$", said, re.M)
         own = {it: [name for name in told if is_of(name, self.homes[it])] for it in names}
         others = told.keys() - {name for it in own.values() for name in it}
-        is_plain = all(told[it] == "proved" or is_above(told[it]) for it in others)
+        is_plain = all(is_proved(told[it]) or is_above(told[it]) for it in others)
         if status not in (0, 1) or not ended or unread(said) or not is_plain:
             return False
         for it in names:
@@ -204,7 +209,7 @@ class Batches:
             if self.homes[it] in told and failed and not any(told[name].startswith("could not") for name in own[it]):
                 self.results[it] = room.REFUSED, f"{failed[0]}: {told[failed[0]]}"
         # (once those that are refused are out, others may be judged)
-        again = [it for it in names if it not in self.results and told.get(self.homes[it], "proved") != "proved"]
+        again = [it for it in names if it not in self.results and not is_proved(told.get(self.homes[it], "proved"))]
         if again and len(again) < len(names):
             self.attempt(again)
         return not again or len(again) < len(names)
