@@ -2,8 +2,11 @@
 //! error, and ends with the exit's number.
 #![tactic(auto)]
 
-ghost use Rattle.std.specs.Prelude.{◌≡◌, ◌≢◌};
+ghost use Rattle.std.specs.Prelude.{◌≡◌, ◌≢◌, ◌↔◌, slice_get, vec_len, IfOk, IsTrue};
+ghost use Rattle.std.specs.Option.{option_map};
 ghost use Rattle.std.specs.IoError.{error_kind};
+ghost use Rattle.std.specs.String.{string_bytes};
+ghost use Rattle.conc.specs.Looks.{AsksForLook};
 ghost use Rattle.std.specs.declared.io.ErrorKind.TheVariants as ErrorKind;
 ghost use Rattle.conc_top.specs.declared.exit.Exit.TheVariants as Exit;
 
@@ -34,7 +37,9 @@ const STANDARD: usize = 3;
 
 // Opens files for reading alone until no standard descriptor is free, so that none of them is handed out
 // for a disk: what is written to one that was closed then fails. The files are to be held to the end.
-fn hold_standard(rt: &HostRuntime) -> io::Result<Vec<File>> {
+fn hold_standard(rt: &HostRuntime) -> io::Result<Vec<File>>
+    ensures { IfOk result (λ held. vec_len held ≡ STANDARD) }
+{
     let mut held = Vec::new(rt.alloc());
     for _ in 0..STANDARD {
         let file = File::open(rt, "/dev/null").or_else(|_| File::open(rt, "/"))?;
@@ -97,7 +102,9 @@ fn run_over<Rt: Threads + Wait + Sync, D: Disk + Send, E: Disk + Send>(
 }
 
 // Whether the words ask for a look at what a run left, which may stand beside a run.
-fn looks(words: &[String]) -> bool {
+fn looks(words: &[String]) -> bool
+    ensures { IsTrue result ↔ AsksForLook (option_map string_bytes (slice_get words.now 0)) }
+{
     matches!(words.first(), Some(word) if matches!(word.as_str(), "status" | "output"))
 }
 
