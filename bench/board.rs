@@ -1,5 +1,5 @@
 // The calls of a board by hand, with std alone: `board HANDS` with 1, 2 or 4 prints the nanoseconds of a
-// claim, a poll, a post and a collect, as crates/conc_bench_board does, in the same rounds and threads,
+// claim, a poll, a post and a collect, as crates/conc_test_bench_board does, in the same rounds and threads,
 // with the same clock readings. Each call makes the same loads and exchanges on the same words.
 use std::cell::UnsafeCell;
 use std::fmt::{self, Display, Formatter};

@@ -1,6 +1,6 @@
 #!/usr/bin/env bash
 # bench/board.sh
-# The calls of a board beside the same calls by hand: crates/conc_bench_board, as LLVM builds it, and
+# The calls of a board beside the same calls by hand: crates/conc_test_bench_board, as LLVM builds it, and
 # bench/board.rs, which `rustc -O` builds, make 60 rounds of 64 requests: a claim whose hint wins, a poll that
 # gives the permit, a post and a collect for each. With 1, 2 and 4 threads of hands, which claim, poll and post
 # at the same time, RUNS runs (15 if RUNS is not set) of each, the two taken in turn. It prints the least
@@ -10,11 +10,11 @@ set -euo pipefail
 here=$(cd "$(dirname "$0")/.." && pwd)
 work=${BENCH_WORK:-$(mktemp -d)}
 runs=${RUNS:-15}
-ours=$here/crates/conc_bench_board/out/conc_bench_board
+ours=$here/crates/conc_test_bench_board/out/conc_test_bench_board
 hand=$work/board
 if [ ! -x "$ours" ]; then
   # With no word the program ends with status 1.
-  (cd "$here/crates/conc_bench_board" && rt run > "$work/build.log" 2>&1) || true
+  (cd "$here/crates/conc_test_bench_board" && rt run > "$work/build.log" 2>&1) || true
 fi
 [ -x "$ours" ] || { tail -40 "$work/build.log"; exit 1; }
 rustc -O --edition 2021 -o "$hand" "$here/bench/board.rs"

@@ -1,14 +1,14 @@
 #!/bin/sh
 # What the journal costs on a disk: bench/journal.sh FOLDER [PEER]
-# In FOLDER, five times one after the other: seconds for 2,000 appends by conc_bench_append, as LLVM builds it, and by
+# In FOLDER, five times one after the other: seconds for 2,000 appends by conc_test_bench_append, as LLVM builds it, and by
 # PEER FILE 2000 journal, another program that makes the same writes and syncs; then seconds to read a journal of
 # 1,048,576 records from the page cache, and of cat on the same file.
 folder=$(cd "${1:?name a folder on the disk}" && pwd) || exit 1
 peer=$2
 top=$(cd "$(dirname "$0")/.." && pwd) || exit 1
-program=$top/crates/conc_bench_append/out/conc_bench_append
-[ -x "$program" ] || (cd "$top/crates/conc_bench_append" && rt run > /dev/null)
-[ -x "$program" ] || { echo "conc_bench_append could not be built" >&2; exit 1; }
+program=$top/crates/conc_test_bench_append/out/conc_test_bench_append
+[ -x "$program" ] || (cd "$top/crates/conc_test_bench_append" && rt run > /dev/null)
+[ -x "$program" ] || { echo "conc_test_bench_append could not be built" >&2; exit 1; }
 room=$(mktemp -d "$folder/journal.XXXXXX") || exit 1
 trap 'rm -rf "$room"' EXIT
 

@@ -22,13 +22,13 @@ binary=$work/copy/crates/bench_machine/out/bench_machine
 if [ ! -x "$binary" ]; then
   mkdir -p "$work/copy/crates/bench_machine/src"
   cp -r "$here/crates" "$here/crates.txt" "$here/HANDLES" "$work/copy/" 2>/dev/null || true
-  echo 'bench_machine: conc_columns conc_machine conc_outside conc_plan conc_resolver_choice conc_script conc_setup conc_tables conc_types' >> "$work/copy/crates.txt"
+  echo 'bench_machine: conc_data_columns conc_machine conc_outside conc_plan conc_run_choice conc_script conc_setup conc_tables conc_types' >> "$work/copy/crates.txt"
   cat > "$work/copy/crates/bench_machine/src/main.rt" <<'R'
 //! Runs a plan without workers, in memory, so many times: REPEATS, in the folder with its files.
 #![tactic(auto)]
 
-use conc_columns::keep_columns;
-use conc_resolver_choice::next_event;
+use conc_data_columns::keep_columns;
+use conc_run_choice::next_event;
 use conc_machine::Machine;
 use conc_plan::make_plan;
 use conc_script::{read_clock, read_script};

@@ -11,11 +11,11 @@ ghost use Rattle.std.specs.declared.io.ErrorKind.TheVariants as ErrorKind;
 ghost use Rattle.conc_top.specs.declared.exit.Exit.TheVariants as Exit;
 
 use conc_disk::Disk;
-use conc_disk_devices::{GrowingDisk, PathDisk, SnapshotDisk};
+use conc_edge_clock::{SystemClock, SystemZone};
+use conc_edge_devices::{GrowingDisk, PathDisk, SnapshotDisk};
+use conc_edge_gate::FreeGate;
 use conc_journal_image::MOST_BYTES;
 use conc_outside::{FileShelf, WriterSink};
-use conc_outside_clock::{SystemClock, SystemZone};
-use conc_outside_gate::FreeGate;
 use conc_top::{Exit, conc, exit_text};
 use conc_types::NoMemory;
 use std::env;
@@ -108,37 +108,30 @@ fn looks(words: &[String]) -> bool
     matches!(words.first(), Some(word) if matches!(word.as_str(), "status" | "output"))
 }
 
-// Does what the words ask for, with the journal and the spool of the working folder, which are opened at
-// their first use: to look at them alone, or for nobody else.
-fn run<Rt: Threads + Wait + Sync>(
-    rt: &Rt,
-    host: &HostRuntime,
-    words: &[String],
-) -> Result<Exit, NoMemory> {
-    if looks(words) {
+// Takes the words, and does what they ask for with the journal and the spool of the working folder, which are
+// opened at their first use: to look at them alone, or for nobody else.
+fn run<Rt: Threads + Wait + Sync>(rt: &Rt, host: &HostRuntime) -> Exit {
+    let words = match words(host) {
+        Ok(words) => words,
+        Err(error) => return exit_without_words(&error),
+    };
+    let ran = if looks(&words) {
         let most = MOST_BYTES as usize;
         let mut journal = SnapshotDisk::new(host, host.alloc(), JOURNAL, &[OUTPUT], most);
         let mut spool = GrowingDisk::new(host, SPOOL, &[JOURNAL, OUTPUT]);
-        run_over(rt, host, words, &mut journal, &mut spool)
+        run_over(rt, host, &words, &mut journal, &mut spool)
     } else {
         let mut journal = PathDisk::new(host, JOURNAL, &[OUTPUT]);
         let mut spool = PathDisk::new(host, SPOOL, &[JOURNAL, OUTPUT]);
-        run_over(rt, host, words, &mut journal, &mut spool)
-    }
-}
-
-// Takes the words and does what they ask for.
-fn exit_of<Rt: Threads + Wait + Sync>(rt: &Rt, host: &HostRuntime) -> Exit {
-    match words(host) {
-        Ok(words) => run(rt, host, &words).unwrap_or(Exit::NoMemory),
-        Err(error) => exit_without_words(&error),
-    }
+        run_over(rt, host, &words, &mut journal, &mut spool)
+    };
+    ran.unwrap_or(Exit::NoMemory)
 }
 
 fn main(rt: HostRuntime) -> ExitCode {
     let held = hold_standard(&rt);
     let exit = match &held {
-        Ok(_) => exit_of(&rt, &rt),
+        Ok(_) => run(&rt, &rt),
         Err(_) => Exit::NoMemory,
     };
     tell(&rt, &exit);

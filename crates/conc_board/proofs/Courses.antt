@@ -1,9 +1,9 @@
 -- Courses of the lead states of one request.
 use Rattle.std.proofs.Common.{◌≡◌, ℕ, ◌+◌, ◌≤◌, true, List, [], ◌∷◌, sym, refl, subst, inl, inr, arith}
-use Rattle.conc_board_seats.specs.declared.views.LeadState.{LeadState}
-use Rattle.conc_board_seats.specs.declared.views.LeadState.TheVariants.{NotLet, Let, Seen, Gone, Got, Done}
-use Rattle.conc_board_seats.specs.Courses.{GoesOn, IsCourse}
-use Rattle.conc_board_seats.specs.LeadStates.{is_marked}
+use Rattle.conc_pool_seats.specs.declared.views.LeadState.{LeadState}
+use Rattle.conc_pool_seats.specs.declared.views.LeadState.TheVariants.{NotLet, Let, Seen, Gone, Got, Done}
+use Rattle.conc_pool_seats.specs.Courses.{GoesOn, IsCourse}
+use Rattle.conc_pool_seats.specs.LeadStates.{is_marked}
 use Rattle.conc_board.specs.Counts.{AreMarked, count_of_goes, count_of_takes, go_between, take_between}
 
 -- 1 where the go was given, and what was left is not taken yet

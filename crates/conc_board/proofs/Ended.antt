@@ -4,18 +4,18 @@ use Rattle.atomic_table.specs.Table.{Seen as SeenBy, Final}
 use Rattle.conc_types.specs.declared.event.PlaceId.{PlaceId}
 use Rattle.conc_types.specs.declared.event.RequestId.{RequestId}
 use Rattle.conc_types.specs.declared.plan.Plan.{Plan}
-use Rattle.conc_board_seats.specs.declared.views.Doing.{Doing}
-use Rattle.conc_board_seats.specs.declared.views.Doing.TheVariants.{Idle, Waits, Serves}
-use Rattle.conc_board_seats.specs.declared.views.LeadState.{LeadState}
-use Rattle.conc_board_seats.specs.declared.views.LeadState.TheVariants.{NotLet, Let, Seen, Gone, Got, Done}
-use Rattle.conc_board_seats.specs.declared.views.View.{View}
-use Rattle.conc_board_seats.specs.Places.{has}
-use Rattle.conc_board_seats.specs.Rule.{Fits, Home, Keep, doing_at, view_at}
-use Rattle.conc_board_seats.specs.LeadStates.{lead_state_at, lead_state_in}
-use Rattle.conc_board_seats.specs.Steps.{Slot}
-use Rattle.conc_board_seats.specs.Words.{IsPlace, request_of, request_word}
-use Rattle.conc_board_seats.proofs.Facts.{at_view}
-use Rattle.conc_board_seats.proofs.Moves.{home, led, word}
+use Rattle.conc_pool_seats.specs.declared.views.Doing.{Doing}
+use Rattle.conc_pool_seats.specs.declared.views.Doing.TheVariants.{Idle, Waits, Serves}
+use Rattle.conc_pool_seats.specs.declared.views.LeadState.{LeadState}
+use Rattle.conc_pool_seats.specs.declared.views.LeadState.TheVariants.{NotLet, Let, Seen, Gone, Got, Done}
+use Rattle.conc_pool_seats.specs.declared.views.View.{View}
+use Rattle.conc_pool_seats.specs.Places.{has}
+use Rattle.conc_pool_seats.specs.Rule.{Fits, Home, Keep, doing_at, view_at}
+use Rattle.conc_pool_seats.specs.LeadStates.{lead_state_at, lead_state_in}
+use Rattle.conc_pool_seats.specs.Steps.{Slot}
+use Rattle.conc_pool_seats.specs.Words.{IsPlace, request_of, request_word}
+use Rattle.conc_pool_seats.proofs.Facts.{at_view}
+use Rattle.conc_pool_seats.proofs.Moves.{home, led, word}
 use Rattle.conc_board.specs.declared.board.Board.{Board}
 use Rattle.conc_board.specs.declared.lead.Lead.{Lead}
 use Rattle.conc_board.specs.Ends.{EndFits, Ends}

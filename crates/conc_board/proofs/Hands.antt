@@ -1,10 +1,10 @@
 -- What a step of a hand's changes of what contracts see.
 use Rattle.std.proofs.Common.{◌≡◌, ℕ, sym, ap, ◌∙◌, subst}
-use Rattle.conc_board_seats.specs.declared.posted.Posted.{Posted}
-use Rattle.conc_board_seats.specs.declared.views.Doing.{Doing}
-use Rattle.conc_board_seats.specs.declared.views.View.{View}
-use Rattle.conc_board_seats.specs.Doings.{IsWithin}
-use Rattle.conc_board_seats.specs.Steps.{noted, with_doing, with_post}
+use Rattle.conc_pool_seats.specs.declared.posted.Posted.{Posted}
+use Rattle.conc_pool_seats.specs.declared.views.Doing.{Doing}
+use Rattle.conc_pool_seats.specs.declared.views.View.{View}
+use Rattle.conc_pool_seats.specs.Doings.{IsWithin}
+use Rattle.conc_pool_seats.specs.Steps.{noted, with_doing, with_post}
 use Rattle.conc_board.specs.Admission.{IsAdmitted}
 use Rattle.conc_board.specs.declared.board.Board.{Board}
 use Rattle.conc_board.specs.declared.hand.Hand.{Hand}

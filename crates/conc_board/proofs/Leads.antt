@@ -4,15 +4,15 @@ use mathlib.Core.Logic.{dite}
 use native.Mathlib.Decide.{ℕ_discrete}
 use Rattle.conc_types.specs.declared.event.RequestId.{RequestId}
 use Rattle.conc_types.specs.declared.plan.Plan.{Plan}
-use Rattle.conc_board_seats.specs.declared.posted.Posted.{Posted}
-use Rattle.conc_board_seats.specs.declared.views.LeadState.{LeadState}
-use Rattle.conc_board_seats.specs.declared.views.LeadState.TheVariants.{NotLet, Let, Seen, Gone, Got, Done}
-use Rattle.conc_board_seats.specs.declared.views.View.{View}
-use Rattle.conc_board_seats.specs.Courses.{GoesOn}
-use Rattle.conc_board_seats.specs.LeadStates.{IsLetOrGone, IsLive, IsSettled, lead_state_at, lead_state_in}
-use Rattle.conc_board_seats.specs.Steps.{noted, with_lead_state, with_post}
-use Rattle.conc_board_seats.specs.Words.{IsRequest, count_of_requests, request_of, request_word}
-use Rattle.conc_board_seats.proofs.Facts.{request_eq}
+use Rattle.conc_pool_seats.specs.declared.posted.Posted.{Posted}
+use Rattle.conc_pool_seats.specs.declared.views.LeadState.{LeadState}
+use Rattle.conc_pool_seats.specs.declared.views.LeadState.TheVariants.{NotLet, Let, Seen, Gone, Got, Done}
+use Rattle.conc_pool_seats.specs.declared.views.View.{View}
+use Rattle.conc_pool_seats.specs.Courses.{GoesOn}
+use Rattle.conc_pool_seats.specs.LeadStates.{IsLetOrGone, IsLive, IsSettled, lead_state_at, lead_state_in}
+use Rattle.conc_pool_seats.specs.Steps.{noted, with_lead_state, with_post}
+use Rattle.conc_pool_seats.specs.Words.{IsRequest, count_of_requests, request_of, request_word}
+use Rattle.conc_pool_seats.proofs.Facts.{request_eq}
 use Rattle.conc_board.specs.declared.board.Board.{Board}
 use Rattle.conc_board.specs.declared.lead.Lead.{Lead}
 use Rattle.conc_board.specs.Seats.{AddsOne, Changes, IsLeadOf, LeavesLeadStates, lead_state_of, plan_of}

@@ -4,14 +4,14 @@ use mathlib.Core.Logic.{dite}
 use native.Mathlib.Decide.{ℕ_discrete}
 use Rattle.conc_types.specs.declared.event.PlaceId.{PlaceId}
 use Rattle.conc_types.specs.declared.plan.Plan.{Plan}
-use Rattle.conc_law.specs.Places.{count_of_places}
-use Rattle.conc_board_seats.specs.declared.views.LeadState.{LeadState}
-use Rattle.conc_board_seats.specs.declared.views.LeadState.TheVariants.{NotLet, Let, Seen, Gone, Got, Done}
-use Rattle.conc_board_seats.specs.Courses.{GoesOn}
-use Rattle.conc_board_seats.specs.LeadStates.{IsLet, IsLetOrGone, IsSettled, WordFits, looked}
-use Rattle.conc_board_seats.specs.Steps.{HasPlace, LookFits}
-use Rattle.conc_board_seats.specs.Words.{IsPlace, claimed, place_in, released}
-use Rattle.conc_board_seats.proofs.Facts.{place_eq}
+use Rattle.conc_base_law.specs.Places.{count_of_places}
+use Rattle.conc_pool_seats.specs.declared.views.LeadState.{LeadState}
+use Rattle.conc_pool_seats.specs.declared.views.LeadState.TheVariants.{NotLet, Let, Seen, Gone, Got, Done}
+use Rattle.conc_pool_seats.specs.Courses.{GoesOn}
+use Rattle.conc_pool_seats.specs.LeadStates.{IsLet, IsLetOrGone, IsSettled, WordFits, looked}
+use Rattle.conc_pool_seats.specs.Steps.{HasPlace, LookFits}
+use Rattle.conc_pool_seats.specs.Words.{IsPlace, claimed, place_in, released}
+use Rattle.conc_pool_seats.proofs.Facts.{place_eq}
 use Rattle.conc_board.specs.declared.lead.Looked.{Looked}
 use Rattle.conc_board.specs.declared.lead.Looked.TheVariants.{Free, Claimed, Running, Ended}
 use Rattle.conc_board.specs.Answers.{LookedBy}

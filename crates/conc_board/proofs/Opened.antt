@@ -3,7 +3,7 @@ use Rattle.std.proofs.Common.{◌≡◌, ℕ, zero, suc, ◌<◌, ◌||◌, true
 use mathlib.Core.Logic.{dite}
 use native.Mathlib.Decide.{ℕ_discrete}
 use Rattle.conc_types.specs.declared.event.PlaceId.{PlaceId}
-use Rattle.conc_board_seats.specs.Places.{below, has}
+use Rattle.conc_pool_seats.specs.Places.{below, has}
 
 pub has-below : (n : ℕ) (p : PlaceId) → p.index < n → has (below n) p ≡ true
 has-below zero p near = absurd (omega arith)

@@ -5,14 +5,14 @@ use native.Mathlib.Decide.{ℕ_discrete}
 use Rattle.conc_types.specs.declared.event.PlaceId.{PlaceId}
 use Rattle.conc_types.specs.declared.event.RequestId.{RequestId}
 use Rattle.conc_types.specs.declared.plan.Plan.{Plan}
-use Rattle.conc_board_seats.specs.declared.views.Doing.TheVariants.{Serves}
-use Rattle.conc_board_seats.specs.declared.views.LeadState.TheVariants.{Gone}
-use Rattle.conc_board_seats.specs.Rule.{BoardState, Keep, Runs, Works, doing_at, exclude, view_at}
-use Rattle.conc_board_seats.specs.LeadStates.{IsLive, lead_state_at}
-use Rattle.conc_board_seats.specs.Words.{IsPlace, IsRequest, request_of, request_word}
-use Rattle.conc_board_seats.proofs.Facts.{exclude-self}
-use Rattle.conc_board_seats.proofs.HandSteps.{has_permit}
-use Rattle.conc_board_seats.proofs.Moves.{home, word}
+use Rattle.conc_pool_seats.specs.declared.views.Doing.TheVariants.{Serves}
+use Rattle.conc_pool_seats.specs.declared.views.LeadState.TheVariants.{Gone}
+use Rattle.conc_pool_seats.specs.Rule.{BoardState, Keep, Runs, Works, doing_at, exclude, view_at}
+use Rattle.conc_pool_seats.specs.LeadStates.{IsLive, lead_state_at}
+use Rattle.conc_pool_seats.specs.Words.{IsPlace, IsRequest, request_of, request_word}
+use Rattle.conc_pool_seats.proofs.Facts.{exclude-self}
+use Rattle.conc_pool_seats.proofs.HandSteps.{has_permit}
+use Rattle.conc_pool_seats.proofs.Moves.{home, word}
 use Rattle.conc_board.specs.Permits.{HaveApart, IsServing}
 use Rattle.conc_board.proofs.Leads.{request_there}
 

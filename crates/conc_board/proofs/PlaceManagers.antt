@@ -9,7 +9,7 @@ use Rattle.conc_types.specs.declared.event.PlaceId.{PlaceId}
 use Rattle.conc_types.specs.declared.manager.Manager.{Manager}
 use Rattle.conc_types.specs.declared.plan.Plan.{Plan}
 use Rattle.conc_types.specs.Shifts.{most_places}
-use Rattle.conc_law.specs.Places.{Place, place_from, place_of}
+use Rattle.conc_base_law.specs.Places.{Place, place_from, place_of}
 use Rattle.conc_board.specs.Owners.{AreOwners, manager_at}
 
 -- a place among those of these managers, the first of which has this number

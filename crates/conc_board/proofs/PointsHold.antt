@@ -4,19 +4,19 @@ use mathlib.Core.Option.{none, some}
 use Rattle.conc_types.specs.declared.event.PlaceId.{PlaceId}
 use Rattle.conc_types.specs.declared.event.RequestId.{RequestId}
 use Rattle.conc_types.specs.declared.plan.Plan.{Plan}
-use Rattle.conc_law.specs.Places.{count_of_places}
-use Rattle.conc_board_seats.specs.declared.views.Doing.{Doing}
-use Rattle.conc_board_seats.specs.declared.views.Doing.TheVariants.{Waits, Serves}
-use Rattle.conc_board_seats.specs.declared.views.LeadState.{LeadState}
-use Rattle.conc_board_seats.specs.declared.views.LeadState.TheVariants.{NotLet, Let, Seen, Gone, Got, Done}
-use Rattle.conc_board_seats.specs.declared.views.View.{View}
-use Rattle.conc_board_seats.specs.Places.{has}
-use Rattle.conc_board_seats.specs.Rule.{AreApart, BoardState, Fits, HasLeft, Home, IsAtOwn, IsServed, Keep, Runs, Works, doing_at, home_at, view_at}
-use Rattle.conc_board_seats.specs.LeadStates.{is_marked, lead_state_at}
-use Rattle.conc_board_seats.specs.Words.{IsPlace, claimed, count_of_requests, ended, request_of, request_word, run_word, running, stopping}
-use Rattle.conc_board_seats.proofs.Facts.{place_eq, word_fits}
-use Rattle.conc_board_seats.proofs.HandSteps.{gone_at}
-use Rattle.conc_board_seats.proofs.Moves.{home, word}
+use Rattle.conc_base_law.specs.Places.{count_of_places}
+use Rattle.conc_pool_seats.specs.declared.views.Doing.{Doing}
+use Rattle.conc_pool_seats.specs.declared.views.Doing.TheVariants.{Waits, Serves}
+use Rattle.conc_pool_seats.specs.declared.views.LeadState.{LeadState}
+use Rattle.conc_pool_seats.specs.declared.views.LeadState.TheVariants.{NotLet, Let, Seen, Gone, Got, Done}
+use Rattle.conc_pool_seats.specs.declared.views.View.{View}
+use Rattle.conc_pool_seats.specs.Places.{has}
+use Rattle.conc_pool_seats.specs.Rule.{AreApart, BoardState, Fits, HasLeft, Home, IsAtOwn, IsServed, Keep, Runs, Works, doing_at, home_at, view_at}
+use Rattle.conc_pool_seats.specs.LeadStates.{is_marked, lead_state_at}
+use Rattle.conc_pool_seats.specs.Words.{IsPlace, claimed, count_of_requests, ended, request_of, request_word, run_word, running, stopping}
+use Rattle.conc_pool_seats.proofs.Facts.{place_eq, word_fits}
+use Rattle.conc_pool_seats.proofs.HandSteps.{gone_at}
+use Rattle.conc_pool_seats.proofs.Moves.{home, word}
 use Rattle.conc_board.specs.Points.{DifferInFinds, Leads, Owns, Points, lead_state_by}
 use Rattle.conc_board.proofs.Leads.{request_there}
 use Rattle.conc_board.proofs.PermitsHeld.{works}
@@ -95,7 +95,7 @@ module _ (plan : Plan) (s : BoardState) (k : Keep plan s) where
       one_lead = λ lead other a b. k.one_lead lead a ∙ sym (k.one_lead other b);
       apart = λ lead a. subst (λ (j : ℕ). AreApart plan (view_at s.views j).lead_states) (sym (k.one_lead lead a)) k.apart;
     };
-    words = record { each = λ lead i leads near. by_lead (λ st. Rattle.conc_board_seats.specs.LeadStates.WordFits st (word s i)) lead i leads (word_fits plan (doing_at s.views k.owner) (request_of i) (lead_state_by s k.lead i) (word s i) (home s i) (fits i near)) };
+    words = record { each = λ lead i leads near. by_lead (λ st. Rattle.conc_pool_seats.specs.LeadStates.WordFits st (word s i)) lead i leads (word_fits plan (doing_at s.views k.owner) (request_of i) (lead_state_by s k.lead i) (word s i) (home s i) (fits i near)) };
     places = record {
       one_owner = λ j l p a b. sym (k.one_owner j p a) ∙ k.one_owner l p b;
       at_own = k.at_own;
@@ -134,7 +134,7 @@ module _ (plan : Plan) (s : BoardState) (k : Keep plan s) where
       either false p n e = e
 
       with_hand : (j : ℕ) (r : RequestId) (p : PlaceId) (stop : Bool) → (view_at s.views j).doing ≡ Serves r p stop →
-          (k.owner p ≡ j) × Rattle.conc_board_seats.specs.Words.IsRequest plan r × IsPlace plan p × Runs stop p (word s (request_word r)) → home_at s.homes (request_word r) ≡ none
+          (k.owner p ≡ j) × Rattle.conc_pool_seats.specs.Words.IsRequest plan r × IsPlace plan p × Runs stop p (word s (request_word r)) → home_at s.homes (request_word r) ≡ none
       with_hand j r p stop e w = let i = request_word r in let few = k.few_places in let near = w.2.within in
           let there : request_of i ≡ r = request_there r i (λ _. i) w.1.from_one in
           let t = gone_at plan (doing_at s.views k.owner) (request_of i) p (lead_state_by s k.lead i) (word s i) (home s i) k.few_places (omega arith) (either stop p (word s i) w.3) (fits i (omega (arith, w.1.from_one, w.1.within))) in

@@ -3,14 +3,14 @@ use Rattle.std.proofs.Common.{◌≡◌, ◌≢◌, ◌==◌, ◌||◌, ℕ, Boo
 use Rattle.conc_types.specs.declared.event.PlaceId.{PlaceId}
 use Rattle.conc_types.specs.declared.event.RequestId.{RequestId}
 use Rattle.conc_types.specs.declared.plan.Plan.{Plan}
-use Rattle.conc_board_seats.specs.declared.views.Doing.{Doing}
-use Rattle.conc_board_seats.specs.declared.views.Doing.TheVariants.{Idle, Waits, Serves}
-use Rattle.conc_board_seats.specs.declared.views.View.{View}
-use Rattle.conc_board_seats.specs.Doings.{IsWithin, polled, warned}
-use Rattle.conc_board_seats.specs.Rule.{Runs}
-use Rattle.conc_board_seats.specs.Steps.{with_doing}
-use Rattle.conc_board_seats.specs.Words.{IsPlace, IsRequest, claimed, request_word, running, stopping}
-use Rattle.conc_board_seats.proofs.HandSteps.{polled_cases, warned_cases}
+use Rattle.conc_pool_seats.specs.declared.views.Doing.{Doing}
+use Rattle.conc_pool_seats.specs.declared.views.Doing.TheVariants.{Idle, Waits, Serves}
+use Rattle.conc_pool_seats.specs.declared.views.View.{View}
+use Rattle.conc_pool_seats.specs.Doings.{IsWithin, polled, warned}
+use Rattle.conc_pool_seats.specs.Rule.{Runs}
+use Rattle.conc_pool_seats.specs.Steps.{with_doing}
+use Rattle.conc_pool_seats.specs.Words.{IsPlace, IsRequest, claimed, request_word, running, stopping}
+use Rattle.conc_pool_seats.proofs.HandSteps.{polled_cases, warned_cases}
 use Rattle.conc_board.specs.declared.hand.Claim.{Claim}
 use Rattle.conc_board.specs.declared.hand.Hand.{Hand}
 use Rattle.conc_board.specs.declared.hand.Polled.{Polled}

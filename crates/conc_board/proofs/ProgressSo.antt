@@ -2,12 +2,12 @@
 use Rattle.std.proofs.Common.{◌≡◌, ℕ, ◌/◌, ◌≤◌, ◌⊎◌, ◌==◌, if◌then◌else◌, Bool, true, false, refl, inl, inr, ⊎_elim, arith, Some}
 use Rattle.conc_types.specs.declared.event.PlaceId.{PlaceId}
 use Rattle.conc_types.specs.declared.plan.Plan.{Plan}
-use Rattle.conc_law.specs.Places.{count_of_places}
-use Rattle.conc_board_seats.specs.declared.views.LeadState.{LeadState}
-use Rattle.conc_board_seats.specs.declared.views.LeadState.TheVariants.{NotLet, Let, Seen, Gone, Got, Done}
-use Rattle.conc_board_seats.specs.LeadStates.{IsLet, IsSettled, WordFits, looked}
-use Rattle.conc_board_seats.specs.Steps.{HasPlace, LookFits}
-use Rattle.conc_board_seats.specs.Words.{IsPlace, claimed, done, idle, place_in, released}
+use Rattle.conc_base_law.specs.Places.{count_of_places}
+use Rattle.conc_pool_seats.specs.declared.views.LeadState.{LeadState}
+use Rattle.conc_pool_seats.specs.declared.views.LeadState.TheVariants.{NotLet, Let, Seen, Gone, Got, Done}
+use Rattle.conc_pool_seats.specs.LeadStates.{IsLet, IsSettled, WordFits, looked}
+use Rattle.conc_pool_seats.specs.Steps.{HasPlace, LookFits}
+use Rattle.conc_pool_seats.specs.Words.{IsPlace, claimed, done, idle, place_in, released}
 use Rattle.conc_board.specs.declared.lead.Progress.{Progress}
 use Rattle.conc_board.specs.declared.lead.Progress.TheVariants as progress
 use Rattle.conc_board.specs.Answers.{ProgressBy}

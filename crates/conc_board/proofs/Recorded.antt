@@ -2,12 +2,12 @@
 use Rattle.std.proofs.Common.{◌≡◌, ◌∙◌, ◌==◌, ◌/◌, ℕ, Bool, true, false, if◌then◌else◌, [], ◌∷◌, ◌++◌, List, Option, None, Some, ap, inl, inr, refl}
 use mathlib.Core.Logic.{dite}
 use native.Mathlib.Decide.{ℕ_discrete}
-use Rattle.conc_board_seats.specs.declared.posted.Posted.{Posted}
-use Rattle.conc_board_seats.specs.declared.views.Doing.TheVariants.{Idle}
-use Rattle.conc_board_seats.specs.declared.views.LeadState.{LeadState}
-use Rattle.conc_board_seats.specs.declared.views.View.{View}
-use Rattle.conc_board_seats.specs.LeadStates.{lead_state_at, marked}
-use Rattle.conc_board_seats.specs.Steps.{noted, with_doing, with_lead_state, with_left}
+use Rattle.conc_pool_seats.specs.declared.posted.Posted.{Posted}
+use Rattle.conc_pool_seats.specs.declared.views.Doing.TheVariants.{Idle}
+use Rattle.conc_pool_seats.specs.declared.views.LeadState.{LeadState}
+use Rattle.conc_pool_seats.specs.declared.views.View.{View}
+use Rattle.conc_pool_seats.specs.LeadStates.{lead_state_at, marked}
+use Rattle.conc_pool_seats.specs.Steps.{noted, with_doing, with_lead_state, with_left}
 use Rattle.conc_board.specs.Points.{PostsAreRecorded, StepsAreRecorded}
 
 either_found : (v : View) (i n : ℕ) (lead_state : LeadState) (b : Bool) → (if b then with_lead_state v i lead_state n else noted v i n).found ≡ v.found ++ (i, n) ∷ []

@@ -1,5 +1,5 @@
 -- Steps by which a hand looks for a request to claim.
-use Rattle.std.proofs.Common.{◌≡◌, ◌≢◌, ◌==◌, ℕ, zero, suc, ◌+◌, ◌-◌, ◌≤◌, true, false, if◌then◌else◌, List, [], ◌∷◌, ◌++◌, Option, None, Some, sym, refl, ap, ◌∙◌, subst, inl, inr, arith, append_assoc, append-nil, eq-eqb, ne_eqb, true≢false}
+use Rattle.std.proofs.Common.{◌≡◌, ◌≢◌, ◌==◌, ℕ, zero, suc, ◌+◌, ◌-◌, ◌≤◌, true, false, Bool, if◌then◌else◌, List, [], ◌∷◌, ◌++◌, Option, None, Some, sym, refl, ap, ◌∙◌, subst, inl, inr, arith, append_assoc, append-nil, eq-eqb, ne_eqb, true≢false}
 use Rattle.std.proofs.lemmas.Option.{slice_get_within}
 use mathlib.Core.Logic.{dite}
 use native.Mathlib.Decide.{ℕ_discrete}
@@ -10,19 +10,19 @@ use Rattle.conc_types.specs.declared.manager.Manager.{Manager}
 use Rattle.conc_types.specs.declared.plan.Plan.{Plan}
 use Rattle.conc_types.specs.Plans.{request}
 use Rattle.conc_types.specs.Words.{numbered, some_and}
-use Rattle.conc_law.specs.Managers.{admits}
-use Rattle.conc_law.specs.Words.{Has}
-use Rattle.conc_law.proofs.Options.{some_and-some}
-use Rattle.conc_board_seats.specs.declared.views.Doing.TheVariants.{Idle}
-use Rattle.conc_board_seats.specs.Words.{IsRequest, count_of_requests, place_word, released, request_of, request_word}
-use Rattle.conc_board_seats.proofs.Facts.{request_eq}
+use Rattle.conc_base_law.specs.Managers.{admits}
+use Rattle.conc_base_law.specs.Words.{Has}
+use Rattle.conc_base_law.proofs.Options.{some_and-some}
+use Rattle.conc_pool_seats.specs.declared.views.Doing.TheVariants.{Idle}
+use Rattle.conc_pool_seats.specs.Words.{IsRequest, count_of_requests, place_word, released, request_of, request_word}
+use Rattle.conc_pool_seats.proofs.Facts.{request_eq}
 use Rattle.conc_board.specs.declared.board.Board.{Board}
 use Rattle.conc_board.specs.declared.hand.Claim.{Claim}
 use Rattle.conc_board.specs.declared.hand.Hand.{Hand}
 use Rattle.conc_board.specs.Owners.{manager_at}
 use Rattle.conc_board.specs.Admission.{admits_at, admits_request}
 use Rattle.conc_board.specs.Claims.{AreMissed, ClaimsAt, ClaimsNone, ClaimsOne, FindsNone, FollowsHint, IsMissed, LooksNextAt, LooksNextAtHint, MissesAll, MissesOne, claim_request}
-use Rattle.conc_board.specs.Seats.{AddsOne, IsHandOf, Stays, doing_of, found_by_hand, plan_of}
+use Rattle.conc_board.specs.Seats.{AddsOne, FindsOpen, IsFlagSeen, IsHandOf, Stays, doing_of, found_by_hand, plan_of}
 use Rattle.conc_board.proofs.Hands.{stays_after}
 
 -- ---- lists of steps
@@ -124,6 +124,11 @@ missed_after board place old mid new xs first None h = record {
 }
 missed_after board place old mid new xs first (Some claim) h = tt
 
+-- it holds whatever the answer is
+pub if_none : (o : Option Claim) (P : Type 0) → P → IfNone o P
+if_none None P holds = holds
+if_none (Some claim) P holds = tt
+
 pub none_found : (board : Board) (place : PlaceId) (old new : Hand) (o : Option Claim) → IfNone o (MissesAll board place old new) → IfNone o (FindsNone board place old new)
 none_found board place old new None h = record { steps = h.steps; made = h.made; cause = inr h.missed }
 none_found board place old new (Some claim) h = tt
@@ -132,6 +137,11 @@ none_found board place old new (Some claim) h = tt
 pub one_step : (board : Board) (word : ℕ) (IsSo : ℕ → Type 0) (old new : Hand) → Stays board old new → doing_of old ≡ Idle → doing_of new ≡ doing_of old →
     (a : AddsOne word IsSo (found_by_hand old) (found_by_hand new)) → ClaimsNone board old new ((word, a.0) ∷ [])
 one_step board word IsSo old new stays idle same a = record { hand = stays; idle = same ∙ idle; found = a.2 }
+
+-- a look at the word of a place
+pub looked_at_place : (board : Board) (place : PlaceId) (answer : Bool) (old new : Hand) → Stays board old new → doing_of old ≡ Idle → doing_of new ≡ doing_of old →
+    (f : FindsOpen board place answer old new) → ClaimsNone board old new ((place_word (plan_of board) place, f.0) ∷ [])
+looked_at_place board place answer old new stays idle same f = one_step board (place_word (plan_of board) place) (IsFlagSeen answer) old new stays idle same f
 
 -- a switch that is not found on is found off
 pub found_off : (n : ℕ) → n ≤ 1 → (n == 1) ≡ false → n ≡ 0
@@ -165,6 +175,9 @@ hint_then_any board plan place (Some r) old mid new o next a b = λ admitted. ne
 pub no_manager : (plan : Plan) (place : PlaceId) (hint : Option RequestId) (old new : Hand) → manager_at plan place ≡ None → LooksNextAtHint plan place hint old new
 no_manager plan place None old new none = tt
 no_manager plan place (Some r) old new none = λ admitted. absurd (true≢false (sym admitted ∙ ap (some_and (admits_request plan r)) none))
+
+pub none_admitted : (plan : Plan) (place : PlaceId) (steps : List (ℕ × ℕ)) (count : ℕ) → manager_at plan place ≡ None → AreMissed plan place steps count
+none_admitted plan place steps count none r from_one within admitted = absurd (true≢false (sym admitted ∙ ap (some_and (admits_request plan r)) none))
 
 -- the place was found closed, or open
 pub closed_hint : (board : Board) (place : PlaceId) (hint : Option RequestId) (old new : Hand) → found_by_hand new ≡ found_by_hand old ++ (place_word (plan_of board) place, 0) ∷ [] → FollowsHint board place hint old new

@@ -3,15 +3,15 @@ use Rattle.std.proofs.Common.{◌≡◌, ℕ, ◌%◌, ◌≤◌, ◌==◌, ◌|
 use Rattle.conc_types.specs.declared.event.PlaceId.{PlaceId}
 use Rattle.conc_types.specs.declared.event.RequestId.{RequestId}
 use Rattle.conc_types.specs.declared.plan.Plan.{Plan}
-use Rattle.conc_law.specs.Places.{count_of_places}
-use Rattle.conc_board_seats.specs.declared.views.LeadState.{LeadState}
-use Rattle.conc_board_seats.specs.declared.views.LeadState.TheVariants.{NotLet, Let, Seen, Gone, Got, Done}
-use Rattle.conc_board_seats.specs.declared.views.View.{View}
-use Rattle.conc_board_seats.specs.Courses.{GoesOn}
-use Rattle.conc_board_seats.specs.LeadStates.{IsGone, WordFits, lead_state_in}
-use Rattle.conc_board_seats.specs.Steps.{noted, with_lead_state}
-use Rattle.conc_board_seats.specs.Words.{IsPlace, IsRequest, count_of_requests, request_word, running}
-use Rattle.conc_board_seats.proofs.Facts.{place_eq}
+use Rattle.conc_base_law.specs.Places.{count_of_places}
+use Rattle.conc_pool_seats.specs.declared.views.LeadState.{LeadState}
+use Rattle.conc_pool_seats.specs.declared.views.LeadState.TheVariants.{NotLet, Let, Seen, Gone, Got, Done}
+use Rattle.conc_pool_seats.specs.declared.views.View.{View}
+use Rattle.conc_pool_seats.specs.Courses.{GoesOn}
+use Rattle.conc_pool_seats.specs.LeadStates.{IsGone, WordFits, lead_state_in}
+use Rattle.conc_pool_seats.specs.Steps.{noted, with_lead_state}
+use Rattle.conc_pool_seats.specs.Words.{IsPlace, IsRequest, count_of_requests, request_word, running}
+use Rattle.conc_pool_seats.proofs.Facts.{place_eq}
 use Rattle.conc_board.specs.declared.board.Board.{Board}
 use Rattle.conc_board.specs.declared.lead.Lead.{Lead}
 use Rattle.conc_board.specs.Seats.{Changes, IsLeadOf, lead_state_of, plan_of}

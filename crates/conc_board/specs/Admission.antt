@@ -6,9 +6,9 @@ use Rattle.conc_types.specs.declared.manager.Manager.{Manager}
 use Rattle.conc_types.specs.declared.plan.Plan.{Plan}
 use Rattle.conc_types.specs.Plans.{request}
 use Rattle.conc_types.specs.Words.{some_and}
-use Rattle.conc_law.specs.Managers.{admits}
-use Rattle.conc_board_seats.specs.declared.views.Doing.{Doing}
-use Rattle.conc_board_seats.specs.declared.views.Doing.TheVariants.{Idle, Waits, Serves}
+use Rattle.conc_base_law.specs.Managers.{admits}
+use Rattle.conc_pool_seats.specs.declared.views.Doing.{Doing}
+use Rattle.conc_pool_seats.specs.declared.views.Doing.TheVariants.{Idle, Waits, Serves}
 use Rattle.conc_board.specs.Owners.{manager_at}
 
 -- the manager admits the request with this number

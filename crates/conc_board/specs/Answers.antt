@@ -1,6 +1,6 @@
 -- What a word shows, whatever it may be.
 use Rattle.std.specs.Prelude.{◌≡◌, ◌≢◌, ◌⊎◌, ℕ, ◌/◌, ◌<◌, ◌≤◌}
-use Rattle.conc_board_seats.specs.Words.{claimed, done, ended, idle, released, running, stopping}
+use Rattle.conc_pool_seats.specs.Words.{claimed, done, ended, idle, released, running, stopping}
 use Rattle.conc_board.specs.declared.hand.Claim.{Claim}
 use Rattle.conc_board.specs.declared.hand.Polled.{Polled}
 use Rattle.conc_board.specs.declared.hand.Polled.TheVariants as polled

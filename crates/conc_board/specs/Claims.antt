@@ -3,20 +3,21 @@ use Rattle.std.specs.Prelude.{◌≡◌, ◌≢◌, ◌⊎◌, ℕ, ◌≤◌, �
 use Rattle.conc_types.specs.declared.event.PlaceId.{PlaceId}
 use Rattle.conc_types.specs.declared.event.RequestId.{RequestId}
 use Rattle.conc_types.specs.declared.plan.Plan.{Plan}
-use Rattle.conc_law.specs.Words.{Has}
+use Rattle.conc_base_law.specs.Words.{Has}
 use Rattle.conc_board.specs.Admission.{admits_at}
-use Rattle.conc_board_seats.specs.declared.posted.Posted.{Posted}
-use Rattle.conc_board_seats.specs.declared.views.Doing.TheVariants.{Idle, Waits, Serves}
-use Rattle.conc_board_seats.specs.Reports.{MayLeave}
-use Rattle.conc_board_seats.specs.Rule.{Runs}
-use Rattle.conc_board_seats.specs.Words.{IsRequest, claimed, count_of_requests, place_word, released, request_word, run_word, running, stopping}
+use Rattle.conc_pool_seats.specs.declared.posted.Posted.{Posted}
+use Rattle.conc_pool_seats.specs.declared.views.Doing.TheVariants.{Idle, Waits, Serves}
+use Rattle.conc_pool_seats.specs.Places.{has}
+use Rattle.conc_pool_seats.specs.Reports.{MayLeave}
+use Rattle.conc_pool_seats.specs.Rule.{Runs}
+use Rattle.conc_pool_seats.specs.Words.{IsPlace, IsRequest, claimed, count_of_requests, place_word, released, request_word, run_word, running, stopping}
 use Rattle.conc_board.specs.declared.board.Board.{Board}
 use Rattle.conc_board.specs.declared.hand.Claim.{Claim}
 use Rattle.conc_board.specs.declared.hand.Hand.{Hand}
 use Rattle.conc_board.specs.declared.hand.Permit.{Permit}
 use Rattle.conc_board.specs.declared.hand.Polled.{Polled}
 use Rattle.conc_board.specs.declared.hand.Polled.TheVariants as polled
-use Rattle.conc_board.specs.Seats.{AddsOne, Stays, doing_of, found_by_hand, plan_of}
+use Rattle.conc_board.specs.Seats.{AddsOne, IsHandOf, Stays, doing_of, found_by_hand, places_of_hand, plan_of}
 
 -- ---- claims and permits
 
@@ -49,6 +50,13 @@ MayPost plan hand permit posted =
     (stop : Bool) × HasPermitWith stop hand permit × MayLeave plan (permit_request permit) stop posted
 
 -- ---- a claim is made
+
+-- the hand does nothing, and the place is one of the board's and its own
+pub record MayClaim (board : Board) (place : PlaceId) (old : Hand) : Type 0 where
+  pub hand : IsHandOf board old
+  pub idle : doing_of old ≡ Idle
+  pub of_plan : IsPlace (plan_of board) place
+  pub own : IsTrue (has (places_of_hand old) place)
 
 -- a step of the hand's that claims this request, and one that does not
 pub record ClaimsOne (board : Board) (r : RequestId) (place : PlaceId) (old new : Hand) (claim : Claim) : Type 0 where

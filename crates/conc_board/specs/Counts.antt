@@ -1,8 +1,8 @@
 -- How often a request is given the go, and how often what was left for it is taken.
 use Rattle.std.specs.Prelude.{◌≡◌, ℕ, ◌+◌, true, List, [], ◌∷◌}
-use Rattle.conc_board_seats.specs.declared.views.LeadState.{LeadState}
-use Rattle.conc_board_seats.specs.declared.views.LeadState.TheVariants.{Seen, Gone, Got, Done}
-use Rattle.conc_board_seats.specs.LeadStates.{is_marked}
+use Rattle.conc_pool_seats.specs.declared.views.LeadState.{LeadState}
+use Rattle.conc_pool_seats.specs.declared.views.LeadState.TheVariants.{Seen, Gone, Got, Done}
+use Rattle.conc_pool_seats.specs.LeadStates.{is_marked}
 
 -- 1 where the go was given from one lead state to the next, else 0
 abbrev pub go_between : LeadState → LeadState → ℕ

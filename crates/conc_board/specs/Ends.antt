@@ -1,9 +1,9 @@
 -- The words of a board at its end.
 use Rattle.std.specs.Prelude.{◌≡◌, ℕ, ◌≤◌, List, length, slice_index}
 use Rattle.conc_types.specs.declared.event.RequestId.{RequestId}
-use Rattle.conc_board_seats.specs.declared.views.LeadState.{LeadState}
-use Rattle.conc_board_seats.specs.declared.views.LeadState.TheVariants.{NotLet, Let, Seen, Gone, Got, Done}
-use Rattle.conc_board_seats.specs.Words.{IsRequest, count_of_requests, count_of_words, done, ended, idle, released, request_word}
+use Rattle.conc_pool_seats.specs.declared.views.LeadState.{LeadState}
+use Rattle.conc_pool_seats.specs.declared.views.LeadState.TheVariants.{NotLet, Let, Seen, Gone, Got, Done}
+use Rattle.conc_pool_seats.specs.Words.{IsRequest, count_of_requests, count_of_words, done, ended, idle, released, request_word}
 use Rattle.conc_board.specs.declared.board.Board.{Board}
 use Rattle.conc_board.specs.declared.lead.Lead.{Lead}
 use Rattle.conc_board.specs.Seats.{lead_state_of, plan_of}

@@ -3,10 +3,10 @@ use Rattle.std.specs.Prelude.{◌≡◌, ◌⊎◌, ℕ, Bool}
 use Rattle.conc_types.specs.declared.event.PlaceId.{PlaceId}
 use Rattle.conc_types.specs.declared.event.RequestId.{RequestId}
 use Rattle.conc_types.specs.declared.plan.Plan.{Plan}
-use Rattle.conc_board_seats.specs.declared.views.LeadState.{LeadState}
-use Rattle.conc_board_seats.specs.declared.views.LeadState.TheVariants.{NotLet, Let, Seen, Gone, Done}
-use Rattle.conc_board_seats.specs.LeadStates.{IsGone, IsLet}
-use Rattle.conc_board_seats.specs.Words.{IsPlace, claimed, ended, released, running, stopping}
+use Rattle.conc_pool_seats.specs.declared.views.LeadState.{LeadState}
+use Rattle.conc_pool_seats.specs.declared.views.LeadState.TheVariants.{NotLet, Let, Seen, Gone, Done}
+use Rattle.conc_pool_seats.specs.LeadStates.{IsGone, IsLet}
+use Rattle.conc_pool_seats.specs.Words.{IsPlace, claimed, ended, released, running, stopping}
 use Rattle.conc_board.specs.declared.board.Board.{Board}
 use Rattle.conc_board.specs.declared.lead.Lead.{Lead}
 use Rattle.conc_board.specs.declared.lead.Looked.{Looked}

@@ -4,7 +4,7 @@ use Rattle.std.specs.Option.{option_and_then, option_map}
 use Rattle.conc_types.specs.declared.event.PlaceId.{PlaceId}
 use Rattle.conc_types.specs.declared.manager.Manager.{Manager}
 use Rattle.conc_types.specs.declared.plan.Plan.{Plan}
-use Rattle.conc_law.specs.Places.{place_of}
+use Rattle.conc_base_law.specs.Places.{place_of}
 
 -- the manager that has the place
 abbrev pub manager_at : Plan → PlaceId → Option Manager

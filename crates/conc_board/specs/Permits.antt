@@ -3,9 +3,9 @@ use Rattle.std.specs.Prelude.{◌≡◌, ℕ, Bool, List, IsFalse}
 use Rattle.conc_types.specs.declared.event.PlaceId.{PlaceId}
 use Rattle.conc_types.specs.declared.event.RequestId.{RequestId}
 use Rattle.conc_types.specs.declared.plan.Plan.{Plan}
-use Rattle.conc_board_seats.specs.declared.views.Doing.TheVariants.{Serves}
-use Rattle.conc_board_seats.specs.declared.views.View.{View}
-use Rattle.conc_board_seats.specs.Rule.{exclude, view_at}
+use Rattle.conc_pool_seats.specs.declared.views.Doing.TheVariants.{Serves}
+use Rattle.conc_pool_seats.specs.declared.views.View.{View}
+use Rattle.conc_pool_seats.specs.Rule.{exclude, view_at}
 
 -- the seat with this number has the permit for a request at a place, with the stop sign or without
 abbrev pub IsServing : List View → ℕ → RequestId → PlaceId → Type 0

@@ -5,16 +5,16 @@ use Rattle.atomic_table.specs.Table.{Me, Step}
 use Rattle.conc_types.specs.declared.event.PlaceId.{PlaceId}
 use Rattle.conc_types.specs.declared.event.RequestId.{RequestId}
 use Rattle.conc_types.specs.declared.plan.Plan.{Plan}
-use Rattle.conc_board_seats.specs.declared.posted.Posted.{Posted}
-use Rattle.conc_board_seats.specs.declared.views.Doing.TheVariants.{Idle, Waits, Serves}
-use Rattle.conc_board_seats.specs.declared.views.LeadState.{LeadState}
-use Rattle.conc_board_seats.specs.declared.views.LeadState.TheVariants.{Gone, Got}
-use Rattle.conc_board_seats.specs.declared.views.View.{View}
-use Rattle.conc_board_seats.specs.Places.{has}
-use Rattle.conc_board_seats.specs.Rule.{AreApart, BoardState, HasLeft, IsAtOwn, Runs, home_at, nobody, first_view, view_at}
-use Rattle.conc_board_seats.specs.LeadStates.{WordFits, is_marked, lead_state_at}
-use Rattle.conc_board_seats.specs.Steps.{Slot, StepLeaves, back_leaves, claim_leaves, clear_leaves, given, go_leaves, got_leaves, joined, let_out_leaves, look_leaves, poll_leaves, post_leaves, stop_leaves, switch_leaves, warn_leaves, with_places_off}
-use Rattle.conc_board_seats.specs.Words.{IsRequest, claimed, count_of_requests, ended, request_of, request_word, running, stopping}
+use Rattle.conc_pool_seats.specs.declared.posted.Posted.{Posted}
+use Rattle.conc_pool_seats.specs.declared.views.Doing.TheVariants.{Idle, Waits, Serves}
+use Rattle.conc_pool_seats.specs.declared.views.LeadState.{LeadState}
+use Rattle.conc_pool_seats.specs.declared.views.LeadState.TheVariants.{Gone, Got}
+use Rattle.conc_pool_seats.specs.declared.views.View.{View}
+use Rattle.conc_pool_seats.specs.Places.{has}
+use Rattle.conc_pool_seats.specs.Rule.{AreApart, BoardState, HasLeft, IsAtOwn, Runs, home_at, nobody, first_view, view_at}
+use Rattle.conc_pool_seats.specs.LeadStates.{WordFits, is_marked, lead_state_at}
+use Rattle.conc_pool_seats.specs.Steps.{Slot, StepLeaves, back_leaves, claim_leaves, clear_leaves, given, go_leaves, got_leaves, joined, let_out_leaves, look_leaves, poll_leaves, post_leaves, stop_leaves, switch_leaves, warn_leaves, with_places_off}
+use Rattle.conc_pool_seats.specs.Words.{IsRequest, claimed, count_of_requests, ended, request_of, request_word, running, stopping}
 
 -- ---- states
 

@@ -3,16 +3,17 @@ use Rattle.std.specs.Prelude.{◌≡◌, ◌≢◌, ℕ, ◌≤◌, ◌==◌, Bo
 use Rattle.conc_types.specs.declared.event.PlaceId.{PlaceId}
 use Rattle.conc_types.specs.declared.event.RequestId.{RequestId}
 use Rattle.conc_types.specs.declared.plan.Plan.{Plan}
-use Rattle.conc_board_seats.specs.declared.posted.Posted.{Posted}
-use Rattle.conc_board_seats.specs.declared.views.Doing.{Doing}
-use Rattle.conc_board_seats.specs.declared.views.LeadState.{LeadState}
-use Rattle.conc_board_seats.specs.Courses.{GoesOn}
-use Rattle.conc_board_seats.specs.Doings.{IsWithin}
-use Rattle.conc_board_seats.specs.Places.{has}
-use Rattle.conc_board_seats.specs.Reports.{MayLeave}
-use Rattle.conc_board_seats.specs.Rule.{Runs, exclude}
-use Rattle.conc_board_seats.specs.LeadStates.{IsLetOrGone, IsSettled, WordFits, is_marked, lead_state_in}
-use Rattle.conc_board_seats.specs.Words.{IsPlace, count_of_requests, place_word, request_word}
+use Rattle.conc_pool_seats.specs.declared.posted.Posted.{Posted}
+use Rattle.conc_pool_seats.specs.declared.views.Doing.{Doing}
+use Rattle.conc_pool_seats.specs.declared.views.Doing.TheVariants.{Idle}
+use Rattle.conc_pool_seats.specs.declared.views.LeadState.{LeadState}
+use Rattle.conc_pool_seats.specs.Courses.{GoesOn}
+use Rattle.conc_pool_seats.specs.Doings.{IsWithin}
+use Rattle.conc_pool_seats.specs.Places.{has, without}
+use Rattle.conc_pool_seats.specs.Reports.{MayLeave}
+use Rattle.conc_pool_seats.specs.Rule.{Runs, exclude}
+use Rattle.conc_pool_seats.specs.LeadStates.{IsLetOrGone, IsSettled, WordFits, is_marked, lead_state_in}
+use Rattle.conc_pool_seats.specs.Words.{IsPlace, count_of_requests, place_word, request_word}
 use Rattle.conc_board.specs.Admission.{IsAdmitted}
 use Rattle.conc_board.specs.declared.board.Board.{Board}
 use Rattle.conc_board.specs.declared.hand.Hand.{Hand}
@@ -92,11 +93,22 @@ pub record Changes (board : Board) (r : RequestId) (old new : Lead) : Type 0 whe
   pub others : (q : RequestId) → q ≢ r → lead_state_of new q ≡ lead_state_of old q
   pub places : places_of_lead new ≡ places_of_lead old
 
+-- a call that finds the word of a request as its lead state has it, and sets that lead state
+pub record SetsLeadState (board : Board) (r : RequestId) (state : LeadState) (old new : Lead) : Type 0 where
+  pub lead : Changes board r old new
+  pub lead_state : lead_state_of new r ≡ state
+  pub found : FindsFitting r old new
+
 -- a call on no request
 pub record LeavesLeadStates (board : Board) (old new : Lead) : Type 0 where
   pub lead : IsLeadOf board new
   pub lead_states : SameLeadStates old new
   pub places : places_of_lead new ≡ places_of_lead old
+
+-- a call on a word that is no request's
+pub record SetsFlag (board : Board) (word : ℕ) (old new : Lead) : Type 0 where
+  pub lead : LeavesLeadStates board old new
+  pub found : LeadFinds word IsFlag old new
 
 -- ---- hands
 
@@ -151,3 +163,16 @@ pub record IsHandOf (board : Board) (hand : Hand) : Type 0 where
 pub record Stays (board : Board) (old new : Hand) : Type 0 where
   pub hand : IsHandOf board new
   pub places : places_of_hand new ≡ places_of_hand old
+
+-- ---- a hand that is split off
+
+-- The hand does nothing, and has these places, which were the lead's. Else the lead is as it was.
+pub record IsSplitOff (board : Board) (places : List PlaceId) (old new : Lead) (made : Hand) : Type 0 where
+  pub lead : IsLeadOf board new
+  pub lead_states : SameLeadStates old new
+  pub left : places_of_lead new ≡ without (places_of_lead old) places
+  pub found : found_by_lead new ≡ found_by_lead old
+  pub hand : IsHandOf board made
+  pub idle : doing_of made ≡ Idle
+  pub passed : places_of_hand made ≡ places
+  pub nothing_found : found_by_hand made ≡ []

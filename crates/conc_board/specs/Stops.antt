@@ -2,11 +2,11 @@
 use Rattle.std.specs.Prelude.{◌≡◌, ℕ, ◌==◌, ◌||◌, Bool, false, [], ◌∷◌, ◌++◌}
 use Rattle.conc_types.specs.declared.event.PlaceId.{PlaceId}
 use Rattle.conc_types.specs.declared.event.RequestId.{RequestId}
-use Rattle.conc_board_seats.specs.declared.posted.Posted.{Posted}
-use Rattle.conc_board_seats.specs.declared.views.LeadState.TheVariants.{Gone, Done}
-use Rattle.conc_board_seats.specs.Rule.{Runs}
-use Rattle.conc_board_seats.specs.LeadStates.{WordFits}
-use Rattle.conc_board_seats.specs.Words.{ended, request_word, running}
+use Rattle.conc_pool_seats.specs.declared.posted.Posted.{Posted}
+use Rattle.conc_pool_seats.specs.declared.views.LeadState.TheVariants.{Gone, Done}
+use Rattle.conc_pool_seats.specs.Rule.{Runs}
+use Rattle.conc_pool_seats.specs.LeadStates.{WordFits}
+use Rattle.conc_pool_seats.specs.Words.{ended, request_word, running}
 use Rattle.conc_board.specs.declared.lead.Lead.{Lead}
 use Rattle.conc_board.specs.Seats.{AddsOne, found_by_lead, lead_state_of, posts_of_lead}
 

@@ -1,11 +1,11 @@
 ghost use Rattle.std.specs.Prelude.{◌≡◌, ◌+◌, ◌≤◌, [], ◌++◌, IfOk, None};
 ghost use Rattle.conc_types.specs.declared.event.RequestId.{RequestId};
-ghost use Rattle.conc_law.specs.Places.{count_of_places};
-ghost use Rattle.conc_board_seats.specs.Places.{AreAmong, without};
-ghost use Rattle.conc_board_seats.specs.Words.{count_of_requests, count_of_words};
+ghost use Rattle.conc_base_law.specs.Places.{count_of_places};
+ghost use Rattle.conc_pool_seats.specs.Places.{AreAmong};
+ghost use Rattle.conc_pool_seats.specs.Words.{count_of_requests, count_of_words};
 ghost use Rattle.conc_board.specs.Owners.{AreOwners};
-ghost use Rattle.conc_board_seats.specs.declared.views.Doing.TheVariants as does;
-ghost use Rattle.conc_board_seats.specs.declared.views.LeadState.TheVariants as lead_state;
+ghost use Rattle.conc_pool_seats.specs.declared.views.Doing.TheVariants as does;
+ghost use Rattle.conc_pool_seats.specs.declared.views.LeadState.TheVariants as lead_state;
 
 use crate::bells::Bells;
 use crate::hand::Hand;
@@ -14,7 +14,7 @@ use crate::lead::Lead;
 use crate::owners::owners_of;
 use crate::plays::{BoardRule, Passing, SplitsOff, TakesIn};
 use atomic_table::Table;
-use conc_board_seats::{Posted, View};
+use conc_pool_seats::{Posted, View};
 use conc_time::place_count;
 use conc_types::{NoMemory, PlaceId, Plan, RequestId};
 use crossbeam_utils::sync::EventCount;
@@ -41,7 +41,7 @@ pub struct Board {
 }
 
 impl Board {
-    ghost use Rattle.conc_board.specs.Seats.{doing_of, found_by_hand, found_by_lead, HasAllPlaces, IsHandOf, IsLeadOf, lead_state_of, plan_of, places_of_hand, places_of_lead, SameLeadStates};
+    ghost use Rattle.conc_board.specs.Seats.{doing_of, found_by_hand, found_by_lead, HasAllPlaces, IsHandOf, IsLeadOf, lead_state_of, plan_of, places_of_hand, places_of_lead, SameLeadStates, IsSplitOff};
 
     /// A board on which nothing is let out. The lead has all places.
     pub fn new(alloc: Global, plan: &Plan) -> Result<(Board, Lead), NoMemory>
@@ -73,16 +73,7 @@ impl Board {
     pub fn split(&self, lead: &mut Lead, places: &[PlaceId]) -> Hand
         requires lead { IsLeadOf self.now lead.old }
         requires places { AreAmong places.now (places_of_lead lead.old) }
-
-        ensures lead { IsLeadOf self.now lead.new }
-        ensures lead_states { SameLeadStates lead.old lead.new }
-        ensures left { places_of_lead lead.new ≡ without (places_of_lead lead.old) places.now }
-        ensures found { found_by_lead lead.new ≡ found_by_lead lead.old }
-
-        ensures hand { IsHandOf self.now result }
-        ensures idle { doing_of result ≡ does.Idle }
-        ensures passed { places_of_hand result ≡ places.now }
-        ensures nothing_found { found_by_hand result ≡ [] }
+        ensures { IsSplitOff self.now places.now lead.old lead.new result }
     {
         self.split_off::<Brand>(lead, places)
     }
@@ -91,16 +82,7 @@ impl Board {
         requires pick { places.now ≡ J.passes }
         requires lead { IsLeadOf self.now lead.old }
         requires places { AreAmong places.now (places_of_lead lead.old) }
-
-        ensures lead { IsLeadOf self.now lead.new }
-        ensures lead_states { SameLeadStates lead.old lead.new }
-        ensures left { places_of_lead lead.new ≡ without (places_of_lead lead.old) places.now }
-        ensures found { found_by_lead lead.new ≡ found_by_lead lead.old }
-
-        ensures hand { IsHandOf self.now result }
-        ensures idle { doing_of result ≡ does.Idle }
-        ensures passed { places_of_hand result ≡ places.now }
-        ensures nothing_found { found_by_hand result ≡ [] }
+        ensures { IsSplitOff self.now places.now lead.old lead.new result }
     {
         let seat = self.table.shared.split_seat::<SplitsOff<J>>(&mut lead.seat);
         Hand { seat }

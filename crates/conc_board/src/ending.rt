@@ -3,7 +3,7 @@ ghost use Rattle.std.specs.Slots.{IsFull, slots_filled, slots_items, slots_len};
 
 use crate::{Board, Lead};
 use atomic_table::Closed;
-use conc_board_seats::Posted;
+use conc_pool_seats::Posted;
 use std::alloc::Global;
 use std::marker::Model;
 

@@ -1,12 +1,12 @@
 ghost use Rattle.std.specs.Prelude.{◌≡◌, false};
-ghost use Rattle.conc_board_seats.specs.Doings.{carried_by};
+ghost use Rattle.conc_pool_seats.specs.Doings.{carried_by};
 ghost use Rattle.conc_board.specs.Answers.{PolledBy};
 
 use crate::Board;
 use crate::numbers::{claimed, ended, request_word, running, stopping};
 use crate::plays::{Polls, Posts, SeesStop, Switches};
 use atomic_table::Seat;
-use conc_board_seats::{Posted, View};
+use conc_pool_seats::{Posted, View};
 use conc_types::{PlaceId, RequestId};
 
 /// The seat of one that claims requests and serves them. It cannot be copied.
@@ -38,7 +38,7 @@ pub enum Polled {
     Go(Permit),
     /// There is no answer yet.
     NotYet(Claim),
-    /// The request was taken back.
+    /// The request was withdrawn.
     Withdrawn,
 }
 
@@ -80,10 +80,10 @@ impl Permit {
 
 impl Board {
     ghost use Rattle.std.specs.Prelude.{◌<◌, ◌≤◌, ◌≢◌, ◌+◌, ◌==◌, ◌⊎◌, ℕ, Bool};
-    ghost use Rattle.conc_board_seats.specs.Doings.{IsWithin};
-    ghost use Rattle.conc_board_seats.specs.Reports.{MayLeave};
-    ghost use Rattle.conc_board_seats.specs.Words.{end_word, IsPlace};
-    ghost use Rattle.conc_board_seats.specs.declared.views.Doing.TheVariants as does;
+    ghost use Rattle.conc_pool_seats.specs.Doings.{IsWithin};
+    ghost use Rattle.conc_pool_seats.specs.Reports.{MayLeave};
+    ghost use Rattle.conc_pool_seats.specs.Words.{end_word, IsPlace};
+    ghost use Rattle.conc_pool_seats.specs.declared.views.Doing.TheVariants as does;
     ghost use Rattle.conc_board.specs.Claims.{HasClaim, HasPermit, MayPost, permit_place, permit_request, Polls as PollsAs, Warned};
     ghost use Rattle.conc_board.specs.Seats.{doing_of, FindsOpen, FindsRunningAt, HandFinds, IsFlagSeen, IsHandOf, plan_of, PostsNothing, PostsOne, Stays};
 

@@ -2,13 +2,13 @@
 // function here has an empty body; its contract is the law.
 ghost use Rattle.std.specs.Prelude.{◌≡◌, ◌≤◌, ℕ, List, IsTrue};
 ghost use Rattle.conc_types.specs.declared.plan.Plan.{Plan};
-ghost use Rattle.conc_board_seats.specs.declared.views.LeadState.{LeadState};
-ghost use Rattle.conc_board_seats.specs.declared.views.LeadState.TheVariants.{NotLet};
-ghost use Rattle.conc_board_seats.specs.declared.views.View.{View};
-ghost use Rattle.conc_board_seats.specs.Courses.{IsCourse};
-ghost use Rattle.conc_board_seats.specs.Doings.{carried_by};
-ghost use Rattle.conc_board_seats.specs.Rule.{BoardState, Keep};
-ghost use Rattle.conc_board_seats.specs.LeadStates.{is_marked};
+ghost use Rattle.conc_pool_seats.specs.declared.views.LeadState.{LeadState};
+ghost use Rattle.conc_pool_seats.specs.declared.views.LeadState.TheVariants.{NotLet};
+ghost use Rattle.conc_pool_seats.specs.declared.views.View.{View};
+ghost use Rattle.conc_pool_seats.specs.Courses.{IsCourse};
+ghost use Rattle.conc_pool_seats.specs.Doings.{carried_by};
+ghost use Rattle.conc_pool_seats.specs.Rule.{BoardState, Keep};
+ghost use Rattle.conc_pool_seats.specs.LeadStates.{is_marked};
 ghost use Rattle.conc_board.specs.Counts.{AreMarked, count_of_goes, count_of_takes};
 ghost use Rattle.conc_board.specs.Permits.{HaveApart};
 ghost use Rattle.conc_board.specs.Points.{DifferInFinds, Points, PostsAreRecorded, StepsAreRecorded};

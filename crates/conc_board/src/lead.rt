@@ -1,14 +1,14 @@
 ghost use Rattle.std.specs.Prelude.{◌≡◌, ◌∷◌, [], None, Option, true};
 ghost use Rattle.atomic_table.specs.Table.{rest};
-ghost use Rattle.conc_board_seats.specs.declared.posted.Posted.{Posted};
-ghost use Rattle.conc_board_seats.specs.declared.views.Doing.TheVariants as does;
+ghost use Rattle.conc_pool_seats.specs.declared.posted.Posted.{Posted};
+ghost use Rattle.conc_pool_seats.specs.declared.views.Doing.TheVariants as does;
 ghost use Rattle.conc_board.specs.Answers.{LookedBy, ProgressBy};
 
 use crate::Board;
 use crate::numbers::{DONE, IDLE, RELEASED, STATE, place_named, request_word, running, stopping};
-use crate::plays::{BoardRule, Clears, Gets, Goes, LetsOut, Looks, Stops, Switches, TakesBack};
+use crate::plays::{BoardRule, Clears, Gets, Goes, LetsOut, Looks, Stops, Switches, Withdraws};
 use atomic_table::{Seat, Shared};
-use conc_board_seats::{Posted, View};
+use conc_pool_seats::{Posted, View};
 use conc_types::{PlaceId, Plan, RequestId};
 
 /// The seat of the one that lets requests out. There is one for each board, and it cannot be copied.
@@ -52,29 +52,13 @@ pub struct NotYet;
 
 impl Board {
     ghost use Rattle.std.specs.Prelude.{◌<◌, ◌≤◌, ◌+◌, ◌++◌, ℕ, Bool, IfOk, IsFalse, OnErr, OnOk, false};
-    ghost use Rattle.conc_board_seats.specs.LeadStates.{IsGone, IsLet, IsLetOrGone};
-    ghost use Rattle.conc_board_seats.specs.Words as spec;
-    ghost use Rattle.conc_board_seats.specs.Words.{end_word, IsPlace, IsRequest, place_word};
-    ghost use Rattle.conc_board_seats.specs.declared.views.LeadState.TheVariants as lead_state;
+    ghost use Rattle.conc_pool_seats.specs.LeadStates.{IsGone, IsLet, IsLetOrGone};
+    ghost use Rattle.conc_pool_seats.specs.Words as spec;
+    ghost use Rattle.conc_pool_seats.specs.Words.{end_word, IsPlace, IsRequest, place_word};
+    ghost use Rattle.conc_pool_seats.specs.declared.views.LeadState.TheVariants as lead_state;
     ghost use Rattle.conc_board.specs.Looks.{HasProgress, LooksOn, SeesLeadState, Shows};
-    ghost use Rattle.conc_board.specs.Seats.{Changes, FindsFitting, IsApart, IsFlag, IsLeadOf, IsLeftFor, LeadFinds, LeavesLeadStates, lead_state_of, plan_of};
+    ghost use Rattle.conc_board.specs.Seats.{Changes, FindsFitting, IsApart, IsLeadOf, IsLeftFor, LeadFinds, lead_state_of, plan_of, SetsFlag, SetsLeadState};
     ghost use Rattle.conc_board.specs.Stops.{Collects, FindsRunning, Stops as StopsAs, StopsAt, TakesPost};
-
-    /// Lets a request out that is not on the board and excludes none that is.
-    pub fn let_out(&self, lead: &mut Lead, r: RequestId)
-        requires lead { IsLeadOf self.now lead.old }
-        requires request { IsRequest (plan_of self.now) r }
-        requires lead_state { lead_state_of lead.old r ≡ lead_state.NotLet }
-        requires apart { IsApart self.now r lead.old }
-        ensures lead { Changes self.now r lead.old lead.new }
-        ensures lead_state { lead_state_of lead.new r ≡ lead_state.Let }
-        ensures found { FindsFitting r lead.old lead.new }
-    {
-        self.table
-            .shared
-            .swap::<LetsOut>(&mut lead.seat, request_word(r), RELEASED);
-        self.bells.hands.notify_all();
-    }
 
     /// Looks at the word of a request that is let out or has the go. A request that is told to stop
     /// still runs.
@@ -86,10 +70,8 @@ impl Board {
         ensures lead_state { SeesLeadState self.now r result lead.old lead.new }
         ensures found { LeadFinds (spec.request_word r) (Shows result) lead.old lead.new }
     {
-        let word = self
-            .table
-            .shared
-            .load::<Looks>(&mut lead.seat, request_word(r));
+        let shared = &self.table.shared;
+        let word = shared.load::<Looks>(&mut lead.seat, request_word(r));
         looked_by(word)
     }
 
@@ -103,11 +85,22 @@ impl Board {
         ensures lead_state { LooksOn (lead_state_of lead.old r) (lead_state_of lead.new r) }
         ensures found { FindsFitting r lead.old lead.new }
     {
-        let word = self
-            .table
-            .shared
-            .load::<Looks>(&mut lead.seat, request_word(r));
+        let shared = &self.table.shared;
+        let word = shared.load::<Looks>(&mut lead.seat, request_word(r));
         progress_by(word)
+    }
+
+    /// Lets a request out that is not on the board and excludes none that is.
+    pub fn let_out(&self, lead: &mut Lead, r: RequestId)
+        requires lead { IsLeadOf self.now lead.old }
+        requires request { IsRequest (plan_of self.now) r }
+        requires lead_state { lead_state_of lead.old r ≡ lead_state.NotLet }
+        requires apart { IsApart self.now r lead.old }
+        ensures { SetsLeadState self.now r lead_state.Let lead.old lead.new }
+    {
+        let shared = &self.table.shared;
+        shared.swap::<LetsOut>(&mut lead.seat, request_word(r), RELEASED);
+        self.bells.hands.notify_all();
     }
 
     /// Gives the go to a request at the place that was seen to claim it. What was seen may be stale:
@@ -116,28 +109,22 @@ impl Board {
         requires lead { IsLeadOf self.now lead.old }
         requires request { IsRequest (plan_of self.now) r }
         requires lead_state { lead_state_of lead.old r ≡ lead_state.Seen place }
-        ensures lead { Changes self.now r lead.old lead.new }
-        ensures lead_state { lead_state_of lead.new r ≡ lead_state.Gone place false }
-        ensures found { FindsFitting r lead.old lead.new }
+        ensures { SetsLeadState self.now r (lead_state.Gone place false) lead.old lead.new }
     {
-        self.table
-            .shared
-            .swap::<Goes>(&mut lead.seat, request_word(r), running(place));
+        let shared = &self.table.shared;
+        shared.swap::<Goes>(&mut lead.seat, request_word(r), running(place));
         self.bells.hands.notify_all();
     }
 
-    /// Takes a request back that is let out and has no go. It may be let out again.
+    /// Withdraws a request that is let out and has no go. It may be let out again.
     pub fn back(&self, lead: &mut Lead, r: RequestId)
         requires lead { IsLeadOf self.now lead.old }
         requires request { IsRequest (plan_of self.now) r }
         requires lead_state { IsLet (lead_state_of lead.old r) }
-        ensures lead { Changes self.now r lead.old lead.new }
-        ensures lead_state { lead_state_of lead.new r ≡ lead_state.NotLet }
-        ensures found { FindsFitting r lead.old lead.new }
+        ensures { SetsLeadState self.now r lead_state.NotLet lead.old lead.new }
     {
-        self.table
-            .shared
-            .swap::<TakesBack>(&mut lead.seat, request_word(r), IDLE);
+        let shared = &self.table.shared;
+        shared.swap::<Withdraws>(&mut lead.seat, request_word(r), IDLE);
         self.bells.hands.notify_all();
     }
 
@@ -166,10 +153,8 @@ impl Board {
             × (lead_state_of lead.old r ≡ lead_state.Gone result marked) }
         ensures found { FindsFitting r lead.old lead.new }
     {
-        let word = self
-            .table
-            .shared
-            .load::<Looks>(&mut lead.seat, request_word(r));
+        let shared = &self.table.shared;
+        let word = shared.load::<Looks>(&mut lead.seat, request_word(r));
         place_named(word)
     }
 
@@ -218,8 +203,7 @@ impl Board {
     pub fn open_place(&self, lead: &mut Lead, place: PlaceId)
         requires lead { IsLeadOf self.now lead.old }
         requires place { IsPlace (plan_of self.now) place }
-        ensures lead { LeavesLeadStates self.now lead.old lead.new }
-        ensures found { LeadFinds (place_word (plan_of self.now) place) IsFlag lead.old lead.new }
+        ensures { SetsFlag self.now (place_word (plan_of self.now) place) lead.old lead.new }
     {
         self.set_place(lead, place, 1);
         self.bells.hands.notify_all();
@@ -229,8 +213,7 @@ impl Board {
     pub fn close_place(&self, lead: &mut Lead, place: PlaceId)
         requires lead { IsLeadOf self.now lead.old }
         requires place { IsPlace (plan_of self.now) place }
-        ensures lead { LeavesLeadStates self.now lead.old lead.new }
-        ensures found { LeadFinds (place_word (plan_of self.now) place) IsFlag lead.old lead.new }
+        ensures { SetsFlag self.now (place_word (plan_of self.now) place) lead.old lead.new }
     {
         self.set_place(lead, place, 0);
     }
@@ -239,20 +222,17 @@ impl Board {
         requires lead { IsLeadOf self.now lead.old }
         requires place { IsPlace (plan_of self.now) place }
         requires switch { switch ≤ 1 }
-        ensures lead { LeavesLeadStates self.now lead.old lead.new }
-        ensures found { LeadFinds (place_word (plan_of self.now) place) IsFlag lead.old lead.new }
+        ensures { SetsFlag self.now (place_word (plan_of self.now) place) lead.old lead.new }
     {
         let word = self.requests + place.index as usize;
-        self.table
-            .shared
-            .swap::<Switches>(&mut lead.seat, word, switch);
+        let shared = &self.table.shared;
+        shared.swap::<Switches>(&mut lead.seat, word, switch);
     }
 
     /// Tells all hands that there is no more to come.
     pub fn finish_all(&self, lead: &mut Lead)
         requires lead { IsLeadOf self.now lead.old }
-        ensures lead { LeavesLeadStates self.now lead.old lead.new }
-        ensures found { LeadFinds (end_word (plan_of self.now)) IsFlag lead.old lead.new }
+        ensures { SetsFlag self.now (end_word (plan_of self.now)) lead.old lead.new }
     {
         let word = self.requests + self.places;
         self.table.shared.swap::<Switches>(&mut lead.seat, word, 1);

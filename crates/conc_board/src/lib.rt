@@ -15,7 +15,7 @@ mod owners;
 mod plays;
 
 pub use board::Board;
-pub use conc_board_seats::{Doing, LeadState, Posted, View};
+pub use conc_pool_seats::{Doing, LeadState, Posted, View};
 pub use ending::Words;
 pub use hand::{Claim, Hand, Permit, Polled};
 pub use laws::{

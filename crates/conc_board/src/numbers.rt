@@ -1,6 +1,6 @@
 // The words of requests by their numbers, and what they hold.
 ghost use Rattle.std.specs.Prelude.{◌≡◌, ◌≤◌, ◌<◌, ◌+◌, ◌%◌};
-ghost use Rattle.conc_board_seats.specs.Words as spec;
+ghost use Rattle.conc_pool_seats.specs.Words as spec;
 
 use conc_types::{PlaceId, RequestId};
 

@@ -1,5 +1,5 @@
 ghost use Rattle.std.specs.Prelude.{◌≡◌, IfOk, slice_get};
-ghost use Rattle.conc_law.specs.Places.{count_of_places};
+ghost use Rattle.conc_base_law.specs.Places.{count_of_places};
 ghost use Rattle.conc_board.specs.Owners.{AreOwners, manager_at};
 
 use conc_time::{place_count, place_of};

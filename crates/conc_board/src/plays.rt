@@ -1,11 +1,11 @@
 // The rule of the board, and what each step leaves.
 ghost use Rattle.std.specs.Prelude.{List, []};
 ghost use Rattle.conc_types.specs.declared.event.PlaceId.{PlaceId};
-ghost use Rattle.conc_board_seats.specs.Rule.{first_view, Keep, nobody};
-ghost use Rattle.conc_board_seats.specs.Steps.{back_leaves, claim_leaves, clear_leaves, given, go_leaves, got_leaves, joined, let_out_leaves, look_leaves, poll_leaves, post_leaves, stop_leaves, switch_leaves, warn_leaves, with_places_off};
+ghost use Rattle.conc_pool_seats.specs.Rule.{first_view, Keep, nobody};
+ghost use Rattle.conc_pool_seats.specs.Steps.{back_leaves, claim_leaves, clear_leaves, given, go_leaves, got_leaves, joined, let_out_leaves, look_leaves, poll_leaves, post_leaves, stop_leaves, switch_leaves, warn_leaves, with_places_off};
 
 use atomic_table::{Join, Play, Split, TableRule};
-use conc_board_seats::{Posted, View};
+use conc_pool_seats::{Posted, View};
 use conc_types::Plan;
 use std::marker::{Brand, PhantomData};
 
@@ -38,9 +38,9 @@ impl Play<Option<Posted>, View> for Goes {
     ghost then = { go_leaves };
 }
 
-pub(crate) struct TakesBack;
+pub(crate) struct Withdraws;
 
-impl Play<Option<Posted>, View> for TakesBack {
+impl Play<Option<Posted>, View> for Withdraws {
     ghost then = { back_leaves };
 }
 

@@ -2,13 +2,13 @@
 use Rattle.std.specs.Prelude.{ℕ, Bool, List, [], ◌++◌, codes, Option}
 use Rattle.std.specs.Fmt.{decimal}
 use Rattle.std.specs.Option.{option_map_or}
-use Rattle.conc_chart_model.specs.declared.model.Chart.{Chart}
-use Rattle.conc_chart_svg.specs.Picture.{picture}
-use Rattle.conc_chart_tables.specs.Csv.{csv_text}
-use Rattle.conc_chart_tables.specs.Json.{json_text}
-use Rattle.conc_chart_timeline.specs.Timeline.{timeline_text}
-use Rattle.conc_chart_words.specs.declared.words.Form.{Form}
-use Rattle.conc_chart_words.specs.declared.words.Form.TheVariants as form
+use Rattle.conc_show_model.specs.declared.model.Chart.{Chart}
+use Rattle.conc_show_svg.specs.Picture.{picture}
+use Rattle.conc_show_tables.specs.Csv.{csv_text}
+use Rattle.conc_show_tables.specs.Json.{json_text}
+use Rattle.conc_show_timeline.specs.Timeline.{timeline_text}
+use Rattle.conc_show_model.specs.declared.command.Form.{Form}
+use Rattle.conc_show_model.specs.declared.command.Form.TheVariants as form
 
 -- ` line N:`, where a line is meant
 abbrev pub line_part : Option ℕ → List ℕ

@@ -2,23 +2,17 @@ ghost use Rattle.std.specs.Prelude.{◌≡◌, ◌++◌, OnOk};
 ghost use Rattle.conc_chart.specs.Faults as spec;
 ghost use Rattle.conc_chart.specs.Faults.{fault_line};
 
+use conc_show_model::put_bytes;
 use conc_types::{NoMemory, put_decimal};
-
-fn put(out: &mut Vec<u8>, bytes: &[u8]) -> Result<(), NoMemory>
-    ensures { OnOk result (out.new.items ≡ out.old.items ++ bytes.now) }
-{
-    out.extend_from_slice(bytes)?;
-    Ok(())
-}
 
 fn put_line_part(out: &mut Vec<u8>, line: Option<u64>) -> Result<(), NoMemory>
     ensures { OnOk result (out.new.items ≡ out.old.items ++ spec.line_part line) }
 {
     match line {
         Some(line) => {
-            put(out, b" line ")?;
+            put_bytes(out, b" line ")?;
             put_decimal(out, line)?;
-            put(out, b":")
+            put_bytes(out, b":")
         }
         None => Ok(()),
     }
@@ -33,11 +27,11 @@ pub(crate) fn put_fault(
 ) -> Result<(), NoMemory>
     ensures { OnOk result (out.new.items ≡ out.old.items ++ fault_line file.now line cause.now) }
 {
-    put(out, b"conc_chart: ")?;
-    put(out, file)?;
-    put(out, b":")?;
+    put_bytes(out, b"conc_chart: ")?;
+    put_bytes(out, file)?;
+    put_bytes(out, b":")?;
     put_line_part(out, line)?;
-    put(out, b" ")?;
-    put(out, cause)?;
-    put(out, b"\n")
+    put_bytes(out, b" ")?;
+    put_bytes(out, cause)?;
+    put_bytes(out, b"\n")
 }

@@ -6,10 +6,9 @@ mod faults;
 mod inputs;
 mod making;
 
-use conc_chart_model::{Chart, ChartFail, ChartFile, Planned, read_chart};
-use conc_chart_plan::read_planned;
-use conc_chart_words::{Words, read_words};
-use conc_types::{NoMemory, Seq};
+use conc_show_model::{Chart, ChartFail, ChartFile, Words, read_chart, read_words};
+use conc_show_plan::read_planned;
+use conc_types::NoMemory;
 use faults::put_fault;
 use inputs::{InputFail, read_input};
 use making::made;
@@ -37,9 +36,23 @@ impl Exit {
     }
 }
 
-impl From<NoMemory> for Exit {
+/// Why the program writes no form.
+#[derive(Clone, Copy)]
+enum Fault {
+    Unreadable(ChartFile),
+    NoChart(ChartFail),
+    NotWritten,
+}
+
+impl From<ChartFail> for Fault {
+    fn from(fail: ChartFail) -> Self {
+        Fault::NoChart(fail)
+    }
+}
+
+impl From<NoMemory> for Fault {
     fn from(_: NoMemory) -> Self {
-        Exit::Stopped
+        Fault::NoChart(ChartFail::NoMemory)
     }
 }
 
@@ -64,14 +77,6 @@ fn refuse(rt: &HostRuntime, file: &[u8], line: Option<u64>, cause: &[u8]) -> Exi
     }
 }
 
-fn read(rt: &HostRuntime, name: &[u8]) -> Result<Vec<u8>, Exit> {
-    match read_input(rt, name) {
-        Ok(bytes) => Ok(bytes),
-        Err(InputFail::Unreadable) => Err(refuse(rt, name, None, b"cannot be read")),
-        Err(InputFail::NoMemory) => Err(Exit::Stopped),
-    }
-}
-
 fn is_input(name: &[u8]) -> bool {
     name == b"-".as_slice()
 }
@@ -86,67 +91,55 @@ fn file_name<'a>(words: Words<'a>, file: ChartFile) -> &'a [u8] {
     name.unwrap_or(b"-")
 }
 
-// Tells why there is no chart.
-fn stop(rt: &HostRuntime, words: Words<'_>, fail: ChartFail) -> Exit {
-    match fail {
-        ChartFail::Refused(refusal) => {
+// Tells why there is no form.
+fn tell(rt: &HostRuntime, words: Words<'_>, fault: Fault) -> Exit {
+    match fault {
+        Fault::Unreadable(file) => refuse(rt, file_name(words, file), None, b"cannot be read"),
+        Fault::NoChart(ChartFail::Refused(refusal)) => {
             let name = file_name(words, refusal.file);
             refuse(rt, name, refusal.line, refusal.why.text())
         }
-        ChartFail::NoMemory => Exit::Stopped,
+        Fault::NoChart(ChartFail::NoMemory) | Fault::NotWritten => Exit::Stopped,
     }
 }
 
-// The chart of the history.
-fn chart_of(rt: &HostRuntime, words: Words<'_>) -> Result<Chart, Exit> {
-    let history = read(rt, file_name(words, ChartFile::History))?;
-    match read_chart(rt.alloc(), &history) {
-        Ok(chart) => Ok(chart),
-        Err(fail) => Err(stop(rt, words, fail)),
+fn read(rt: &HostRuntime, words: Words<'_>, file: ChartFile) -> Result<Vec<u8>, Fault> {
+    match read_input(rt, file_name(words, file)) {
+        Ok(bytes) => Ok(bytes),
+        Err(InputFail::Unreadable) => Err(Fault::Unreadable(file)),
+        Err(InputFail::NoMemory) => Err(Fault::NoChart(ChartFail::NoMemory)),
     }
 }
 
-// What the plan, and the script where it is given, tell of the requests.
-fn planned_of(
+// The bytes of a file. Standard input cannot be read where another file is it.
+fn read_other(
     rt: &HostRuntime,
     words: Words<'_>,
-    listing: &[u8],
-    script: Option<&[u8]>,
-) -> Result<Seq<Planned>, Exit> {
-    match read_planned(rt.alloc(), listing, script) {
-        Ok(planned) => Ok(planned),
-        Err(fail) => Err(stop(rt, words, fail)),
-    }
-}
-
-// The bytes of a file, where it is named. Standard input cannot be read where another file is it.
-fn read_named(
-    rt: &HostRuntime,
-    name: Option<&[u8]>,
+    file: ChartFile,
     is_taken: bool,
-) -> Result<Option<Vec<u8>>, Exit> {
-    let Some(name) = name else {
-        return Ok(None);
-    };
-    if is_taken && is_input(name) {
-        return Err(refuse(rt, name, None, b"cannot be read"));
+) -> Result<Vec<u8>, Fault> {
+    if is_taken && is_input(file_name(words, file)) {
+        return Err(Fault::Unreadable(file));
     }
-    let bytes = read(rt, name)?;
-    Ok(Some(bytes))
+    read(rt, words, file)
 }
 
 // Adds what the plan and the script tell. The plan is judged before the script is read; a script
 // without a plan tells nothing.
-fn add_plan(rt: &HostRuntime, words: Words<'_>, chart: &mut Chart) -> Result<(), Exit> {
+fn add_plan(rt: &HostRuntime, words: Words<'_>, chart: &mut Chart) -> Result<(), Fault> {
     let from_history = is_input(file_name(words, ChartFile::History));
-    let Some(listing) = read_named(rt, words.plan, from_history)? else {
-        let _script = read_named(rt, words.script, from_history)?;
+    if words.plan.is_none() {
+        if words.script.is_some() {
+            let _script = read_other(rt, words, ChartFile::Script, from_history)?;
+        }
         return Ok(());
-    };
-    chart.planned = planned_of(rt, words, listing.as_slice(), None)?;
-    let is_taken = from_history || words.plan.is_some_and(|plan| is_input(plan));
-    if let Some(script) = read_named(rt, words.script, is_taken)? {
-        chart.planned = planned_of(rt, words, listing.as_slice(), Some(script.as_slice()))?;
+    }
+    let listing = read_other(rt, words, ChartFile::Plan, from_history)?;
+    chart.planned = read_planned(rt.alloc(), listing.as_slice(), None)?;
+    if words.script.is_some() {
+        let is_taken = from_history || is_input(file_name(words, ChartFile::Plan));
+        let script = read_other(rt, words, ChartFile::Script, is_taken)?;
+        chart.planned = read_planned(rt.alloc(), listing.as_slice(), Some(script.as_slice()))?;
     }
     Ok(())
 }
@@ -161,13 +154,14 @@ fn wants_colours(rt: &HostRuntime) -> bool {
 }
 
 // Writes the form that the words ask for.
-fn write_form(rt: &HostRuntime, words: Words<'_>) -> Result<(), Exit> {
-    let mut chart = chart_of(rt, words)?;
+fn write_form(rt: &HostRuntime, words: Words<'_>) -> Result<(), Fault> {
+    let history = read(rt, words, ChartFile::History)?;
+    let mut chart = read_chart(rt.alloc(), &history)?;
     add_plan(rt, words, &mut chart)?;
     let bytes = made(rt.alloc(), words.form, wants_colours(rt), &chart)?;
     let mut out = rt.stdout();
     if out.write_all(&bytes).is_err() || out.flush().is_err() {
-        return Err(Exit::Stopped);
+        return Err(Fault::NotWritten);
     }
     Ok(())
 }
@@ -182,7 +176,7 @@ fn exit_of(rt: &HostRuntime) -> Exit {
     match read_words(words.as_slice()) {
         Some(words) => match write_form(rt, words) {
             Ok(()) => Exit::Done,
-            Err(exit) => exit,
+            Err(fault) => tell(rt, words, fault),
         },
         None => Exit::Usage,
     }

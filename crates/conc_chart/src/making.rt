@@ -1,11 +1,10 @@
 ghost use Rattle.std.specs.Prelude.{◌≡◌, IfOk};
 ghost use Rattle.conc_chart.specs.Faults.{form_text};
 
-use conc_chart_model::Chart;
-use conc_chart_svg::put_svg;
-use conc_chart_tables::{put_csv, put_json};
-use conc_chart_timeline::put_timeline;
-use conc_chart_words::Form;
+use conc_show_model::{Chart, Form};
+use conc_show_svg::put_svg;
+use conc_show_tables::{put_csv, put_json};
+use conc_show_timeline::put_timeline;
 use conc_types::NoMemory;
 use std::alloc::Global;
 

@@ -5,8 +5,8 @@ use Rattle.std.specs.Fmt.{decimal}
 use Rattle.std.specs.List.{join_with_byte}
 use Rattle.conc_types.specs.declared.plan.Plan.{Plan}
 use Rattle.conc_types.specs.declared.plan.Req.{Req}
-use Rattle.conc_law.specs.Moments.{moment_text}
-use Rattle.conc_law.specs.Text.{item_name}
+use Rattle.conc_base_law.specs.Moments.{moment_text}
+use Rattle.conc_base_law.specs.Text.{item_name}
 use Rattle.conc_history.specs.Listing.{listed, parent_word}
 
 in-parts : (a b c d e f g h : List ℕ) → join_with_byte 9 (a ∷ b ∷ c ∷ d ∷ e ∷ f ∷ g ∷ h ∷ []) ++ codes "\n"

@@ -5,8 +5,8 @@ use Rattle.std.specs.List.{concat, join_with_byte}
 use Rattle.conc_types.specs.declared.event.RequestId.{RequestId}
 use Rattle.conc_types.specs.declared.plan.Plan.{Plan}
 use Rattle.conc_types.specs.declared.plan.Req.{Req}
-use Rattle.conc_law.specs.Moments.{moment_text}
-use Rattle.conc_law.specs.Text.{item_name}
+use Rattle.conc_base_law.specs.Moments.{moment_text}
+use Rattle.conc_base_law.specs.Text.{item_name}
 
 -- the request's set, or 0 where it is no member of one
 abbrev pub parent_word : Option RequestId → List ℕ

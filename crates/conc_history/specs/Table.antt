@@ -7,8 +7,8 @@ use Rattle.conc_types.specs.declared.event.Status.{Status}
 use Rattle.conc_types.specs.declared.facts.State.{State}
 use Rattle.conc_types.specs.declared.plan.Plan.{Plan}
 use Rattle.conc_types.specs.declared.plan.Req.{Req}
-use Rattle.conc_law.specs.Status.{status_of}
-use Rattle.conc_law.specs.Text.{id_word, item_name, line_of, phase_word, status_word}
+use Rattle.conc_base_law.specs.Status.{status_of}
+use Rattle.conc_base_law.specs.Text.{id_word, item_name, line_of, phase_word, status_word}
 
 -- the line of a request with this phase and status
 abbrev pub line_with : Plan → Req → Phase × Status → List ℕ

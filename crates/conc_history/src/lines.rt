@@ -1,9 +1,10 @@
 ghost use Rattle.std.specs.Prelude.{◌≡◌, ◌++◌, ◌∷◌, [], codes, OnOk};
 ghost use Rattle.std.specs.Fmt.{decimal};
-ghost use Rattle.conc_law.specs.Moments.{moment_text};
-ghost use Rattle.conc_law.specs.Text.{event_words, events_text, extent_words, id_word, line_of, outcome_word, place_word, spaced};
+ghost use Rattle.conc_base_law.specs.Moments.{moment_text};
+ghost use Rattle.conc_base_law.specs.Text.{event_words, events_text, extent_words, id_word, line_of, outcome_word, place_word, spaced};
 
-use crate::words::{outcome_bytes, put_bytes, put_place};
+use crate::words::{put_bytes, put_place};
+use conc_history_lines::outcome_bytes;
 use conc_time::put_moment;
 use conc_types::{Event, Extent, Moment, NoMemory, Outcome, PlaceId, Plan, RequestId, put_decimal};
 
@@ -16,13 +17,20 @@ fn put_tick(out: &mut Vec<u8>, moment: Moment) -> Result<(), NoMemory>
     put_bytes(out, b"\n")
 }
 
+// A word and a number, with a blank between them.
+fn put_front(out: &mut Vec<u8>, word: &[u8], n: u32) -> Result<(), NoMemory>
+    ensures { OnOk result (out.new.items ≡ out.old.items ++ spaced (word.now ∷ decimal n ∷ [])) }
+{
+    put_bytes(out, word)?;
+    put_bytes(out, b" ")?;
+    put_decimal(out, u64::from(n))
+}
+
 // A word, a number and the end of the line.
 fn put_numbered(out: &mut Vec<u8>, word: &[u8], n: u32) -> Result<(), NoMemory>
     ensures { OnOk result (out.new.items ≡ out.old.items ++ line_of (word.now ∷ decimal n ∷ [])) }
 {
-    put_bytes(out, word)?;
-    put_bytes(out, b" ")?;
-    put_decimal(out, u64::from(n))?;
+    put_front(out, word, n)?;
     put_bytes(out, b"\n")
 }
 
@@ -30,8 +38,7 @@ fn put_stage(out: &mut Vec<u8>, set: RequestId, stage: u32) -> Result<(), NoMemo
     ensures { OnOk result (out.new.items ≡ out.old.items
         ++ line_of (codes "stage" ∷ id_word set ∷ decimal stage ∷ [])) }
 {
-    put_bytes(out, b"stage ")?;
-    put_decimal(out, u64::from(set.number))?;
+    put_front(out, b"stage", set.number)?;
     put_bytes(out, b" ")?;
     put_decimal(out, u64::from(stage))?;
     put_bytes(out, b"\n")
@@ -41,8 +48,7 @@ fn put_close(out: &mut Vec<u8>, set: RequestId, outcome: Outcome) -> Result<(), 
     ensures { OnOk result (out.new.items ≡ out.old.items
         ++ line_of (codes "close" ∷ id_word set ∷ outcome_word outcome ∷ [])) }
 {
-    put_bytes(out, b"close ")?;
-    put_decimal(out, u64::from(set.number))?;
+    put_front(out, b"close", set.number)?;
     put_bytes(out, b" ")?;
     put_bytes(out, outcome_bytes(outcome))?;
     put_bytes(out, b"\n")
@@ -57,8 +63,7 @@ fn put_start(
     ensures { OnOk result (out.new.items ≡ out.old.items
         ++ line_of (codes "start" ∷ id_word request ∷ place_word plan.now place ∷ [])) }
 {
-    put_bytes(out, b"start ")?;
-    put_decimal(out, u64::from(request.number))?;
+    put_front(out, b"start", request.number)?;
     put_bytes(out, b" ")?;
     put_place(out, plan, place)?;
     put_bytes(out, b"\n")
@@ -69,8 +74,7 @@ fn put_outcome(out: &mut Vec<u8>, request: RequestId, outcome: Outcome) -> Resul
     ensures { OnOk result (out.new.items ≡ out.old.items
         ++ spaced (codes "end" ∷ id_word request ∷ outcome_word outcome ∷ [])) }
 {
-    put_bytes(out, b"end ")?;
-    put_decimal(out, u64::from(request.number))?;
+    put_front(out, b"end", request.number)?;
     put_bytes(out, b" ")?;
     put_bytes(out, outcome_bytes(outcome))
 }
@@ -104,7 +108,7 @@ fn put_end(
 }
 
 // Appends the line of an event.
-#[tactic(auto, unfolding(conc_law::specs::Text::event_words))]
+#[tactic(auto, unfolding(conc_base_law::specs::Text::event_words))]
 fn put_event(out: &mut Vec<u8>, plan: &Plan, event: Event) -> Result<(), NoMemory>
     ensures { OnOk result (out.new.items ≡ out.old.items ++ line_of (event_words plan.now event)) }
 {
@@ -127,7 +131,7 @@ fn put_event(out: &mut Vec<u8>, plan: &Plan, event: Event) -> Result<(), NoMemor
 }
 
 /// Appends a line for each event.
-#[tactic(auto, unfolding(conc_law::specs::Text::events_text))]
+#[tactic(auto, unfolding(conc_base_law::specs::Text::events_text))]
 pub(crate) fn put_events(out: &mut Vec<u8>, plan: &Plan, events: &[Event]) -> Result<(), NoMemory>
     ensures { OnOk result (out.new.items ≡ out.old.items ++ events_text plan.now events.now) }
 {

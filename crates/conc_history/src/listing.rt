@@ -1,8 +1,8 @@
 ghost use Rattle.std.specs.Prelude.{◌≡◌, ◌++◌, ◌∷◌, [], IfOk, OnOk};
 ghost use Rattle.std.specs.Fmt.{decimal};
 ghost use Rattle.std.specs.List.{join_with_byte};
-ghost use Rattle.conc_law.specs.Moments.{moment_text};
-ghost use Rattle.conc_law.specs.Text as spec;
+ghost use Rattle.conc_base_law.specs.Moments.{moment_text};
+ghost use Rattle.conc_base_law.specs.Text as spec;
 ghost use Rattle.conc_history.specs.Listing.{listed, listing, parent_word};
 
 use crate::words::{item_name, put_bytes};

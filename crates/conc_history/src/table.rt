@@ -1,10 +1,11 @@
 ghost use Rattle.std.specs.Prelude.{◌≡◌, ◌++◌, ◌∷◌, [], IfOk, OnOk, reverse};
-ghost use Rattle.conc_law.specs.Text.{id_word, phase_word, spaced, status_word, table_text};
+ghost use Rattle.conc_base_law.specs.Text.{id_word, phase_word, spaced, status_word, table_text};
 ghost use Rattle.conc_history.specs.Table.{line_at, line_with, table_at};
 
-use crate::words::{item_name, phase_bytes, put_bytes, status_bytes};
+use crate::words::{item_name, put_bytes};
+use conc_event_decisions::status;
+use conc_history_lines::{phase_bytes, status_bytes};
 use conc_history_replay::state_after;
-use conc_law_decisions::status;
 use conc_types::{Event, NoMemory, Phase, Plan, Req, RequestId, State, Status, put_decimal};
 use std::alloc::Global;
 
@@ -60,7 +61,7 @@ pub(crate) fn put_table(out: &mut Vec<u8>, plan: &Plan, state: &State) -> Result
 
 /// The table of the requests as they stand after the events: a line for each submitted request with
 /// its number, phase, status and name. It is the part behind the line `--` of the text of the history.
-#[tactic(auto, unfolding(conc_law::specs::Text::table_text, conc_law::specs::Text::request_line, crate::specs::Table::table_at, crate::specs::Table::line_at))]
+#[tactic(auto, unfolding(conc_base_law::specs::Text::table_text, conc_base_law::specs::Text::request_line, crate::specs::Table::table_at, crate::specs::Table::line_at))]
 pub fn put_status_table(alloc: Global, plan: &Plan, events: &[Event]) -> Result<Vec<u8>, NoMemory>
     ensures { IfOk result (λ text. text.items ≡ table_text plan.now (reverse events.now)) }
 {

@@ -1,5 +1,5 @@
 ghost use Rattle.std.specs.Prelude.{◌≡◌, IfOk};
-ghost use Rattle.conc_law.specs.Text.{text_of};
+ghost use Rattle.conc_base_law.specs.Text.{text_of};
 
 use crate::lines::put_events;
 use crate::table::put_table;
@@ -10,7 +10,7 @@ use std::alloc::Global;
 
 /// The text of a history of the plan: a line for each event, the line `--`, and a line for each
 /// submitted request with its number, phase, status and name.
-#[tactic(auto, unfolding(conc_law::specs::Text::text_of, conc_law::specs::Text::table_text, conc_law::specs::Text::request_line, crate::specs::Table::table_at, crate::specs::Table::line_at))]
+#[tactic(auto, unfolding(conc_base_law::specs::Text::text_of, conc_base_law::specs::Text::table_text, conc_base_law::specs::Text::request_line, crate::specs::Table::table_at, crate::specs::Table::line_at))]
 pub fn put_history(alloc: Global, plan: &Plan, events: &[Event]) -> Result<Vec<u8>, NoMemory>
     ensures { IfOk result (λ text. text.items ≡ text_of plan.now events.now) }
 {

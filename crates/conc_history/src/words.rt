@@ -1,56 +1,13 @@
 ghost use Rattle.std.specs.Prelude.{◌≡◌, ◌++◌, codes, OnOk};
 ghost use Rattle.std.specs.Fmt.{decimal};
-ghost use Rattle.conc_law.specs.Text as spec;
-ghost use Rattle.conc_law.specs.Text.{outcome_word, phase_word, place_word, status_word};
+ghost use Rattle.conc_base_law.specs.Text as spec;
+ghost use Rattle.conc_base_law.specs.Text.{place_word};
 
 use conc_time::place_of;
-use conc_types::{Item, NoMemory, Outcome, Phase, PlaceId, Plan, Status, put_decimal};
-
-pub(crate) fn outcome_bytes(outcome: Outcome) -> &'static [u8]
-    ensures { result.now ≡ outcome_word outcome }
-{
-    match outcome {
-        Outcome::Normal => b"Normal",
-        Outcome::Warning => b"Warning",
-        Outcome::Error => b"Error",
-        Outcome::Terminated => b"Terminated",
-        Outcome::Cancelled => b"Cancelled",
-    }
-}
-
-pub(crate) fn phase_bytes(phase: Phase) -> &'static [u8]
-    ensures { result.now ≡ phase_word phase }
-{
-    match phase {
-        Phase::Pending => b"Pending",
-        Phase::Running => b"Running",
-        Phase::Completed => b"Completed",
-        Phase::Inactive => b"Inactive",
-    }
-}
-
-pub(crate) fn status_bytes(status: Status) -> &'static [u8]
-    ensures { result.now ≡ status_word status }
-{
-    match status {
-        Status::Normal => b"Normal",
-        Status::Standby => b"Standby",
-        Status::Scheduled => b"Scheduled",
-        Status::Waiting => b"Waiting",
-        Status::Paused => b"Paused",
-        Status::Terminating => b"Terminating",
-        Status::Error => b"Error",
-        Status::Warning => b"Warning",
-        Status::Cancelled => b"Cancelled",
-        Status::Terminated => b"Terminated",
-        Status::Disabled => b"Disabled",
-        Status::OnHold => b"On Hold",
-        Status::NoManager => b"No Manager",
-    }
-}
+use conc_types::{Item, NoMemory, PlaceId, Plan, put_decimal};
 
 // The name of a program or set of the plan.
-#[tactic(auto, unfolding(conc_law::specs::Text::item_name))]
+#[tactic(auto, unfolding(conc_base_law::specs::Text::item_name))]
 pub(crate) fn item_name(plan: &Plan, item: Item) -> &[u8]
     ensures { result.now ≡ spec.item_name plan.now item }
 {
@@ -82,7 +39,7 @@ fn put_dotted(out: &mut Vec<u8>, m: u32, n: u32) -> Result<(), NoMemory>
 }
 
 // A place of the plan: the number of its manager and its own.
-#[tactic(auto, unfolding(conc_law::specs::Text::place_word))]
+#[tactic(auto, unfolding(conc_base_law::specs::Text::place_word))]
 pub(crate) fn put_place(out: &mut Vec<u8>, plan: &Plan, place: PlaceId) -> Result<(), NoMemory>
     ensures { OnOk result (out.new.items ≡ out.old.items ++ place_word plan.now place) }
 {

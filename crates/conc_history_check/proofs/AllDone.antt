@@ -9,8 +9,8 @@ use Rattle.conc_types.specs.declared.facts.State.{State}
 use Rattle.conc_types.specs.declared.plan.Plan.{Plan}
 use Rattle.conc_types.specs.declared.script.Order.{Order}
 use Rattle.conc_types.specs.Words.{numbered}
-use Rattle.conc_law.specs.Next.{forced_command, is_due}
-use Rattle.conc_law.proofs.Numbering.{numbered-at}
+use Rattle.conc_base_law.specs.Next.{forced_command, is_due}
+use Rattle.conc_base_law.proofs.Numbering.{numbered-at}
 use Rattle.conc_history_check.specs.Steps.{all_done}
 
 -- the flag at an index

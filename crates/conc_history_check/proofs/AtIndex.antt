@@ -6,11 +6,11 @@ use Rattle.conc_types.specs.declared.facts.State.{State}
 use Rattle.conc_types.specs.declared.plan.Plan.{Plan}
 use Rattle.conc_types.specs.declared.plan.Req.{Req}
 use Rattle.conc_types.specs.Words.{numbered}
-use Rattle.conc_law.specs.Next.{can_run, is_free, is_ready, may_let}
-use Rattle.conc_law.specs.State.{facts_at, has_come, is_completed, is_live, is_waiting, no_facts}
-use Rattle.conc_law.proofs.Numbering.{numbered-at}
-use Rattle.conc_machine_queue.proofs.Maps.{request_at_place}
-use Rattle.conc_law.specs.Stages.{set_step}
+use Rattle.conc_base_law.specs.Next.{can_run, is_free, is_ready, may_let}
+use Rattle.conc_base_law.specs.State.{facts_at, has_come, is_completed, is_live, is_waiting, no_facts}
+use Rattle.conc_base_law.proofs.Numbering.{numbered-at}
+use Rattle.conc_event_queue.proofs.Maps.{request_at_place}
+use Rattle.conc_base_law.specs.Stages.{set_step}
 use Rattle.conc_history_check.specs.At.{live_at, open_at, waits_at}
 use Rattle.conc_history_check.specs.Steps.{own_step}
 

@@ -12,12 +12,12 @@ use Rattle.conc_types.specs.declared.facts.State.{State}
 use Rattle.conc_types.specs.declared.plan.Plan.{Plan}
 use Rattle.conc_types.specs.declared.script.Reading.{Reading}
 use Rattle.conc_types.specs.Words.{some_and}
-use Rattle.conc_law.specs.Kinds.{is_resume}
-use Rattle.conc_law.specs.Law.{is_lawful, is_lawful_so_far, may_follow}
-use Rattle.conc_law.specs.Next.{forced, is_allowed, may_come, obeys}
-use Rattle.conc_law.specs.Readings.{next_reading}
-use Rattle.conc_law.specs.State.{state}
-use Rattle.conc_law.proofs.Positions.{reverse-push, slice_get-some, take-suc_at}
+use Rattle.conc_base_law.specs.Kinds.{is_resume}
+use Rattle.conc_base_law.specs.Law.{is_lawful, is_lawful_so_far, may_follow}
+use Rattle.conc_base_law.specs.Next.{forced, is_allowed, may_come, obeys}
+use Rattle.conc_base_law.specs.Readings.{next_reading}
+use Rattle.conc_base_law.specs.State.{state}
+use Rattle.conc_base_law.proofs.Positions.{reverse-push, slice_get-some, take-suc_at}
 use Rattle.conc_history_check.specs.declared.findings.Findings.{Findings}
 use Rattle.conc_history_check.specs.Findings.{HasTaken}
 use Rattle.conc_history_check.specs.Positions.{AreLawfulTo, is_lawful_at, known_before}

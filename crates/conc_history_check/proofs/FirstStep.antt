@@ -5,9 +5,9 @@ use Rattle.conc_types.specs.declared.event.Event.{Event}
 use Rattle.conc_types.specs.declared.facts.State.{State}
 use Rattle.conc_types.specs.declared.plan.Plan.{Plan}
 use Rattle.conc_types.specs.declared.plan.Req.{Req}
-use Rattle.conc_law.specs.Next.{has_step}
-use Rattle.conc_law.specs.Stages.{set_step}
-use Rattle.conc_law.specs.State.{facts_at}
+use Rattle.conc_base_law.specs.Next.{has_step}
+use Rattle.conc_base_law.specs.Stages.{set_step}
+use Rattle.conc_base_law.specs.State.{facts_at}
 use Rattle.conc_history_check.specs.Steps.{own_step, step_among}
 
 -- a request has a step where its own one is there, and that is it

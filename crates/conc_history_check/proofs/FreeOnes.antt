@@ -11,15 +11,15 @@ use Rattle.conc_types.specs.declared.facts.State.{State}
 use Rattle.conc_types.specs.declared.plan.Plan.{Plan}
 use Rattle.conc_types.specs.declared.plan.Req.{Req}
 use Rattle.conc_types.specs.Words.{numbered}
-use Rattle.conc_law.specs.Exclusion.{excludes, excludes_from, is_kin}
-use Rattle.conc_law.specs.Next.{blocks, is_free}
-use Rattle.conc_law.specs.Plans.{are_exclusive, parent_item}
-use Rattle.conc_law.specs.State.{facts_at, is_live, no_facts}
-use Rattle.conc_law.specs.Words.{Has, id_eq}
-use Rattle.conc_law.proofs.Numbering.{found}
-use Rattle.conc_machine_queue.proofs.Maps.{place_of_request}
-use Rattle.conc_machine_classes.specs.Classes.{AreClasses, are_rivals, clash, class_at, rivals_at, excludes_kin_at}
-use Rattle.conc_machine_classes.specs.declared.classes.Classes.{Classes}
+use Rattle.conc_base_law.specs.Exclusion.{excludes, excludes_from, is_kin}
+use Rattle.conc_base_law.specs.Next.{blocks, is_free}
+use Rattle.conc_base_law.specs.Plans.{are_exclusive, parent_item}
+use Rattle.conc_base_law.specs.State.{facts_at, is_live, no_facts}
+use Rattle.conc_base_law.specs.Words.{Has, id_eq}
+use Rattle.conc_base_law.proofs.Numbering.{found}
+use Rattle.conc_event_queue.proofs.Maps.{place_of_request}
+use Rattle.conc_event_classes.specs.Classes.{AreClasses, are_rivals, clash, class_at, rivals_at, excludes_kin_at}
+use Rattle.conc_event_classes.specs.declared.classes.Classes.{Classes}
 use Rattle.conc_history_check.specs.Live.{AreLive, IsLiveOf, noted, rival_noted}
 
 -- ---- searches

@@ -11,3 +11,5 @@ pub mod Places
 pub mod NoneLeft
 pub mod AtIndex
 pub mod AllDone
+pub mod Comparing
+pub mod Offsets

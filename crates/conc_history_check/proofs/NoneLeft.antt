@@ -10,8 +10,8 @@ use Rattle.conc_types.specs.declared.facts.State.{State}
 use Rattle.conc_types.specs.declared.plan.Plan.{Plan}
 use Rattle.conc_types.specs.declared.plan.Req.{Req}
 use Rattle.conc_types.specs.Words.{numbered}
-use Rattle.conc_law.specs.Next.{forced_interrupt, is_left_running}
-use Rattle.conc_law.specs.State.{facts_at, no_facts}
+use Rattle.conc_base_law.specs.Next.{forced_interrupt, is_left_running}
+use Rattle.conc_base_law.specs.State.{facts_at, no_facts}
 use Rattle.conc_history_check.specs.Steps.{is_left}
 
 -- none of a list passes, so none that it has at an index

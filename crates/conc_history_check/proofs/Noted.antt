@@ -9,11 +9,11 @@ use Rattle.conc_types.specs.declared.event.RequestId.{RequestId}
 use Rattle.conc_types.specs.declared.facts.State.{State}
 use Rattle.conc_types.specs.declared.plan.Plan.{Plan}
 use Rattle.conc_types.specs.declared.plan.Req.{Req}
-use Rattle.conc_law.specs.State.{facts_at, is_live}
-use Rattle.conc_law.proofs.Numbering.{numbered_plan}
-use Rattle.conc_machine_queue.proofs.Maps.{request_at_place, slice_get-set_other, slice_get-set_same}
-use Rattle.conc_machine_classes.specs.Classes.{class_at}
-use Rattle.conc_machine_classes.specs.declared.classes.Classes.{Classes}
+use Rattle.conc_base_law.specs.State.{facts_at, is_live}
+use Rattle.conc_base_law.proofs.Numbering.{numbered_plan}
+use Rattle.conc_event_queue.proofs.Maps.{request_at_place, slice_get-set_other, slice_get-set_same}
+use Rattle.conc_event_classes.specs.Classes.{class_at}
+use Rattle.conc_event_classes.specs.declared.classes.Classes.{Classes}
 use Rattle.conc_history_check.specs.Live.{AreLiveTo, IsLiveOf, noted}
 
 -- nothing is noted in a list that is cleared

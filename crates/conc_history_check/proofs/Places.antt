@@ -7,10 +7,10 @@ use Rattle.conc_types.specs.declared.facts.State.{State}
 use Rattle.conc_types.specs.declared.plan.Plan.{Plan}
 use Rattle.conc_types.specs.declared.plan.Req.{Req}
 use Rattle.conc_types.specs.Words.{some_and}
-use Rattle.conc_law.specs.Managers.{admits}
-use Rattle.conc_law.specs.Next.{is_vacant, may_start, may_start_somewhere}
-use Rattle.conc_law.specs.Places.{all_places, is_usable, place_of}
-use Rattle.conc_law.specs.State.{facts_at, is_running}
+use Rattle.conc_base_law.specs.Managers.{admits}
+use Rattle.conc_base_law.specs.Next.{is_vacant, may_start, may_start_somewhere}
+use Rattle.conc_base_law.specs.Places.{all_places, is_usable, place_of}
+use Rattle.conc_base_law.specs.State.{facts_at, is_running}
 
 -- one of none passes no test
 any-never : {T : Type 0} (xs : List T) → list_any (λ (x : T). false) xs ≡ false

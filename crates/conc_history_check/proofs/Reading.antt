@@ -3,11 +3,11 @@ use Rattle.std.proofs.Common.{◌≡◌, List, ◌∷◌, arith, refl, ◌∙◌
 use Rattle.conc_types.specs.declared.event.Event.{Event}
 use Rattle.conc_types.specs.declared.event.Event.TheVariants as event
 use Rattle.conc_types.specs.declared.plan.Plan.{Plan}
-use Rattle.conc_law.specs.Before.{earlier_lives, last_life}
-use Rattle.conc_law.specs.Readings.{ticks as ticks_of}
-use Rattle.conc_law.specs.State.{now, state}
-use Rattle.conc_law_effects.specs.Advance.{IsAfter}
-use Rattle.conc_law_effects.proofs.NextState.{state-next}
+use Rattle.conc_base_law.specs.Before.{earlier_lives, last_life}
+use Rattle.conc_base_law.specs.Readings.{ticks as ticks_of}
+use Rattle.conc_base_law.specs.State.{now, state}
+use Rattle.conc_event_effects.specs.Advance.{IsAfter}
+use Rattle.conc_event_effects.proofs.NextState.{state-next}
 use Rattle.conc_history_check.specs.declared.findings.Findings.{Findings}
 use Rattle.conc_history_check.specs.Findings.{HasTaken, earlier_after, ticks_after}
 

@@ -6,10 +6,10 @@ use Rattle.std.proofs.lemmas.List.FromFn.{length-enumerate_from}
 use Rattle.conc_types.specs.declared.event.Event.{Event}
 use Rattle.conc_types.specs.declared.event.Event.TheVariants as event
 use Rattle.conc_types.specs.declared.plan.Plan.{Plan}
-use Rattle.conc_law.specs.Facts.{facts_of}
-use Rattle.conc_law.specs.Before.{last_life}
-use Rattle.conc_law.specs.Readings.{ticks}
-use Rattle.conc_law.specs.State.{is_done, state}
+use Rattle.conc_base_law.specs.Facts.{facts_of}
+use Rattle.conc_base_law.specs.Before.{last_life}
+use Rattle.conc_base_law.specs.Readings.{ticks}
+use Rattle.conc_base_law.specs.State.{is_done, state}
 use Rattle.conc_history_check.specs.declared.findings.Findings.{Findings}
 use Rattle.conc_history_check.specs.declared.prepared.Prepared.{Prepared}
 use Rattle.conc_history_check.specs.Findings.{HasRoom}

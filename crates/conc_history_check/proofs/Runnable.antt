@@ -6,10 +6,10 @@ use Rattle.conc_types.specs.declared.plan.Plan.{Plan}
 use Rattle.conc_types.specs.declared.plan.Req.{Req}
 use Rattle.conc_types.specs.Plans.{request}
 use Rattle.conc_types.specs.Words.{numbered}
-use Rattle.conc_law.specs.Next.{can_run}
-use Rattle.conc_law.specs.Words.{Has}
-use Rattle.conc_law.proofs.FactsAt.{numbered-map}
-use Rattle.conc_law.proofs.Numbering.{numbered_plan}
+use Rattle.conc_base_law.specs.Next.{can_run}
+use Rattle.conc_base_law.specs.Words.{Has}
+use Rattle.conc_base_law.proofs.FactsAt.{numbered-map}
+use Rattle.conc_base_law.proofs.Numbering.{numbered_plan}
 
 -- the flag of a request is whether it can run at all
 pub runnable-own : (plan : Plan) (flags : List Bool) (r : Req) → flags ≡ map (can_run plan) plan.requests → Has plan.requests r

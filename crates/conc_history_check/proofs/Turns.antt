@@ -5,10 +5,10 @@ use Rattle.std.proofs.lemmas.Bool.{and_parts, not-true}
 use Rattle.conc_types.specs.declared.facts.State.{State}
 use Rattle.conc_types.specs.declared.plan.Plan.{Plan}
 use Rattle.conc_types.specs.declared.plan.Req.{Req}
-use Rattle.conc_law.specs.Next.{is_free, is_ready, may_let}
-use Rattle.conc_law.specs.State.{facts_at, is_live}
-use Rattle.conc_machine_queue.specs.Least.{lesser}
-use Rattle.conc_machine_queue.proofs.LeastTurns.{lesser-none}
+use Rattle.conc_base_law.specs.Next.{is_free, is_ready, may_let}
+use Rattle.conc_base_law.specs.State.{facts_at, is_live}
+use Rattle.conc_event_queue.specs.Least.{lesser}
+use Rattle.conc_event_queue.proofs.LeastTurns.{lesser-none}
 use Rattle.conc_history_check.specs.Lets.{comes_before}
 
 -- ---- which requests count
@@ -21,12 +21,6 @@ may_let-parts plan s r = refl
 -- where it may not be, the best turn stays
 pub better-not : (best : Option ℕ) (b : Bool) (t : ℕ) → b ≡ false → best ≡ lesser best (then_some b t)
 better-not best b t e = rw e (sym (lesser-none best))
-
--- so where its turn does not come before
-pub better-later : (best : Option ℕ) (b : Bool) (t : ℕ) → comes_before t best ≡ false → best ≡ lesser best (then_some b t)
-better-later None b t h = cc
-better-later (Some best) false t h = refl
-better-later (Some best) true t h = rw h refl
 
 -- one that does is the best
 pub better-before : (best : Option ℕ) (b : Bool) (t : ℕ) → comes_before t best ≡ true → b ≡ true → Some t ≡ lesser best (then_some b t)

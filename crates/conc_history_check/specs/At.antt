@@ -1,7 +1,7 @@
 -- What the facts at an index say of the request at that index.
 use Rattle.std.specs.Prelude.{Bool, false, not, ◌&&◌, Option, None, Some}
 use Rattle.conc_types.specs.declared.facts.Facts.{Facts}
-use Rattle.conc_law.specs.State.{is_completed, is_live}
+use Rattle.conc_base_law.specs.State.{is_completed, is_live}
 
 -- it is live
 abbrev pub live_at : Option Facts → Bool

@@ -4,9 +4,9 @@ use Rattle.conc_types.specs.declared.event.Event.{Event}
 use Rattle.conc_types.specs.declared.event.Event.TheVariants as event
 use Rattle.conc_types.specs.declared.event.Moment.{Moment}
 use Rattle.conc_types.specs.declared.plan.Plan.{Plan}
-use Rattle.conc_law.specs.Before.{earlier_lives}
-use Rattle.conc_law.specs.Readings.{ticks}
-use Rattle.conc_law.specs.State.{now, state}
+use Rattle.conc_base_law.specs.Before.{earlier_lives}
+use Rattle.conc_base_law.specs.Readings.{ticks}
+use Rattle.conc_base_law.specs.State.{now, state}
 use Rattle.conc_history_check.specs.declared.findings.Findings.{Findings}
 use Rattle.conc_history_check.specs.declared.prepared.Prepared.{Prepared}
 use Rattle.conc_history_check.specs.Live.{AreLive}

@@ -5,3 +5,5 @@ pub mod Live
 pub mod Findings
 pub mod Lets
 pub mod Steps
+pub mod Starts
+pub mod Verdicts

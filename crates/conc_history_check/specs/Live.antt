@@ -7,9 +7,10 @@ use Rattle.conc_types.specs.declared.facts.State.{State}
 use Rattle.conc_types.specs.declared.plan.Plan.{Plan}
 use Rattle.conc_types.specs.declared.plan.Req.{Req}
 use Rattle.conc_types.specs.Plans.{request}
-use Rattle.conc_law.specs.State.{facts_at, is_live}
-use Rattle.conc_machine_classes.specs.Classes.{class_at, rivals_at}
-use Rattle.conc_machine_classes.specs.declared.classes.Classes.{Classes}
+use Rattle.conc_base_law.specs.State.{facts_at, is_live}
+use Rattle.conc_event_classes.specs.Classes.{class_at, rivals_at}
+use Rattle.conc_event_classes.specs.declared.classes.Classes.{Classes}
+use Rattle.conc_history_check.specs.declared.position.Position.{Position}
 
 -- the request that is noted for a class
 unfoldable pub noted : List (Option RequestId) → ℕ → Option RequestId
@@ -29,6 +30,10 @@ pub record AreLiveTo (plan : Plan) (classes : Classes) (s : State) (n : ℕ) (li
 -- so of all requests
 abbrev pub AreLive : Plan → Classes → State → List (Option RequestId) → Type 0
 AreLive plan classes s live = AreLiveTo plan classes s (length plan.requests) live
+
+-- so at a position
+abbrev pub AreNoted : Position → Type 0
+AreNoted position = AreLive position.plan.now position.prepared.now.classes position.state.now position.live.now
 
 -- the request that is noted for the first class that excludes a class and has one
 unfoldable pub rival_noted : Classes → List (Option RequestId) → ℕ → Option RequestId

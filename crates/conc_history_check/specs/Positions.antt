@@ -1,12 +1,12 @@
 -- What is lawful at a position of a history.
-use Rattle.std.specs.Prelude.{ℕ, ◌-◌, ◌<◌, ◌≤◌, Bool, if◌then◌else◌, IsFalse, IsTrue, List, drop, length, reverse, take, Option, None, Some}
+use Rattle.std.specs.Prelude.{◌↔◌, ℕ, ◌-◌, ◌<◌, ◌≤◌, Bool, if◌then◌else◌, IsFalse, IsTrue, List, drop, length, reverse, take, Option, None, Some}
 use Rattle.std.specs.List.{list_any}
 use Rattle.conc_types.specs.declared.event.Event.{Event}
 use Rattle.conc_types.specs.declared.plan.Plan.{Plan}
 use Rattle.conc_types.specs.declared.script.Reading.{Reading}
 use Rattle.conc_types.specs.Words.{numbered, some_and}
-use Rattle.conc_law.specs.Kinds.{is_resume}
-use Rattle.conc_law.specs.Law.{may_follow}
+use Rattle.conc_base_law.specs.Kinds.{is_resume}
+use Rattle.conc_base_law.specs.Law.{Lawful, may_follow}
 
 -- the readings that are known where these events come later: none where one of them begins another life
 unfoldable pub known_before : List Reading → List Event → Option (List Reading)
@@ -27,3 +27,9 @@ pub record IsFirstBad (plan : Plan) (readings : List Reading) (history : List Ev
   pub within : position ≤ length history
   pub before : (i : ℕ) → 1 ≤ i → i < position → IsTrue (is_lawful_at plan readings history i)
   pub bad : IsFalse (is_lawful_at plan readings history position)
+
+-- a history is lawful exactly where the event at each of its positions is
+abbrev pub LawfulAtEachPosition : Type 0
+LawfulAtEachPosition =
+    (plan : Plan) (readings : List Reading) (history : List Event)
+    → Lawful plan readings history ↔ AreLawfulTo plan readings history (length history)

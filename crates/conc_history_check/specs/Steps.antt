@@ -7,9 +7,9 @@ use Rattle.conc_types.specs.declared.facts.Facts.{Facts}
 use Rattle.conc_types.specs.declared.facts.State.{State}
 use Rattle.conc_types.specs.declared.plan.Plan.{Plan}
 use Rattle.conc_types.specs.declared.plan.Req.{Req}
-use Rattle.conc_law.specs.Next.{has_step}
-use Rattle.conc_law.specs.Stages.{set_step}
-use Rattle.conc_law.specs.State.{facts_at, is_running}
+use Rattle.conc_base_law.specs.Next.{has_step}
+use Rattle.conc_base_law.specs.Stages.{set_step}
+use Rattle.conc_base_law.specs.State.{facts_at, is_running}
 
 -- a request with these facts ran at the stop of the system
 abbrev pub is_left : Facts → Bool

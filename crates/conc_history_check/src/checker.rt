@@ -1,6 +1,6 @@
 ghost use Rattle.std.specs.Prelude.{◌≡◌, ◌↔◌, ℕ, ◌≤◌, List, IfOk, IsTrue, MatchOption, length, reverse, Err};
 ghost use Rattle.conc_types.specs.declared.event.Event.{Event};
-ghost use Rattle.conc_law.specs.Law.{Finished, Lawful};
+ghost use Rattle.conc_base_law.specs.Law.{Finished, Lawful};
 ghost use Rattle.conc_types.specs.declared.error.CheckFail.TheVariants.{Unlawful as unlawful_at};
 ghost use Rattle.conc_history_check.specs.Findings.{AreFindings, HasRoom};
 ghost use Rattle.conc_history_check.specs.Positions.{AreLawfulTo, IsFirstBad};
@@ -8,6 +8,7 @@ ghost use Rattle.conc_history_check.specs.Prepared.{IsPrepared};
 
 use crate::findings::Findings;
 use crate::judging::is_at_rest;
+use crate::position::Position;
 use crate::positions::is_lawful_at;
 use crate::prepared::Prepared;
 use crate::readings::next_reading;
@@ -50,8 +51,13 @@ fn is_finished(
     requires read { AreFindings plan.now prepared.now (reverse events.now) findings.now }
     ensures { IsTrue result ↔ Finished plan.now readings.now.list events.now }
 {
-    is_at_rest(plan, prepared, &findings.state, &findings.live)
-        && next_reading(plan, readings, findings).is_none()
+    let position = Position {
+        plan,
+        prepared,
+        state: &findings.state,
+        live: &findings.live,
+    };
+    is_at_rest(position) && next_reading(plan, readings, findings).is_none()
 }
 
 /// Whether a history is finished, where it is lawful; else the first position, from 1, whose event may

@@ -1,14 +1,14 @@
 ghost use Rattle.std.specs.Prelude.{◌≡◌, ◌∷◌, ◌+◌, ◌<◌, ◌^◌, [], Bool, IfOk, List, false, length, map, reverse};
 ghost use Rattle.conc_types.specs.declared.event.Event.{Event};
 ghost use Rattle.conc_types.specs.declared.facts.Facts.{Facts};
-ghost use Rattle.conc_law.specs.State as state_spec;
+ghost use Rattle.conc_base_law.specs.State as state_spec;
 ghost use Rattle.conc_history_check.specs.Findings.{AreFindings, HasRoom, HasTaken, earlier_after, ticks_after};
 ghost use Rattle.conc_history_check.specs.Prepared.{IsPrepared};
 
 use crate::live::{note_live, room_for_live};
 use crate::prepared::Prepared;
+use conc_event_effects::begin;
 use conc_history_replay::take_in;
-use conc_law_effects::begin;
 use conc_types::{Event, Facts, Moment, NoMemory, Plan, RequestId, Seq, State};
 use std::alloc::Global;
 

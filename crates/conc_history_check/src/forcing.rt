@@ -1,19 +1,18 @@
 ghost use Rattle.std.specs.Prelude.{◌≡◌, ◌<◌, Some, length, slice_get};
 ghost use Rattle.std.specs.List.{list_all, list_any};
 ghost use Rattle.conc_types.specs.declared.plan.Req.{Req};
-ghost use Rattle.conc_law.specs.Next as next_spec;
-ghost use Rattle.conc_machine_reach.specs.Spans.{AreSpans};
+ghost use Rattle.conc_base_law.specs.Next as next_spec;
+ghost use Rattle.conc_event_reach.specs.Spans.{AreSpans};
 ghost use Rattle.conc_history_check.specs.At as at_spec;
-ghost use Rattle.conc_history_check.specs.Live.{AreLive};
+ghost use Rattle.conc_history_check.specs.Live.{AreNoted};
 ghost use Rattle.conc_history_check.specs.Prepared.{IsPrepared};
 ghost use Rattle.conc_history_check.specs.Steps as steps_spec;
-ghost use Rattle.conc_history_check.specs.Steps.{step_among};
 
 use crate::lets::forced_let;
-use crate::prepared::Prepared;
-use conc_law_decisions::{facts_at, forced_command, forced_interrupt, set_step};
-use conc_machine_reach::Spans;
-use conc_types::{Event, Facts, Plan, Req, RequestId, Seq, State};
+use crate::position::Position;
+use conc_event_decisions::{facts_at, forced_command, forced_interrupt, set_step};
+use conc_event_reach::Spans;
+use conc_types::{Event, Facts, Plan, Req, State};
 
 // ---- interrupts
 
@@ -103,7 +102,7 @@ fn own_step_at(plan: &Plan, spans: &Spans, state: &State, i: usize) -> Option<Ev
     own_step(plan, spans, state, &plan.requests.as_slice()[i])
 }
 
-#[tactic(auto, unfolding(conc_law::specs::Next::forced_step, crate::specs::Steps::step_among))]
+#[tactic(auto, unfolding(conc_base_law::specs::Next::forced_step, crate::specs::Steps::step_among))]
 fn forced_step(plan: &Plan, spans: &Spans, state: &State) -> Option<Event>
     requires { AreSpans plan.now spans.now }
     ensures { result ≡ next_spec.forced_step plan.now state.now }
@@ -120,25 +119,20 @@ fn forced_step(plan: &Plan, spans: &Spans, state: &State) -> Option<Event>
 // ---- all four
 
 /// The event that is forced, if one is due.
-#[tactic(auto, unfolding(conc_law::specs::Next::forced))]
-pub(crate) fn forced(
-    plan: &Plan,
-    prepared: &Prepared,
-    state: &State,
-    live: &Seq<Option<RequestId>>,
-) -> Option<Event>
-    requires prepared { IsPrepared plan.now prepared.now }
-    requires live { AreLive plan.now prepared.now.classes state.now live.now }
-    ensures { result ≡ next_spec.forced plan.now state.now }
+#[tactic(auto, unfolding(conc_base_law::specs::Next::forced))]
+pub(crate) fn forced(position: Position<'_>) -> Option<Event>
+    requires prepared { IsPrepared position.plan.now position.prepared.now }
+    requires live { AreNoted position }
+    ensures { result ≡ next_spec.forced position.entry.plan.now position.entry.state.now }
 {
-    if let Some(e) = due_interrupt(plan, state) {
+    if let Some(e) = due_interrupt(position.plan, position.state) {
         return Some(e);
     }
-    if let Some(e) = due_command(plan, state) {
+    if let Some(e) = due_command(position.plan, position.state) {
         return Some(e);
     }
-    if let Some(e) = forced_step(plan, &prepared.spans, state) {
+    if let Some(e) = forced_step(position.plan, &position.prepared.spans, position.state) {
         return Some(e);
     }
-    forced_let(plan, prepared, state, live)
+    forced_let(position)
 }

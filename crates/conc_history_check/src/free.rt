@@ -1,17 +1,16 @@
 ghost use Rattle.std.specs.Prelude.{◌≡◌, IsFalse, IsTrue, is_some};
 ghost use Rattle.std.specs.List.{find};
 ghost use Rattle.std.specs.Option.{option_copied};
-ghost use Rattle.conc_law.specs.Next as next_spec;
-ghost use Rattle.conc_law.specs.State as state_spec;
-ghost use Rattle.conc_law.specs.State.{facts_at};
-ghost use Rattle.conc_law.specs.Words.{Has};
-ghost use Rattle.conc_machine_classes.specs.Classes.{AreClasses, rivals_at};
+ghost use Rattle.conc_base_law.specs.Next as next_spec;
+ghost use Rattle.conc_base_law.specs.State as state_spec;
+ghost use Rattle.conc_base_law.specs.Words.{Has};
+ghost use Rattle.conc_event_classes.specs.Classes.{AreClasses, rivals_at};
 ghost use Rattle.conc_history_check.specs.Live as live_spec;
-ghost use Rattle.conc_history_check.specs.Live.{AreLive};
 
 use crate::live::noted;
-use conc_law_decisions::blocks;
-use conc_machine_classes::Classes;
+use crate::position::Position;
+use conc_event_classes::Classes;
+use conc_event_decisions::blocks;
 use conc_types::{Plan, Req, RequestId, Seq, State};
 
 fn first_noted<'a>(
@@ -50,31 +49,28 @@ fn blocks_by_id(plan: &Plan, state: &State, r: &Req, id: RequestId) -> bool
 }
 
 // Whether no live request excludes r. It looks first at the one with this number.
-#[tactic(auto, unfolding(conc_law::specs::Next::is_free))]
+#[tactic(auto, unfolding(conc_base_law::specs::Next::is_free))]
 fn is_free_of_all(plan: &Plan, state: &State, r: &Req, first: RequestId) -> bool
     ensures { result ≡ next_spec.is_free plan.now state.now r.now }
 {
-    !blocks_by_id(plan, state, r, first) && conc_law_decisions::is_free(plan, state, r)
+    !blocks_by_id(plan, state, r, first) && conc_event_decisions::is_free(plan, state, r)
 }
 
 /// Whether no live request excludes r, which is none itself. It looks at all requests only where its
 /// class may exclude kin of its own and the live request that it finds does not exclude r.
-pub(crate) fn is_free(
-    plan: &Plan,
-    classes: &Classes,
-    state: &State,
-    live: &Seq<Option<RequestId>>,
-    r: &Req,
-) -> bool
-    requires classes { AreClasses plan.now classes.now }
-    requires live { AreLive plan.now classes.now state.now live.now }
-    requires own { Has plan.now.requests r.now }
-    requires idle { IsFalse (state_spec.is_live (facts_at state.now r.now)) }
-    ensures { result ≡ next_spec.is_free plan.now state.now r.now }
+pub(crate) fn is_free(position: Position<'_>, r: &Req) -> bool
+    requires classes { AreClasses position.plan.now position.prepared.now.classes }
+    requires live { live_spec.AreNoted position }
+    requires own { Has position.plan.now.requests r.now }
+    requires idle { IsFalse (state_spec.is_live (state_spec.facts_at position.state.now r.now)) }
+    ensures { result ≡ next_spec.is_free position.entry.plan.now position.entry.state.now r.now }
 {
+    let classes = &position.prepared.classes;
     let class = classes.class(r);
-    match rival_noted(classes, live, class) {
+    match rival_noted(classes, position.live, class) {
         None => true,
-        Some(rival) => classes.excludes_kin(class) && is_free_of_all(plan, state, r, rival),
+        Some(rival) => {
+            classes.excludes_kin(class) && is_free_of_all(position.plan, position.state, r, rival)
+        }
     }
 }

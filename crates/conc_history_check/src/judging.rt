@@ -1,23 +1,25 @@
 ghost use Rattle.std.specs.Prelude.{◌≡◌, ◌+◌, ◌<◌, ◌^◌, map};
 ghost use Rattle.std.specs.List.{list_any, range_with_len};
-ghost use Rattle.conc_law.specs.Next as spec;
-ghost use Rattle.conc_law.specs.Next.{may_start_somewhere};
-ghost use Rattle.conc_history_check.specs.Live.{AreLive};
+ghost use Rattle.conc_base_law.specs.Next as spec;
+ghost use Rattle.conc_base_law.specs.Next.{may_start_somewhere};
+ghost use Rattle.conc_history_check.specs.Starts.{one_may_start};
+ghost use Rattle.conc_history_check.specs.Live.{AreNoted};
 ghost use Rattle.conc_history_check.specs.Prepared.{IsPrepared};
 
 use crate::forcing::forced;
-use crate::prepared::Prepared;
-use conc_law_decisions::{
-    is_not_earlier, is_resume, is_same_event, is_usable_now, may_end_by_id, may_start,
-    may_start_by_id, one_runs,
+use crate::position::Position;
+use conc_event_decisions::{
+    is_not_earlier, is_same_event, is_usable_now, may_end_by_id, may_start, may_start_by_id,
+    one_runs,
 };
+use conc_rules::is_resume;
 use conc_time::place_count;
-use conc_types::{Event, Moment, PlaceId, Plan, Reading, Req, RequestId, Seq, State};
+use conc_types::{Event, Moment, PlaceId, Plan, Reading, State};
 
 // ---- rest
 
 fn one_may_start(plan: &Plan, state: &State, place: PlaceId) -> bool
-    ensures { result ≡ list_any (λ r. spec.may_start plan.now state.now r place) plan.now.requests }
+    ensures { result ≡ one_may_start plan.now state.now place }
 {
     plan.requests
         .as_slice()
@@ -27,7 +29,7 @@ fn one_may_start(plan: &Plan, state: &State, place: PlaceId) -> bool
 
 // Whether a request may start at the place. It looks at the requests only where the place is usable.
 fn one_may_start_at(plan: &Plan, state: &State, place: PlaceId) -> bool
-    ensures { result ≡ list_any (λ r. spec.may_start plan.now state.now r place) plan.now.requests }
+    ensures { result ≡ one_may_start plan.now state.now place }
 {
     is_usable_now(plan, state, place) && one_may_start(plan, state, place)
 }
@@ -35,8 +37,8 @@ fn one_may_start_at(plan: &Plan, state: &State, place: PlaceId) -> bool
 // Whether a request may start at one of so many places from an index on.
 fn one_may_start_among(plan: &Plan, state: &State, from: u32, count: u32) -> bool
     requires { from + count < 2 ^ 32 }
-    ensures { result ≡ list_any (λ p. list_any (λ r. spec.may_start plan.now state.now r p)
-        plan.now.requests) (map (λ index. record { index = index }) (range_with_len from count)) }
+    ensures { result ≡ list_any (one_may_start plan.now state.now)
+        (map (λ index. record { index = index }) (range_with_len from count)) }
 {
     count > 0
         && (one_may_start_at(plan, state, PlaceId { index: from })
@@ -50,106 +52,79 @@ fn one_may_start_somewhere(plan: &Plan, state: &State) -> bool
 }
 
 /// Whether the system is at rest: nothing is forced, no request runs, and none may start.
-#[tactic(auto, unfolding(conc_law::specs::Next::is_at_rest))]
-pub(crate) fn is_at_rest(
-    plan: &Plan,
-    prepared: &Prepared,
-    state: &State,
-    live: &Seq<Option<RequestId>>,
-) -> bool
-    requires prepared { IsPrepared plan.now prepared.now }
-    requires live { AreLive plan.now prepared.now.classes state.now live.now }
-    ensures { result ≡ spec.is_at_rest plan.now state.now }
+#[tactic(auto, unfolding(conc_base_law::specs::Next::is_at_rest))]
+pub(crate) fn is_at_rest(position: Position<'_>) -> bool
+    requires prepared { IsPrepared position.plan.now position.prepared.now }
+    requires live { AreNoted position }
+    ensures { result ≡ spec.is_at_rest position.entry.plan.now position.entry.state.now }
 {
-    forced(plan, prepared, state, live).is_none()
-        && !one_runs(plan, state)
-        && !one_may_start_somewhere(plan, state)
+    forced(position).is_none()
+        && !one_runs(position.plan, position.state)
+        && !one_may_start_somewhere(position.plan, position.state)
 }
 
-#[tactic(auto, unfolding(conc_law::specs::Next::may_take))]
-fn may_take(
-    plan: &Plan,
-    prepared: &Prepared,
-    state: &State,
-    live: &Seq<Option<RequestId>>,
-    reading: Reading,
-) -> bool
-    requires prepared { IsPrepared plan.now prepared.now }
-    requires live { AreLive plan.now prepared.now.classes state.now live.now }
-    ensures { result ≡ spec.may_take plan.now state.now reading }
+#[tactic(auto, unfolding(conc_base_law::specs::Next::may_take))]
+fn may_take(position: Position<'_>, reading: Reading) -> bool
+    requires prepared { IsPrepared position.plan.now position.prepared.now }
+    requires live { AreNoted position }
+    ensures { result ≡ spec.may_take position.entry.plan.now position.entry.state.now reading }
 {
-    reading.early || is_at_rest(plan, prepared, state, live)
+    reading.early || is_at_rest(position)
 }
 
 // ---- single events
 
-#[tactic(auto, unfolding(conc_law::specs::Next::may_tick))]
-fn may_tick(
-    plan: &Plan,
-    prepared: &Prepared,
-    state: &State,
-    live: &Seq<Option<RequestId>>,
-    next: Option<Option<Reading>>,
-    t: Moment,
-) -> bool
-    requires prepared { IsPrepared plan.now prepared.now }
-    requires live { AreLive plan.now prepared.now.classes state.now live.now }
-    ensures { result ≡ spec.may_tick plan.now state.now next t }
+#[tactic(auto, unfolding(conc_base_law::specs::Next::may_tick))]
+fn may_tick(position: Position<'_>, next: Option<Option<Reading>>, t: Moment) -> bool
+    requires prepared { IsPrepared position.plan.now position.prepared.now }
+    requires live { AreNoted position }
+    ensures { result ≡ spec.may_tick position.entry.plan.now position.entry.state.now next t }
 {
     match next {
         Some(Some(reading)) => {
-            t.seconds == reading.moment.seconds && may_take(plan, prepared, state, live, reading)
+            t.seconds == reading.moment.seconds && may_take(position, reading)
         }
         Some(None) => false,
-        None => is_not_earlier(state.time, t),
+        None => is_not_earlier(position.state.time, t),
     }
 }
 
-#[tactic(auto, unfolding(conc_law::specs::Next::is_allowed))]
-fn is_allowed(
-    plan: &Plan,
-    prepared: &Prepared,
-    state: &State,
-    live: &Seq<Option<RequestId>>,
-    next: Option<Option<Reading>>,
-    e: Event,
-) -> bool
-    requires prepared { IsPrepared plan.now prepared.now }
-    requires live { AreLive plan.now prepared.now.classes state.now live.now }
-    ensures { result ≡ spec.is_allowed plan.now state.now next e }
+#[tactic(auto, unfolding(conc_base_law::specs::Next::is_allowed))]
+fn is_allowed(position: Position<'_>, next: Option<Option<Reading>>, e: Event) -> bool
+    requires prepared { IsPrepared position.plan.now position.prepared.now }
+    requires live { AreNoted position }
+    ensures { result ≡ spec.is_allowed position.entry.plan.now position.entry.state.now next e }
 {
     match e {
-        Event::Started { request, place } => may_start_by_id(plan, state, request, place),
+        Event::Started { request, place } => may_start_by_id(
+            position.plan,
+            position.state,
+            request,
+            place,
+        ),
         Event::Ended {
             request,
             outcome,
             extent,
-        } => may_end_by_id(plan, state, request, outcome, extent),
-        Event::Tick { moment } => may_tick(plan, prepared, state, live, next, moment),
+        } => may_end_by_id(position.plan, position.state, request, outcome, extent),
+        Event::Tick { moment } => may_tick(position, next, moment),
         _ => false,
     }
 }
 
 /// Whether the event may come next. `next` is the next reading of the last life, if one is left; it is
 /// None in an earlier life, whose readings are not known.
-#[tactic(auto, unfolding(conc_law::specs::Next::may_come))]
-pub(crate) fn may_come(
-    plan: &Plan,
-    prepared: &Prepared,
-    state: &State,
-    live: &Seq<Option<RequestId>>,
-    next: Option<Option<Reading>>,
-    e: Event,
-) -> bool
-    requires prepared { IsPrepared plan.now prepared.now }
-    requires live { AreLive plan.now prepared.now.classes state.now live.now }
-    ensures { result ≡ spec.may_come plan.now state.now next e }
+#[tactic(auto, unfolding(conc_base_law::specs::Next::may_come))]
+pub(crate) fn may_come(position: Position<'_>, next: Option<Option<Reading>>, e: Event) -> bool
+    requires prepared { IsPrepared position.plan.now position.prepared.now }
+    requires live { AreNoted position }
+    ensures { result ≡ spec.may_come position.entry.plan.now position.entry.state.now next e }
 {
     if is_resume(e) {
-        return !state.empty;
+        return !position.state.empty;
     }
-    match forced(plan, prepared, state, live) {
+    match forced(position) {
         Some(due) => is_same_event(e, due),
-        None => is_allowed(plan, prepared, state, live, next, e),
+        None => is_allowed(position, next, e),
     }
 }

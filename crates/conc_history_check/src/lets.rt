@@ -3,22 +3,21 @@ ghost use Rattle.std.specs.Bool.{then_some};
 ghost use Rattle.std.specs.Option.{option_and_then, option_map};
 ghost use Rattle.conc_types.specs.declared.plan.Req.{Req};
 ghost use Rattle.conc_types.specs.Words.{numbered};
-ghost use Rattle.conc_law.specs.Next as next_spec;
-ghost use Rattle.conc_law.specs.Next.{can_run};
-ghost use Rattle.conc_law.specs.Words.{Has};
-ghost use Rattle.conc_machine_queue.specs.Least.{least, lesser};
-ghost use Rattle.conc_machine_queue.specs.Turns as turns_spec;
-ghost use Rattle.conc_machine_queue.specs.Turns.{turns_of};
+ghost use Rattle.conc_base_law.specs.Next as next_spec;
+ghost use Rattle.conc_base_law.specs.Words.{Has};
+ghost use Rattle.conc_event_queue.specs.Least.{least, lesser};
+ghost use Rattle.conc_event_queue.specs.Turns as turns_spec;
 ghost use Rattle.conc_history_check.specs.At as at_spec;
 ghost use Rattle.conc_history_check.specs.Lets as lets_spec;
-ghost use Rattle.conc_history_check.specs.Live.{AreLive};
+ghost use Rattle.conc_history_check.specs.Live.{AreNoted};
 ghost use Rattle.conc_history_check.specs.Prepared.{IsPrepared};
 
 use crate::free::is_free;
+use crate::position::Position;
 use crate::prepared::Prepared;
-use conc_law_decisions::{facts_at, has_come, is_completed, is_live, is_waiting, let_event};
-use conc_machine_queue::{request_at_turn, turn};
-use conc_types::{Event, Facts, Plan, Req, RequestId, Seq, State};
+use conc_event_decisions::{facts_at, has_come, is_completed, is_live, is_waiting, let_event};
+use conc_event_queue::{request_at_turn, turn};
+use conc_types::{Event, Facts, Plan, Req, Seq, State};
 
 fn flag_numbered(flags: &Seq<bool>, number: u32) -> bool
     ensures { result ≡ unwrap_or (numbered flags.now number) false }
@@ -37,13 +36,13 @@ fn flag_numbered(flags: &Seq<bool>, number: u32) -> bool
 fn is_runnable(_plan: &Plan, prepared: &Prepared, r: &Req) -> bool
     requires prepared { IsPrepared _plan.now prepared.now }
     requires own { Has _plan.now.requests r.now }
-    ensures { result ≡ can_run _plan.now r.now }
+    ensures { result ≡ next_spec.can_run _plan.now r.now }
 {
     flag_numbered(&prepared.runnable, r.number.number)
 }
 
 // Whether r can be let out, or opened, unless a live request excludes it.
-#[tactic(auto, unfolding(conc_law::specs::Next::is_ready))]
+#[tactic(auto, unfolding(conc_base_law::specs::Next::is_ready))]
 fn is_ready(plan: &Plan, prepared: &Prepared, state: &State, r: &Req) -> bool
     requires prepared { IsPrepared plan.now prepared.now }
     requires own { Has plan.now.requests r.now }
@@ -70,28 +69,22 @@ fn comes_before(turn: u64, best: Option<u64>) -> bool
 }
 
 // The best turn so far, or that of r where r may be let out and its turn comes before.
-fn better(
-    plan: &Plan,
-    prepared: &Prepared,
-    state: &State,
-    live: &Seq<Option<RequestId>>,
-    best: Option<u64>,
-    r: &Req,
-) -> Option<u64>
-    requires prepared { IsPrepared plan.now prepared.now }
-    requires live { AreLive plan.now prepared.now.classes state.now live.now }
-    requires own { Has plan.now.requests r.now }
-    ensures { result ≡ lesser best (then_some (next_spec.may_let plan.now state.now r.now)
+fn better(position: Position<'_>, best: Option<u64>, r: &Req) -> Option<u64>
+    requires prepared { IsPrepared position.plan.now position.prepared.now }
+    requires live { AreNoted position }
+    requires own { Has position.plan.now.requests r.now }
+    ensures { result ≡ lesser best
+        (then_some (next_spec.may_let position.entry.plan.now position.entry.state.now r.now)
         (turns_spec.turn r.now)) }
 {
-    if !is_ready(plan, prepared, state, r) {
+    if !is_ready(position.plan, position.prepared, position.state, r) {
         return best;
     }
     let turn = turn(r);
     if !comes_before(turn, best) {
         return best;
     }
-    if !is_free(plan, &prepared.classes, state, live, r) {
+    if !is_free(position, r) {
         return best;
     }
     Some(turn)
@@ -116,41 +109,33 @@ fn waits_at(state: &State, i: usize) -> bool
 
 // The best turn so far, or that of the request at an index where it may be let out and its turn comes
 // before. It looks at the request only where its facts let it wait.
-fn better_at(
-    plan: &Plan,
-    prepared: &Prepared,
-    state: &State,
-    live: &Seq<Option<RequestId>>,
-    best: Option<u64>,
-    i: usize,
-) -> Option<u64>
-    requires prepared { IsPrepared plan.now prepared.now }
-    requires live { AreLive plan.now prepared.now.classes state.now live.now }
-    requires within { i < length plan.now.requests }
-    ensures { (r : Req) → slice_get plan.now.requests i ≡ Some r → result
-        ≡ lesser best (then_some (next_spec.may_let plan.now state.now r) (turns_spec.turn r)) }
+fn better_at(position: Position<'_>, best: Option<u64>, i: usize) -> Option<u64>
+    requires prepared { IsPrepared position.plan.now position.prepared.now }
+    requires live { AreNoted position }
+    requires within { i < length position.plan.now.requests }
+    ensures { (r : Req) → slice_get position.entry.plan.now.requests i ≡ Some r → result
+        ≡ lesser best
+        (then_some (next_spec.may_let position.entry.plan.now position.entry.state.now r)
+        (turns_spec.turn r)) }
 {
-    if !waits_at(state, i) {
+    if !waits_at(position.state, i) {
         return best;
     }
-    let r = &plan.requests.as_slice()[i];
-    better(plan, prepared, state, live, best, r)
+    let r = &position.plan.requests.as_slice()[i];
+    better(position, best, r)
 }
 
 // The least turn of the requests that may be let out.
-fn least_turn(
-    plan: &Plan,
-    prepared: &Prepared,
-    state: &State,
-    live: &Seq<Option<RequestId>>,
-) -> Option<u64>
-    requires prepared { IsPrepared plan.now prepared.now }
-    requires live { AreLive plan.now prepared.now.classes state.now live.now }
-    ensures { result ≡ least (turns_of (next_spec.may_let plan.now state.now) plan.now.requests) }
+fn least_turn(position: Position<'_>) -> Option<u64>
+    requires prepared { IsPrepared position.plan.now position.prepared.now }
+    requires live { AreNoted position }
+    ensures { result ≡ least (turns_spec.turns_of
+        (next_spec.may_let position.entry.plan.now position.entry.state.now)
+        position.entry.plan.now.requests) }
 {
     let mut best = None;
-    for i in 0..plan.requests.len() {
-        best = better_at(plan, prepared, state, live, best, i);
+    for i in 0..position.plan.requests.len() {
+        best = better_at(position, best, i);
     }
     best
 }
@@ -159,26 +144,16 @@ fn event_at(plan: &Plan, turn: Option<u64>) -> Option<Event>
     ensures { result ≡ option_map next_spec.let_event
         (option_and_then (turns_spec.request_at_turn plan.now) turn) }
 {
-    match turn {
-        Some(turn) => match request_at_turn(plan, turn) {
-            Some(r) => Some(let_event(r)),
-            None => None,
-        },
-        None => None,
-    }
+    let r = request_at_turn(plan, turn?)?;
+    Some(let_event(r))
 }
 
 /// The let of the first request in precedence that may be let out, or its open where it is a set.
-#[tactic(auto, unfolding(conc_law::specs::Next::forced_let))]
-pub(crate) fn forced_let(
-    plan: &Plan,
-    prepared: &Prepared,
-    state: &State,
-    live: &Seq<Option<RequestId>>,
-) -> Option<Event>
-    requires prepared { IsPrepared plan.now prepared.now }
-    requires live { AreLive plan.now prepared.now.classes state.now live.now }
-    ensures { result ≡ next_spec.forced_let plan.now state.now }
+#[tactic(auto, unfolding(conc_base_law::specs::Next::forced_let))]
+pub(crate) fn forced_let(position: Position<'_>) -> Option<Event>
+    requires prepared { IsPrepared position.plan.now position.prepared.now }
+    requires live { AreNoted position }
+    ensures { result ≡ next_spec.forced_let position.entry.plan.now position.entry.state.now }
 {
-    event_at(plan, least_turn(plan, prepared, state, live))
+    event_at(position.plan, least_turn(position))
 }

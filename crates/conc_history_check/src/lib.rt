@@ -1,5 +1,6 @@
 //! The judge of a history. Each event is judged by what the events before it say, read anew from the
-//! first of them for each position: nothing that one position says is kept for the next.
+//! first of them for each position: nothing that one position says is kept for the next. The judge of a history's text, with its
+//! table, stands on it.
 #![tactic(auto)]
 
 mod checker;
@@ -9,10 +10,15 @@ mod free;
 mod judging;
 mod laws;
 mod lets;
+mod lines;
 mod live;
+mod position;
 mod positions;
 mod prepared;
 mod readings;
+mod table;
+mod verdict;
 
 pub use checker::check;
 pub use laws::lawful_at_each_position;
+pub use verdict::{Verdict, judge_text};

@@ -1,12 +1,12 @@
 ghost use Rattle.std.specs.Prelude.{◌≡◌, ◌<◌, IfOk, None, Option, length, map, slice_get, suc};
 ghost use Rattle.conc_types.specs.declared.event.RequestId.{RequestId};
-ghost use Rattle.conc_machine_classes.specs.Classes.{AreClasses};
+ghost use Rattle.conc_event_classes.specs.Classes.{AreClasses};
 ghost use Rattle.conc_history_check.specs.At as at_spec;
 ghost use Rattle.conc_history_check.specs.Live as spec;
 ghost use Rattle.conc_history_check.specs.Live.{AreLive, AreLiveTo};
 
-use conc_law_decisions::is_live;
-use conc_machine_classes::Classes;
+use conc_event_classes::Classes;
+use conc_event_decisions::is_live;
 use conc_types::{NoMemory, Plan, RequestId, Seq, State};
 use std::alloc::Global;
 

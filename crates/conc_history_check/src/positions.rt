@@ -2,8 +2,8 @@ ghost use Rattle.std.specs.Prelude.{◌≡◌, ◌+◌, ◌<◌, List, length, r
 ghost use Rattle.std.specs.List.{list_any};
 ghost use Rattle.std.specs.Option.{option_map};
 ghost use Rattle.conc_types.specs.declared.event.Event.{Event};
-ghost use Rattle.conc_law.specs.Kinds as kinds_spec;
-ghost use Rattle.conc_law.specs.Readings as readings_spec;
+ghost use Rattle.conc_base_law.specs.Kinds as kinds_spec;
+ghost use Rattle.conc_base_law.specs.Readings as readings_spec;
 ghost use Rattle.conc_history_check.specs.Findings.{AreFindings, HasTaken};
 ghost use Rattle.conc_history_check.specs.Positions as positions_spec;
 ghost use Rattle.conc_history_check.specs.Positions.{known_before};
@@ -11,9 +11,10 @@ ghost use Rattle.conc_history_check.specs.Prepared.{IsPrepared};
 
 use crate::findings::Findings;
 use crate::judging::may_come;
+use crate::position::Position;
 use crate::prepared::Prepared;
 use crate::readings::next_reading;
-use conc_law_decisions::is_resume;
+use conc_rules::is_resume;
 use conc_types::{Event, Plan, Reading, Readings};
 
 fn has_resume(events: &[Event]) -> bool
@@ -61,5 +62,11 @@ pub(crate) fn is_lawful_at(
         Event::Tick { .. } => known_next(plan, readings, findings, &events[i + 1..]),
         _ => None,
     };
-    may_come(plan, prepared, &findings.state, &findings.live, next, e)
+    let position = Position {
+        plan,
+        prepared,
+        state: &findings.state,
+        live: &findings.live,
+    };
+    may_come(position, next, e)
 }

@@ -1,10 +1,10 @@
 ghost use Rattle.std.specs.Prelude.{◌≡◌, IfOk, map};
-ghost use Rattle.conc_law.specs.Next as spec;
+ghost use Rattle.conc_base_law.specs.Next as spec;
 ghost use Rattle.conc_history_check.specs.Prepared.{IsPrepared};
 
+use conc_event_classes::Classes;
+use conc_event_reach::Spans;
 use conc_history_replay::Entries;
-use conc_machine_classes::Classes;
-use conc_machine_reach::Spans;
 use conc_rules::can_run;
 use conc_types::{NoMemory, Plan, Req, Seq};
 use std::alloc::Global;

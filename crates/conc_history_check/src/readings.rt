@@ -1,12 +1,12 @@
 ghost use Rattle.std.specs.Prelude.{◌≡◌, List, slice_get};
 ghost use Rattle.std.specs.List.{filter};
 ghost use Rattle.conc_types.specs.declared.event.Event.{Event};
-ghost use Rattle.conc_law.specs.Readings as readings_spec;
-ghost use Rattle.conc_law.specs.State as state_spec;
+ghost use Rattle.conc_base_law.specs.Readings as readings_spec;
+ghost use Rattle.conc_base_law.specs.State as state_spec;
 ghost use Rattle.conc_history_check.specs.Findings.{HasTaken};
 
 use crate::findings::Findings;
-use conc_law_decisions::is_not_earlier;
+use conc_event_decisions::is_not_earlier;
 use conc_types::{Moment, Plan, Reading, Readings};
 
 // The reading with this index among those that are not earlier than the moment.
@@ -27,7 +27,7 @@ fn reading_from(readings: &[Reading], earlier: Option<Moment>, index: usize) -> 
 }
 
 /// The next reading of the last life, if one is left.
-#[tactic(auto, unfolding(conc_law::specs::Readings::next_reading, conc_law::specs::Readings::life_readings))]
+#[tactic(auto, unfolding(conc_base_law::specs::Readings::next_reading, conc_base_law::specs::Readings::life_readings))]
 pub(crate) fn next_reading(
     _plan: &Plan,
     readings: &Readings,

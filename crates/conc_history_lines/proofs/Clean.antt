@@ -11,9 +11,9 @@ use Rattle.std.proofs.lemmas.Str.Parse.{digit_from_value}
 use Rattle.conc_types.specs.declared.event.Moment.{Moment}
 use Rattle.conc_types.specs.declared.event.Outcome.{Outcome}
 use Rattle.conc_types.specs.declared.event.Outcome.TheVariants as outcome
-use Rattle.conc_law.specs.Calendar.{Civil, civil_text}
-use Rattle.conc_law.specs.Moments.{moment_text}
-use Rattle.conc_law.specs.Text.{outcome_word, spaced}
+use Rattle.conc_base_law.specs.Calendar.{Civil, civil_text}
+use Rattle.conc_base_law.specs.Moments.{moment_text}
+use Rattle.conc_base_law.specs.Text.{outcome_word, spaced}
 use Rattle.conc_time.proofs.Dates.{has_civil, text_of}
 use Rattle.conc_history_lines.specs.EventLines.{words_of}
 use Rattle.conc_history_lines.proofs.Splits.{split_at, split_none}

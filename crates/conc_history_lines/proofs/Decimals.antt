@@ -13,8 +13,8 @@ use Rattle.std.proofs.lemmas.Str.Parse.{digit_from_value, IsNumeralModel, numera
 use Rattle.conc_types.specs.declared.event.RequestId.{RequestId}
 use Rattle.conc_types.specs.Decimals.{decimal_value, is_decimal}
 use Rattle.conc_types.proofs.Decimals.{decimal_digits}
-use Rattle.conc_law.specs.Text.{id_word}
-use Rattle.conc_law.proofs.Options.{and_then-some, map-some, then_some-some}
+use Rattle.conc_base_law.specs.Text.{id_word}
+use Rattle.conc_base_law.proofs.Options.{and_then-some, map-some, then_some-some}
 use Rattle.conc_history_lines.specs.Numbers.{id_of, number_of, stage_of}
 
 own : IsNumeralModel (AllDigits 10) (digits_value 10)

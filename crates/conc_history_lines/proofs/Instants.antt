@@ -5,8 +5,8 @@ use Rattle.std.proofs.lemmas.Bool.{and_parts}
 use Rattle.std.proofs.lemmas.Option.{cond_some}
 use Rattle.std.proofs.lemmas.Slice.Eq.{bytes_eq-Decides}
 use Rattle.conc_types.specs.declared.event.Moment.{Moment}
-use Rattle.conc_law.specs.Calendar.{Civil, civil_of, civil_text, is_civil, is_spelling, moment_at, moment_of, seconds_of, SpellsMoment}
-use Rattle.conc_law.specs.Moments.{moment_text}
+use Rattle.conc_base_law.specs.Calendar.{Civil, civil_of, civil_text, is_civil, is_spelling, moment_at, moment_of, seconds_of, SpellsMoment}
+use Rattle.conc_base_law.specs.Moments.{moment_text}
 use Rattle.conc_time.proofs.Dates.{days_in}
 use Rattle.conc_time.proofs.Parts.{parts_of}
 use Rattle.conc_time.proofs.Spellings.{spelled_once}

@@ -20,24 +20,24 @@ use Rattle.conc_types.specs.declared.plan.Req.{Req}
 use Rattle.conc_types.specs.declared.stage.Stage.{Stage}
 use Rattle.conc_types.specs.Plans.{request}
 use Rattle.conc_types.specs.Words.{none_or, numbered, some_and}
-use Rattle.conc_law.specs.Law.{is_lawful_so_far, may_follow}
-use Rattle.conc_law.specs.Managers.{admits}
-use Rattle.conc_law.specs.Next.{is_allowed, is_next_extent, is_report_outcome, is_terminated, may_end, may_start}
-use Rattle.conc_law.specs.Places.{place_of}
-use Rattle.conc_law.specs.Plans.{stages_of}
-use Rattle.conc_law.specs.Readings.{next_reading}
-use Rattle.conc_law.specs.Stages.{after_stage, has_ended, link, link_place, next_stage, set_step, stage_outcome, step_from}
-use Rattle.conc_law.specs.State.{facts_at, is_running, is_stopping, state, used}
-use Rattle.conc_law.specs.Words.{Has}
-use Rattle.conc_law.proofs.Comes.{close_comes, comes_allowed, let_comes, Lettable, open_comes, Opened, stage_comes}
-use Rattle.conc_law.proofs.Due.{command_undone, IsUndone}
-use Rattle.conc_law.proofs.EqualEvents.{id_same}
-use Rattle.conc_law.proofs.Numbering.{found, numbered-at, numbered_plan}
-use Rattle.conc_law.proofs.Numbers.{enumerated-numbered}
-use Rattle.conc_law.proofs.Outcomes.{close_outcome, stage_forced}
-use Rattle.conc_law.proofs.Options.{and_then-some, map-some, some_and-some, then_some-some}
-use Rattle.conc_law.proofs.Remaining.{end_about, IsAboutOne}
-use Rattle.conc_law.proofs.Stops.{end_comes, interrupt_comes, LeftRunning}
+use Rattle.conc_base_law.specs.Law.{is_lawful_so_far, may_follow}
+use Rattle.conc_base_law.specs.Managers.{admits}
+use Rattle.conc_base_law.specs.Next.{is_allowed, is_next_extent, is_report_outcome, is_terminated, may_end, may_start}
+use Rattle.conc_base_law.specs.Places.{place_of}
+use Rattle.conc_base_law.specs.Plans.{stages_of}
+use Rattle.conc_base_law.specs.Readings.{next_reading}
+use Rattle.conc_base_law.specs.Stages.{after_stage, has_ended, link, link_place, next_stage, set_step, stage_outcome, step_from}
+use Rattle.conc_base_law.specs.State.{facts_at, is_running, is_stopping, state, used}
+use Rattle.conc_base_law.specs.Words.{Has}
+use Rattle.conc_base_law.proofs.Comes.{close_comes, comes_allowed, let_comes, Lettable, open_comes, Opened, stage_comes}
+use Rattle.conc_base_law.proofs.Due.{command_undone, IsUndone}
+use Rattle.conc_base_law.proofs.EqualEvents.{id_same}
+use Rattle.conc_base_law.proofs.Numbering.{found, numbered-at, numbered_plan}
+use Rattle.conc_base_law.proofs.Numbers.{enumerated-numbered}
+use Rattle.conc_base_law.proofs.Outcomes.{close_outcome, stage_forced}
+use Rattle.conc_base_law.proofs.Options.{and_then-some, map-some, some_and-some, then_some-some}
+use Rattle.conc_base_law.proofs.Remaining.{end_about, IsAboutOne}
+use Rattle.conc_base_law.proofs.Stops.{end_comes, interrupt_comes, LeftRunning}
 use Rattle.conc_history_lines.specs.Lines.{ends_so, has_line, is_small}
 
 -- ---- numbers

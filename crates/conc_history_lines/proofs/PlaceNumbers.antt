@@ -13,10 +13,10 @@ use Rattle.conc_types.specs.declared.plan.Plan.{Plan}
 use Rattle.conc_types.specs.Decimals.{decimal_value}
 use Rattle.conc_types.specs.Shifts.{most_places}
 use Rattle.conc_types.specs.Words.{numbered}
-use Rattle.conc_law.specs.Places.{Place, place_from, place_of as place_of_plan}
-use Rattle.conc_law.specs.Text.{place_word}
-use Rattle.conc_law.proofs.Numbering.{numbered-at}
-use Rattle.conc_law.proofs.Options.{and_then-some, then_some-some}
+use Rattle.conc_base_law.specs.Places.{Place, place_from, place_of as place_of_plan}
+use Rattle.conc_base_law.specs.Text.{place_word}
+use Rattle.conc_base_law.proofs.Numbering.{numbered-at}
+use Rattle.conc_base_law.proofs.Options.{and_then-some, then_some-some}
 use Rattle.conc_history_lines.specs.Places.{place_at, place_of, place_of_parts, starts_from, starts_of}
 use Rattle.conc_history_lines.proofs.Decimals.{decimal_spelled}
 

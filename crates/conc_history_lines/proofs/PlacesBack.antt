@@ -11,9 +11,9 @@ use Rattle.conc_types.specs.declared.manager.Manager.{Manager}
 use Rattle.conc_types.specs.declared.plan.Plan.{Plan}
 use Rattle.conc_types.specs.Shifts.{most_places}
 use Rattle.conc_types.specs.Words.{numbered}
-use Rattle.conc_law.specs.Places.{Place, place_from, place_of as place_of_plan}
-use Rattle.conc_law.specs.Text.{place_word}
-use Rattle.conc_law.proofs.Numbering.{numbered-at}
+use Rattle.conc_base_law.specs.Places.{Place, place_from, place_of as place_of_plan}
+use Rattle.conc_base_law.specs.Text.{place_word}
+use Rattle.conc_base_law.proofs.Numbering.{numbered-at}
 use Rattle.conc_history_lines.specs.Places.{place_at, place_of, starts_from, starts_of}
 use Rattle.conc_history_lines.proofs.Clean.{clean_append, clean_decimal, is_clean, no_dot}
 use Rattle.conc_history_lines.proofs.Decimals.{decimal_back}

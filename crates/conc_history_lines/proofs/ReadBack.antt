@@ -11,12 +11,12 @@ use Rattle.conc_types.specs.declared.event.Outcome.{Outcome}
 use Rattle.conc_types.specs.declared.event.Outcome.TheVariants as outcome
 use Rattle.conc_types.specs.declared.event.RequestId.{RequestId}
 use Rattle.conc_types.specs.declared.plan.Plan.{Plan}
-use Rattle.conc_law.specs.Next.{is_report_outcome}
-use Rattle.conc_law.specs.Places.{place_of as place_of_plan}
-use Rattle.conc_law.specs.Text.{event_words, extent_words, id_word, outcome_word, place_word, spaced}
+use Rattle.conc_base_law.specs.Next.{is_report_outcome}
+use Rattle.conc_base_law.specs.Places.{place_of as place_of_plan}
+use Rattle.conc_base_law.specs.Text.{event_words, extent_words, id_word, outcome_word, place_word, spaced}
 use Rattle.conc_time.proofs.Spellings.{spelled_once, spells_is_read}
-use Rattle.conc_law.specs.Calendar.{moment_of}
-use Rattle.conc_law.specs.Moments.{moment_text}
+use Rattle.conc_base_law.specs.Calendar.{moment_of}
+use Rattle.conc_base_law.specs.Moments.{moment_text}
 use Rattle.conc_types.specs.declared.event.Moment.{Moment}
 use Rattle.conc_history_lines.specs.EventLines.{bare_event, event_of_line, event_of_words, long_event, report_event, short_event, words_of}
 use Rattle.conc_history_lines.specs.Lines.{ends_so, has_line, is_small}

@@ -40,14 +40,6 @@ pub record Reads (starts bytes rest : List ℕ) (events : List Event) : Type 0 w
   pub next : offset_after 0 (whole_lines bytes) ≡ offset_after (length bytes - length rest) (whole_lines rest)
   pub shorter : length rest ≤ length bytes
 
-pub reads_none : (starts bytes : List ℕ) (events : List Event) → events ≡ [] → Reads starts bytes bytes events
-reads_none starts bytes events e = rw e (record {
-  list = refl;
-  bad = refl;
-  next = ap (λ (n : ℕ). offset_after n (whole_lines bytes)) (omega arith);
-  shorter = omega arith;
-})
-
 pub events_more : (starts line : List ℕ) (lines : List (List ℕ)) (e : Event) → event_of_line starts line ≡ Some e → events_in starts (line ∷ lines) ≡ e ∷ events_in starts lines
 unfolding events_in
 events_more starts line lines e h = rw (none_last starts line e h, h) refl

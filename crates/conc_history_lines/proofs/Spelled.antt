@@ -14,9 +14,9 @@ use Rattle.conc_types.specs.declared.event.Outcome.{Outcome}
 use Rattle.conc_types.specs.declared.event.Outcome.TheVariants as outcome
 use Rattle.conc_types.specs.declared.plan.Plan.{Plan}
 use Rattle.conc_types.specs.Decimals.{decimal_value}
-use Rattle.conc_law.specs.Calendar.{moment_of}
-use Rattle.conc_law.specs.Text.{event_words, extent_words, id_word, outcome_word, spaced}
-use Rattle.conc_law.proofs.Options.{and_then-some, map-some, then_some-some}
+use Rattle.conc_base_law.specs.Calendar.{moment_of}
+use Rattle.conc_base_law.specs.Text.{event_words, extent_words, id_word, outcome_word, spaced}
+use Rattle.conc_base_law.proofs.Options.{and_then-some, map-some, then_some-some}
 use Rattle.conc_history_lines.specs.EventLines.{bare_event, event_of_line, event_of_words, long_event, report_event, short_event, words_of}
 use Rattle.conc_history_lines.specs.Numbers.{extent_of, id_of, number_of, outcome_of, stage_of}
 use Rattle.conc_history_lines.specs.Places.{place_of, starts_of}

@@ -7,7 +7,7 @@ use Rattle.std.proofs.lemmas.List.{length-append}
 use Rattle.std.proofs.Math.Seq.{drop-append_seam}
 use Rattle.conc_types.specs.declared.event.Event.{Event}
 use Rattle.conc_types.specs.declared.plan.Plan.{Plan}
-use Rattle.conc_law.specs.Text.{event_words, events_text, line_of, spaced, table_text, text_of}
+use Rattle.conc_base_law.specs.Text.{event_words, events_text, line_of, spaced, table_text, text_of}
 use Rattle.conc_history_lines.specs.History.{bad_from, events_in, history_in, offset_after, whole_lines}
 use Rattle.conc_history_lines.specs.Lines.{has_line}
 use Rattle.conc_history_lines.specs.Places.{starts_of}

@@ -5,7 +5,7 @@ use Rattle.std.proofs.lemmas.Bool.{eqb-true}
 use Rattle.std.proofs.lemmas.Slice.Eq.{bytes_eq-Decides}
 use Rattle.conc_types.specs.declared.event.Event.{Event}
 use Rattle.conc_types.specs.declared.plan.Plan.{Plan}
-use Rattle.conc_law.specs.Text.{event_words, events_text, spaced}
+use Rattle.conc_base_law.specs.Text.{event_words, events_text, spaced}
 use Rattle.conc_history_lines.specs.EventLines.{event_of_line}
 use Rattle.conc_history_lines.specs.History.{bad_from, events_in, history_in, is_last, offset_after, onto_first, whole_lines}
 use Rattle.conc_history_lines.specs.Places.{starts_of}

@@ -7,7 +7,7 @@ use Rattle.std.specs.Str.{bytes_eq}
 use Rattle.conc_types.specs.declared.event.Event.{Event}
 use Rattle.conc_types.specs.declared.event.Event.TheVariants as event
 use Rattle.conc_types.specs.declared.event.Outcome.TheVariants as outcome
-use Rattle.conc_law.specs.Calendar.{moment_of}
+use Rattle.conc_base_law.specs.Calendar.{moment_of}
 use Rattle.conc_history_lines.specs.Numbers.{extent_of, id_of, number_of, outcome_of, stage_of}
 use Rattle.conc_history_lines.specs.Places.{place_of}
 

@@ -4,3 +4,4 @@ pub mod EventLines
 pub mod History
 pub mod Lines
 pub mod ReadBack
+pub mod Laws

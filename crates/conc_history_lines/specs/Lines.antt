@@ -5,8 +5,8 @@ use Rattle.conc_types.specs.declared.event.Event.TheVariants as event
 use Rattle.conc_types.specs.declared.event.Extent.{Extent}
 use Rattle.conc_types.specs.declared.event.Outcome.{Outcome}
 use Rattle.conc_types.specs.declared.plan.Plan.{Plan}
-use Rattle.conc_law.specs.Next.{is_report_outcome, is_terminated}
-use Rattle.conc_law.specs.Places.{place_of}
+use Rattle.conc_base_law.specs.Next.{is_report_outcome, is_terminated}
+use Rattle.conc_base_law.specs.Places.{place_of}
 
 abbrev pub is_small : ℕ → Bool
 is_small n = nat_lt n (2 ^ 32)

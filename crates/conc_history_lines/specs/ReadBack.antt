@@ -2,7 +2,7 @@
 use Rattle.std.specs.Prelude.{◌≡◌, List, drop, reverse, None}
 use Rattle.conc_types.specs.declared.event.Event.{Event}
 use Rattle.conc_types.specs.declared.plan.Plan.{Plan}
-use Rattle.conc_law.specs.Text.{table_text, text_of}
+use Rattle.conc_base_law.specs.Text.{table_text, text_of}
 use Rattle.conc_history_lines.specs.History.{history_in}
 use Rattle.conc_history_lines.specs.Places.{starts_of}
 

@@ -1,11 +1,6 @@
 -- The facts of a request after one more event, by the kind of the event.
-use Rattle.std.proofs.Common.{◌≡◌, ℕ, Bool, true, false, ◌&&◌, ◌||◌, ◌==◌, List, length, Option, None, Some, refl, sym, ◌∙◌, ap}
-use Rattle.std.specs.Prelude.{slice_get}
-use Rattle.std.specs.Slice.{IsItemAt}
-use denote.Ref.{Bor}
-use Rattle.std.proofs.lemmas.Bool.{ltb-false}
-use Rattle.std.proofs.lemmas.Option.{slice_get_past, slice_get_read}
-use Rattle.std.specs.Option.{option_copied, option_or}
+use Rattle.std.proofs.Common.{◌≡◌, ℕ, Bool, true, false, ◌&&◌, ◌||◌, ◌==◌, Option, None, Some, refl, ◌∙◌, ap}
+use Rattle.std.specs.Option.{option_or}
 use Rattle.conc_types.specs.declared.event.Event.{Event}
 use Rattle.conc_types.specs.declared.event.Event.TheVariants as event
 use Rattle.conc_types.specs.declared.event.RequestId.{RequestId}
@@ -15,10 +10,10 @@ use Rattle.conc_types.specs.declared.plan.Req.{Req}
 use Rattle.conc_types.specs.declared.script.Act.{Act}
 use Rattle.conc_types.specs.declared.script.Act.TheVariants as act
 use Rattle.conc_types.specs.Words.{some_and}
-use Rattle.conc_law.specs.Kinds.{act_of}
-use Rattle.conc_law.specs.Plans.{parent}
-use Rattle.conc_law.specs.Words.{id_eq, is_set}
-use Rattle.conc_law_effects.specs.Step.{begun_after, cancelled_by, cancels_set, entered_after, facts_after, held_after, held_by, let_after, opened_after, outcome_by, place_after, stage_after, started_after, terminated_after, unheld_by, unlet_by}
+use Rattle.conc_base_law.specs.Kinds.{act_of}
+use Rattle.conc_base_law.specs.Plans.{parent}
+use Rattle.conc_base_law.specs.Words.{id_eq, is_set}
+use Rattle.conc_event_effects.specs.Step.{begun_after, cancelled_by, cancels_set, entered_after, facts_after, held_after, held_by, let_after, opened_after, outcome_by, place_after, stage_after, started_after, terminated_after, unheld_by, unlet_by}
 use Rattle.conc_history_replay.specs.Changes.{acts, alone_after, named_alone}
 
 pub or-none : {T : Type 0} (o : Option T) → option_or o None ≡ o
@@ -65,13 +60,3 @@ alone-own plan named (event.Ended q o x) id r own h same =
 alone-own plan named _ id r own h same = cc
 
 -- ---- what a slice lends
-
--- what it lends at an index, copied
-pub copied_at : {X : Type 0} (xs : List X) (i : ℕ) (r : Option (Bor X)) → IsItemAt xs i r → option_copied r ≡ slice_get xs i
-copied_at xs i None h = sym (slice_get_past xs i (ltb-false i (length xs) (sym h.0)))
-copied_at xs i (Some x) h = sym (slice_get_read xs (length xs) i x.now refl h.3.0 h.1)
-
--- so where it is there, and where it is not
-pub copied_got : {X : Type 0} (xs ys : List X) (i : ℕ) (r : Option (Bor X)) (o p : Option X) → ys ≡ xs → IsItemAt ys i r → o ≡ option_copied r
-    → o ≡ p → slice_get xs i ≡ p
-copied_got xs ys i r o p same lent copied is = ap (λ l. slice_get l i) (sym same) ∙ (sym (copied_at ys i r lent) ∙ (sym copied ∙ is))

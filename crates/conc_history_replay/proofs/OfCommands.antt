@@ -8,15 +8,15 @@ use Rattle.conc_types.specs.declared.plan.Plan.{Plan}
 use Rattle.conc_types.specs.declared.plan.Req.{Req}
 use Rattle.conc_types.specs.declared.script.Act.{Act}
 use Rattle.conc_types.specs.declared.script.Act.TheVariants as act
-use Rattle.conc_law.specs.Kinds.{act_of}
-use Rattle.conc_law.proofs.Positions.{slice_get-some}
-use Rattle.conc_law_effects.specs.Advance.{one_by}
-use Rattle.conc_law_effects.specs.Step.{facts_after}
-use Rattle.conc_machine_reach.specs.Reach.{IsAround, is_about, is_acted_on}
-use Rattle.conc_machine_reach.specs.Spans.{LeavesOthers, is_within}
-use Rattle.conc_machine_reach.specs.declared.span.Span.{Span}
-use Rattle.conc_machine_reach.proofs.Unchanged.{leaves_others}
-use Rattle.conc_machine_reach.proofs.Within.{within-bounds}
+use Rattle.conc_base_law.specs.Kinds.{act_of}
+use Rattle.conc_base_law.proofs.Positions.{slice_get-some}
+use Rattle.conc_event_effects.specs.Advance.{one_by}
+use Rattle.conc_event_effects.specs.Step.{facts_after}
+use Rattle.conc_event_reach.specs.Reach.{IsAround, is_about, is_acted_on}
+use Rattle.conc_event_reach.specs.Spans.{LeavesOthers, is_within}
+use Rattle.conc_event_reach.specs.declared.span.Span.{Span}
+use Rattle.conc_event_reach.proofs.Unchanged.{leaves_others}
+use Rattle.conc_event_reach.proofs.Within.{within-bounds}
 use Rattle.conc_history_replay.specs.Changes.{acts}
 use Rattle.conc_history_replay.specs.Entries.{AreEntriesTo, IsEntry}
 use Rattle.conc_history_replay.proofs.ByKind.{entered-own}

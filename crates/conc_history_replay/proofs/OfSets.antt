@@ -10,9 +10,9 @@ use Rattle.conc_types.specs.declared.plan.Plan.{Plan}
 use Rattle.conc_types.specs.declared.plan.Req.{Req}
 use Rattle.conc_types.specs.declared.stage.StageSet.{StageSet}
 use Rattle.conc_types.specs.Stages.{with_stage}
-use Rattle.conc_law.specs.Kinds.{act_of}
-use Rattle.conc_law.specs.Words.{id_eq, is_set}
-use Rattle.conc_law_effects.specs.Step.{begun_after, cancelled_by, entered_after, facts_after, held_after, held_by, let_after, opened_after, outcome_by, place_after, stage_after, started_after, terminated_after, unheld_by, unlet_by}
+use Rattle.conc_base_law.specs.Kinds.{act_of}
+use Rattle.conc_base_law.specs.Words.{id_eq, is_set}
+use Rattle.conc_event_effects.specs.Step.{begun_after, cancelled_by, entered_after, facts_after, held_after, held_by, let_after, opened_after, outcome_by, place_after, stage_after, started_after, terminated_after, unheld_by, unlet_by}
 use Rattle.conc_history_replay.specs.Changes.{opens}
 use Rattle.conc_history_replay.proofs.ByKind.{and-false, or-none}
 

@@ -10,18 +10,18 @@ use Rattle.conc_types.specs.declared.facts.Facts.{Facts}
 use Rattle.conc_types.specs.declared.plan.Plan.{Plan}
 use Rattle.conc_types.specs.declared.plan.Req.{Req}
 use Rattle.conc_types.specs.Plans.{request}
-use Rattle.conc_law.proofs.Numbering.{found, numbered-at}
-use Rattle.conc_law.proofs.Positions.{slice_get-some}
-use Rattle.conc_law.specs.State.{no_facts}
-use Rattle.conc_law_effects.specs.Advance.{all_after, named_by, named_facts, one_by}
-use Rattle.conc_law_effects.specs.Step.{facts_after}
-use Rattle.conc_law_effects.proofs.Passes.{all_after-more}
-use Rattle.conc_machine_reach.specs.Reach.{is_about, is_request, IsAround}
-use Rattle.conc_machine_reach.specs.Spans.{LeavesOthers}
-use Rattle.conc_machine_reach.specs.declared.span.Span.{Span}
-use Rattle.conc_machine_reach.proofs.Around.{around_past, around_request, around_zero}
-use Rattle.conc_machine_reach.proofs.Passes.{all_after-before, all_after-from}
-use Rattle.conc_machine_reach.proofs.Unchanged.{leaves_others}
+use Rattle.conc_base_law.proofs.Numbering.{found, numbered-at}
+use Rattle.conc_base_law.proofs.Positions.{slice_get-some}
+use Rattle.conc_base_law.specs.State.{no_facts}
+use Rattle.conc_event_effects.specs.Advance.{all_after, named_by, named_facts, one_by}
+use Rattle.conc_event_effects.specs.Step.{facts_after}
+use Rattle.conc_event_effects.proofs.Passes.{all_after-more}
+use Rattle.conc_event_reach.specs.Reach.{is_about, is_request, IsAround}
+use Rattle.conc_event_reach.specs.Spans.{LeavesOthers}
+use Rattle.conc_event_reach.specs.declared.span.Span.{Span}
+use Rattle.conc_event_reach.proofs.Around.{around_past, around_request, around_zero}
+use Rattle.conc_event_reach.proofs.Passes.{all_after-before, all_after-from}
+use Rattle.conc_event_reach.proofs.Unchanged.{leaves_others}
 use Rattle.conc_history_replay.specs.Changes.{alone_after, named_alone, named_one}
 use Rattle.conc_history_replay.proofs.ByKind.{alone-own}
 

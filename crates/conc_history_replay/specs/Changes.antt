@@ -8,7 +8,7 @@ use Rattle.conc_types.specs.declared.facts.Facts.{Facts}
 use Rattle.conc_types.specs.declared.plan.Req.{Req}
 use Rattle.conc_types.specs.declared.script.Act.{Act}
 use Rattle.conc_types.specs.declared.script.Act.TheVariants as act
-use Rattle.conc_law.specs.Words.{id_eq, is_set}
+use Rattle.conc_base_law.specs.Words.{id_eq, is_set}
 
 -- the command does something to requests, and does not only enter some
 abbrev pub acts : Option Act → Bool

@@ -3,9 +3,9 @@ use Rattle.std.specs.Prelude.{◌≡◌, ℕ, ◌+◌, ◌≤◌, ◌==◌, fals
 use Rattle.conc_types.specs.declared.event.Event.TheVariants as event
 use Rattle.conc_types.specs.declared.plan.Plan.{Plan}
 use Rattle.conc_types.specs.declared.plan.Req.{Req}
-use Rattle.conc_law.specs.Kinds.{act_of}
-use Rattle.conc_machine_reach.specs.Spans.{is_within}
-use Rattle.conc_machine_reach.specs.declared.span.Span.{Span}
+use Rattle.conc_base_law.specs.Kinds.{act_of}
+use Rattle.conc_event_reach.specs.Spans.{is_within}
+use Rattle.conc_event_reach.specs.declared.span.Span.{Span}
 use Rattle.conc_history_replay.specs.Changes.{acts}
 use Rattle.conc_history_replay.specs.declared.entries.Entries.{Entries}
 

@@ -3,11 +3,11 @@ ghost use Rattle.std.specs.Option.{option_copied};
 ghost use Rattle.conc_types.specs.declared.event.Event.TheVariants as event;
 ghost use Rattle.conc_types.specs.declared.facts.Facts.{Facts};
 ghost use Rattle.conc_types.specs.declared.plan.Plan.{Plan};
-ghost use Rattle.conc_law.specs.Words.{id_eq};
-ghost use Rattle.conc_law_effects.specs.Step as step_spec;
+ghost use Rattle.conc_base_law.specs.Words.{id_eq};
+ghost use Rattle.conc_event_effects.specs.Step as step_spec;
 ghost use Rattle.conc_history_replay.specs.Changes as spec;
 
-use conc_law_effects::facts_after;
+use conc_event_effects::facts_after;
 use conc_types::{Act, Event, Facts, Item, Outcome, Plan, Req, RequestId};
 
 // ---- commands that enter requests and do nothing else

@@ -1,11 +1,11 @@
 ghost use Rattle.std.specs.Prelude.{◌≡◌, ◌+◌, ◌<◌, ◌^◌, ◌==◌, ◌≤◌, IfOk, IfSome, IsTrue, Some, length, slice_get, true, ℕ};
 ghost use Rattle.conc_types.specs.declared.plan.Req.{Req};
-ghost use Rattle.conc_machine_reach.specs.Spans.{AreSpans, is_within};
+ghost use Rattle.conc_event_reach.specs.Spans.{AreSpans, is_within};
 ghost use Rattle.conc_history_replay.specs.Entries.{IsEntry};
 
 use crate::changes::acts;
-use conc_law_effects::act;
-use conc_machine_reach::{Span, Spans};
+use conc_event_effects::act;
+use conc_event_reach::{Span, Spans};
 use conc_types::{Event, NoMemory, Plan, Seq, numbered};
 use std::alloc::Global;
 

@@ -3,18 +3,18 @@ ghost use Rattle.std.specs.Option.{option_or};
 ghost use Rattle.conc_types.specs.declared.event.Event.{Event};
 ghost use Rattle.conc_types.specs.declared.event.Event.TheVariants as event;
 ghost use Rattle.conc_types.specs.declared.facts.Facts.{Facts};
-ghost use Rattle.conc_law_effects.specs.Advance as advance_spec;
-ghost use Rattle.conc_law_effects.specs.Advance.{all_after, done_after, IsAfter, one_by};
-ghost use Rattle.conc_law.specs.Kinds.{tick_of};
-ghost use Rattle.conc_law.specs.State as spec;
-ghost use Rattle.conc_machine_reach.specs.Spans.{AreSpans, LeavesOthers, is_within};
+ghost use Rattle.conc_event_effects.specs.Advance as advance_spec;
+ghost use Rattle.conc_event_effects.specs.Advance.{all_after, done_after, IsAfter, one_by};
+ghost use Rattle.conc_base_law.specs.Kinds.{tick_of};
+ghost use Rattle.conc_base_law.specs.State as spec;
+ghost use Rattle.conc_event_reach.specs.Spans.{AreSpans, LeavesOthers, is_within};
 ghost use Rattle.conc_history_replay.specs.Changes as changes_spec;
 ghost use Rattle.conc_history_replay.specs.Entries.{AreEntries, IsEntry};
 
 use crate::changes::{change_alone, own_after};
 use crate::entries::Entries;
-use conc_law_effects::{begin, mark_done, named_facts, used_after};
-use conc_machine_reach::{Span, Spans};
+use conc_event_effects::{begin, mark_done, named_facts, used_after};
+use conc_event_reach::{Span, Spans};
 use conc_types::{Event, Facts, NoMemory, Plan, RequestId, Seq, State};
 use std::alloc::Global;
 

@@ -3,8 +3,8 @@ use Rattle.std.proofs.Common.{◌≡◌, Some, arith}
 use Rattle.std.proofs.lemmas.Bool.Decides.{nat_tests}
 use Rattle.conc_types.specs.declared.event.Event.TheVariants as event
 use Rattle.conc_types.specs.declared.event.Moment.{Moment}
-use Rattle.conc_law.specs.Calendar.{moment_at}
-use Rattle.conc_law.proofs.EqualEvents.{moment_same}
+use Rattle.conc_base_law.specs.Calendar.{moment_at}
+use Rattle.conc_base_law.proofs.EqualEvents.{moment_same}
 use Rattle.conc_journal_image.specs.Fields.{event_of}
 
 -- a moment is the one at its seconds

@@ -15,7 +15,7 @@ use Rattle.conc_types.specs.declared.event.Extent.{Extent}
 use Rattle.conc_types.specs.declared.event.Outcome.{Outcome}
 use Rattle.conc_types.specs.declared.event.Outcome.TheVariants as outcome
 use Rattle.conc_types.specs.declared.event.RequestId.{RequestId}
-use Rattle.conc_law.specs.Calendar.{moment_at}
+use Rattle.conc_base_law.specs.Calendar.{moment_at}
 use Rattle.conc_journal_image.specs.Fields.{are_zero, close_of, end_of, event_in, event_of, fields_of, has_a_wide_number, has_first_alone, has_first_and_outcome, has_first_and_wide, has_record, has_two_numbers, IsSpelling, command_stamp, stamp_in, is_report_outcome, outcome_number, report_end_of, report_outcome, request_of, tick_of, wide_at, word_at}
 use Rattle.conc_journal_image.specs.declared.fields.Fields.{Fields}
 use Rattle.conc_journal_image.proofs.Fronts.{behind-same, middle-same}

@@ -10,7 +10,7 @@ use Rattle.conc_types.specs.declared.event.Outcome.{Outcome}
 use Rattle.conc_types.specs.declared.event.Outcome.TheVariants as outcome
 use Rattle.conc_types.specs.declared.event.RequestId.{RequestId}
 use Rattle.conc_types.specs.Words.{some_and}
-use Rattle.conc_law.specs.Calendar.{moment_at}
+use Rattle.conc_base_law.specs.Calendar.{moment_at}
 use Rattle.conc_journal_image.specs.declared.fields.Fields.{Fields}
 
 -- ---- bytes as fields

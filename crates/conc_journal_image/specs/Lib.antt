@@ -3,3 +3,4 @@ pub mod Finding
 pub mod Headers
 pub mod Image
 pub mod Layout
+pub mod Laws

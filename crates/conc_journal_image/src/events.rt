@@ -1,6 +1,6 @@
 ghost use Rattle.std.specs.Prelude.{◌≡◌, ◌<◌, IsTrue, Some};
 ghost use Rattle.conc_types.specs.declared.event.Event.{Event};
-ghost use Rattle.conc_law.specs.Calendar.{moment_at};
+ghost use Rattle.conc_base_law.specs.Calendar.{moment_at};
 ghost use Rattle.conc_journal_image.specs.Fields.{close_of, command_stamp, end_of, event_of, has_record, is_report_outcome, outcome_number, report_outcome, tick_of};
 
 use crate::fields::Fields;

@@ -10,15 +10,15 @@ use Rattle.conc_types.specs.declared.facts.State.{State}
 use Rattle.conc_types.specs.declared.plan.Plan.{Plan}
 use Rattle.conc_types.specs.declared.plan.Req.{Req}
 use Rattle.conc_types.specs.Words.{numbered}
-use Rattle.conc_law_effects.specs.Advance.{done_after}
-use Rattle.conc_law.specs.Next.{has_step, is_left_running, runs_somewhere}
-use Rattle.conc_law.specs.State.{facts_at, no_facts}
-use Rattle.conc_machine_queue.specs.Written.{IsAlike}
-use Rattle.conc_machine_queue.proofs.Maps.{numbers_of-alike}
-use Rattle.conc_machine_classes.specs.Classes.{AreClasses}
+use Rattle.conc_event_effects.specs.Advance.{done_after}
+use Rattle.conc_base_law.specs.Next.{has_step, is_left_running, runs_somewhere}
+use Rattle.conc_base_law.specs.State.{facts_at, no_facts}
+use Rattle.conc_event_queue.specs.Written.{IsAlike}
+use Rattle.conc_event_queue.proofs.Maps.{numbers_of-alike}
+use Rattle.conc_event_classes.specs.Classes.{AreClasses}
 use Rattle.conc_machine_release.specs.Lets.{AreLets}
 use Rattle.conc_machine_release.proofs.Alike.{AreLets-alike}
-use Rattle.conc_machine_reach.specs.Spans.{AreSpans}
+use Rattle.conc_event_reach.specs.Spans.{AreSpans}
 use Rattle.conc_machine_starts.specs.Starts.{AreStarts}
 use Rattle.conc_machine_starts.proofs.Alike.{AreStarts-alike}
 use Rattle.conc_machine_steps.specs.declared.running.Running.{Running}

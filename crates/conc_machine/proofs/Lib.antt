@@ -3,3 +3,5 @@ pub mod Passes
 pub mod Rest
 pub mod States
 pub mod Undone
+pub mod Order
+pub mod Lives

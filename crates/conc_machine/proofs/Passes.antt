@@ -3,10 +3,10 @@ use Rattle.std.proofs.Common.{◌≡◌, List, take, refl, sym, ◌∙◌}
 use Rattle.conc_types.specs.declared.event.Event.{Event}
 use Rattle.conc_types.specs.declared.facts.Facts.{Facts}
 use Rattle.conc_types.specs.declared.plan.Plan.{Plan}
-use Rattle.conc_law_effects.specs.Advance.{all_after}
-use Rattle.conc_machine_reach.specs.Spans.{LeavesOthers}
-use Rattle.conc_machine_reach.specs.declared.span.Span.{Span}
-use Rattle.conc_machine_reach.proofs.Passes.{all_after-before}
+use Rattle.conc_event_effects.specs.Advance.{all_after}
+use Rattle.conc_event_reach.specs.Spans.{LeavesOthers}
+use Rattle.conc_event_reach.specs.declared.span.Span.{Span}
+use Rattle.conc_event_reach.proofs.Passes.{all_after-before}
 use Rattle.conc_machine.specs.Indexes.{AreFacts}
 use Rattle.conc_machine.specs.declared.indexes.Indexes.{Indexes}
 

@@ -8,12 +8,12 @@ use Rattle.conc_types.specs.declared.event.Event.TheVariants as event
 use Rattle.conc_types.specs.declared.facts.State.{State}
 use Rattle.conc_types.specs.declared.plan.Plan.{Plan}
 use Rattle.conc_types.specs.declared.plan.Req.{Req}
-use Rattle.conc_law.specs.Alone.{first_start, start_of}
-use Rattle.conc_law.specs.Next.{may_start, may_start_somewhere}
-use Rattle.conc_law.specs.Places.{all_places}
-use Rattle.conc_law.specs.Plans.{precedes}
-use Rattle.conc_law.specs.Words.{first_by, Has}
-use Rattle.conc_law.proofs.FirstBy.{any-some, find-some, first_by-none, none_any, precedes-order}
+use Rattle.conc_base_law.specs.Alone.{first_start, start_of}
+use Rattle.conc_base_law.specs.Next.{may_start, may_start_somewhere}
+use Rattle.conc_base_law.specs.Places.{all_places}
+use Rattle.conc_base_law.specs.Plans.{precedes}
+use Rattle.conc_base_law.specs.Words.{first_by, Has}
+use Rattle.conc_base_law.proofs.FirstBy.{any-some, find-some, first_by-none, none_any, precedes-order}
 
 -- a search finds something exactly where something passes
 pub find-any : {T : Type 0} (test : T → Bool) (xs : List T) → is_some (find test xs) ≡ list_any test xs

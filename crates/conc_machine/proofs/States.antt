@@ -6,10 +6,10 @@ use Rattle.conc_types.specs.declared.event.Event.{Event}
 use Rattle.conc_types.specs.declared.facts.State.{State}
 use Rattle.conc_types.specs.declared.plan.Plan.{Plan}
 use Rattle.conc_types.specs.declared.script.Order.{Order}
-use Rattle.conc_law.specs.Facts.{facts_of}
-use Rattle.conc_law.specs.State.{is_done, now, state}
-use Rattle.conc_machine_readings.specs.declared.life.LifeReadings.{LifeReadings}
-use Rattle.conc_machine_readings.specs.LifeReadings.{AreLifeReadings}
+use Rattle.conc_base_law.specs.Facts.{facts_of}
+use Rattle.conc_base_law.specs.State.{is_done, now, state}
+use Rattle.conc_machine.specs.declared.life.LifeReadings.{LifeReadings}
+use Rattle.conc_machine.specs.LifeReadings.{AreLifeReadings}
 use Rattle.conc_machine.specs.Indexes.{first_undone}
 use Rattle.conc_machine.specs.StandsFor.{StandsFor}
 use Rattle.conc_machine.specs.declared.machine.Machine.{Machine}

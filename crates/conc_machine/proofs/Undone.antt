@@ -4,7 +4,7 @@ use Rattle.std.specs.Prelude.{get_or, nat_le, slice_get, unwrap_or}
 use Rattle.std.specs.Bool.{then_some}
 use Rattle.std.specs.List.{enumerate_from, find, list_all}
 use Rattle.std.specs.Option.{option_and_then, option_map}
-use Rattle.std.proofs.lemmas.Bool.{and_from, and_parts, and_left, and_right, both_ways, cases_Bool, leb-true}
+use Rattle.std.proofs.lemmas.Bool.{and_parts, and_left, and_right, both_ways, cases_Bool, leb-true}
 use Rattle.std.proofs.lemmas.Bool.Decides.{nat_tests}
 use Rattle.conc_types.specs.declared.event.Event.TheVariants as event
 use Rattle.conc_types.specs.declared.event.Moment.{Moment}
@@ -14,9 +14,9 @@ use Rattle.conc_types.specs.declared.script.Order.{Order}
 use Rattle.conc_types.specs.declared.setup.Setup.{Setup}
 use Rattle.conc_types.specs.Scripts.{are_commands_from, entered_by, is_act}
 use Rattle.conc_types.specs.Words.{numbered}
-use Rattle.conc_law.specs.Next.{forced_command, is_due}
-use Rattle.conc_law.specs.State.{has_come}
-use Rattle.conc_law.proofs.Numbering.{numbered-at}
+use Rattle.conc_base_law.specs.Next.{forced_command, is_due}
+use Rattle.conc_base_law.specs.State.{has_come}
+use Rattle.conc_base_law.proofs.Numbering.{numbered-at}
 use Rattle.conc_machine.specs.Indexes.{first_undone}
 
 -- ---- the first that is not done
@@ -32,16 +32,6 @@ pub first_undone-few : (done : List Bool) → first_undone done ≤ length done
 first_undone-few [] = omega arith
 first_undone-few (false ∷ done) = omega arith
 first_undone-few (true ∷ done) = let later : first_undone done ≤ length done = first_undone-few done in omega (arith, later)
-
--- one more is done
-pub all_before-more : (n : ℕ) (done : List Bool) → list_all (λ d. d) (take n done) ≡ true → get_or done n false ≡ true
-    → list_all (λ d. d) (take (suc n) done) ≡ true
-all_before-more zero [] all here = refl
-all_before-more zero (d ∷ done) all here = and_from _ _ here refl
-all_before-more (suc n) [] all here = refl
-all_before-more (suc n) (d ∷ done) all here =
-    let p : (d ≡ true) × (list_all (λ d. d) (take n done) ≡ true) = and_parts d _ all in
-    and_from _ _ p.0 (all_before-more n done p.1 here)
 
 -- one that is not done, before which all are, is the first
 pub first_undone-is : (n : ℕ) (done : List Bool) (other : Bool) → list_all (λ d. d) (take n done) ≡ true → n ≤ length done → (n < length done → get_or done n other ≡ false)

@@ -2,9 +2,9 @@
 use Rattle.std.specs.Prelude.{◌≡◌, ℕ, suc, Bool, true, false, List, [], ◌∷◌, length}
 use Rattle.conc_types.specs.declared.facts.Facts.{Facts}
 use Rattle.conc_types.specs.declared.plan.Plan.{Plan}
-use Rattle.conc_machine_classes.specs.Classes.{AreClasses}
+use Rattle.conc_event_classes.specs.Classes.{AreClasses}
 use Rattle.conc_machine_release.specs.Lets.{AreLets}
-use Rattle.conc_machine_reach.specs.Spans.{AreSpans}
+use Rattle.conc_event_reach.specs.Spans.{AreSpans}
 use Rattle.conc_machine_starts.specs.Starts.{AreStarts}
 use Rattle.conc_machine_steps.specs.Steps.{AreRunning, AreSteps}
 use Rattle.conc_machine.specs.declared.indexes.Indexes.{Indexes}

@@ -1,3 +1,4 @@
 pub mod Indexes
 pub mod StandsFor
 pub mod Taken
+pub mod LifeReadings

@@ -4,9 +4,9 @@ use Rattle.std.specs.Option.{option_map}
 use Rattle.conc_types.specs.declared.event.Event.{Event}
 use Rattle.conc_types.specs.declared.plan.Plan.{Plan}
 use Rattle.conc_types.specs.declared.script.Reading.{Reading}
-use Rattle.conc_law.specs.State.{state}
-use Rattle.conc_machine_readings.specs.LifeReadings.{AreLifeReadings}
-use Rattle.conc_machine_readings.specs.declared.life.LifeReadings.{LifeReadings}
+use Rattle.conc_base_law.specs.State.{state}
+use Rattle.conc_machine.specs.LifeReadings.{AreLifeReadings}
+use Rattle.conc_machine.specs.declared.life.LifeReadings.{LifeReadings}
 use Rattle.conc_machine.specs.declared.machine.Machine.{Machine}
 
 -- the plan of a machine

@@ -2,8 +2,8 @@
 use Rattle.std.specs.Prelude.{◌≡◌}
 use Rattle.std.specs.Option.{option_or}
 use Rattle.conc_types.specs.declared.event.Event.{Event}
-use Rattle.conc_law_effects.specs.Advance.{done_after}
-use Rattle.conc_law.specs.Kinds.{tick_of}
+use Rattle.conc_event_effects.specs.Advance.{done_after}
+use Rattle.conc_base_law.specs.Kinds.{tick_of}
 use Rattle.conc_machine.specs.Indexes.{first_undone}
 use Rattle.conc_machine.specs.declared.indexes.Indexes.{Indexes}
 

@@ -3,10 +3,10 @@ ghost use Rattle.std.specs.List.{list_all};
 ghost use Rattle.std.specs.Bool.{then_some};
 ghost use Rattle.std.specs.Option.{option_and_then};
 ghost use Rattle.conc_types.specs.declared.event.Event.TheVariants.{Command as command};
-ghost use Rattle.conc_law.specs.Next as next_spec;
+ghost use Rattle.conc_base_law.specs.Next as next_spec;
 ghost use Rattle.conc_machine.specs.Indexes as indexes_spec;
 
-use conc_law_decisions::is_due;
+use conc_event_decisions::is_due;
 use conc_types::{Event, Plan, State};
 
 /// The place of the first command that is not done, from 0, where all before one are done.

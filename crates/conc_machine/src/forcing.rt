@@ -1,5 +1,5 @@
 ghost use Rattle.std.specs.Prelude.{◌≡◌};
-ghost use Rattle.conc_law.specs.Next as spec;
+ghost use Rattle.conc_base_law.specs.Next as spec;
 ghost use Rattle.conc_machine.specs.Indexes.{AreIndexes};
 
 use crate::commands::forced_command;
@@ -7,7 +7,7 @@ use crate::indexes::Indexes;
 use conc_types::{Event, Plan};
 
 /// The event that is forced, if one is due.
-#[tactic(auto, unfolding(conc_law::specs::Next::forced))]
+#[tactic(auto, unfolding(conc_base_law::specs::Next::forced))]
 pub(crate) fn forced(plan: &Plan, indexes: &Indexes) -> Option<Event>
     requires { AreIndexes plan.now indexes.now }
     ensures { result ≡ spec.forced plan.now indexes.now.state }

@@ -1,5 +1,5 @@
-use conc_machine_classes::Classes;
-use conc_machine_reach::Spans;
+use conc_event_classes::Classes;
+use conc_event_reach::Spans;
 use conc_machine_release::Lets;
 use conc_machine_starts::Starts;
 use conc_machine_steps::{Running, Steps};

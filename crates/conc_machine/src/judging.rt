@@ -2,13 +2,14 @@ ghost use Rattle.std.specs.Prelude.{◌≡◌, not};
 ghost use Rattle.std.specs.List.{list_any};
 ghost use Rattle.conc_types.specs.Plans as plans_spec;
 ghost use Rattle.conc_types.specs.Words.{some_and};
-ghost use Rattle.conc_law.specs.Next as next_spec;
-ghost use Rattle.conc_law.specs.Next.{may_start_somewhere, runs_somewhere};
+ghost use Rattle.conc_base_law.specs.Next as next_spec;
+ghost use Rattle.conc_base_law.specs.Next.{may_start_somewhere, runs_somewhere};
 ghost use Rattle.conc_machine.specs.Indexes.{AreIndexes};
 
 use crate::forcing::forced;
 use crate::indexes::Indexes;
-use conc_law_decisions::{is_not_earlier, is_resume, is_same_event, may_end_by_id};
+use conc_event_decisions::{is_not_earlier, is_same_event, may_end_by_id};
+use conc_rules::is_resume;
 use conc_types::{Event, Moment, PlaceId, Plan, Reading, RequestId};
 
 // ---- rest
@@ -29,7 +30,7 @@ fn none_may_start(plan: &Plan, indexes: &Indexes) -> bool
 }
 
 /// Whether the system is at rest: nothing is forced, no request runs, and none may start.
-#[tactic(auto, unfolding(conc_law::specs::Next::is_at_rest))]
+#[tactic(auto, unfolding(conc_base_law::specs::Next::is_at_rest))]
 pub(crate) fn is_at_rest(plan: &Plan, indexes: &Indexes) -> bool
     requires { AreIndexes plan.now indexes.now }
     ensures { result ≡ next_spec.is_at_rest plan.now indexes.now.state }
@@ -38,7 +39,7 @@ pub(crate) fn is_at_rest(plan: &Plan, indexes: &Indexes) -> bool
 }
 
 /// Whether the reading may be taken: at rest, or at any time if it is early.
-#[tactic(auto, unfolding(conc_law::specs::Next::may_take))]
+#[tactic(auto, unfolding(conc_base_law::specs::Next::may_take))]
 pub(crate) fn may_take(plan: &Plan, indexes: &Indexes, reading: Reading) -> bool
     requires { AreIndexes plan.now indexes.now }
     ensures { result ≡ next_spec.may_take plan.now indexes.now.state reading }
@@ -48,7 +49,7 @@ pub(crate) fn may_take(plan: &Plan, indexes: &Indexes, reading: Reading) -> bool
 
 // ---- single events
 
-#[tactic(auto, unfolding(conc_law::specs::Next::may_tick))]
+#[tactic(auto, unfolding(conc_base_law::specs::Next::may_tick))]
 fn may_tick(plan: &Plan, indexes: &Indexes, next: Option<Option<Reading>>, t: Moment) -> bool
     requires { AreIndexes plan.now indexes.now }
     ensures { result ≡ next_spec.may_tick plan.now indexes.now.state next t }
@@ -74,7 +75,7 @@ pub(crate) fn may_start(plan: &Plan, indexes: &Indexes, id: RequestId, place: Pl
     }
 }
 
-#[tactic(auto, unfolding(conc_law::specs::Next::is_allowed))]
+#[tactic(auto, unfolding(conc_base_law::specs::Next::is_allowed))]
 fn is_allowed(plan: &Plan, indexes: &Indexes, next: Option<Option<Reading>>, e: Event) -> bool
     requires { AreIndexes plan.now indexes.now }
     ensures { result ≡ next_spec.is_allowed plan.now indexes.now.state next e }
@@ -93,7 +94,7 @@ fn is_allowed(plan: &Plan, indexes: &Indexes, next: Option<Option<Reading>>, e: 
 
 /// Whether the event may come next. `next` is the next reading of the last life, if one is left; it is
 /// None in an earlier life, whose readings are not known.
-#[tactic(auto, unfolding(conc_law::specs::Next::may_come))]
+#[tactic(auto, unfolding(conc_base_law::specs::Next::may_come))]
 pub(crate) fn may_come(
     plan: &Plan,
     indexes: &Indexes,

@@ -7,9 +7,11 @@ mod commands;
 mod forcing;
 mod indexes;
 mod judging;
+mod life;
 mod machine;
 mod making;
 mod taking;
 mod writing;
 
+pub use life::LifeReadings;
 pub use machine::Machine;

@@ -1,7 +1,7 @@
 ghost use Rattle.conc_machine.specs.Indexes.{AreIndexes};
 
+use crate::LifeReadings;
 use crate::indexes::Indexes;
-use conc_machine_readings::LifeReadings;
 use conc_types::Plan;
 
 /// Stands for a list of events of a plan, of any length, and answers for it what the rules read from

@@ -1,18 +1,18 @@
 ghost use Rattle.std.specs.Prelude.{◌≡◌, [], ◌∷◌, IfOk, List, None, OnErr, OnOk, Some};
 ghost use Rattle.std.specs.Option.{option_map};
 ghost use Rattle.conc_types.specs.declared.event.Event.{Event};
-ghost use Rattle.conc_law.specs.Before.{last_life};
-ghost use Rattle.conc_law.specs.State.{now, state};
+ghost use Rattle.conc_base_law.specs.Before.{last_life};
+ghost use Rattle.conc_base_law.specs.State.{now, state};
 ghost use Rattle.conc_machine.specs.Indexes.{AreIndexes};
 ghost use Rattle.conc_machine.specs.StandsFor.{FitLife, plan_of, readings_of, StandsFor};
 
+use crate::LifeReadings;
 use crate::indexes::Indexes;
 use crate::machine::Machine;
 use crate::taking::take_in;
-use conc_law_effects::begin;
-use conc_machine_classes::Classes;
-use conc_machine_reach::Spans;
-use conc_machine_readings::LifeReadings;
+use conc_event_classes::Classes;
+use conc_event_effects::begin;
+use conc_event_reach::Spans;
 use conc_machine_release::Lets;
 use conc_machine_starts::Starts;
 use conc_machine_steps::{Running, Steps};

@@ -1,5 +1,5 @@
 ghost use Rattle.std.specs.Prelude.{◌≡◌};
-ghost use Rattle.conc_law_effects.specs.Advance.{IsAfter};
+ghost use Rattle.conc_event_effects.specs.Advance.{IsAfter};
 ghost use Rattle.conc_machine.specs.Indexes as spec;
 ghost use Rattle.conc_machine.specs.Indexes.{AreIndexes, AreParts};
 ghost use Rattle.conc_machine.specs.Taken.{HasCommand, HasTick};
@@ -7,7 +7,7 @@ ghost use Rattle.conc_machine.specs.Taken.{HasCommand, HasTick};
 use crate::commands::first_undone;
 use crate::indexes::Indexes;
 use crate::writing::write_all;
-use conc_law_effects::{mark_done, named_facts, used_after};
+use conc_event_effects::{mark_done, named_facts, used_after};
 use conc_types::{Event, Plan};
 
 // Takes in the command of an event, if it is one.

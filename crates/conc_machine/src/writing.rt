@@ -1,11 +1,11 @@
 ghost use Rattle.std.specs.Prelude.{◌≡◌, ◌<◌, ◌≤◌, length, slice_get, slice_set};
-ghost use Rattle.conc_law_effects.specs.Advance.{all_after, one_by};
-ghost use Rattle.conc_machine_reach.specs.Spans.{LeavesOthers};
+ghost use Rattle.conc_event_effects.specs.Advance.{all_after, one_by};
+ghost use Rattle.conc_event_reach.specs.Spans.{LeavesOthers};
 ghost use Rattle.conc_machine.specs.Indexes.{AreFacts, AreParts};
 
 use crate::indexes::Indexes;
-use conc_law_effects::facts_after;
-use conc_machine_reach::Span;
+use conc_event_effects::facts_after;
+use conc_event_reach::Span;
 use conc_types::{Event, Facts, Plan};
 
 // Writes the facts of the request at an index.

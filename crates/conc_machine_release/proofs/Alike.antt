@@ -8,14 +8,14 @@ use Rattle.conc_types.specs.declared.facts.State.{State}
 use Rattle.conc_types.specs.declared.plan.Plan.{Plan}
 use Rattle.conc_types.specs.declared.plan.Req.{Req}
 use Rattle.conc_types.specs.Words.{numbered}
-use Rattle.conc_law.specs.State.{facts_at, has_come, is_live, no_facts}
-use Rattle.conc_law.specs.Words.{Has}
-use Rattle.conc_machine_queue.specs.Written.{IsAlike}
-use Rattle.conc_machine_queue.specs.Turns.{turns_of}
-use Rattle.conc_machine_queue.proofs.Maps.{facts_at-alike}
-use Rattle.conc_machine_classes.specs.Classes.{are_rivals, class_at, of_class}
-use Rattle.conc_machine_classes.specs.declared.classes.Classes.{Classes}
-use Rattle.conc_law.specs.Next.{is_ready}
+use Rattle.conc_base_law.specs.State.{facts_at, has_come, is_live, no_facts}
+use Rattle.conc_base_law.specs.Words.{Has}
+use Rattle.conc_event_queue.specs.Written.{IsAlike}
+use Rattle.conc_event_queue.specs.Turns.{turns_of}
+use Rattle.conc_event_queue.proofs.Maps.{facts_at-alike}
+use Rattle.conc_event_classes.specs.Classes.{are_rivals, class_at, of_class}
+use Rattle.conc_event_classes.specs.declared.classes.Classes.{Classes}
+use Rattle.conc_base_law.specs.Next.{is_ready}
 use Rattle.conc_machine_release.specs.Lets.{AreLets, is_live_rival, live_rivals}
 use Rattle.conc_machine_release.specs.Starts.{earlier, is_in_window, window_at, next_from}
 use Rattle.conc_machine_release.specs.declared.lets.Lets.{Lets}

@@ -8,22 +8,22 @@ use Rattle.conc_types.specs.declared.plan.Plan.{Plan}
 use Rattle.conc_types.specs.declared.plan.Req.{Req}
 use Rattle.conc_types.specs.Plans.{request}
 use Rattle.conc_types.specs.Words.{some_and}
-use Rattle.conc_law.specs.Next.{is_ready, may_let}
-use Rattle.conc_law.specs.Words.{Has}
-use Rattle.conc_law.proofs.Numbering.{found}
-use Rattle.conc_law.proofs.Options.{some_and-some}
-use Rattle.conc_machine_queue.specs.Least.{least, lesser}
-use Rattle.conc_machine_queue.specs.Turns.{request_at_turn, turn, turns_of}
-use Rattle.conc_machine_queue.proofs.Firsts.{request_at_turn-own}
-use Rattle.conc_machine_queue.proofs.LeastOf.{HasLeast, least-none, least-some}
-use Rattle.conc_machine_classes.specs.Classes.{AreClasses, class_at, of_class, excludes_kin_at}
-use Rattle.conc_machine_classes.specs.declared.classes.Classes.{Classes}
+use Rattle.conc_base_law.specs.Next.{is_ready, may_let}
+use Rattle.conc_base_law.specs.Words.{Has}
+use Rattle.conc_base_law.proofs.Numbering.{found}
+use Rattle.conc_base_law.proofs.Options.{some_and-some}
+use Rattle.conc_event_queue.specs.Least.{least, lesser}
+use Rattle.conc_event_queue.specs.Turns.{request_at_turn, turn, turns_of}
+use Rattle.conc_event_queue.proofs.Firsts.{request_at_turn-own}
+use Rattle.conc_event_queue.proofs.LeastOf.{HasLeast, least-none, least-some}
+use Rattle.conc_event_classes.specs.Classes.{AreClasses, class_at, of_class, excludes_kin_at}
+use Rattle.conc_event_classes.specs.declared.classes.Classes.{Classes}
 use Rattle.conc_machine_release.specs.Forced.{has_only_kin_rivals, turn_in_class}
 use Rattle.conc_machine_release.specs.Lets.{AreLets, live_rivals}
 use Rattle.conc_machine_release.specs.declared.lets.Lets.{Lets}
 use Rattle.conc_machine_release.proofs.Free.{free-may_let, may_let-parts, rival-may_let, kin_marked-may_let}
 use Rattle.conc_machine_release.proofs.Queues.{of_class-has, turns-same}
-use Rattle.conc_machine_queue.proofs.LeastTurns.{least-filter, least-or, least_of-none}
+use Rattle.conc_event_queue.proofs.LeastTurns.{least-filter, least-or, least_of-none}
 
 -- ---- what is kept of a class
 

@@ -9,12 +9,12 @@ use Rattle.conc_types.specs.declared.facts.Facts.{Facts}
 use Rattle.conc_types.specs.declared.facts.State.{State}
 use Rattle.conc_types.specs.declared.plan.Plan.{Plan}
 use Rattle.conc_types.specs.declared.plan.Req.{Req}
-use Rattle.conc_law.specs.State.{facts_at, is_live}
-use Rattle.conc_law.specs.Words.{Has}
-use Rattle.conc_machine_queue.specs.Written.{IsWritten}
-use Rattle.conc_machine_queue.proofs.Maps.{facts_at-before, facts_at-written, request_at_place, slice_get-set_other}
-use Rattle.conc_machine_classes.specs.Classes.{are_rising, are_rivals, AreClasses, class_at, rivals_at}
-use Rattle.conc_machine_classes.specs.declared.classes.Classes.{Classes}
+use Rattle.conc_base_law.specs.State.{facts_at, is_live}
+use Rattle.conc_base_law.specs.Words.{Has}
+use Rattle.conc_event_queue.specs.Written.{IsWritten}
+use Rattle.conc_event_queue.proofs.Maps.{facts_at-before, facts_at-written, request_at_place, slice_get-set_other}
+use Rattle.conc_event_classes.specs.Classes.{are_rising, are_rivals, AreClasses, class_at, rivals_at}
+use Rattle.conc_event_classes.specs.declared.classes.Classes.{Classes}
 use Rattle.conc_machine_release.specs.Lets.{all_classes, is_live_rival, live_rivals}
 use Rattle.conc_machine_release.specs.Renewal.{recounted, recounted_by}
 use Rattle.conc_machine_release.specs.Rivals.{counted, counted_all, counted_at}

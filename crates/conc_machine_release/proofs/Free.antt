@@ -10,17 +10,17 @@ use Rattle.conc_types.specs.declared.plan.Plan.{Plan}
 use Rattle.conc_types.specs.declared.plan.Req.{Req}
 use Rattle.conc_types.specs.Plans.{request}
 use Rattle.conc_types.specs.Words.{some_and}
-use Rattle.conc_law.specs.Exclusion.{excludes, is_kin}
-use Rattle.conc_law.specs.Next.{blocks, is_free, is_ready, may_let}
-use Rattle.conc_law.specs.Plans.{are_exclusive, parent}
-use Rattle.conc_law.specs.State.{facts_at, is_live}
-use Rattle.conc_law.specs.Words.{Has, id_eq}
-use Rattle.conc_law.proofs.Numbering.{found, numbered_plan}
-use Rattle.conc_machine_queue.proofs.Maps.{place_of_request, request_at_place}
-use Rattle.conc_machine_classes.specs.Classes.{AreClasses, clash, class_at, excludes_kin_at}
-use Rattle.conc_machine_classes.specs.declared.classes.Classes.{Classes}
-use Rattle.conc_machine_reach.specs.Spans.{AreSpans, span_of_members}
-use Rattle.conc_machine_reach.specs.declared.spans.Spans.{Spans}
+use Rattle.conc_base_law.specs.Exclusion.{excludes, is_kin}
+use Rattle.conc_base_law.specs.Next.{blocks, is_free, is_ready, may_let}
+use Rattle.conc_base_law.specs.Plans.{are_exclusive, parent}
+use Rattle.conc_base_law.specs.State.{facts_at, is_live}
+use Rattle.conc_base_law.specs.Words.{Has, id_eq}
+use Rattle.conc_base_law.proofs.Numbering.{found, numbered_plan}
+use Rattle.conc_event_queue.proofs.Maps.{place_of_request, request_at_place}
+use Rattle.conc_event_classes.specs.Classes.{AreClasses, clash, class_at, excludes_kin_at}
+use Rattle.conc_event_classes.specs.declared.classes.Classes.{Classes}
+use Rattle.conc_event_reach.specs.Spans.{AreSpans, span_of_members}
+use Rattle.conc_event_reach.specs.declared.spans.Spans.{Spans}
 use Rattle.conc_machine_release.specs.Forced.{is_child, is_live_member, is_live_outside, has_only_kin_rivals, live_members, live_parents}
 use Rattle.conc_machine_release.specs.Lets.{is_live_rival, live_rivals}
 use Rattle.conc_machine_release.proofs.Lists.{any-filter, length-filter_change, length-filter_none, length-filter_parts, length-filter_same}

@@ -5,7 +5,7 @@ use Rattle.std.specs.List.{filter, list_any, range_with_len}
 use Rattle.std.proofs.lemmas.Bool.{ne_eqb}
 use Rattle.std.proofs.lemmas.List.{length-take}
 use Rattle.std.proofs.lemmas.List.Filters.{length-filter_more}
-use Rattle.conc_law.specs.Words.{Has}
+use Rattle.conc_base_law.specs.Words.{Has}
 
 -- ---- elements and places
 

@@ -4,7 +4,7 @@ use Rattle.std.specs.Prelude.{slice_get, slice_range}
 use Rattle.conc_types.specs.declared.facts.State.{State}
 use Rattle.conc_types.specs.declared.plan.Plan.{Plan}
 use Rattle.conc_types.specs.declared.plan.Req.{Req}
-use Rattle.conc_machine_classes.specs.declared.classes.Classes.{Classes}
+use Rattle.conc_event_classes.specs.declared.classes.Classes.{Classes}
 use Rattle.conc_machine_release.specs.Refresh.{refreshed_all, refreshed_at}
 use Rattle.conc_machine_release.specs.Rivals.{counted_all, counted_at}
 use Rattle.conc_machine_release.proofs.Lists.{drop-next, take-none}

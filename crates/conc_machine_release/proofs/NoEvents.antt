@@ -7,14 +7,14 @@ use Rattle.std.proofs.lemmas.Bool.{and_left}
 use Rattle.std.proofs.lemmas.Option.{get_or_from_slice_get}
 use Rattle.conc_types.specs.declared.plan.Plan.{Plan}
 use Rattle.conc_types.specs.declared.plan.Req.{Req}
-use Rattle.conc_law.specs.State.{is_live, state}
-use Rattle.conc_law.specs.Words.{Has}
-use Rattle.conc_machine_queue.specs.Least.{vacant}
-use Rattle.conc_machine_queue.specs.Turns.{turn, turns_of}
-use Rattle.conc_machine_classes.specs.Classes.{AreClasses, of_class}
-use Rattle.conc_machine_classes.specs.declared.classes.Classes.{Classes}
-use Rattle.conc_law.specs.Next.{is_ready}
-use Rattle.conc_law.proofs.FirstEvent.{facts_at-none}
+use Rattle.conc_base_law.specs.State.{is_live, state}
+use Rattle.conc_base_law.specs.Words.{Has}
+use Rattle.conc_event_queue.specs.Least.{vacant}
+use Rattle.conc_event_queue.specs.Turns.{turn, turns_of}
+use Rattle.conc_event_classes.specs.Classes.{AreClasses, of_class}
+use Rattle.conc_event_classes.specs.declared.classes.Classes.{Classes}
+use Rattle.conc_base_law.specs.Next.{is_ready}
+use Rattle.conc_base_law.proofs.FirstEvent.{facts_at-none}
 use Rattle.conc_machine_release.specs.Lets.{all_classes, is_live_rival, live_rivals}
 use Rattle.conc_machine_release.proofs.Lists.{length-filter_none, map_range-within, place-some}
 use Rattle.conc_machine_release.proofs.Queues.{of_class-has}

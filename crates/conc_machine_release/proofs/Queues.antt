@@ -9,13 +9,13 @@ use Rattle.conc_types.specs.declared.facts.State.{State}
 use Rattle.conc_types.specs.declared.plan.Plan.{Plan}
 use Rattle.conc_types.specs.declared.plan.Req.{Req}
 use Rattle.conc_types.specs.Plans.{request}
-use Rattle.conc_law.specs.Words.{Has}
-use Rattle.conc_law.proofs.Numbering.{numbered_plan}
-use Rattle.conc_machine_queue.specs.Turns.{turn, turns_of}
-use Rattle.conc_machine_queue.proofs.Maps.{request_at_place}
-use Rattle.conc_machine_classes.specs.Classes.{AreClasses, class_at, of_class, slot_at}
-use Rattle.conc_machine_classes.specs.declared.classes.Classes.{Classes}
-use Rattle.conc_law.specs.Next.{is_ready}
+use Rattle.conc_base_law.specs.Words.{Has}
+use Rattle.conc_base_law.proofs.Numbering.{numbered_plan}
+use Rattle.conc_event_queue.specs.Turns.{turn, turns_of}
+use Rattle.conc_event_queue.proofs.Maps.{request_at_place}
+use Rattle.conc_event_classes.specs.Classes.{AreClasses, class_at, of_class, slot_at}
+use Rattle.conc_event_classes.specs.declared.classes.Classes.{Classes}
+use Rattle.conc_base_law.specs.Next.{is_ready}
 use Rattle.conc_machine_release.specs.Refresh.{put_in, queues_of, refreshed_all, refreshed_at}
 use Rattle.conc_machine_release.proofs.Lists.{drop-next, filter-distinct, filter-has, has-place, IsDistinct, map_range-get, map_range-same, map_range-set, place-has, place-some, take-none}
 

@@ -10,11 +10,11 @@ use Rattle.std.proofs.lemmas.Option.{slice_get-map, slice_get_past, slice_get_wi
 use Rattle.conc_types.specs.declared.facts.State.{State}
 use Rattle.conc_types.specs.declared.plan.Plan.{Plan}
 use Rattle.conc_types.specs.declared.plan.Req.{Req}
-use Rattle.conc_law.specs.Words.{Has}
-use Rattle.conc_machine_queue.specs.Turns.{turn, turns_of}
-use Rattle.conc_machine_classes.specs.Classes.{are_rising, AreClasses, class_at, of_class, rivals_at, slot_at}
-use Rattle.conc_machine_classes.specs.declared.classes.Classes.{Classes}
-use Rattle.conc_law.specs.Next.{is_ready}
+use Rattle.conc_base_law.specs.Words.{Has}
+use Rattle.conc_event_queue.specs.Turns.{turn, turns_of}
+use Rattle.conc_event_classes.specs.Classes.{are_rising, AreClasses, class_at, of_class, rivals_at, slot_at}
+use Rattle.conc_event_classes.specs.declared.classes.Classes.{Classes}
+use Rattle.conc_base_law.specs.Next.{is_ready}
 use Rattle.conc_machine_release.specs.Lets.{AreLets, live_rivals}
 use Rattle.conc_machine_release.specs.Refresh.{HaveSlots, put_in, queues_of}
 use Rattle.conc_machine_release.specs.declared.lets.Lets.{Lets}

@@ -11,19 +11,19 @@ use Rattle.conc_types.specs.declared.plan.Req.{Req}
 use Rattle.conc_types.specs.Plans.{request}
 use Rattle.conc_types.specs.Stages.{has_stage}
 use Rattle.conc_types.specs.Words.{numbered, some_and}
-use Rattle.conc_law.specs.Next.{can_run, is_ready}
-use Rattle.conc_law.specs.Plans.{parent}
-use Rattle.conc_law.specs.State.{facts_at, has_come, is_completed, is_live, is_waiting, no_facts}
-use Rattle.conc_law.specs.Words.{Has}
-use Rattle.conc_law.proofs.Numbering.{found}
-use Rattle.conc_law.proofs.Options.{and_then-some}
-use Rattle.conc_machine_queue.specs.Written.{IsWritten}
-use Rattle.conc_machine_queue.proofs.Maps.{facts_at-before, facts_at-written, place_of_request, request_at_place}
-use Rattle.conc_machine_classes.specs.Classes.{AreClasses}
-use Rattle.conc_machine_classes.specs.declared.classes.Classes.{Classes}
-use Rattle.conc_machine_reach.specs.Spans.{AreSpans, span_of_members}
-use Rattle.conc_machine_reach.specs.declared.span.Span.{Span}
-use Rattle.conc_machine_reach.specs.declared.spans.Spans.{Spans}
+use Rattle.conc_base_law.specs.Next.{can_run, is_ready}
+use Rattle.conc_base_law.specs.Plans.{parent}
+use Rattle.conc_base_law.specs.State.{facts_at, has_come, is_completed, is_live, is_waiting, no_facts}
+use Rattle.conc_base_law.specs.Words.{Has}
+use Rattle.conc_base_law.proofs.Numbering.{found}
+use Rattle.conc_base_law.proofs.Options.{and_then-some}
+use Rattle.conc_event_queue.specs.Written.{IsWritten}
+use Rattle.conc_event_queue.proofs.Maps.{facts_at-before, facts_at-written, place_of_request, request_at_place}
+use Rattle.conc_event_classes.specs.Classes.{AreClasses}
+use Rattle.conc_event_classes.specs.declared.classes.Classes.{Classes}
+use Rattle.conc_event_reach.specs.Spans.{AreSpans, span_of_members}
+use Rattle.conc_event_reach.specs.declared.span.Span.{Span}
+use Rattle.conc_event_reach.specs.declared.spans.Spans.{Spans}
 use Rattle.conc_machine_release.specs.Refresh.{queues_of, refreshed_all, refreshed_at}
 use Rattle.conc_machine_release.specs.Renewal.{renewed, renewed_within}
 use Rattle.conc_machine_release.proofs.Queues.{at_number, at_number-other, at_number-own, queues-same, refreshed_all-is, refreshed_at-is}

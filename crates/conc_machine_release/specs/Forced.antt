@@ -6,14 +6,15 @@ use Rattle.conc_types.specs.declared.facts.State.{State}
 use Rattle.conc_types.specs.declared.plan.Plan.{Plan}
 use Rattle.conc_types.specs.declared.plan.Req.{Req}
 use Rattle.conc_types.specs.Words.{some_and}
-use Rattle.conc_law.specs.Next.{is_ready, may_let}
-use Rattle.conc_law.specs.Plans.{parent}
-use Rattle.conc_law.specs.Words.{id_eq}
-use Rattle.conc_machine_queue.specs.Least.{least}
-use Rattle.conc_machine_queue.specs.Turns.{turns_of}
-use Rattle.conc_machine_classes.specs.Classes.{class_at, of_class}
-use Rattle.conc_machine_classes.specs.declared.classes.Classes.{Classes}
+use Rattle.conc_base_law.specs.Next.{is_ready, may_let}
+use Rattle.conc_base_law.specs.Plans.{parent}
+use Rattle.conc_base_law.specs.Words.{id_eq}
+use Rattle.conc_event_queue.specs.Least.{least}
+use Rattle.conc_event_queue.specs.Turns.{turns_of}
+use Rattle.conc_event_classes.specs.Classes.{class_at, of_class}
+use Rattle.conc_event_classes.specs.declared.classes.Classes.{Classes}
 use Rattle.conc_machine_release.specs.Lets.{is_live_rival}
+use Rattle.conc_machine_release.specs.declared.position.Position.{Position}
 
 -- the least turn of those of a class that may be let
 unfoldable pub turn_in_class : Plan → Classes → State → ℕ → Option ℕ
@@ -44,3 +45,8 @@ unfoldable pub has_only_kin_rivals : Plan → Classes → State → ℕ → ℕ 
 has_only_kin_rivals plan classes s c rivals r =
     class_at classes r == c
     && (is_ready plan s r && live_members plan classes s c r + live_parents plan classes s c r == rivals)
+
+-- so at a position
+abbrev pub has_only_kin : Position → ℕ → ℕ → Req → Bool
+has_only_kin position c rivals r =
+    has_only_kin_rivals position.plan.now position.classes.now position.state.now c rivals r

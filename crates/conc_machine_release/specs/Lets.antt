@@ -4,12 +4,12 @@ use Rattle.std.specs.List.{filter, range_with_len}
 use Rattle.conc_types.specs.declared.facts.State.{State}
 use Rattle.conc_types.specs.declared.plan.Plan.{Plan}
 use Rattle.conc_types.specs.declared.plan.Req.{Req}
-use Rattle.conc_law.specs.Next.{is_ready}
-use Rattle.conc_law.specs.State.{facts_at, has_come, is_live}
-use Rattle.conc_law.specs.Words.{Has}
-use Rattle.conc_machine_queue.specs.Turns.{turns_of}
-use Rattle.conc_machine_classes.specs.Classes.{are_rivals, class_at, of_class}
-use Rattle.conc_machine_classes.specs.declared.classes.Classes.{Classes}
+use Rattle.conc_base_law.specs.Next.{is_ready}
+use Rattle.conc_base_law.specs.State.{facts_at, has_come, is_live}
+use Rattle.conc_base_law.specs.Words.{Has}
+use Rattle.conc_event_queue.specs.Turns.{turns_of}
+use Rattle.conc_event_classes.specs.Classes.{are_rivals, class_at, of_class}
+use Rattle.conc_event_classes.specs.declared.classes.Classes.{Classes}
 use Rattle.conc_machine_release.specs.declared.lets.Lets.{Lets}
 
 -- q is live, and its class excludes a class

@@ -4,10 +4,10 @@ use Rattle.std.specs.Bool.{then_some}
 use Rattle.conc_types.specs.declared.facts.State.{State}
 use Rattle.conc_types.specs.declared.plan.Plan.{Plan}
 use Rattle.conc_types.specs.declared.plan.Req.{Req}
-use Rattle.conc_machine_queue.specs.Turns.{turn, turns_of}
-use Rattle.conc_machine_classes.specs.Classes.{class_at, of_class, slot_at}
-use Rattle.conc_machine_classes.specs.declared.classes.Classes.{Classes}
-use Rattle.conc_law.specs.Next.{is_ready}
+use Rattle.conc_event_queue.specs.Turns.{turn, turns_of}
+use Rattle.conc_event_classes.specs.Classes.{class_at, of_class, slot_at}
+use Rattle.conc_event_classes.specs.declared.classes.Classes.{Classes}
+use Rattle.conc_base_law.specs.Next.{is_ready}
 use Rattle.conc_machine_release.specs.Lets.{all_classes}
 
 -- the key of a request: its turn, where it is ready

@@ -4,12 +4,12 @@ use Rattle.conc_types.specs.declared.facts.Facts.{Facts}
 use Rattle.conc_types.specs.declared.facts.State.{State}
 use Rattle.conc_types.specs.declared.plan.Plan.{Plan}
 use Rattle.conc_types.specs.declared.plan.Req.{Req}
-use Rattle.conc_law.specs.State.{facts_at, is_live}
-use Rattle.conc_machine_classes.specs.Classes.{class_at, rivals_at}
-use Rattle.conc_machine_classes.specs.declared.classes.Classes.{Classes}
-use Rattle.conc_machine_reach.specs.Spans.{span_of_members}
-use Rattle.conc_machine_reach.specs.declared.span.Span.{Span}
-use Rattle.conc_machine_reach.specs.declared.spans.Spans.{Spans}
+use Rattle.conc_base_law.specs.State.{facts_at, is_live}
+use Rattle.conc_event_classes.specs.Classes.{class_at, rivals_at}
+use Rattle.conc_event_classes.specs.declared.classes.Classes.{Classes}
+use Rattle.conc_event_reach.specs.Spans.{span_of_members}
+use Rattle.conc_event_reach.specs.declared.span.Span.{Span}
+use Rattle.conc_event_reach.specs.declared.spans.Spans.{Spans}
 use Rattle.conc_machine_release.specs.Refresh.{refreshed_all, refreshed_at}
 use Rattle.conc_machine_release.specs.Rivals.{counted_all}
 

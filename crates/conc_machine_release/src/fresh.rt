@@ -1,9 +1,9 @@
 ghost use Rattle.std.specs.Prelude.{◌≡◌, ◌≤◌, IfOk, length, map, slice_index};
 ghost use Rattle.std.specs.List.{range_with_len};
-ghost use Rattle.conc_machine_queue.specs.Least.{vacant};
+ghost use Rattle.conc_event_queue.specs.Least.{vacant};
 
-use conc_machine_classes::Classes;
-use conc_machine_queue::Queue;
+use conc_event_classes::Classes;
+use conc_event_queue::Queue;
 use conc_types::{NoMemory, Seq};
 use std::alloc::Global;
 

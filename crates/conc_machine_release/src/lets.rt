@@ -1,24 +1,23 @@
 ghost use Rattle.std.specs.Prelude.{◌≡◌, ◌<◌, [], IfOk, Some, length, slice_index};
-ghost use Rattle.conc_types.specs.declared.facts.State.{State};
-ghost use Rattle.conc_law.specs.Next as next_spec;
-ghost use Rattle.conc_law.specs.Next.{is_ready, may_let};
-ghost use Rattle.conc_law.specs.State.{state};
-ghost use Rattle.conc_machine_classes.specs.Classes.{AreClasses, of_class};
-ghost use Rattle.conc_machine_queue.specs.Least.{least};
-ghost use Rattle.conc_machine_queue.specs.Turns.{turns_of};
-ghost use Rattle.conc_machine_queue.specs.Written.{IsWritten};
-ghost use Rattle.conc_machine_reach.specs.Spans.{AreSpans};
+ghost use Rattle.conc_base_law.specs.Next as next_spec;
+ghost use Rattle.conc_base_law.specs.State.{state};
+ghost use Rattle.conc_event_classes.specs.Classes.{AreClasses, of_class};
+ghost use Rattle.conc_event_queue.specs.Least.{least};
+ghost use Rattle.conc_event_queue.specs.Turns.{turns_of};
+ghost use Rattle.conc_event_queue.specs.Written.{StaysKept, StaysKeptByTick, WasKept, WasKeptBeforeTick};
+ghost use Rattle.conc_event_reach.specs.Spans.{AreSpans};
 ghost use Rattle.conc_machine_release.specs.Forced as forced_spec;
 ghost use Rattle.conc_machine_release.specs.Lets.{AreLets};
 
 use crate::forced::{event_at, has_turn_only_kin_rivals, least_with_only_kin_rivals};
 use crate::fresh::{vacant_queues, zeros};
+use crate::position::Position;
 use crate::refresh::refresh_span;
 use crate::renewal::{recount, renew};
 use crate::starts::StartWindow;
-use conc_machine_classes::Classes;
-use conc_machine_queue::{Queue, lesser};
-use conc_machine_reach::{Span, Spans};
+use conc_event_classes::Classes;
+use conc_event_queue::{Queue, lesser};
+use conc_event_reach::{Span, Spans};
 use conc_types::{Event, Facts, NoMemory, Plan, Seq, State};
 use std::alloc::Global;
 
@@ -62,14 +61,18 @@ impl Lets {
     )
         requires classes { AreClasses plan.now classes.now }
         requires spans { AreSpans plan.now spans.now }
-        requires related { (before : State) × IsWritten plan.now before after.now i old
-            × AreLets plan.now classes.now before self.old }
-        ensures { (before : State) → IsWritten plan.now before after.now i old
-            → AreLets plan.now classes.now before self.old
-            → AreLets plan.now classes.now after.now self.new }
+        requires related { WasKept (AreLets plan.now classes.now) plan.now after.now i old self.old }
+        ensures { StaysKept (AreLets plan.now classes.now) plan.now after.now i old self.old
+            self.new }
     {
         let r = &plan.requests.as_slice()[i];
-        renew(&mut self.ready, plan, classes, spans, after, r, old);
+        let position = Position {
+            plan,
+            classes,
+            spans,
+            state: after,
+        };
+        renew(&mut self.ready, position, r, old);
         recount(&mut self.rivals, classes, after, r, old);
     }
 
@@ -77,11 +80,8 @@ impl Lets {
     /// comes.
     pub fn tick(&mut self, plan: &Plan, classes: &Classes, after: &State)
         requires classes { AreClasses plan.now classes.now }
-        requires related { (before : State) × (after.now.facts ≡ before.facts)
-            × AreLets plan.now classes.now before self.old }
-        ensures { (before : State) → after.now.facts ≡ before.facts
-            → AreLets plan.now classes.now before self.old
-            → AreLets plan.now classes.now after.now self.new }
+        requires related { WasKeptBeforeTick (AreLets plan.now classes.now) after.now self.old }
+        ensures { StaysKeptByTick (AreLets plan.now classes.now) after.now self.old self.new }
     {
         if self.window.contains(after.time) {
             return;
@@ -105,55 +105,46 @@ impl Lets {
     // The least turn of those of a class that may be let, where the first that is ready has this turn.
     // Where rivals are live and the class may exclude kin, it looks at that one, and through all requests
     // only where that one is excluded.
-    fn turn_in_class(
-        &self,
-        plan: &Plan,
-        classes: &Classes,
-        spans: &Spans,
-        state: &State,
-        class: u32,
-        first: u64,
-    ) -> Option<u64>
-        requires classes { AreClasses plan.now classes.now }
-        requires spans { AreSpans plan.now spans.now }
-        requires related { AreLets plan.now classes.now state.now self.now }
-        requires within { class < length classes.now.sizes }
-        requires first { least (turns_of (is_ready plan.now state.now)
-            (of_class plan.now classes.now class)) ≡ Some first }
-        ensures { result ≡ forced_spec.turn_in_class plan.now classes.now state.now class }
+    fn turn_in_class(&self, position: Position<'_>, class: u32, first: u64) -> Option<u64>
+        requires classes { AreClasses position.plan.now position.classes.now }
+        requires spans { AreSpans position.plan.now position.spans.now }
+        requires related { AreLets position.plan.now position.classes.now position.state.now
+            self.now }
+        requires within { class < length position.classes.now.sizes }
+        requires first { least (turns_of (next_spec.is_ready position.plan.now position.state.now)
+            (of_class position.plan.now position.classes.now class)) ≡ Some first }
+        ensures { result ≡ forced_spec.turn_in_class position.entry.plan.now
+            position.entry.classes.now position.entry.state.now class }
     {
         let rivals = self.rival_count(class as usize);
         if rivals == 0 {
             return Some(first);
         }
-        if !classes.excludes_kin(class) {
+        if !position.classes.excludes_kin(class) {
             return None;
         }
-        if has_turn_only_kin_rivals(plan, classes, spans, state, class, rivals, first) {
+        if has_turn_only_kin_rivals(position, class, rivals, first) {
             return Some(first);
         }
-        least_with_only_kin_rivals(plan, classes, spans, state, class, rivals)
+        least_with_only_kin_rivals(position, class, rivals)
     }
 
     // The least turn of those that may be let.
-    fn least_turn(
-        &self,
-        plan: &Plan,
-        classes: &Classes,
-        spans: &Spans,
-        state: &State,
-    ) -> Option<u64>
-        requires classes { AreClasses plan.now classes.now }
-        requires spans { AreSpans plan.now spans.now }
-        requires related { AreLets plan.now classes.now state.now self.now }
-        ensures { result ≡ least (turns_of (may_let plan.now state.now) plan.now.requests) }
+    fn least_turn(&self, position: Position<'_>) -> Option<u64>
+        requires classes { AreClasses position.plan.now position.classes.now }
+        requires spans { AreSpans position.plan.now position.spans.now }
+        requires related { AreLets position.plan.now position.classes.now position.state.now
+            self.now }
+        ensures { result ≡ least (turns_of
+            (next_spec.may_let position.entry.plan.now position.entry.state.now)
+            position.entry.plan.now.requests) }
     {
         let mut best = None;
         for (class, queue) in self.ready.iter().enumerate() {
             let Some(first) = queue.least() else {
                 continue;
             };
-            let turn = self.turn_in_class(plan, classes, spans, state, class as u32, first);
+            let turn = self.turn_in_class(position, class as u32, first);
             best = lesser(best, turn);
         }
         best
@@ -172,6 +163,12 @@ impl Lets {
         requires related { AreLets plan.now classes.now state.now self.now }
         ensures { result ≡ next_spec.forced_let plan.now state.now }
     {
-        event_at(plan, self.least_turn(plan, classes, spans, state))
+        let position = Position {
+            plan,
+            classes,
+            spans,
+            state,
+        };
+        event_at(plan, self.least_turn(position))
     }
 }

@@ -6,6 +6,7 @@ mod forced;
 mod fresh;
 mod kin;
 mod lets;
+mod position;
 mod refresh;
 mod renewal;
 mod rivals;

@@ -1,13 +1,13 @@
 ghost use Rattle.std.specs.Prelude.{◌≡◌, ◌<◌, ◌≤◌, [], length, slice_index_or, slice_range};
-ghost use Rattle.conc_law.specs.Words.{Has};
-ghost use Rattle.conc_machine_classes.specs.Classes.{AreClasses};
+ghost use Rattle.conc_base_law.specs.Words.{Has};
+ghost use Rattle.conc_event_classes.specs.Classes.{AreClasses};
 ghost use Rattle.conc_machine_release.specs.Refresh as spec;
 ghost use Rattle.conc_machine_release.specs.Refresh.{HaveSlots, refreshed_all, refreshed_at};
 
-use conc_law_decisions::is_ready;
-use conc_machine_classes::Classes;
-use conc_machine_queue::{Queue, turn};
-use conc_machine_reach::Span;
+use conc_event_classes::Classes;
+use conc_event_decisions::is_ready;
+use conc_event_queue::{Queue, turn};
+use conc_event_reach::Span;
 use conc_types::{Plan, Req, State};
 
 // Gives a slot in the queue of a class this key, or none.

@@ -8,12 +8,12 @@ use Rattle.conc_types.specs.declared.facts.State.{State}
 use Rattle.conc_types.specs.declared.plan.Plan.{Plan}
 use Rattle.conc_types.specs.declared.plan.Req.{Req}
 use Rattle.conc_types.specs.Words.{numbered, some_and}
-use Rattle.conc_law.specs.Managers.{admits}
-use Rattle.conc_law.specs.Next.{runs_at}
-use Rattle.conc_law.specs.Places.{all_places, is_usable}
-use Rattle.conc_law.specs.State.{facts_at, is_running, no_facts}
-use Rattle.conc_machine_queue.specs.Turns.{turn, turns_of}
-use Rattle.conc_machine_queue.specs.Written.{IsAlike}
+use Rattle.conc_base_law.specs.Managers.{admits}
+use Rattle.conc_base_law.specs.Next.{runs_at}
+use Rattle.conc_base_law.specs.Places.{all_places, is_usable}
+use Rattle.conc_base_law.specs.State.{facts_at, is_running, no_facts}
+use Rattle.conc_event_queue.specs.Turns.{turn, turns_of}
+use Rattle.conc_event_queue.specs.Written.{IsAlike}
 use Rattle.conc_machine_starts.specs.declared.starts.Starts.{Starts}
 use Rattle.conc_machine_starts.specs.Starts.{AreStarts, is_usable_now, may_start_under, running_at}
 

@@ -9,16 +9,16 @@ use Rattle.conc_types.specs.declared.manager.Manager.{Manager}
 use Rattle.conc_types.specs.declared.plan.Plan.{Plan}
 use Rattle.conc_types.specs.declared.plan.Req.{Req}
 use Rattle.conc_types.specs.Words.{some_and}
-use Rattle.conc_law.specs.Managers.{admits}
-use Rattle.conc_law.specs.Next.{may_start, may_start_somewhere}
-use Rattle.conc_law.specs.Places.{all_places, count_of_places}
-use Rattle.conc_law.specs.Plans.{precedes}
-use Rattle.conc_law.specs.State.{facts_at, is_running}
-use Rattle.conc_law.specs.Words.{first_by}
-use Rattle.conc_machine_queue.specs.Least.{least, lesser}
-use Rattle.conc_machine_queue.specs.Turns.{request_at_turn, turn, turns_of}
-use Rattle.conc_machine_queue.proofs.Firsts.{first-least}
-use Rattle.conc_machine_queue.proofs.LeastTurns.{least-or, least_of-none}
+use Rattle.conc_base_law.specs.Managers.{admits}
+use Rattle.conc_base_law.specs.Next.{may_start, may_start_somewhere}
+use Rattle.conc_base_law.specs.Places.{all_places, count_of_places}
+use Rattle.conc_base_law.specs.Plans.{precedes}
+use Rattle.conc_base_law.specs.State.{facts_at, is_running}
+use Rattle.conc_base_law.specs.Words.{first_by}
+use Rattle.conc_event_queue.specs.Least.{least, lesser}
+use Rattle.conc_event_queue.specs.Turns.{request_at_turn, turn, turns_of}
+use Rattle.conc_event_queue.proofs.Firsts.{first-least}
+use Rattle.conc_event_queue.proofs.LeastTurns.{least-or, least_of-none}
 use Rattle.conc_machine_starts.specs.declared.starts.Starts.{Starts}
 use Rattle.conc_machine_starts.specs.Starts.{AreStarts, may_start_under}
 use Rattle.conc_machine_starts.specs.Updates.{is_open, manager_at, queue_at}

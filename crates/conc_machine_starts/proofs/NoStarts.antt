@@ -4,12 +4,12 @@ use Rattle.conc_types.specs.declared.event.PlaceId.{PlaceId}
 use Rattle.conc_types.specs.declared.manager.Manager.{Manager}
 use Rattle.conc_types.specs.declared.plan.Plan.{Plan}
 use Rattle.conc_types.specs.declared.plan.Req.{Req}
-use Rattle.conc_law.specs.Next.{runs_at}
-use Rattle.conc_law.specs.Places.{all_places}
-use Rattle.conc_law.specs.State.{now, state}
-use Rattle.conc_law.proofs.FirstEvent.{facts_at-none}
-use Rattle.conc_machine_queue.specs.Least.{vacant}
-use Rattle.conc_machine_queue.specs.Turns.{turns_of}
+use Rattle.conc_base_law.specs.Next.{runs_at}
+use Rattle.conc_base_law.specs.Places.{all_places}
+use Rattle.conc_base_law.specs.State.{now, state}
+use Rattle.conc_base_law.proofs.FirstEvent.{facts_at-none}
+use Rattle.conc_event_queue.specs.Least.{vacant}
+use Rattle.conc_event_queue.specs.Turns.{turns_of}
 use Rattle.conc_machine_starts.specs.declared.starts.Starts.{Starts}
 use Rattle.conc_machine_starts.specs.Starts.{AreStarts, is_usable_now, may_start_under, owner_of, running_at}
 use Rattle.conc_machine_starts.proofs.Counts.{filter-none}

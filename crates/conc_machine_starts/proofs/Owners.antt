@@ -8,7 +8,7 @@ use Rattle.conc_types.specs.declared.event.PlaceId.{PlaceId}
 use Rattle.conc_types.specs.declared.manager.Manager.{Manager}
 use Rattle.conc_types.specs.declared.plan.Plan.{Plan}
 use Rattle.conc_types.specs.Shifts.{most_places}
-use Rattle.conc_law.specs.Places.{count_of_places, Place, place_from, place_of}
+use Rattle.conc_base_law.specs.Places.{count_of_places, Place, place_from, place_of}
 
 -- a place among those of these managers, the first of which has this number
 pub record IsAmong (owner : ℕ) (managers : List Manager) (index : ℕ) (p : Place) : Type 0 where

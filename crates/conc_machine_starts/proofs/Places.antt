@@ -9,11 +9,11 @@ use Rattle.conc_types.specs.declared.facts.State.{State}
 use Rattle.conc_types.specs.declared.plan.Plan.{Plan}
 use Rattle.conc_types.specs.declared.plan.Req.{Req}
 use Rattle.conc_types.specs.Words.{some_and}
-use Rattle.conc_law.specs.Managers.{admits}
-use Rattle.conc_law.specs.Next.{is_vacant, may_start, runs_at}
-use Rattle.conc_law.specs.Places.{all_places, count_of_places, is_usable, Place, place_of}
-use Rattle.conc_law.specs.State.{facts_at, is_running}
-use Rattle.conc_machine_queue.specs.Turns.{turns_of}
+use Rattle.conc_base_law.specs.Managers.{admits}
+use Rattle.conc_base_law.specs.Next.{is_vacant, may_start, runs_at}
+use Rattle.conc_base_law.specs.Places.{all_places, count_of_places, is_usable, Place, place_of}
+use Rattle.conc_base_law.specs.State.{facts_at, is_running}
+use Rattle.conc_event_queue.specs.Turns.{turns_of}
 use Rattle.conc_machine_starts.specs.declared.starts.Starts.{Starts}
 use Rattle.conc_machine_starts.specs.Starts.{AreStarts, is_usable_now, may_start_under, owner_of, running_at}
 use Rattle.conc_machine_starts.specs.Updates.{is_open, manager_at, queue_at}

@@ -14,13 +14,13 @@ use Rattle.conc_types.specs.declared.manager.Manager.{Manager}
 use Rattle.conc_types.specs.declared.plan.Plan.{Plan}
 use Rattle.conc_types.specs.declared.plan.Req.{Req}
 use Rattle.conc_types.specs.Words.{some_and}
-use Rattle.conc_law.specs.Next.{runs_at}
-use Rattle.conc_law.specs.Places.{all_places, is_usable}
-use Rattle.conc_law.specs.State.{facts_at}
-use Rattle.conc_law.proofs.Sums.{filter-within}
-use Rattle.conc_machine_queue.specs.Turns.{turn, turns_of}
-use Rattle.conc_machine_queue.specs.Written.{IsWritten}
-use Rattle.conc_machine_queue.proofs.Maps.{facts_at-before, facts_at-written, map-written}
+use Rattle.conc_base_law.specs.Next.{runs_at}
+use Rattle.conc_base_law.specs.Places.{all_places, is_usable}
+use Rattle.conc_base_law.specs.State.{facts_at}
+use Rattle.conc_base_law.proofs.Sums.{filter-within}
+use Rattle.conc_event_queue.specs.Turns.{turn, turns_of}
+use Rattle.conc_event_queue.specs.Written.{IsWritten}
+use Rattle.conc_event_queue.proofs.Maps.{facts_at-before, facts_at-written, map-written}
 use Rattle.conc_machine_starts.specs.declared.starts.Starts.{Starts}
 use Rattle.conc_machine_starts.specs.Starts.{AreStarts, is_usable_now, may_start_under, running_at}
 use Rattle.conc_machine_starts.specs.Updates.{key_of, with_one, without_one}

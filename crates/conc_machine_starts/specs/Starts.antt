@@ -8,11 +8,11 @@ use Rattle.conc_types.specs.declared.manager.Manager.{Manager}
 use Rattle.conc_types.specs.declared.plan.Plan.{Plan}
 use Rattle.conc_types.specs.declared.plan.Req.{Req}
 use Rattle.conc_types.specs.Words.{some_and}
-use Rattle.conc_law.specs.Managers.{admits}
-use Rattle.conc_law.specs.Next.{runs_at}
-use Rattle.conc_law.specs.Places.{all_places, is_usable, place_of}
-use Rattle.conc_law.specs.State.{facts_at, is_running}
-use Rattle.conc_machine_queue.specs.Turns.{turns_of}
+use Rattle.conc_base_law.specs.Managers.{admits}
+use Rattle.conc_base_law.specs.Next.{runs_at}
+use Rattle.conc_base_law.specs.Places.{all_places, is_usable, place_of}
+use Rattle.conc_base_law.specs.State.{facts_at, is_running}
+use Rattle.conc_event_queue.specs.Turns.{turns_of}
 use Rattle.conc_machine_starts.specs.declared.starts.Starts.{Starts}
 
 -- r is let and does not run, and the manager admits it

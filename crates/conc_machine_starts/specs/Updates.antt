@@ -8,9 +8,9 @@ use Rattle.conc_types.specs.declared.manager.Manager.{Manager}
 use Rattle.conc_types.specs.declared.plan.Plan.{Plan}
 use Rattle.conc_types.specs.declared.plan.Req.{Req}
 use Rattle.conc_types.specs.Words.{some_and}
-use Rattle.conc_law.specs.Managers.{admits}
-use Rattle.conc_law.specs.State.{is_running}
-use Rattle.conc_machine_queue.specs.Turns.{turn}
+use Rattle.conc_base_law.specs.Managers.{admits}
+use Rattle.conc_base_law.specs.State.{is_running}
+use Rattle.conc_event_queue.specs.Turns.{turn}
 use Rattle.conc_machine_starts.specs.declared.starts.Starts.{Starts}
 
 -- the key of r in the queue of a manager, by the facts of r

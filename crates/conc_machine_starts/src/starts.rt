@@ -5,23 +5,22 @@ ghost use Rattle.conc_types.specs.declared.event.Event.TheVariants as event;
 ghost use Rattle.conc_types.specs.declared.facts.State.{State};
 ghost use Rattle.conc_types.specs.declared.plan.Plan.{Plan};
 ghost use Rattle.conc_types.specs.Words.{some_and};
-ghost use Rattle.conc_law.specs.Alone as alone_spec;
-ghost use Rattle.conc_law.specs.Managers as managers_spec;
-ghost use Rattle.conc_law.specs.Next as next_spec;
-ghost use Rattle.conc_law.specs.Next.{may_start_somewhere};
-ghost use Rattle.conc_law.specs.Plans.{precedes};
-ghost use Rattle.conc_law.specs.State.{is_running, state};
-ghost use Rattle.conc_law.specs.Words.{first_by};
-ghost use Rattle.conc_machine_queue.specs.Least as least_spec;
-ghost use Rattle.conc_machine_queue.specs.Turns.{turns_of};
-ghost use Rattle.conc_machine_queue.specs.Written.{IsWritten};
+ghost use Rattle.conc_base_law.specs.Alone as alone_spec;
+ghost use Rattle.conc_base_law.specs.Managers as managers_spec;
+ghost use Rattle.conc_base_law.specs.Next as next_spec;
+ghost use Rattle.conc_base_law.specs.Plans.{precedes};
+ghost use Rattle.conc_base_law.specs.State.{is_running, state};
+ghost use Rattle.conc_base_law.specs.Words.{first_by};
+ghost use Rattle.conc_event_queue.specs.Least as least_spec;
+ghost use Rattle.conc_event_queue.specs.Turns.{turns_of};
+ghost use Rattle.conc_event_queue.specs.Written.{StaysKept, StaysKeptByTick, WasKept, WasKeptBeforeTick};
 ghost use Rattle.conc_machine_starts.specs.Starts as starts_spec;
 ghost use Rattle.conc_machine_starts.specs.Starts.{AreStarts};
 ghost use Rattle.conc_machine_starts.specs.Updates as updates_spec;
 
 use crate::updates::{enter, leave, refresh, renew};
-use conc_law_decisions::facts_at;
-use conc_machine_queue::{Queue, lesser, request_at_turn};
+use conc_event_decisions::facts_at;
+use conc_event_queue::{Queue, lesser, request_at_turn};
 use conc_rules::admits;
 use conc_time::{place_count, place_of};
 use conc_types::{Facts, Manager, NoMemory, PlaceId, Plan, Req, RequestId, Seq, State};
@@ -80,10 +79,8 @@ impl Starts {
 
     /// Takes in that the facts of the request at an index were written, which were these before.
     pub fn write(&mut self, plan: &Plan, after: &State, i: usize, old: Facts)
-        requires { (before : State) × IsWritten plan.now before after.now i old
-            × AreStarts plan.now before self.old }
-        ensures { (before : State) → IsWritten plan.now before after.now i old
-            → AreStarts plan.now before self.old → AreStarts plan.now after.now self.new }
+        requires { WasKept (AreStarts plan.now) plan.now after.now i old self.old }
+        ensures { StaysKept (AreStarts plan.now) plan.now after.now i old self.old self.new }
     {
         let r = &plan.requests.as_slice()[i];
         let facts = facts_at(after, r);
@@ -100,10 +97,8 @@ impl Starts {
 
     /// Takes in another moment of the last tick.
     pub fn tick(&mut self, plan: &Plan, after: &State)
-        requires { (before : State) × (after.now.facts ≡ before.facts)
-            × AreStarts plan.now before self.old }
-        ensures { (before : State) → after.now.facts ≡ before.facts
-            → AreStarts plan.now before self.old → AreStarts plan.now after.now self.new }
+        requires { WasKeptBeforeTick (AreStarts plan.now) after.now self.old }
+        ensures { StaysKeptByTick (AreStarts plan.now) after.now self.old self.new }
     {
         renew(&mut self.usable, plan, after);
     }
@@ -227,7 +222,7 @@ impl Starts {
     // The first request in precedence that may start at some place.
     fn first_request<'a>(&self, plan: &'a Plan) -> Option<&'a Req>
         ensures { (s : State) → AreStarts plan.now s self.now
-            → option_copied result ≡ first_by precedes (may_start_somewhere plan.now s)
+            → option_copied result ≡ first_by precedes (next_spec.may_start_somewhere plan.now s)
             plan.now.requests }
     {
         let turn = self.least_turn(0, place_count(plan))?;
@@ -235,7 +230,7 @@ impl Starts {
     }
 
     /// The first let request in precedence that may start at some place, with the first such place.
-    #[tactic(auto, unfolding(conc_law::specs::Alone::first_start, conc_law::specs::Places::all_places))]
+    #[tactic(auto, unfolding(conc_base_law::specs::Alone::first_start, conc_base_law::specs::Places::all_places))]
     pub fn first_start(&self, plan: &Plan, state: &State) -> Option<(RequestId, PlaceId)>
         requires { AreStarts plan.now state.now self.now }
         ensures { option_map (λ start. event.Started start.0 start.1) result

@@ -1,11 +1,11 @@
 ghost use Rattle.std.specs.Prelude.{◌≡◌, ◌<◌, ℕ, All, List, Option, length, map, slice_set};
 ghost use Rattle.conc_types.specs.declared.manager.Manager.{Manager};
-ghost use Rattle.conc_law.specs.Places.{all_places, count_of_places};
+ghost use Rattle.conc_base_law.specs.Places.{all_places, count_of_places};
 ghost use Rattle.conc_machine_starts.specs.Starts as starts_spec;
 ghost use Rattle.conc_machine_starts.specs.Updates as updates_spec;
 ghost use Rattle.conc_machine_starts.specs.Updates.{with_one, without_one};
 
-use conc_machine_queue::{Queue, turn};
+use conc_event_queue::{Queue, turn};
 use conc_rules::admits;
 use conc_time::{is_usable, place_count};
 use conc_types::{Facts, Manager, PlaceId, Plan, Req, Seq, State};

@@ -2,9 +2,9 @@
 use Rattle.std.proofs.Common.{sym, ◌∙◌}
 use Rattle.conc_types.specs.declared.facts.State.{State}
 use Rattle.conc_types.specs.declared.plan.Plan.{Plan}
-use Rattle.conc_law.specs.Next.{has_step, is_left_running, runs_somewhere}
-use Rattle.conc_machine_queue.specs.Written.{IsAlike}
-use Rattle.conc_machine_queue.proofs.Maps.{facts_at-alike, numbers_of-alike}
+use Rattle.conc_base_law.specs.Next.{has_step, is_left_running, runs_somewhere}
+use Rattle.conc_event_queue.specs.Written.{IsAlike}
+use Rattle.conc_event_queue.proofs.Maps.{facts_at-alike, numbers_of-alike}
 use Rattle.conc_machine_steps.specs.declared.running.Running.{Running}
 use Rattle.conc_machine_steps.specs.declared.steps.Steps.{Steps}
 use Rattle.conc_machine_steps.specs.Steps.{AreRunning, AreSteps}

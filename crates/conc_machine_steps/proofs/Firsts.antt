@@ -4,10 +4,10 @@ use Rattle.std.specs.List.{find}
 use Rattle.std.specs.Option.{option_and_then}
 use Rattle.conc_types.specs.declared.facts.State.{State}
 use Rattle.conc_types.specs.declared.plan.Plan.{Plan}
-use Rattle.conc_law.specs.Next.{has_step, is_left_running, runs_somewhere}
-use Rattle.conc_machine_queue.specs.Least.{least}
-use Rattle.conc_machine_queue.specs.Turns.{request_numbered}
-use Rattle.conc_machine_queue.proofs.Firsts.{find-least}
+use Rattle.conc_base_law.specs.Next.{has_step, is_left_running, runs_somewhere}
+use Rattle.conc_event_queue.specs.Least.{least}
+use Rattle.conc_event_queue.specs.Turns.{request_numbered}
+use Rattle.conc_event_queue.proofs.Firsts.{find-least}
 use Rattle.conc_machine_steps.specs.declared.running.Running.{Running}
 use Rattle.conc_machine_steps.specs.declared.steps.Steps.{Steps}
 use Rattle.conc_machine_steps.specs.Steps.{AreRunning, AreSteps}

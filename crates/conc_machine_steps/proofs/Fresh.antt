@@ -2,12 +2,12 @@
 use Rattle.std.proofs.Common.{◌≡◌, ◌&&◌, Bool, true, false, [], length, None, refl, ◌∙◌}
 use Rattle.conc_types.specs.declared.plan.Plan.{Plan}
 use Rattle.conc_types.specs.declared.plan.Req.{Req}
-use Rattle.conc_law.specs.Facts.{is_open, running_place}
-use Rattle.conc_law.specs.Next.{has_step, is_left_running, runs_somewhere}
-use Rattle.conc_law.specs.State.{facts_at, state}
-use Rattle.conc_law.specs.Words.{Has, is_set}
-use Rattle.conc_law.proofs.FactsAt.{opened-state, place-state}
-use Rattle.conc_machine_queue.specs.Least.{vacant}
+use Rattle.conc_base_law.specs.Facts.{is_open, running_place}
+use Rattle.conc_base_law.specs.Next.{has_step, is_left_running, runs_somewhere}
+use Rattle.conc_base_law.specs.State.{facts_at, state}
+use Rattle.conc_base_law.specs.Words.{Has, is_set}
+use Rattle.conc_base_law.proofs.FactsAt.{opened-state, place-state}
+use Rattle.conc_event_queue.specs.Least.{vacant}
 use Rattle.conc_machine_steps.specs.declared.running.Running.{Running}
 use Rattle.conc_machine_steps.specs.declared.steps.Steps.{Steps}
 use Rattle.conc_machine_steps.specs.Steps.{AreRunning, AreSteps}

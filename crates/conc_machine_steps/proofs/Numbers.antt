@@ -7,10 +7,10 @@ use Rattle.std.proofs.lemmas.List.{length-map, length-set}
 use Rattle.std.proofs.lemmas.Option.{slice_get_within}
 use Rattle.conc_types.specs.declared.plan.Plan.{Plan}
 use Rattle.conc_types.specs.declared.plan.Req.{Req}
-use Rattle.conc_law.specs.Words.{Has}
-use Rattle.conc_machine_queue.specs.Least.{vacant}
-use Rattle.conc_machine_queue.specs.Turns.{numbers_of}
-use Rattle.conc_machine_queue.proofs.Maps.{map-vacant, numbers_of-written, place_of_request}
+use Rattle.conc_base_law.specs.Words.{Has}
+use Rattle.conc_event_queue.specs.Least.{vacant}
+use Rattle.conc_event_queue.specs.Turns.{numbers_of}
+use Rattle.conc_event_queue.proofs.Maps.{map-vacant, numbers_of-written, place_of_request}
 use Rattle.conc_machine_steps.specs.Slots.{HasSlot, refreshed}
 
 -- where no request passes, all slots are vacant

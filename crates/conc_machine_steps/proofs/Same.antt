@@ -7,11 +7,11 @@ use Rattle.std.proofs.lemmas.Bool.{cases_Bool}
 use Rattle.conc_types.specs.declared.facts.State.{State}
 use Rattle.conc_types.specs.declared.plan.Plan.{Plan}
 use Rattle.conc_types.specs.declared.plan.Req.{Req}
-use Rattle.conc_law.specs.Next.{has_step, is_left_running, runs_somewhere}
-use Rattle.conc_law.specs.Plans.{is_member, members}
-use Rattle.conc_law.specs.Stages.{completed_at, has_ended, set_step, step_from}
-use Rattle.conc_law.specs.State.{facts_at, is_completed}
-use Rattle.conc_law.specs.Words.{Has}
+use Rattle.conc_base_law.specs.Next.{has_step, is_left_running, runs_somewhere}
+use Rattle.conc_base_law.specs.Plans.{is_member, members}
+use Rattle.conc_base_law.specs.Stages.{completed_at, has_ended, set_step, step_from}
+use Rattle.conc_base_law.specs.State.{facts_at, is_completed}
+use Rattle.conc_base_law.specs.Words.{Has}
 
 -- two tests that agree on the elements of a filter
 list_all-filter_same : {T : Type 0} (test f g : T → Bool) (xs : List T) → ((x : T) → Has xs x → test x ≡ true → g x ≡ f x)

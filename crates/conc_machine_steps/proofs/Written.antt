@@ -10,14 +10,14 @@ use Rattle.conc_types.specs.declared.plan.Plan.{Plan}
 use Rattle.conc_types.specs.declared.plan.Req.{Req}
 use Rattle.conc_types.specs.Plans.{request}
 use Rattle.conc_types.specs.Words.{numbered, some_and}
-use Rattle.conc_law.specs.Next.{has_step, is_left_running, runs_somewhere}
-use Rattle.conc_law.specs.Plans.{is_member, parent}
-use Rattle.conc_law.specs.State.{facts_at}
-use Rattle.conc_law.specs.Words.{Has, id_eq}
-use Rattle.conc_law.proofs.Numbering.{found, numbered_plan}
-use Rattle.conc_law.proofs.Options.{and_then-some, some_and-some}
-use Rattle.conc_machine_queue.specs.Written.{IsWritten}
-use Rattle.conc_machine_queue.proofs.Maps.{facts_at-written, request_at_place}
+use Rattle.conc_base_law.specs.Next.{has_step, is_left_running, runs_somewhere}
+use Rattle.conc_base_law.specs.Plans.{is_member, parent}
+use Rattle.conc_base_law.specs.State.{facts_at}
+use Rattle.conc_base_law.specs.Words.{Has, id_eq}
+use Rattle.conc_base_law.proofs.Numbering.{found, numbered_plan}
+use Rattle.conc_base_law.proofs.Options.{and_then-some, some_and-some}
+use Rattle.conc_event_queue.specs.Written.{IsWritten}
+use Rattle.conc_event_queue.proofs.Maps.{facts_at-written, request_at_place}
 use Rattle.conc_machine_steps.specs.declared.running.Running.{Running}
 use Rattle.conc_machine_steps.specs.declared.steps.Steps.{Steps}
 use Rattle.conc_machine_steps.specs.Slots.{refreshed}

@@ -2,8 +2,8 @@
 use Rattle.std.specs.Prelude.{◌≡◌}
 use Rattle.conc_types.specs.declared.facts.State.{State}
 use Rattle.conc_types.specs.declared.plan.Plan.{Plan}
-use Rattle.conc_law.specs.Next.{has_step, is_left_running, runs_somewhere}
-use Rattle.conc_machine_queue.specs.Turns.{numbers_of}
+use Rattle.conc_base_law.specs.Next.{has_step, is_left_running, runs_somewhere}
+use Rattle.conc_event_queue.specs.Turns.{numbers_of}
 use Rattle.conc_machine_steps.specs.declared.running.Running.{Running}
 use Rattle.conc_machine_steps.specs.declared.steps.Steps.{Steps}
 

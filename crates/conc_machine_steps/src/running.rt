@@ -1,15 +1,13 @@
 ghost use Rattle.std.specs.Prelude.{◌≡◌, [], IfOk};
-ghost use Rattle.std.specs.List.{find};
-ghost use Rattle.std.specs.Option.{option_copied};
-ghost use Rattle.conc_types.specs.declared.facts.State.{State};
-ghost use Rattle.conc_law.specs.Next as spec;
-ghost use Rattle.conc_law.specs.State.{state};
-ghost use Rattle.conc_machine_queue.specs.Written.{IsWritten};
+ghost use Rattle.conc_base_law.specs.Next as spec;
+ghost use Rattle.conc_base_law.specs.State.{state};
+ghost use Rattle.conc_event_queue.specs.Written.{StaysKept, WasKept};
+ghost use Rattle.conc_machine_steps.specs.Slots.{IsFirst};
 ghost use Rattle.conc_machine_steps.specs.Steps.{AreRunning};
 
 use crate::slots::{least_request, refresh};
-use conc_law_decisions::{is_left_running, runs_somewhere};
-use conc_machine_queue::Queue;
+use conc_event_decisions::{is_left_running, runs_somewhere};
+use conc_event_queue::Queue;
 use conc_types::{Event, Facts, NoMemory, Plan, Req, State};
 use std::alloc::Global;
 
@@ -35,10 +33,8 @@ impl Running {
 
     /// Takes in that the facts of the request at an index were written, which were these before.
     pub fn write(&mut self, plan: &Plan, after: &State, i: usize, _old: Facts)
-        requires { (before : State) × IsWritten plan.now before after.now i _old
-            × AreRunning plan.now before self.old }
-        ensures { (before : State) → IsWritten plan.now before after.now i _old
-            → AreRunning plan.now before self.old → AreRunning plan.now after.now self.new }
+        requires { WasKept (AreRunning plan.now) plan.now after.now i _old self.old }
+        ensures { StaysKept (AreRunning plan.now) plan.now after.now i _old self.old self.new }
     {
         let r = &plan.requests.as_slice()[i];
         refresh(&mut self.all, r, runs_somewhere(after, r));
@@ -49,7 +45,7 @@ impl Running {
     #[tactic(auto, using(crate::proofs::Firsts::first_running))]
     pub fn first<'a>(&self, plan: &'a Plan, _state: &State) -> Option<&'a Req>
         requires { AreRunning plan.now _state.now self.now }
-        ensures { option_copied result ≡ find (spec.runs_somewhere _state.now) plan.now.requests }
+        ensures { IsFirst plan.now (spec.runs_somewhere _state.now) result }
     {
         least_request(&self.all, plan)
     }
@@ -57,13 +53,13 @@ impl Running {
     #[tactic(auto, using(crate::proofs::Firsts::first_left))]
     fn first_left<'a>(&self, plan: &'a Plan, _state: &State) -> Option<&'a Req>
         requires { AreRunning plan.now _state.now self.now }
-        ensures { option_copied result ≡ find (spec.is_left_running _state.now) plan.now.requests }
+        ensures { IsFirst plan.now (spec.is_left_running _state.now) result }
     {
         least_request(&self.left, plan)
     }
 
     /// The interrupt that is forced, if one is.
-    #[tactic(auto, unfolding(conc_law::specs::Next::forced_interrupt))]
+    #[tactic(auto, unfolding(conc_base_law::specs::Next::forced_interrupt))]
     pub fn forced_interrupt(&self, plan: &Plan, state: &State) -> Option<Event>
         requires { AreRunning plan.now state.now self.now }
         ensures { result ≡ spec.forced_interrupt plan.now state.now }

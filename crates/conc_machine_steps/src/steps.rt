@@ -1,18 +1,15 @@
 ghost use Rattle.std.specs.Prelude.{◌≡◌, [], IfOk};
-ghost use Rattle.std.specs.List.{find};
-ghost use Rattle.std.specs.Option.{option_copied};
-ghost use Rattle.conc_types.specs.declared.facts.State.{State};
-ghost use Rattle.conc_law.specs.Next as spec;
-ghost use Rattle.conc_law.specs.State.{state};
-ghost use Rattle.conc_machine_queue.specs.Written.{IsWritten};
-ghost use Rattle.conc_machine_reach.specs.Spans.{AreSpans};
-ghost use Rattle.conc_machine_steps.specs.Slots.{HasSlot, refreshed};
+ghost use Rattle.conc_base_law.specs.Next as spec;
+ghost use Rattle.conc_base_law.specs.State.{state};
+ghost use Rattle.conc_event_queue.specs.Written.{StaysKept, WasKept};
+ghost use Rattle.conc_event_reach.specs.Spans.{AreSpans};
+ghost use Rattle.conc_machine_steps.specs.Slots.{HasSlot, IsFirst, refreshed};
 ghost use Rattle.conc_machine_steps.specs.Steps.{AreSteps};
 
 use crate::slots::{least_request, refresh};
-use conc_law_decisions::{has_step, set_step};
-use conc_machine_queue::Queue;
-use conc_machine_reach::Spans;
+use conc_event_decisions::{has_step, set_step};
+use conc_event_queue::Queue;
+use conc_event_reach::Spans;
 use conc_rules::parent;
 use conc_types::{Event, Facts, NoMemory, Plan, Req, State};
 use std::alloc::Global;
@@ -48,10 +45,8 @@ impl Steps {
     /// Takes in that the facts of the request at an index were written, which were these before.
     pub fn write(&mut self, plan: &Plan, spans: &Spans, after: &State, i: usize, _old: Facts)
         requires spans { AreSpans plan.now spans.now }
-        requires related { (before : State) × IsWritten plan.now before after.now i _old
-            × AreSteps plan.now before self.old }
-        ensures { (before : State) → IsWritten plan.now before after.now i _old
-            → AreSteps plan.now before self.old → AreSteps plan.now after.now self.new }
+        requires related { WasKept (AreSteps plan.now) plan.now after.now i _old self.old }
+        ensures { StaysKept (AreSteps plan.now) plan.now after.now i _old self.old self.new }
     {
         let r = &plan.requests.as_slice()[i];
         self.refresh(plan, spans, after, r);
@@ -63,14 +58,13 @@ impl Steps {
     #[tactic(auto, using(crate::proofs::Firsts::first_due))]
     fn first_due<'a>(&self, plan: &'a Plan, _state: &State) -> Option<&'a Req>
         requires { AreSteps plan.now _state.now self.now }
-        ensures { option_copied result ≡ find (spec.has_step plan.now _state.now)
-            plan.now.requests }
+        ensures { IsFirst plan.now (spec.has_step plan.now _state.now) result }
     {
         least_request(&self.due, plan)
     }
 
     /// The stage or the close that is forced, if one is.
-    #[tactic(auto, unfolding(conc_law::specs::Next::forced_step))]
+    #[tactic(auto, unfolding(conc_base_law::specs::Next::forced_step))]
     pub fn forced_step(&self, plan: &Plan, spans: &Spans, state: &State) -> Option<Event>
         requires spans { AreSpans plan.now spans.now }
         requires related { AreSteps plan.now state.now self.now }

@@ -10,8 +10,8 @@ use Rattle.csv.specs.Reading.{default_config, records, records_from, records_nex
 use Rattle.csv.specs.Writing.{default_writer, field_text, fields_text, is_blank, needs_byte, row_text}
 use Rattle.csv.specs.declared.parser.State.TheVariants as st
 use Rattle.csv.proofs.RoundTrip.{read-write-many}
-use Rattle.conc_records.specs.Records.{Record, records_of}
-use Rattle.conc_records.proofs.Fuel.{records_from-same}
+use Rattle.conc_data_records.specs.Records.{Record, records_of}
+use Rattle.conc_data_records.proofs.Fuel.{records_from-same}
 use Rattle.conc_make.specs.Draws.{after}
 use Rattle.conc_make.specs.Files.{line, made, text_of}
 

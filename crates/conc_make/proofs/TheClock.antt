@@ -4,8 +4,8 @@ use Rattle.std.specs.Option.{option_map}
 use Rattle.conc_types.specs.declared.event.Moment.{Moment}
 use Rattle.conc_types.specs.declared.script.Readings.{Readings}
 use Rattle.conc_types.specs.Faults.{first_fault}
-use Rattle.conc_law.specs.Calendar.{civil_of, civil_text, is_civil, is_spelling, moment_at, moment_of, month_lengths, seconds_of}
-use Rattle.conc_law.specs.Moments.{is_leap}
+use Rattle.conc_base_law.specs.Calendar.{civil_of, civil_text, is_civil, is_spelling, moment_at, moment_of, month_lengths, seconds_of}
+use Rattle.conc_base_law.specs.Moments.{is_leap}
 use Rattle.conc_script.specs.Clock.{SpellsClock, clock_fault, line_kind, reading, reading_at, reading_of}
 use Rattle.conc_make.specs.Files.{clock_text, moment_word}
 

@@ -15,8 +15,8 @@ use Rattle.conc_types.specs.declared.script.Order.{Order}
 use Rattle.conc_types.specs.declared.script.Script.{Script}
 use Rattle.conc_types.specs.Faults.{fault_or, first_fault}
 use Rattle.conc_types.specs.Texts.{is_name, is_text}
-use Rattle.conc_law.specs.Calendar.{civil_of, civil_text, is_civil, is_spelling, moment_of, month_lengths}
-use Rattle.conc_records.specs.Records.{Record, records_of}
+use Rattle.conc_base_law.specs.Calendar.{civil_of, civil_text, is_civil, is_spelling, moment_of, month_lengths}
+use Rattle.conc_data_records.specs.Records.{Record, records_of}
 use Rattle.conc_script.specs.Script.{SpellsScript, act_of, at_field, domain_of, has_form, is_earlier, is_record, item_named, order_of, priority_of, record_at, record_kind, records_fault, script_fault, start_of, submission_of, what_rules}
 use Rattle.conc_make.specs.Draws.{after, drawn}
 use Rattle.conc_make.specs.Files.{item_word, line, made, moment_word, script_header, script_text, submission, text_of}

@@ -9,14 +9,14 @@ use Rattle.conc_types.specs.declared.setup.Setup.{Setup}
 use Rattle.conc_types.specs.Faults.{Fault, first_fault}
 use Rattle.conc_types.specs.Scripts.{count_of}
 use Rattle.conc_types.specs.Stages.{has_stage, with_stage}
-use Rattle.conc_setup_fields.specs.Arrays.{array_in, first_wrong, goods, list_in, read_all, worst}
-use Rattle.conc_setup_fields.specs.Fields.{only}
-use Rattle.conc_setup_entries.specs.Entries.{entry_in, entry_of}
-use Rattle.conc_setup_entries.specs.Managers.{manager_in, manager_of}
-use Rattle.conc_setup_entries.specs.Programs.{filter_in, filter_of, job_of, program_in, program_of}
-use Rattle.conc_setup_entries.specs.Rules.{rule_in, rule_of}
-use Rattle.conc_setup_entries.specs.Sets.{set_in, set_of, stage_in, stage_of}
-use Rattle.conc_setup_entries.specs.Shifts.{days_in, shift_in, shift_of}
+use Rattle.conc_data_fields.specs.Arrays.{array_in, first_wrong, goods, list_in, read_all, worst}
+use Rattle.conc_data_fields.specs.Fields.{only}
+use Rattle.conc_data_entries.specs.Entries.{entry_of}
+use Rattle.conc_data_entries.specs.Managers.{manager_of}
+use Rattle.conc_data_entries.specs.Programs.{filter_of, job_of, program_of}
+use Rattle.conc_data_entries.specs.Rules.{rule_of}
+use Rattle.conc_data_entries.specs.Sets.{set_of, stage_of}
+use Rattle.conc_data_entries.specs.Shifts.{days_in, shift_of}
 use Rattle.conc_setup.specs.Documents.{document_in, document_of, entries_in}
 use Rattle.conc_setup.specs.FirstPass.{first_pass, wrong_entry}
 use Rattle.conc_setup.specs.SecondPass.{first_again, first_set_again, name_again, second_pass}
@@ -28,7 +28,7 @@ use Rattle.conc_make.proofs.TheTable.{the_table}
 
 -- to unfold this is to unfold all that the text is read by
 unfoldable pub reading : Unit {0}
-unfolding setup_text setup_in document_in document_of entries_in first_pass wrong_entry second_pass first_again first_set_again name_again third_pass item_of resolved_entry resolved_manager resolved_rule resolved_set resolved_stage wrong_name manager_in manager_of rule_in rule_of shift_in shift_of days_in program_in program_of job_of filter_in filter_of entry_in entry_of set_in set_of stage_in stage_of list_in array_in read_all only worst goods first_wrong has_stage with_stage toml_on_literals chars is_utf8 encode
+unfolding setup_text setup_in document_in document_of entries_in first_pass wrong_entry second_pass first_again first_set_again name_again third_pass item_of resolved_entry resolved_manager resolved_rule resolved_set resolved_stage wrong_name manager_of rule_of shift_of days_in program_of job_of filter_of entry_of set_of stage_of list_in array_in read_all only worst goods first_wrong has_stage with_stage toml_on_literals chars is_utf8 encode
 reading = tt
 
 unfoldable pub got : (r : Result Setup Fault) → is_ok r ≡ true → Setup

@@ -7,7 +7,7 @@ use Rattle.std.proofs.lemmas.Bool.Decides.{nat_tests}
 use Rattle.csv.specs.Reading.{strip_bom}
 use Rattle.conc_types.specs.declared.table.Table.{Table}
 use Rattle.conc_types.specs.Faults.{first_fault}
-use Rattle.conc_records.specs.Records.{Record, records_of}
+use Rattle.conc_data_records.specs.Records.{Record, records_of}
 use Rattle.conc_tables.specs.Tables.{SpellsTable, records_fault, row_kind, table_fault}
 use Rattle.conc_make.specs.Draws.{after, drawn}
 use Rattle.conc_make.specs.Files.{line, made, row, table_header, table_text, text_of}

@@ -6,11 +6,17 @@ use Rattle.conc_types.specs.declared.plan.Req.{Req}
 use Rattle.conc_types.specs.declared.script.Act.{Act}
 use Rattle.conc_types.specs.declared.setup.Setup.{Setup}
 use Rattle.conc_types.specs.Expansion.{Part, members_of, request_by}
+use Rattle.conc_plan.specs.declared.entering.Command.{Command}
 
 -- the requests for these parts, numbered from a number on, of a command with its own number and that of its first request
 abbrev pub entered_for : Setup → ℕ → ℕ → Act → ℕ → List Part → List Req
 entered_for setup command first act next parts =
     flat_map (request_by setup command first act) (enumerate_from next parts)
+
+-- so of a command with its own setup
+abbrev pub entered_by : Command → ℕ → List Part → List Req
+entered_by command next parts =
+    entered_for command.setup.now command.number command.first command.order.now.act next parts
 
 -- the members of a set, stage by stage
 abbrev pub set_parts : Setup → ℕ → List Part

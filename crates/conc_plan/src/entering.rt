@@ -1,18 +1,19 @@
 ghost use Rattle.std.specs.Prelude.{◌≡◌, ◌≤◌, ◌<◌, ◌+◌, ◌^◌, ◌++◌, ◌==◌, if◌then◌else◌, None, Some, length, OnOk};
 ghost use Rattle.std.specs.List.{enumerate_from, flat_map};
 ghost use Rattle.conc_types.specs.Expansion.{entered, members_of, parts, parts_by, request_by};
-ghost use Rattle.conc_plan.specs.Entering.{entered_for, set_parts};
+ghost use Rattle.conc_plan.specs.Entering.{entered_by, set_parts};
 
 use crate::copies::{copy_text, copy_type};
 use conc_types::{Act, Item, NoMemory, Order, Req, RequestId, SetDef, Setup, Stage};
 use std::alloc::Global;
 
-/// The numbers of a command, of the first request that it enters, and of the next one.
+/// A command of a setup's script, with its number and the number of the first request that it enters.
 #[derive(Clone, Copy)]
-struct Numbers {
-    command: u32,
+pub(crate) struct Command<'a> {
+    setup: &'a Setup,
+    order: &'a Order,
+    number: u32,
     first: u32,
-    next: u32,
 }
 
 // The set's request, for a request in a stage, and 0 is no stage.
@@ -28,18 +29,17 @@ fn parent(stage: u32, first: u32) -> Option<RequestId>
 
 fn enter_part(
     alloc: Global,
-    setup: &Setup,
-    order: &Order,
-    numbers: Numbers,
+    command: Command<'_>,
+    next: u32,
     stage: u32,
     item: Item,
     out: &mut Vec<Req>,
 ) -> Result<(), NoMemory>
     ensures { OnOk result (out.new.items ≡ out.old.items
-        ++ request_by setup.now numbers.command numbers.first order.now.act
-        (numbers.next, (stage, item))) }
+        ++ request_by command.entry.setup.now command.entry.number command.entry.first
+        command.entry.order.now.act (next, (stage, item))) }
 {
-    match &order.act {
+    match &command.order.act {
         Act::Submit {
             user,
             priority,
@@ -48,18 +48,17 @@ fn enter_part(
             argument,
             ..
         } => {
-            let number = numbers.next;
             let request = Req {
-                number: RequestId { number },
-                command: numbers.command,
+                number: RequestId { number: next },
+                command: command.number,
                 item,
                 user: user.try_clone(alloc)?,
-                request_type: copy_type(alloc, setup, item)?,
+                request_type: copy_type(alloc, command.setup, item)?,
                 priority: *priority,
                 start: *start,
                 domain: domain.try_clone(alloc)?,
                 argument: copy_text(alloc, argument)?,
-                parent: parent(stage, numbers.first),
+                parent: parent(stage, command.first),
                 stage,
             };
             out.push(request)?;
@@ -72,30 +71,18 @@ fn enter_part(
 // Enters the members of a stage, whose number is from 1.
 fn enter_stage(
     alloc: Global,
-    setup: &Setup,
-    order: &Order,
-    numbers: Numbers,
+    command: Command<'_>,
+    mut next: u32,
     number: u32,
     stage: &Stage,
     out: &mut Vec<Req>,
 ) -> Result<(), NoMemory>
-    requires { numbers.next + length stage.now.members < 2 ^ 32 }
+    requires { next + length stage.now.members < 2 ^ 32 }
     ensures { OnOk result (out.new.items ≡ out.old.items
-        ++ entered_for setup.now numbers.command numbers.first order.now.act numbers.next
-        (members_of (number, stage.now))) }
+        ++ entered_by command.entry next (members_of (number, stage.now))) }
 {
-    let mut next = numbers.next;
     for program in stage.members.as_slice() {
-        let numbers = Numbers { next, ..numbers };
-        enter_part(
-            alloc,
-            setup,
-            order,
-            numbers,
-            number,
-            Item::Program(*program),
-            out,
-        )?;
+        enter_part(alloc, command, next, number, Item::Program(*program), out)?;
         next += 1;
     }
     Ok(())
@@ -104,23 +91,19 @@ fn enter_stage(
 // Enters the members of a set, stage by stage.
 fn enter_members(
     alloc: Global,
-    setup: &Setup,
-    order: &Order,
-    numbers: Numbers,
+    command: Command<'_>,
+    mut next: u32,
     set: &SetDef,
     out: &mut Vec<Req>,
 ) -> Result<(), NoMemory>
-    requires { numbers.next + length (flat_map members_of (enumerate_from 1 set.now.stages)) < 2 ^
+    requires { next + length (flat_map members_of (enumerate_from 1 set.now.stages)) < 2 ^
         32 }
     ensures { OnOk result (out.new.items ≡ out.old.items
-        ++ entered_for setup.now numbers.command numbers.first order.now.act numbers.next
-        (flat_map members_of (enumerate_from 1 set.now.stages))) }
+        ++ entered_by command.entry next (flat_map members_of (enumerate_from 1 set.now.stages))) }
 {
-    let mut next = numbers.next;
     let mut number = 1;
     for stage in set.stages.as_slice() {
-        let numbers = Numbers { next, ..numbers };
-        enter_stage(alloc, setup, order, numbers, number, stage, out)?;
+        enter_stage(alloc, command, next, number, stage, out)?;
         next += stage.members.len() as u32;
         number += 1;
     }
@@ -130,19 +113,17 @@ fn enter_members(
 // Enters the members of the set at a place in the setup's list, if there is one.
 fn enter_set(
     alloc: Global,
-    setup: &Setup,
-    order: &Order,
-    numbers: Numbers,
+    command: Command<'_>,
+    next: u32,
     place: u32,
     out: &mut Vec<Req>,
 ) -> Result<(), NoMemory>
-    requires { numbers.next + length (set_parts setup.now place) < 2 ^ 32 }
+    requires { next + length (set_parts command.setup.now place) < 2 ^ 32 }
     ensures { OnOk result (out.new.items ≡ out.old.items
-        ++ entered_for setup.now numbers.command numbers.first order.now.act numbers.next
-        (set_parts setup.now place)) }
+        ++ entered_by command.entry next (set_parts command.entry.setup.now place)) }
 {
-    match setup.sets.as_slice().get(place as usize) {
-        Some(set) => enter_members(alloc, setup, order, numbers, set, out),
+    match command.setup.sets.as_slice().get(place as usize) {
+        Some(set) => enter_members(alloc, command, next, set, out),
         None => Ok(()),
     }
 }
@@ -150,25 +131,19 @@ fn enter_set(
 // Enters a program; or a set, and then its members.
 fn enter_item(
     alloc: Global,
-    setup: &Setup,
-    order: &Order,
-    numbers: Numbers,
+    command: Command<'_>,
+    next: u32,
     item: Item,
     out: &mut Vec<Req>,
 ) -> Result<(), NoMemory>
-    requires { numbers.next + length (parts setup.now item) < 2 ^ 32 }
+    requires { next + length (parts command.setup.now item) < 2 ^ 32 }
     ensures { OnOk result (out.new.items ≡ out.old.items
-        ++ entered_for setup.now numbers.command numbers.first order.now.act numbers.next
-        (parts setup.now item)) }
+        ++ entered_by command.entry next (parts command.entry.setup.now item)) }
 {
-    enter_part(alloc, setup, order, numbers, 0, item, out)?;
+    enter_part(alloc, command, next, 0, item, out)?;
     match item {
         Item::Program(_) => Ok(()),
-        Item::Set(place) => {
-            let next = numbers.next + 1;
-            let numbers = Numbers { next, ..numbers };
-            enter_set(alloc, setup, order, numbers, place, out)
-        }
+        Item::Set(place) => enter_set(alloc, command, next + 1, place, out),
     }
 }
 
@@ -187,12 +162,13 @@ pub fn enter(
     match &order.act {
         Act::Submit { item, .. } => {
             let first = out.len() as u32 + 1;
-            let numbers = Numbers {
-                command,
+            let command = Command {
+                setup,
+                order,
+                number: command,
                 first,
-                next: first,
             };
-            enter_item(alloc, setup, order, numbers, *item, out)
+            enter_item(alloc, command, first, *item, out)
         }
         _ => Ok(()),
     }

@@ -1,11 +1,11 @@
 ghost use Rattle.std.specs.Prelude.{◌≡◌, length, IfErr, IfOk, IsTrue, None};
 ghost use Rattle.conc_types.specs.Scripts.{are_commands};
 ghost use Rattle.conc_plan.specs.Faults.{plan_fault, IsFailure};
-ghost use Rattle.conc_plan_stamps.specs.Stamps.{stamps_of};
+ghost use Rattle.conc_data_digests.specs.Stamps.{stamps_of};
 
 use crate::expanding::expand;
 use crate::judging::first_bad_program;
-use conc_plan_stamps::stamps_of;
+use conc_data_digests::stamps_of;
 use conc_types::{FileKind, Plan, ReadFail, Script, Seq, Setup, Table};
 use std::alloc::Global;
 

@@ -10,7 +10,7 @@ use Rattle.std.proofs.lemmas.Int.Digits.{digits_value-lt, digits_value_more}
 use Rattle.std.proofs.lemmas.Str.{digit_value_digit}
 use Rattle.std.proofs.lemmas.Str.Parse.{digit_at}
 use Rattle.std.proofs.Math.Nat.{pow-le-pow_right}
-use Rattle.conc_law.specs.Numbers.{is_digit, are_digits}
+use Rattle.conc_base_law.specs.Numbers.{is_digit, are_digits}
 
 and_true : (x : Bool) → (x && true) ≡ x
 and_true true = refl

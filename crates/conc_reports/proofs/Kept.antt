@@ -6,19 +6,12 @@ use Rattle.std.proofs.lemmas.List.{get_or-map, get_or_read}
 use Rattle.std.proofs.lemmas.Option.{unwrap_or-slice_get}
 use Rattle.conc_types.specs.declared.kept.Numbering.{Numbering}
 use Rattle.conc_types.specs.declared.table.Table.{Table}
-use Rattle.conc_types.specs.Kept.{IsNumbering, cell_of}
+use Rattle.conc_types.specs.Kept.{cell_of}
 use Rattle.conc_reports.specs.Columns.{cell_in, cells_at}
-use Rattle.conc_reports.specs.Listings.{keys_by, keys_of}
+use Rattle.conc_reports.specs.Listings.{keys_of}
 
 pub cell_in-column : (table : Table) (row column : ℕ) → cell_in (Some column) (cells_at table row) ≡ cell_of table.rows row column
 cell_in-column table row column = unwrap_or-slice_get (cells_at table row) column []
-
--- the key of a row's number is its cell
-pub key-number : (rows : List (List (List ℕ))) (numbering : Bor Numbering) (row : ℕ) → IsNumbering rows numbering.now → row < length rows
-    → get_or (keys_by rows (Some numbering)) (get_or numbering.now.numbers.items row 0) [] ≡ cell_of rows row numbering.now.column
-key-number rows numbering row h below =
-    get_or-map (λ sample. cell_of rows sample numbering.now.column) numbering.now.samples.items (get_or numbering.now.numbers.items row 0) 0 [] (h.named row below)
-    ∙ sym (h.same row below)
 
 -- the cell of a row at the place of a group whose rows are numbered
 pub group-cell : (table : Table) (row : ℕ) (place : Option (Option ℕ)) (numbering : Option (Bor Numbering)) → place ≡ option_map (λ (n : Bor Numbering). Some n.now.column) numbering

@@ -12,8 +12,8 @@ use Rattle.std.proofs.lemmas.List.FromFn.{get_or-enumerate_from, length-enumerat
 use Rattle.std.proofs.lemmas.List.Sums.{fold-append}
 use Rattle.conc_types.specs.declared.program.Job.{Job}
 use Rattle.conc_types.specs.declared.table.Table.{Table}
-use Rattle.conc_law.specs.Numbers.{total}
-use Rattle.conc_law.specs.Report.{Row, cell, first_bad, passes, passing, rows_of}
+use Rattle.conc_base_law.specs.Numbers.{total}
+use Rattle.conc_base_law.specs.Report.{Row, cell, first_bad, passes, passing, rows_of}
 use Rattle.conc_reports.specs.declared.columns.Place.{Place}
 use Rattle.conc_reports.specs.Columns.{cell_in, cells_at, place_if_named, place_named, row_at}
 use Rattle.conc_reports.specs.Figures.{grown, grown_at}

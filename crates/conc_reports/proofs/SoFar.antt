@@ -5,7 +5,7 @@ use Rattle.std.specs.Option.{IfSome, is_none, option_map}
 use Rattle.std.proofs.lemmas.List.Elements.{All-weaker}
 use Rattle.conc_types.specs.declared.program.Job.{Job}
 use Rattle.conc_types.specs.declared.table.Table.{Table}
-use Rattle.conc_law.specs.Report.{Row, first_bad, passes, passing}
+use Rattle.conc_base_law.specs.Report.{Row, first_bad, passes, passing}
 use Rattle.conc_reports.specs.declared.figures.Figures.{Figures}
 use Rattle.conc_reports.specs.declared.listing.Listed.{Listed}
 use Rattle.conc_reports.specs.Columns.{cell_in, cells_at, place_if_named, row_at}

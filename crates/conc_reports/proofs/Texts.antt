@@ -15,7 +15,7 @@ use Rattle.std.proofs.lemmas.Cmp.{nat_list_eq_equiv}
 use Rattle.conc_types.specs.declared.event.Outcome.TheVariants as outcome
 use Rattle.conc_types.specs.declared.program.Job.{Job}
 use Rattle.conc_types.specs.declared.table.Table.{Table}
-use Rattle.conc_law.specs.Report.{Row, cell, first_bad, full_text, group_lines, keys, line, ordered, outcome_by, passing, quoted, report, report_by, rows_of, sum_of}
+use Rattle.conc_base_law.specs.Report.{Row, cell, first_bad, full_text, group_lines, keys, line, ordered, outcome_by, passing, quoted, report, report_by, rows_of, sum_of}
 use Rattle.conc_reports.specs.declared.figures.Figures.{Figures}
 use Rattle.conc_reports.specs.Figures.{figures_at, shown}
 use Rattle.conc_reports.specs.Tallies.{IsTally, figures, figures_if_any, figures_of_key}

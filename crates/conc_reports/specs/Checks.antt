@@ -3,7 +3,7 @@ use Rattle.std.specs.Prelude.{ℕ, ℤ, Bool, not, int_lt, List, Option, nat_eq}
 use Rattle.std.specs.List.{starts_with}
 use Rattle.std.specs.Str.{bytes_eq}
 use Rattle.conc_types.specs.Words.{some_and}
-use Rattle.conc_law.specs.Numbers.{whole_number}
+use Rattle.conc_base_law.specs.Numbers.{whole_number}
 use Rattle.conc_reports.specs.Columns.{cell_in}
 use Rattle.conc_reports.specs.declared.filters.Check.{Check}
 use Rattle.conc_reports.specs.declared.filters.Check.TheVariants as check

@@ -4,8 +4,9 @@ use Rattle.std.specs.List.{position}
 use Rattle.std.specs.Option.{option_and_then, option_map}
 use Rattle.std.specs.Str.{bytes_eq}
 use Rattle.conc_types.specs.declared.table.Table.{Table}
-use Rattle.conc_law.specs.Numbers.{whole_number}
-use Rattle.conc_law.specs.Report.{Row}
+use Rattle.conc_base_law.specs.Numbers.{whole_number}
+use Rattle.conc_base_law.specs.Report.{Row}
+use Rattle.conc_reports.specs.declared.columns.Place.{Place}
 
 -- the place of the column with this name
 abbrev pub place_named : Table → List ℕ → Option ℕ
@@ -27,6 +28,10 @@ value_in (Some place) cells = whole_number (cell_in place cells)
 -- the cells of a row, counted from 0
 abbrev pub cells_at : Table → ℕ → List (List ℕ)
 cells_at table index = get_or table.rows index []
+
+-- the number in the cell of a row, counted from 0, at a place if one is asked for
+abbrev pub value_at : Table → ℕ → Option Place → Option ℤ
+value_at table row place = value_in (option_map (λ (p : Place). p.index) place) (cells_at table row)
 
 -- a row with its number, from 1
 abbrev pub row_at : Table → ℕ → Row

@@ -1,5 +1,5 @@
 -- What one pass over the rows of a table gathers, by the numbers of their keys.
-use Rattle.std.specs.Prelude.{◌≡◌, ℕ, ◌+◌, ℤ, ◌+ℤ◌, ◌==◌, if◌then◌else◌, List, [], ◌∷◌, Option, None, Some, get_or, length, map, slice_set}
+use Rattle.std.specs.Prelude.{◌≡◌, ◌<◌, ℕ, IfSome, ◌+◌, ℤ, ◌+ℤ◌, ◌==◌, if◌then◌else◌, List, [], ◌∷◌, Option, None, Some, get_or, length, map, slice_set}
 use Rattle.std.specs.Borrow.{Bor}
 use Rattle.std.specs.BTreeMap.{BTreeMap}
 use Rattle.std.specs.Option.{option_map}
@@ -8,11 +8,12 @@ use Rattle.conc_types.specs.declared.kept.Numbering.{Numbering}
 use Rattle.conc_types.specs.declared.program.Job.{Job}
 use Rattle.conc_types.specs.declared.table.Table.{Table}
 use Rattle.conc_types.specs.Kept.{cell_of}
-use Rattle.conc_law.specs.Report.{first_bad, passing}
+use Rattle.conc_base_law.specs.Report.{first_bad, passing}
 use Rattle.conc_reports.specs.declared.figures.Figures.{Figures}
 use Rattle.conc_reports.specs.declared.listing.Listed.{Listed}
 use Rattle.conc_reports.specs.declared.listing.Listing.{Listing}
 use Rattle.conc_reports.specs.declared.listing.Listing.TheVariants as listing
+use Rattle.conc_reports.specs.Columns.{place_if_named}
 use Rattle.conc_reports.specs.Figures.{figures_at, grown, shown}
 use Rattle.conc_reports.specs.Tallies.{IsTally}
 
@@ -60,3 +61,11 @@ abbrev pub IsListed : Job → List ℕ → Table → List (List ℕ) → Listing
 IsListed job argument table keys (listing.Bad number) =
     option_map (λ row. row.0) (first_bad job table (passing job argument table)) ≡ Some number
 IsListed job argument table keys (listing.Whole listed) = IsWhole job argument table keys listed
+
+-- the numbers are those of the column that the job groups by
+abbrev pub AreOfGroup : Job → Table → Option (Bor Numbering) → Type 0
+AreOfGroup job table numbering = place_if_named table job.group ≡ option_map (λ (n : Bor Numbering). Some n.now.column) numbering
+
+-- the table has their column
+abbrev pub AreOfColumn : Table → Option (Bor Numbering) → Type 0
+AreOfColumn table numbering = IfSome numbering (λ (n : Bor Numbering). n.now.column < length table.columns)

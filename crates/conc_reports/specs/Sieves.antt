@@ -3,7 +3,7 @@ use Rattle.std.specs.Prelude.{◌≡◌, ◌<◌, ℕ, Bool, List, false, get_or
 use Rattle.std.specs.List.{All, list_all}
 use Rattle.conc_types.specs.declared.table.Table.{Table}
 use Rattle.conc_types.specs.Kept.{AreAmounts, IsNumbering, cell_of}
-use Rattle.conc_law.specs.Numbers.{whole_number}
+use Rattle.conc_base_law.specs.Numbers.{whole_number}
 use Rattle.conc_reports.specs.Checks.{holds, is_less}
 use Rattle.conc_reports.specs.Columns.{cells_at}
 use Rattle.conc_reports.specs.declared.filters.Condition.{Condition}

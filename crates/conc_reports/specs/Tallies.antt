@@ -1,11 +1,16 @@
 -- What one pass over the rows of a table gathers.
-use Rattle.std.specs.Prelude.{◌≡◌, ℕ, ℤ, List, [], ◌∷◌, Option, None, Some, is_none, length, take}
+use Rattle.std.specs.Prelude.{◌≡◌, ℕ, ℤ, IfSome, List, [], ◌∷◌, Option, None, Some, is_none, length, take}
+use Rattle.std.specs.Borrow.{Bor}
+use Rattle.std.specs.BTreeMap.{BTreeMap, IsOrdered}
+use Rattle.std.specs.Cmp.Lexicographic.{slice_cmp}
 use Rattle.std.specs.List.{enumerate_from, filter, filter_map, find}
 use Rattle.std.specs.Option.{option_map}
+use Rattle.std.specs.Ordering.{nat_cmp}
 use Rattle.conc_types.specs.declared.program.Job.{Job}
 use Rattle.conc_types.specs.declared.table.Table.{Table}
-use Rattle.conc_law.specs.Numbers.{total}
-use Rattle.conc_law.specs.Report.{Row, first_bad, passes, passing, rows_of}
+use Rattle.conc_base_law.specs.Numbers.{total}
+use Rattle.conc_base_law.specs.Report.{Row, first_bad, passes, passing, rows_of}
+use Rattle.conc_reports.specs.declared.figures.Figures.{Figures}
 use Rattle.conc_reports.specs.declared.tally.Tallied.{Tallied}
 use Rattle.conc_reports.specs.declared.tally.Tallied.TheVariants as tallied
 use Rattle.conc_reports.specs.Columns.{place_if_named, value_in}
@@ -44,3 +49,11 @@ IsTallied job argument table (tallied.Bad number) =
     option_map (λ row. row.0) (first_bad job table (passing job argument table)) ≡ Some number
 IsTallied job argument table (tallied.Whole tally) =
     IsTally job.sum job.group table (passing job argument table) (shown tally.total) (figures_at tally.groups)
+
+-- the same, where the rows were gone over
+abbrev pub IfTallied : Job → List ℕ → Table → Option Tallied → Type 0
+IfTallied job argument table pass = IfSome pass (IsTallied job argument table)
+
+-- the groups stand in the order of their keys' bytes
+abbrev pub AreOrdered : BTreeMap (Bor (List ℕ)) Figures → Type 0
+AreOrdered groups = IsOrdered (λ (x y : Bor (List ℕ)). slice_cmp nat_cmp x.now y.now) groups

@@ -8,7 +8,7 @@ use Rattle.conc_types.specs.declared.limits.TheConstants.{MOST_REPORT_BYTES}
 use Rattle.conc_types.specs.declared.event.Outcome.{Outcome}
 use Rattle.conc_types.specs.declared.event.Outcome.TheVariants as outcome
 use Rattle.conc_types.specs.declared.program.Job.{Job}
-use Rattle.conc_law.specs.Report.{Report, exceeds, header, quoted}
+use Rattle.conc_base_law.specs.Report.{Report, exceeds, header, quoted}
 use Rattle.conc_reports.specs.declared.figures.Figures.{Figures}
 use Rattle.conc_reports.specs.Figures.{shown}
 

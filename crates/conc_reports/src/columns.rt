@@ -1,9 +1,9 @@
 ghost use Rattle.std.specs.Prelude.{◌≡◌, ◌<◌, IfSome, Some, length};
 ghost use Rattle.std.specs.Option.{option_map};
 ghost use Rattle.conc_types.specs.Kept.{AreAmounts, IsNumbering, cell_of};
-ghost use Rattle.conc_law.specs.Numbers.{whole_number};
+ghost use Rattle.conc_base_law.specs.Numbers.{whole_number};
 ghost use Rattle.conc_reports.specs.Columns as spec;
-ghost use Rattle.conc_reports.specs.Columns.{cell_in, cells_at, place_named, value_in};
+ghost use Rattle.conc_reports.specs.Columns.{cell_in, cells_at, place_named};
 
 use crate::numbers::whole_number;
 use conc_types::{Amounts, NOT_KEPT, Name, Numbering, Table};
@@ -57,7 +57,7 @@ pub fn cell_at(table: &Table, row: usize, place: Place) -> &[u8]
 /// where the cell is no whole number.
 pub fn value_at(table: &Table, row: usize, place: Option<Place>) -> Option<i64>
     requires { row < length table.now.rows }
-    ensures { result ≡ value_in (option_map (λ p. p.index) place) (cells_at table.now row) }
+    ensures { result ≡ spec.value_at table.now row place }
 {
     match place {
         Some(place) => whole_number(cell_at(table, row, place)),
@@ -144,7 +144,7 @@ pub fn kept_value_at(
     requires place { IfSome amounts (λ a. option_map (λ p. p.index) place
         ≡ Some (Some a.now.column)) }
     requires within { IfSome amounts (λ a. a.now.column < length table.now.columns) }
-    ensures { result ≡ value_in (option_map (λ p. p.index) place) (cells_at table.now row) }
+    ensures { result ≡ spec.value_at table.now row place }
 {
     match amounts {
         Some(amounts) => kept_number(table, row, amounts),

@@ -1,7 +1,7 @@
 ghost use Rattle.std.specs.Prelude.{◌≡◌, ◌<◌, ℕ, List, IfOk, length};
 ghost use Rattle.std.specs.List.{list_all};
-ghost use Rattle.conc_law.specs.Report as report_spec;
-ghost use Rattle.conc_law.specs.Report.{Row, passes_filter, passes_test};
+ghost use Rattle.conc_base_law.specs.Report as report_spec;
+ghost use Rattle.conc_base_law.specs.Report.{Row, passes_filter, passes_test};
 ghost use Rattle.conc_reports.specs.Checks as checks_spec;
 ghost use Rattle.conc_reports.specs.Checks.{holds};
 ghost use Rattle.conc_reports.specs.Columns.{cells_at};
@@ -42,7 +42,7 @@ fn check_of<'a>(test: Test, value: &'a [u8]) -> Check<'a>
 }
 
 // The value of a filter; `$` alone stands for the argument.
-#[tactic(auto, unfolding(conc_law::specs::Report::filter_value))]
+#[tactic(auto, unfolding(conc_base_law::specs::Report::filter_value))]
 fn filter_value<'a>(argument: &'a [u8], filter: &'a Filter) -> &'a [u8]
     ensures { result.now ≡ report_spec.filter_value argument.now filter.now }
 {
@@ -53,7 +53,7 @@ fn filter_value<'a>(argument: &'a [u8], filter: &'a Filter) -> &'a [u8]
     }
 }
 
-#[tactic(auto, unfolding(conc_law::specs::Report::passes_filter, conc_law::specs::Report::cell))]
+#[tactic(auto, unfolding(conc_base_law::specs::Report::passes_filter, conc_base_law::specs::Report::cell))]
 fn condition_of<'a>(argument: &'a [u8], table: &Table, filter: &'a Filter) -> Condition<'a>
     ensures { (row : Row) → holds row.1 result
         ≡ passes_filter table.now argument.now row filter.now }
@@ -65,7 +65,7 @@ fn condition_of<'a>(argument: &'a [u8], table: &Table, filter: &'a Filter) -> Co
 }
 
 /// The conditions that the job's filters ask of a row of this table.
-#[tactic(auto, unfolding(conc_law::specs::Report::passes))]
+#[tactic(auto, unfolding(conc_base_law::specs::Report::passes))]
 pub fn conditions<'a>(
     alloc: Global,
     job: &'a Job,

@@ -2,10 +2,9 @@ ghost use Rattle.std.specs.Prelude.{◌≡◌, ◌^◌, ◌<◌, [], IfOk, IfSom
 ghost use Rattle.std.specs.List.{All};
 ghost use Rattle.std.specs.Option.{option_map};
 ghost use Rattle.conc_types.specs.Kept.{IsNumbering, cell_of};
-ghost use Rattle.conc_reports.specs.Columns.{place_if_named};
 ghost use Rattle.conc_reports.specs.Figures.{grown, shown};
-ghost use Rattle.conc_reports.specs.Listings.{AddsTo, IsListed, StandsFor, keys_by, keys_of};
-ghost use Rattle.conc_reports.specs.Tallies.{IsTallied};
+ghost use Rattle.conc_reports.specs.Listings.{AddsTo, AreOfColumn, AreOfGroup, IsListed, StandsFor, keys_by, keys_of};
+ghost use Rattle.conc_reports.specs.Tallies.{IfTallied, IsTallied};
 
 use crate::columns::{amounts_at, kept_value_at, numbering_at, place_if_named};
 use crate::figures::Figures;
@@ -100,8 +99,7 @@ fn list_rows(
     numbering: Option<&Numbering>,
 ) -> Result<Listing, NoMemory>
     requires stands { IfSome numbering (λ n. IsNumbering table.now.rows n.now) }
-    requires place { place_if_named table.now job.now.group
-        ≡ option_map (λ n. Some n.now.column) numbering }
+    requires place { AreOfGroup job.now table.now numbering }
     ensures { IfOk result (λ listing. IsListed job.now argument.now table.now
         (keys_by table.now.rows numbering.entry) listing) }
 {
@@ -156,7 +154,7 @@ fn groups_if_any<'a>(
     by_number: &[Figures],
 ) -> Result<Option<Groups<'a>>, NoMemory>
     requires stands { IfSome numbering (λ n. IsNumbering table.now.rows n.now) }
-    requires column { IfSome numbering (λ n. n.now.column < length table.now.columns) }
+    requires column { AreOfColumn table.now numbering }
     requires each { length by_number.now ≡ length (keys_by table.now.rows numbering) }
     ensures { IfOk result (λ groups. IfSome groups (StandsFor
         (keys_by table.now.rows numbering.entry) by_number.now)) }
@@ -176,10 +174,9 @@ fn tally_listed<'a>(
     numbering: Option<&Numbering>,
 ) -> Result<Option<Tallied<'a>>, NoMemory>
     requires stands { IfSome numbering (λ n. IsNumbering table.now.rows n.now) }
-    requires column { IfSome numbering (λ n. n.now.column < length table.now.columns) }
-    requires place { place_if_named table.now job.now.group
-        ≡ option_map (λ n. Some n.now.column) numbering }
-    ensures { IfOk result (λ pass. IfSome pass (IsTallied job.now argument.now table.now)) }
+    requires column { AreOfColumn table.now numbering }
+    requires place { AreOfGroup job.now table.now numbering }
+    ensures { IfOk result (λ pass. IfTallied job.now argument.now table.now pass) }
 {
     match list_rows(alloc, job, argument, table, numbering)? {
         Listing::Bad(number) => Ok(Some(Tallied::Bad(number))),
@@ -203,7 +200,7 @@ fn tally_kept<'a>(
     argument: &[u8],
     table: &'a Table,
 ) -> Result<Option<Tallied<'a>>, NoMemory>
-    ensures { IfOk result (λ pass. IfSome pass (IsTallied job.now argument.now table.now)) }
+    ensures { IfOk result (λ pass. IfTallied job.now argument.now table.now pass) }
 {
     if !table.keeps_some() {
         return Ok(None);

@@ -1,13 +1,12 @@
 ghost use Rattle.std.specs.Prelude.{◌≡◌, ◌≤◌, ◌++◌, IfOk, OnOk, [], codes, length, map};
-ghost use Rattle.std.specs.BTreeMap.{IsOrdered};
-ghost use Rattle.std.specs.Cmp.Lexicographic.{slice_cmp};
 ghost use Rattle.std.specs.Fmt.{decimal, signed_decimal};
 ghost use Rattle.std.specs.Option.{option_map_or};
-ghost use Rattle.std.specs.Ordering.{nat_cmp};
 ghost use Rattle.conc_types.specs.declared.limits.TheConstants.{MOST_REPORT_BYTES};
-ghost use Rattle.conc_law.specs.Report as report_spec;
-ghost use Rattle.conc_law.specs.Report.{quoted};
+ghost use Rattle.conc_base_law.specs.Report as report_spec;
+ghost use Rattle.conc_base_law.specs.Report.{quoted};
 ghost use Rattle.conc_reports.specs.Figures.{shown};
+ghost use Rattle.conc_reports.specs.Reports.{HasItsOutcome, HasItsText};
+ghost use Rattle.conc_reports.specs.Tallies.{AreOrdered};
 ghost use Rattle.conc_reports.specs.Texts as texts_spec;
 ghost use Rattle.conc_reports.specs.Texts.{figures_line, group_of, groups_text, tally_report};
 
@@ -16,7 +15,7 @@ use crate::groups::Groups;
 use crate::listing::tally_table;
 use crate::quotes::put_quoted;
 use crate::tally::{Tallied, Tally};
-use conc_law::report_is_short;
+use conc_base_law::report_is_short;
 use conc_types::{Bytes, Job, MOST_REPORT_BYTES, NoMemory, Outcome, Table, put_decimal};
 use itoa::Buffer;
 use std::alloc::Global;
@@ -80,7 +79,7 @@ fn put_group(out: &mut Vec<u8>, job: &Job, key: &[u8], figures: Figures) -> Resu
 fn put_groups(out: &mut Vec<u8>, job: &Job, groups: &Groups<'_>) -> Result<(), NoMemory>
     ensures text { OnOk result (out.new.items ≡ out.old.items
         ++ groups_text job.now.sum (map group_of groups.now.entries)) }
-    ensures ordered { OnOk result (IsOrdered (λ x y. slice_cmp nat_cmp x.now y.now) groups.now) }
+    ensures ordered { OnOk result (AreOrdered groups.now) }
 {
     for (key, figures) in groups {
         put_group(out, job, key, *figures)?;
@@ -88,7 +87,7 @@ fn put_groups(out: &mut Vec<u8>, job: &Job, groups: &Groups<'_>) -> Result<(), N
     Ok(())
 }
 
-#[tactic(auto, unfolding(conc_law::specs::Report::header))]
+#[tactic(auto, unfolding(conc_base_law::specs::Report::header))]
 fn header(job: &Job) -> &'static [u8]
     ensures { result.now ≡ report_spec.header job.now }
 {
@@ -111,8 +110,7 @@ fn tally_text(alloc: Global, job: &Job, tally: &Tally<'_>) -> Result<Vec<u8>, No
     ensures text { IfOk result (λ text. text.items
         ≡ texts_spec.tally_text job.now (shown tally.now.total)
         (map group_of tally.now.groups.entries)) }
-    ensures ordered { OnOk result (IsOrdered (λ x y. slice_cmp nat_cmp x.now y.now)
-        tally.now.groups) }
+    ensures ordered { OnOk result (AreOrdered tally.now.groups) }
 {
     let mut text = Vec::with_capacity(alloc, room_for(tally.groups.len()))?;
     text.extend_from_slice(header(job))?;
@@ -182,8 +180,7 @@ fn report_of_tally(alloc: Global, job: &Job, tally: &Tally<'_>) -> Result<Made, 
     ensures text { IfOk result (λ made. made.text
         ≡ (tally_report job.now (shown tally.now.total)
         (map group_of tally.now.groups.entries)).text) }
-    ensures ordered { OnOk result (IsOrdered (λ x y. slice_cmp nat_cmp x.now y.now)
-        tally.now.groups) }
+    ensures ordered { OnOk result (AreOrdered tally.now.groups) }
 {
     let text = tally_text(alloc, job, tally)?;
     if text.len() > MOST_REPORT_BYTES {
@@ -201,10 +198,8 @@ fn report_by_rows(
     argument: &[u8],
     table: &Table,
 ) -> Result<Made, NoMemory>
-    ensures outcome { IfOk result (λ made. made.outcome
-        ≡ (report_spec.report job.now argument.now table.now).outcome) }
-    ensures text { IfOk result (λ made. made.text
-        ≡ (report_spec.report job.now argument.now table.now).text) }
+    ensures outcome { IfOk result (λ made. HasItsOutcome job.now argument.now table.now made) }
+    ensures text { IfOk result (λ made. HasItsText job.now argument.now table.now made) }
 {
     match tally_table(alloc, job, argument, table)? {
         Tallied::Bad(number) => bad_row(alloc, number),
@@ -215,11 +210,9 @@ fn report_by_rows(
 /// The report of a job on a table. A filter value `$` stands for the argument. The text is 1 to
 /// 1,048,576 bytes.
 pub fn report(alloc: Global, job: &Job, argument: &[u8], table: &Table) -> Result<Made, NoMemory>
-    ensures outcome { IfOk result (λ made. made.outcome
-        ≡ (report_spec.report job.now argument.now table.now).outcome) }
+    ensures outcome { IfOk result (λ made. HasItsOutcome job.now argument.now table.now made) }
     ensures short { IfOk result (λ made. length made.text ≤ MOST_REPORT_BYTES) }
-    ensures text { IfOk result (λ made. made.text
-        ≡ (report_spec.report job.now argument.now table.now).text) }
+    ensures text { IfOk result (λ made. HasItsText job.now argument.now table.now made) }
 {
     report_is_short();
     report_by_rows(alloc, job, argument, table)

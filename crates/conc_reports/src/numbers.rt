@@ -1,8 +1,8 @@
 ghost use Rattle.std.specs.Prelude.{◌≡◌};
 ghost use Rattle.std.specs.Bool.{then_some};
 ghost use Rattle.std.specs.Str.Parse.{digits_value};
-ghost use Rattle.conc_law.specs.Numbers as spec;
-ghost use Rattle.conc_law.specs.Numbers.{are_digits};
+ghost use Rattle.conc_base_law.specs.Numbers as spec;
+ghost use Rattle.conc_base_law.specs.Numbers.{are_digits};
 
 fn is_digit(byte: u8) -> bool
     ensures { result ≡ spec.is_digit byte }
@@ -47,7 +47,7 @@ fn negative(digits: &[u8]) -> Option<i64>
 
 /// The number that a cell spells: an optional sign and 1 to 19 digits, of a value that 64 bits
 /// hold. It is None exactly where the cell spells none.
-#[tactic(auto, unfolding(conc_law::specs::Numbers::whole_number))]
+#[tactic(auto, unfolding(conc_base_law::specs::Numbers::whole_number))]
 pub fn whole_number(cell: &[u8]) -> Option<i64>
     ensures { result ≡ spec.whole_number cell.now }
 {

@@ -1,5 +1,5 @@
 ghost use Rattle.std.specs.Prelude.{◌≡◌, ◌++◌, ◌==◌, ◌||◌, ◌∷◌, [], OnOk};
-ghost use Rattle.conc_law.specs.Report as spec;
+ghost use Rattle.conc_base_law.specs.Report as spec;
 
 use conc_types::NoMemory;
 
@@ -38,7 +38,7 @@ fn put_doubled(out: &mut Vec<u8>, key: &[u8]) -> Result<(), NoMemory>
 }
 
 /// Appends a key, in quotes with its quotes doubled if it holds a comma, a quote or an end of line.
-#[tactic(auto, unfolding(conc_law::specs::Report::quoted))]
+#[tactic(auto, unfolding(conc_base_law::specs::Report::quoted))]
 pub fn put_quoted(out: &mut Vec<u8>, key: &[u8]) -> Result<(), NoMemory>
     ensures { OnOk result (out.new.items ≡ out.old.items ++ spec.quoted key.now) }
 {

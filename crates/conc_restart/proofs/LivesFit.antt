@@ -10,12 +10,12 @@ use Rattle.conc_types.specs.declared.plan.Plan.{Plan}
 use Rattle.conc_types.specs.declared.script.Reading.{Reading}
 use Rattle.conc_types.specs.declared.script.Readings.{Readings}
 use Rattle.conc_types.specs.Scripts.{are_in_order}
-use Rattle.conc_law.specs.Kinds.{is_resume}
-use Rattle.conc_law.specs.Law.{is_lawful, is_lawful_so_far, may_follow}
-use Rattle.conc_law.specs.Remaining.{commands_left}
-use Rattle.conc_law.proofs.LawfulSoFar.{lawful_is_lawful_so_far}
-use Rattle.conc_law.proofs.Positions.{reverse-push}
-use Rattle.conc_law.proofs.Remaining.{about_one, commands_left-kept, commands_left-less, readings_left, readings_left-kept, readings_left-less}
+use Rattle.conc_base_law.specs.Kinds.{is_resume}
+use Rattle.conc_base_law.specs.Law.{is_lawful, is_lawful_so_far, may_follow}
+use Rattle.conc_base_law.specs.Remaining.{commands_left}
+use Rattle.conc_base_law.proofs.LawfulSoFar.{lawful_is_lawful_so_far}
+use Rattle.conc_base_law.proofs.Positions.{reverse-push}
+use Rattle.conc_base_law.proofs.Remaining.{about_one, commands_left-kept, commands_left-less, readings_left, readings_left-kept, readings_left-less}
 use Rattle.conc_restart.proofs.RequestsLeft.{all_below, all_grow, all_left, all_left-most, all_less}
 use Rattle.conc_restart.proofs.StepsLeft.{commands_left-most, readings_left-most}
 use Rattle.conc_restart.specs.Need.{IsOfOneLife, need}

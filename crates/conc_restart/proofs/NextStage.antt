@@ -15,12 +15,12 @@ use Rattle.conc_types.specs.declared.set.SetDef.{SetDef}
 use Rattle.conc_types.specs.declared.stage.Stage.{Stage}
 use Rattle.conc_types.specs.Sets.{leads_on}
 use Rattle.conc_types.specs.Words.{are_distinct, none_or, numbered}
-use Rattle.conc_law.specs.Plans.{set_at, stages_of}
-use Rattle.conc_law.specs.Stages.{after_stage, has_ended, link, link_place, next_stage, set_outcome, set_step, stage_outcome, step_from}
-use Rattle.conc_law.specs.State.{facts_at}
-use Rattle.conc_law.proofs.LawfulSoFar.{all-get}
-use Rattle.conc_law.proofs.Numbers.{enumerate-get, numbered-get}
-use Rattle.conc_law.proofs.Options.{and_then-some, map-some, then_some-some}
+use Rattle.conc_base_law.specs.Plans.{set_at, stages_of}
+use Rattle.conc_base_law.specs.Stages.{after_stage, has_ended, link, link_place, next_stage, set_outcome, set_step, stage_outcome, step_from}
+use Rattle.conc_base_law.specs.State.{facts_at}
+use Rattle.conc_base_law.proofs.LawfulSoFar.{all-get}
+use Rattle.conc_base_law.proofs.Numbers.{enumerate-get, numbered-get}
+use Rattle.conc_base_law.proofs.Options.{and_then-some, map-some, then_some-some}
 
 -- a link of a stage leads to one of the stages
 link-leads : (count m : ℕ) (found : Stage) (o : Outcome) (place : ℕ) (l : Option (Option ℕ)) → slice_get found.links (link_place o) ≡ l → option_flatten l ≡ Some place

@@ -8,9 +8,9 @@ use Rattle.conc_types.specs.declared.event.RequestId.{RequestId}
 use Rattle.conc_types.specs.declared.plan.Plan.{Plan}
 use Rattle.conc_types.specs.declared.plan.Req.{Req}
 use Rattle.conc_types.specs.Plans.{request}
-use Rattle.conc_law.specs.Words.{Has}
-use Rattle.conc_law.proofs.Numbering.{found, numbered-at}
-use Rattle.conc_law.proofs.Sums.{sum_by-below}
+use Rattle.conc_base_law.specs.Words.{Has}
+use Rattle.conc_base_law.proofs.Numbering.{found, numbered-at}
+use Rattle.conc_base_law.proofs.Sums.{sum_by-below}
 
 -- the numbers of the requests rise by one, from n on
 pub record IsNumbered (n : ℕ) (requests : List Req) : Type 0 where

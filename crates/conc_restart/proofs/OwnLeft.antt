@@ -9,26 +9,26 @@ use Rattle.conc_types.specs.declared.facts.Facts.{Facts}
 use Rattle.conc_types.specs.declared.plan.Plan.{Plan}
 use Rattle.conc_types.specs.declared.plan.Req.{Req}
 use Rattle.conc_types.specs.declared.script.Reading.{Reading}
-use Rattle.conc_law.specs.Facts.{current_stage, facts_of, is_let, is_open, runs}
-use Rattle.conc_law.specs.Law.{is_lawful_so_far, may_follow}
-use Rattle.conc_law.specs.Next.{may_let}
-use Rattle.conc_law.specs.Plans.{stages_of}
-use Rattle.conc_law.specs.Remaining.{events_left}
-use Rattle.conc_law.specs.Stages.{set_step}
-use Rattle.conc_law.specs.State.{facts_at, is_completed, is_running, state}
-use Rattle.conc_law.specs.Words.{Has, is_set}
-use Rattle.conc_law.proofs.Comes.{close_comes, same_request, stage_comes}
-use Rattle.conc_law.proofs.Completed.{closed_set, let_no_set, opened_open}
-use Rattle.conc_law.proofs.Due.{IsStepped, stage_stepped}
-use Rattle.conc_law.proofs.EqualEvents.{eqb-refl, id_same}
-use Rattle.conc_law.proofs.FactsAt.{facts_at-state}
-use Rattle.conc_law.proofs.Links.{set_step-later}
-use Rattle.conc_law.proofs.LiveApart.{let_could, open_could}
-use Rattle.conc_law.proofs.OpenSets.{open_not_completed, open_set}
-use Rattle.conc_law.proofs.Others.{is_about}
-use Rattle.conc_law.proofs.RunningIsLet.{runs_let, start_let}
-use Rattle.conc_law.proofs.Stops.{end_runs, interrupt_runs}
-use Rattle.conc_law.proofs.UsesUp.{could_not_completed, could_not_live, end_less, facts-completed, facts-opened, interrupt_less, left, let_less, start_less}
+use Rattle.conc_base_law.specs.Facts.{current_stage, facts_of, is_let, is_open, runs}
+use Rattle.conc_base_law.specs.Law.{is_lawful_so_far, may_follow}
+use Rattle.conc_base_law.specs.Next.{may_let}
+use Rattle.conc_base_law.specs.Plans.{stages_of}
+use Rattle.conc_base_law.specs.Remaining.{events_left}
+use Rattle.conc_base_law.specs.Stages.{set_step}
+use Rattle.conc_base_law.specs.State.{facts_at, is_completed, is_running, state}
+use Rattle.conc_base_law.specs.Words.{Has, is_set}
+use Rattle.conc_base_law.proofs.Comes.{close_comes, same_request, stage_comes}
+use Rattle.conc_base_law.proofs.Completed.{closed_set, let_no_set, opened_open}
+use Rattle.conc_base_law.proofs.Due.{IsStepped, stage_stepped}
+use Rattle.conc_base_law.proofs.EqualEvents.{eqb-refl, id_same}
+use Rattle.conc_base_law.proofs.FactsAt.{facts_at-state}
+use Rattle.conc_base_law.proofs.Links.{set_step-later}
+use Rattle.conc_base_law.proofs.LiveApart.{let_could, open_could}
+use Rattle.conc_base_law.proofs.OpenSets.{open_not_completed, open_set}
+use Rattle.conc_base_law.proofs.Others.{is_about}
+use Rattle.conc_base_law.proofs.RunningIsLet.{runs_let, start_let}
+use Rattle.conc_base_law.proofs.Stops.{end_runs, interrupt_runs}
+use Rattle.conc_base_law.proofs.UsesUp.{could_not_completed, could_not_live, end_less, facts-completed, facts-opened, interrupt_less, left, let_less, start_less}
 use Rattle.conc_restart.proofs.NextStage.{set_step-within}
 use Rattle.conc_restart.proofs.SetsLeft.{set_left, set_left-completed, set_left-most, set_left-open, set_left-open-le, set_left-unopened}
 

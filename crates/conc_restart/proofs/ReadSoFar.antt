@@ -5,10 +5,10 @@ use Rattle.std.proofs.lemmas.Bool.{and_from, and_parts, both_ways}
 use Rattle.std.proofs.lemmas.List.{take-append-drop}
 use Rattle.conc_types.specs.declared.event.Event.{Event}
 use Rattle.conc_types.specs.declared.plan.Plan.{Plan}
-use Rattle.conc_law.specs.Law.{is_lawful_so_far, may_follow, LawfulSoFar}
-use Rattle.conc_law.proofs.Numbering.{numbered-at}
-use Rattle.conc_law.proofs.Positions.{reverse-push, take-suc_at}
-use Rattle.conc_law.proofs.Prefixes.{is_lawful_so_far-prefix}
+use Rattle.conc_base_law.specs.Law.{is_lawful_so_far, may_follow, LawfulSoFar}
+use Rattle.conc_base_law.proofs.Numbering.{numbered-at}
+use Rattle.conc_base_law.proofs.Positions.{reverse-push, take-suc_at}
+use Rattle.conc_base_law.proofs.Prefixes.{is_lawful_so_far-prefix}
 use Rattle.conc_machine.specs.StandsFor.{plan_of, readings_of, StandsFor}
 use Rattle.conc_machine.specs.declared.machine.Machine.{Machine}
 use Rattle.conc_restart.specs.FirstBad.{IsFirstUnlawful}

@@ -11,16 +11,16 @@ use Rattle.conc_types.specs.declared.script.Act.{Act}
 use Rattle.conc_types.specs.declared.script.Act.TheVariants as act
 use Rattle.conc_types.specs.declared.script.Reading.{Reading}
 use Rattle.conc_types.specs.Words.{some_and}
-use Rattle.conc_law.specs.Facts.{cancels, facts_of, holds, is_let, unlets}
-use Rattle.conc_law.specs.Kinds.{act_of, is_cancel, is_hold, is_resume}
-use Rattle.conc_law.specs.Law.{is_lawful_so_far, may_follow}
-use Rattle.conc_law.specs.Plans.{stages_of}
-use Rattle.conc_law.specs.Words.{Has, is_set}
-use Rattle.conc_law.proofs.Others.{command_lets_not, does, is_about, others_kept, others_let}
-use Rattle.conc_law.proofs.Remaining.{IsAboutOne}
-use Rattle.conc_law.proofs.Sums.{sum_by-below, sum_by-less}
-use Rattle.conc_law.proofs.UsesUp.{facts-let}
-use Rattle.conc_law.proofs.Weights.{IsKept, left-kept, left-unlet}
+use Rattle.conc_base_law.specs.Facts.{cancels, facts_of, holds, is_let, unlets}
+use Rattle.conc_base_law.specs.Kinds.{act_of, is_cancel, is_hold, is_resume}
+use Rattle.conc_base_law.specs.Law.{is_lawful_so_far, may_follow}
+use Rattle.conc_base_law.specs.Plans.{stages_of}
+use Rattle.conc_base_law.specs.Words.{Has, is_set}
+use Rattle.conc_base_law.proofs.Others.{command_lets_not, does, is_about, others_kept, others_let}
+use Rattle.conc_base_law.proofs.Remaining.{IsAboutOne}
+use Rattle.conc_base_law.proofs.Sums.{sum_by-below, sum_by-less}
+use Rattle.conc_base_law.proofs.UsesUp.{facts-let}
+use Rattle.conc_base_law.proofs.Weights.{IsKept, left-kept, left-unlet}
 use Rattle.conc_restart.proofs.Numbered.{one_if, plan-numbered, sum_by-more, sum_by-one_more}
 use Rattle.conc_restart.proofs.OwnLeft.{about_less, own_left, own_left-most, own_left-program, own_left-set}
 use Rattle.conc_restart.proofs.SetsLeft.{set_left-kept}

@@ -3,8 +3,8 @@ use Rattle.std.proofs.Common.{◌≡◌, ℕ, ◌+◌, ◌-◌, ◌≤◌, Bool,
 use Rattle.std.specs.Prelude.{unwrap_or}
 use Rattle.std.proofs.lemmas.Bool.{both_ways}
 use Rattle.conc_types.specs.declared.facts.Facts.{Facts}
-use Rattle.conc_law.specs.State.{is_completed}
-use Rattle.conc_law.proofs.Weights.{IsKept}
+use Rattle.conc_base_law.specs.State.{is_completed}
+use Rattle.conc_base_law.proofs.Weights.{IsKept}
 
 -- its opening, its close, and the stages after the current one. Where it has none, it has its first stage all the same
 abbrev left_by : Bool → Bool → ℕ → ℕ → ℕ

@@ -17,8 +17,8 @@ use Rattle.conc_types.specs.declared.set.SetDef.{SetDef}
 use Rattle.conc_types.specs.declared.setup.Setup.{Setup}
 use Rattle.conc_types.specs.declared.stage.Stage.{Stage}
 use Rattle.conc_types.specs.Expansion.{entered, expansion_from, members_of, Part, parts, parts_by, request_by}
-use Rattle.conc_law.specs.Plans.{set_at, stages_of}
-use Rattle.conc_law.proofs.Sums.{sum_by-below}
+use Rattle.conc_base_law.specs.Plans.{set_at, stages_of}
+use Rattle.conc_base_law.proofs.Sums.{sum_by-below}
 
 -- how many stages an item has
 abbrev pub stages_in : Setup → Item → ℕ

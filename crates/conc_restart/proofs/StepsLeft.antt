@@ -4,12 +4,12 @@ use Rattle.std.specs.List.{enumerate_from}
 use Rattle.conc_types.specs.declared.event.Event.{Event}
 use Rattle.conc_types.specs.declared.plan.Plan.{Plan}
 use Rattle.conc_types.specs.declared.script.Reading.{Reading}
-use Rattle.conc_law.specs.Before.{earlier_lives}
-use Rattle.conc_law.specs.Readings.{life_readings}
-use Rattle.conc_law.specs.Remaining.{commands_left}
-use Rattle.conc_law.specs.State.{is_done, is_not_earlier, now}
-use Rattle.conc_law.proofs.Remaining.{readings_left}
-use Rattle.conc_law.proofs.Sums.{filter-within}
+use Rattle.conc_base_law.specs.Before.{earlier_lives}
+use Rattle.conc_base_law.specs.Readings.{life_readings}
+use Rattle.conc_base_law.specs.Remaining.{commands_left}
+use Rattle.conc_base_law.specs.State.{is_done, is_not_earlier, now}
+use Rattle.conc_base_law.proofs.Remaining.{readings_left}
+use Rattle.conc_base_law.proofs.Sums.{filter-within}
 
 -- as many are counted as there are
 length-enumerate : {T : Type 0} (n : ℕ) (xs : List T) → length (enumerate_from n xs) ≡ length xs

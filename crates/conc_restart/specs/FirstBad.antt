@@ -3,7 +3,7 @@ use Rattle.std.specs.Prelude.{◌≡◌, ℕ, ◌-◌, List, None, Some, IsFalse
 use Rattle.conc_types.specs.declared.event.Event.{Event}
 use Rattle.conc_types.specs.declared.plan.Plan.{Plan}
 use Rattle.conc_types.specs.Words.{numbered}
-use Rattle.conc_law.specs.Law.{may_follow, LawfulSoFar}
+use Rattle.conc_base_law.specs.Law.{may_follow, LawfulSoFar}
 use Rattle.conc_types.specs.declared.error.CheckFail.{CheckFail}
 use Rattle.conc_types.specs.declared.error.CheckFail.TheVariants as fail
 

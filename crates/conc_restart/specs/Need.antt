@@ -4,7 +4,7 @@ use Rattle.std.specs.List.{list_any}
 use Rattle.conc_types.specs.declared.event.Event.{Event}
 use Rattle.conc_types.specs.declared.plan.Plan.{Plan}
 use Rattle.conc_types.specs.declared.script.Reading.{Reading}
-use Rattle.conc_law.specs.Kinds.{is_resume}
+use Rattle.conc_base_law.specs.Kinds.{is_resume}
 
 -- for how many events there has to be room so that one more life fits
 abbrev pub need : Plan → List Reading → ℕ

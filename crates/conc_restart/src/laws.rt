@@ -3,7 +3,7 @@ ghost use Rattle.std.specs.Prelude.{◌++◌, ◌≤◌, List, length};
 ghost use Rattle.conc_types.specs.declared.event.Event.{Event};
 ghost use Rattle.conc_types.specs.declared.plan.Plan.{Plan};
 ghost use Rattle.conc_types.specs.declared.script.Readings.{Readings};
-ghost use Rattle.conc_law.specs.Law.{Lawful};
+ghost use Rattle.conc_base_law.specs.Law.{Lawful};
 ghost use Rattle.conc_restart.specs.Need.{IsOfOneLife, need};
 
 /// One more life fits the need: as long as the history is lawful, the events that are added to those

@@ -6,6 +6,7 @@ mod laws;
 mod resuming;
 mod room;
 
+// The machine is what `resume` hands out: who resumes a list names this crate alone.
 pub use conc_machine::Machine;
 pub use laws::life_fits_need;
 pub use resuming::resume;

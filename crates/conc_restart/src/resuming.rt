@@ -1,5 +1,5 @@
 ghost use Rattle.std.specs.Prelude.{◌≡◌, IfErr, IfOk, None, reverse};
-ghost use Rattle.conc_law.specs.Law.{LawfulSoFar};
+ghost use Rattle.conc_base_law.specs.Law.{LawfulSoFar};
 ghost use Rattle.conc_machine.specs.StandsFor.{plan_of, readings_of, StandsFor};
 ghost use Rattle.conc_types.specs.declared.error.CheckFail.TheVariants as fail;
 ghost use Rattle.conc_restart.specs.FirstBad.{IsListRefused};

@@ -1,11 +1,11 @@
 ghost use Rattle.std.specs.Prelude.{◌≡◌};
 ghost use Rattle.std.specs.List.{list_any};
-ghost use Rattle.conc_law.specs.Managers as spec;
+ghost use Rattle.conc_base_law.specs.Managers as spec;
 
 use crate::items::{is_same_item, is_set};
 use conc_types::{Item, Manager, Req, Rule};
 
-#[tactic(auto, unfolding(conc_law::specs::Managers::matches))]
+#[tactic(auto, unfolding(conc_base_law::specs::Managers::matches))]
 fn matches(r: &Req, rule: &Rule) -> bool
     ensures { result ≡ spec.matches r.now rule.now }
 {
@@ -33,7 +33,7 @@ fn some_rule_matches(rules: &[Rule], r: &Req) -> bool
 
 /// Whether a manager admits a request: it is no set, the manager has no Include rule or one that
 /// matches, and no Exclude rule matches. It takes no memory.
-#[tactic(auto, unfolding(conc_law::specs::Managers::admits))]
+#[tactic(auto, unfolding(conc_base_law::specs::Managers::admits))]
 pub fn admits(manager: &Manager, r: &Req) -> bool
     ensures { result ≡ spec.admits manager.now r.now }
 {

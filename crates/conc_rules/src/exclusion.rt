@@ -1,26 +1,26 @@
 ghost use Rattle.std.specs.Prelude.{◌≡◌};
 ghost use Rattle.std.specs.List.{list_any};
-ghost use Rattle.conc_law.specs.Exclusion as spec;
-ghost use Rattle.conc_law.specs.Exclusion.{covers, entry_excludes, excludes_from, is_kin, same_domain};
+ghost use Rattle.conc_base_law.specs.Exclusion as spec;
+ghost use Rattle.conc_base_law.specs.Exclusion.{covers, entry_excludes, excludes_from, is_kin, same_domain};
 
 use crate::items::{is_id, is_same_item};
 use conc_types::{Entry, Item, Reach, Req, Scope, Setup};
 
-#[tactic(auto, unfolding(conc_law::specs::Exclusion::is_kin))]
+#[tactic(auto, unfolding(conc_base_law::specs::Exclusion::is_kin))]
 fn are_kin(x: &Req, y: &Req) -> bool
     ensures { result ≡ is_kin x.now y.now }
 {
     is_id(x.parent, y.number) || is_id(y.parent, x.number)
 }
 
-#[tactic(auto, unfolding(conc_law::specs::Exclusion::same_domain))]
+#[tactic(auto, unfolding(conc_base_law::specs::Exclusion::same_domain))]
 fn are_in_one_domain(x: &Req, y: &Req) -> bool
     ensures { result ≡ same_domain x.now y.now }
 {
     x.domain.as_bytes() == y.domain.as_bytes()
 }
 
-#[tactic(auto, unfolding(conc_law::specs::Exclusion::covers))]
+#[tactic(auto, unfolding(conc_base_law::specs::Exclusion::covers))]
 fn entry_covers(entry: Entry, y: &Req, parent: Option<Item>) -> bool
     ensures { result ≡ covers entry y.now parent }
 {
@@ -34,7 +34,7 @@ fn entry_covers(entry: Entry, y: &Req, parent: Option<Item>) -> bool
 }
 
 /// Whether the item is a program that never runs beside another request of its domain.
-#[tactic(auto, unfolding(conc_law::specs::Exclusion::runs_alone))]
+#[tactic(auto, unfolding(conc_base_law::specs::Exclusion::runs_alone))]
 pub fn runs_alone(setup: &Setup, item: Item) -> bool
     ensures { result ≡ spec.runs_alone setup.now item }
 {
@@ -47,7 +47,7 @@ pub fn runs_alone(setup: &Setup, item: Item) -> bool
     }
 }
 
-#[tactic(auto, unfolding(conc_law::specs::Exclusion::entry_excludes))]
+#[tactic(auto, unfolding(conc_base_law::specs::Exclusion::entry_excludes))]
 fn one_entry_excludes(entry: Entry, x: &Req, y: &Req, parent: Option<Item>) -> bool
     ensures { result ≡ entry_excludes x.now y.now parent entry }
 {
@@ -67,7 +67,7 @@ fn some_entry_excludes(setup: &Setup, x: &Req, y: &Req, parent: Option<Item>) ->
 }
 
 // Whether an entry of x, or its mark to run alone, keeps y out.
-#[tactic(auto, unfolding(conc_law::specs::Exclusion::excludes_from))]
+#[tactic(auto, unfolding(conc_base_law::specs::Exclusion::excludes_from))]
 fn excludes_one_way(setup: &Setup, x: &Req, y: &Req, parent: Option<Item>) -> bool
     ensures { result ≡ excludes_from setup.now x.now y.now parent }
 {
@@ -79,7 +79,7 @@ fn excludes_one_way(setup: &Setup, x: &Req, y: &Req, parent: Option<Item>) -> bo
 /// other's parent, and either an entry of one item covers the other request, in one domain or
 /// globally, or the program of one runs alone and the domains are equal. `parents` are the items of
 /// the parents of `x` and `y`. It takes no memory.
-#[tactic(auto, unfolding(conc_law::specs::Exclusion::excludes))]
+#[tactic(auto, unfolding(conc_base_law::specs::Exclusion::excludes))]
 pub fn excludes(setup: &Setup, x: &Req, y: &Req, parents: (Option<Item>, Option<Item>)) -> bool
     ensures { result ≡ spec.excludes setup.now x.now y.now parents.0 parents.1 }
 {

@@ -1,9 +1,10 @@
 ghost use Rattle.std.specs.Prelude.{◌≡◌};
 ghost use Rattle.conc_types.specs.Words.{some_and};
-ghost use Rattle.conc_law.specs.Words as spec;
-ghost use Rattle.conc_law.specs.Words.{id_eq, item_eq};
+ghost use Rattle.conc_base_law.specs.Kinds as kinds_spec;
+ghost use Rattle.conc_base_law.specs.Words as spec;
+ghost use Rattle.conc_base_law.specs.Words.{id_eq, item_eq};
 
-use conc_types::{Item, RequestId};
+use conc_types::{Event, Item, RequestId};
 
 /// Whether the item is a set.
 pub fn is_set(item: Item) -> bool
@@ -21,6 +22,13 @@ pub fn is_same_item(a: Item, b: Item) -> bool
         (Item::Set(x), Item::Set(y)) => x == y,
         _ => false,
     }
+}
+
+/// Whether the event is a resume.
+pub fn is_resume(e: Event) -> bool
+    ensures { result ≡ kinds_spec.is_resume e }
+{
+    matches!(e, Event::Resume)
 }
 
 // Whether there is an id, and it is this one.

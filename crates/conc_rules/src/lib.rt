@@ -9,8 +9,8 @@ mod plans;
 
 pub use admission::admits;
 pub use exclusion::{excludes, runs_alone};
-pub use items::{is_same_item, is_set};
+pub use items::{is_resume, is_same_item, is_set};
 pub use plans::{
     are_exclusive, can_run, has_restart, is_admitted, is_enabled, is_member, parent, parent_item,
-    precedes, program_of, stages_of,
+    program_of, stages_of,
 };

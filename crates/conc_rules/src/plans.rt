@@ -1,7 +1,7 @@
 ghost use Rattle.std.specs.Prelude.{◌≡◌, ◌≤◌, length};
 ghost use Rattle.std.specs.Option.{option_copied};
-ghost use Rattle.conc_law.specs.Next as next_spec;
-ghost use Rattle.conc_law.specs.Plans as plans_spec;
+ghost use Rattle.conc_base_law.specs.Next as next_spec;
+ghost use Rattle.conc_base_law.specs.Plans as plans_spec;
 
 use crate::admission::admits;
 use crate::exclusion::excludes;
@@ -9,7 +9,7 @@ use crate::items::{is_id, is_set};
 use conc_types::{Item, Plan, Program, Req, RequestId, SetDef, Stage};
 
 /// The request of the set whose member `r` is.
-#[tactic(auto, unfolding(conc_law::specs::Plans::parent))]
+#[tactic(auto, unfolding(conc_base_law::specs::Plans::parent))]
 pub fn parent<'a>(plan: &'a Plan, r: &Req) -> Option<&'a Req>
     ensures { option_copied result ≡ plans_spec.parent plan.now r.now }
 {
@@ -20,7 +20,7 @@ pub fn parent<'a>(plan: &'a Plan, r: &Req) -> Option<&'a Req>
 }
 
 /// The set of which the request is a member, as an item.
-#[tactic(auto, unfolding(conc_law::specs::Plans::parent_item))]
+#[tactic(auto, unfolding(conc_base_law::specs::Plans::parent_item))]
 pub fn parent_item(plan: &Plan, r: &Req) -> Option<Item>
     ensures { result ≡ plans_spec.parent_item plan.now r.now }
 {
@@ -31,7 +31,7 @@ pub fn parent_item(plan: &Plan, r: &Req) -> Option<Item>
 }
 
 /// The program of a request that is no set.
-#[tactic(auto, unfolding(conc_law::specs::Plans::program_of, conc_law::specs::Plans::program_at))]
+#[tactic(auto, unfolding(conc_base_law::specs::Plans::program_of, conc_base_law::specs::Plans::program_at))]
 pub fn program_of<'a>(plan: &'a Plan, r: &Req) -> Option<&'a Program>
     ensures { option_copied result ≡ plans_spec.program_of plan.now r.now }
 {
@@ -42,7 +42,7 @@ pub fn program_of<'a>(plan: &'a Plan, r: &Req) -> Option<&'a Program>
 }
 
 /// Whether the request's program is enabled. A set has none.
-#[tactic(auto, unfolding(conc_law::specs::Plans::is_enabled))]
+#[tactic(auto, unfolding(conc_base_law::specs::Plans::is_enabled))]
 pub fn is_enabled(plan: &Plan, r: &Req) -> bool
     ensures { result ≡ plans_spec.is_enabled plan.now r.now }
 {
@@ -53,7 +53,7 @@ pub fn is_enabled(plan: &Plan, r: &Req) -> bool
 }
 
 /// Whether the request's program has the mark for restart.
-#[tactic(auto, unfolding(conc_law::specs::Plans::has_restart))]
+#[tactic(auto, unfolding(conc_base_law::specs::Plans::has_restart))]
 pub fn has_restart(plan: &Plan, r: &Req) -> bool
     ensures { result ≡ plans_spec.has_restart plan.now r.now }
 {
@@ -64,7 +64,7 @@ pub fn has_restart(plan: &Plan, r: &Req) -> bool
 }
 
 /// Whether some manager admits the request.
-#[tactic(auto, unfolding(conc_law::specs::Plans::is_admitted))]
+#[tactic(auto, unfolding(conc_base_law::specs::Plans::is_admitted))]
 pub fn is_admitted(plan: &Plan, r: &Req) -> bool
     ensures { result ≡ plans_spec.is_admitted plan.now r.now }
 {
@@ -76,7 +76,7 @@ pub fn is_admitted(plan: &Plan, r: &Req) -> bool
 }
 
 /// Whether the request is a set, or of an enabled program and admitted by some manager.
-#[tactic(auto, unfolding(conc_law::specs::Next::can_run))]
+#[tactic(auto, unfolding(conc_base_law::specs::Next::can_run))]
 pub fn can_run(plan: &Plan, r: &Req) -> bool
     ensures { result ≡ next_spec.can_run plan.now r.now }
 {
@@ -84,7 +84,7 @@ pub fn can_run(plan: &Plan, r: &Req) -> bool
 }
 
 /// Whether two requests of the plan never run at the same time.
-#[tactic(auto, unfolding(conc_law::specs::Plans::are_exclusive))]
+#[tactic(auto, unfolding(conc_base_law::specs::Plans::are_exclusive))]
 pub fn are_exclusive(plan: &Plan, x: &Req, y: &Req) -> bool
     ensures { result ≡ plans_spec.are_exclusive plan.now x.now y.now }
 {
@@ -96,30 +96,15 @@ pub fn are_exclusive(plan: &Plan, x: &Req, y: &Req) -> bool
     )
 }
 
-/// Whether `x` stands before `y` in precedence: by the lower priority number, then the earlier
-/// start, then the lower request number.
-#[tactic(auto, unfolding(conc_law::specs::Plans::precedes))]
-pub fn precedes(x: &Req, y: &Req) -> bool
-    ensures { result ≡ plans_spec.precedes x.now y.now }
-{
-    if x.priority != y.priority {
-        return x.priority < y.priority;
-    }
-    if x.start.seconds != y.start.seconds {
-        return x.start.seconds < y.start.seconds;
-    }
-    x.number.number < y.number.number
-}
-
 /// Whether `r` is a member of this stage, from 1, of the set's request.
-#[tactic(auto, unfolding(conc_law::specs::Plans::is_member))]
+#[tactic(auto, unfolding(conc_base_law::specs::Plans::is_member))]
 pub fn is_member(set: RequestId, stage: u32, r: &Req) -> bool
     ensures { result ≡ plans_spec.is_member set stage r.now }
 {
     is_id(r.parent, set) && r.stage == stage
 }
 
-#[tactic(auto, unfolding(conc_law::specs::Plans::set_at))]
+#[tactic(auto, unfolding(conc_base_law::specs::Plans::set_at))]
 fn set_at(plan: &Plan, item: Item) -> Option<&SetDef>
     ensures { option_copied result ≡ plans_spec.set_at plan.now item }
 {
@@ -130,7 +115,7 @@ fn set_at(plan: &Plan, item: Item) -> Option<&SetDef>
 }
 
 /// The stages of the set of a request; none where it is no set.
-#[tactic(auto, unfolding(conc_law::specs::Plans::stages_of))]
+#[tactic(auto, unfolding(conc_base_law::specs::Plans::stages_of))]
 pub fn stages_of<'a>(plan: &'a Plan, set: &Req) -> &'a [Stage]
     ensures stages { result.now ≡ plans_spec.stages_of plan.now set.now }
     ensures few { length result.now ≤ 64 }

@@ -5,6 +5,7 @@ pub mod Opened
 pub mod Same
 pub mod Ran
 pub mod Failing
+pub mod Ended
 pub mod Next
 pub mod Telling
 pub mod Untold

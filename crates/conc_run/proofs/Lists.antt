@@ -9,10 +9,10 @@ use Rattle.conc_types.specs.declared.event.Extent.{Extent}
 use Rattle.conc_types.specs.declared.event.Outcome.{Outcome}
 use Rattle.conc_types.specs.declared.event.RequestId.{RequestId}
 use Rattle.conc_types.specs.declared.plan.Plan.{Plan}
-use Rattle.conc_law.specs.Alone.{opening}
-use Rattle.conc_law.specs.Kinds.{extent_length}
-use Rattle.conc_law.specs.State.{used}
-use Rattle.conc_law.proofs.Positions.{reverse-push}
+use Rattle.conc_base_law.specs.Alone.{opening}
+use Rattle.conc_base_law.specs.Kinds.{extent_length}
+use Rattle.conc_base_law.specs.State.{used}
+use Rattle.conc_base_law.proofs.Positions.{reverse-push}
 use Rattle.conc_run_state.specs.Lists.{IsPrefix}
 use Rattle.conc_run_state.specs.Stored.{AreStored}
 use Rattle.conc_run_state.specs.Works.{with_pending}

@@ -13,8 +13,8 @@ use Rattle.conc_journal_image.specs.declared.label.Label.{Label}
 use Rattle.conc_journal_image.specs.declared.label.Version.{Version}
 use Rattle.conc_journal_image.specs.declared.label.Version.TheVariants.{One, Two}
 use Rattle.conc_journal.specs.Opens.{broken_of, events_of, label_of, may_open, stamps_of}
-use Rattle.conc_law.specs.Law.{LawfulSoFar}
-use Rattle.conc_law.proofs.Numbering.{numbered-at}
+use Rattle.conc_base_law.specs.Law.{LawfulSoFar}
+use Rattle.conc_base_law.proofs.Numbering.{numbered-at}
 use Rattle.conc_restart.proofs.ReadSoFar.{bad-not_past}
 use Rattle.conc_run_state.specs.Causes.{IsOther, IsOtherScript, told_for, told_in}
 use Rattle.conc_run_state.specs.Handed.{IsOwnJournal}

@@ -7,9 +7,9 @@ use Rattle.conc_types.specs.declared.event.Event.TheVariants as event
 use Rattle.conc_disk.specs.Left.{LeavesOnly}
 use Rattle.conc_disk.proofs.Leaving.{if_some-any, leaves-wider}
 use Rattle.conc_journal.specs.Opens.{events_of}
-use Rattle.conc_law.specs.Alone.{opening}
-use Rattle.conc_law.specs.Law.{Lawful, LawfulSoFar}
-use Rattle.conc_law.proofs.AloneHistory.{opening-lawful}
+use Rattle.conc_base_law.specs.Alone.{opening}
+use Rattle.conc_base_law.specs.Law.{Lawful, LawfulSoFar}
+use Rattle.conc_base_law.proofs.AloneHistory.{opening-lawful}
 use Rattle.conc_outside.specs.Counts.{Rose}
 use Rattle.conc_run_open.specs.Opening.{IsGivenUp}
 use Rattle.conc_run_state.specs.Causes.{HasCause, is_journal_fault, is_refusal}

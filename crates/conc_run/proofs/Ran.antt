@@ -7,17 +7,17 @@ use Rattle.conc_disk.specs.Left.{EachImage, LeavesOnly}
 use Rattle.conc_journal.specs.Journals.{FitsState, stamps_held, state_of}
 use Rattle.conc_journal.specs.JournalStates.{state_label}
 use Rattle.conc_journal.specs.declared.journal.JournalState.{JournalState}
-use Rattle.conc_law.specs.Alone.{Alone, opening}
-use Rattle.conc_law.specs.Law.{Finished, Lawful, LawfulSoFar}
-use Rattle.conc_law.specs.State.{used}
+use Rattle.conc_base_law.specs.Alone.{Alone, opening}
+use Rattle.conc_base_law.specs.Law.{Finished, Lawful, LawfulSoFar}
+use Rattle.conc_base_law.specs.State.{used}
 use Rattle.conc_run_open.specs.Opening.{IsBegun}
-use Rattle.conc_resolver_alone.specs.Runs.{LacksMemory}
-use Rattle.conc_resolver_workers.specs.Runs.{AwaitsReport}
+use Rattle.conc_run_alone.specs.Runs.{LacksMemory}
+use Rattle.conc_run_workers.specs.Runs.{AwaitsReport}
 use Rattle.conc_run_state.specs.Causes.{HasCause, is_journal_fault, is_refusal}
 use Rattle.conc_run_state.specs.Disks.{disks}
 use Rattle.conc_run_state.specs.Inputs.{IsHeldFor}
 use Rattle.conc_run_steps.specs.Going.{WentOn}
-use Rattle.conc_spool.specs.Spools.{Agrees, used_of}
+use Rattle.conc_journal_spool.specs.Spools.{Agrees, used_of}
 use Rattle.conc_run_state.specs.Handed.{Handed, IsTaken, IsUntouched}
 use Rattle.conc_run_state.specs.Lists.{GoesOn, GoesOnAlone, IsPrefix}
 use Rattle.conc_run_state.specs.Survival.{HoldsList, Survives}

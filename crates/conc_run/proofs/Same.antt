@@ -11,15 +11,15 @@ use Rattle.conc_types.specs.declared.plan.Plan.{Plan}
 use Rattle.conc_types.specs.declared.script.Reading.{Reading}
 use Rattle.conc_disk.specs.Left.{EachImage}
 use Rattle.conc_disk.proofs.Leaving.{if_some-any}
-use Rattle.conc_law.specs.Alone.{Alone, opening, report_of}
-use Rattle.conc_law.specs.Kinds.{is_resume}
-use Rattle.conc_law.specs.Law.{Finished}
-use Rattle.conc_law.specs.Report.{Report}
-use Rattle.conc_law.specs.Words.{Has}
-use Rattle.conc_law.proofs.FirstBy.{none_any}
-use Rattle.conc_law_sameness.specs.Sameness.{HasEnds, SaySame}
-use Rattle.conc_law_sameness.specs.Steady.{IsWhole, Steady}
-use Rattle.conc_law_sameness.proofs.Lists.{has-get, has-reverse, none-has}
+use Rattle.conc_base_law.specs.Alone.{Alone, opening, report_of}
+use Rattle.conc_base_law.specs.Kinds.{is_resume}
+use Rattle.conc_base_law.specs.Law.{Finished}
+use Rattle.conc_base_law.specs.Report.{Report}
+use Rattle.conc_base_law.specs.Words.{Has}
+use Rattle.conc_base_law.proofs.FirstBy.{none_any}
+use Rattle.conc_base_law.specs.Sameness.{HasEnds, SaySame}
+use Rattle.conc_base_law.specs.Steady.{IsWhole, Steady}
+use Rattle.conc_base_law.proofs.Lists.{has-get, has-reverse, none-has}
 use Rattle.conc_run_state.specs.Handed.{Handed}
 use Rattle.conc_run_state.specs.Lists.{GoesOn}
 use Rattle.conc_run_state.specs.Stored.{AreStored, IsStored}

@@ -14,7 +14,7 @@ use Rattle.conc_journal.specs.Journals.{FitsState}
 use Rattle.conc_journal.specs.JournalStates.{state_label, takes_events}
 use Rattle.conc_journal.specs.declared.journal.JournalState.{JournalState}
 use Rattle.conc_journal.specs.declared.journal.JournalState.TheVariants.{NotBegun, BeginFailed, Begun, Broken, AppendFailed, MigrateFailed}
-use Rattle.conc_law.specs.Alone.{opening}
+use Rattle.conc_base_law.specs.Alone.{opening}
 use Rattle.conc_run_state.specs.Inputs.{failed_stamps, IsOfInput, migrate_failed}
 use Rattle.conc_run_state.specs.Lists.{failed_in, IsPrefix}
 use Rattle.conc_run_state.specs.Survival.{Survives}

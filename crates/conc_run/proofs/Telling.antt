@@ -1,11 +1,11 @@
 -- A teller is told of the resume.
 use Rattle.std.proofs.Common.{◌≡◌, List, Option, None, Some, IfSome, refl, sym, subst}
-use Rattle.std.specs.Prelude.{IsNone, IsSome}
+use Rattle.std.specs.Prelude.{◌↔◌, IsNone, IsSome}
 use Rattle.conc_types.specs.declared.event.Event.{Event}
 use Rattle.conc_types.specs.declared.plan.Plan.{Plan}
 use Rattle.conc_journal.specs.Receipts.{event_of, IsNextOf, list_with}
 use Rattle.conc_journal.specs.declared.receipt.Receipt.{Receipt}
-use Rattle.conc_law.specs.Law.{LawfulSoFar}
+use Rattle.conc_base_law.specs.Law.{LawfulSoFar}
 use Rattle.conc_run_steps.specs.Told.{IsTold, IsUntold}
 use Rattle.conc_run_steps.proofs.Telling.{next-of, told-more}
 use Rattle.conc_run.specs.Telling.{list_resumed}
@@ -29,3 +29,11 @@ resume-untold (Some receipt) told told' takes plan list some same is = subst (λ
   go : (t : Option (List Event)) → IfSome (list_with receipt t) (λ l. l ≡ list) → IsUntold t list
   go None at = tt
   go (Some l) at = (event_of receipt, sym at)
+
+-- a teller with the same list, which takes the same, was told the same
+pub told-as : (told told' : Option (List Event)) (takes takes' : List Event → Type 0) (plan : Plan) (list : List Event) → told' ≡ told → ((events : List Event) → takes' events ↔ takes events) → IsTold told takes plan list
+    → IsTold told' takes' plan list
+told-as told told' takes takes' plan list same both is = record {
+  at = subst (λ (t : Option (List Event)). IfSome t (λ l. l ≡ list)) (sym same) is.at;
+  takes_all = λ events past. (both events).1 (is.takes_all events past);
+}

@@ -4,7 +4,7 @@ use Rattle.std.proofs.lemmas.List.{take-take}
 use Rattle.conc_disk.specs.Disk.{DiskState, SeenFollows, Stays}
 use Rattle.conc_disk.specs.Left.{EachImage, LeavesOnly}
 use Rattle.conc_disk.proofs.Leaving.{if_some-any, leaves-twice, leaves-wider}
-use Rattle.conc_spool.specs.Spools.{Agrees, KeepsBelow}
+use Rattle.conc_journal_spool.specs.Spools.{Agrees, KeepsBelow}
 
 -- what it may have left before, or an image with so many of its bytes
 abbrev pub Keeps : DiskState → ℕ → List ℕ → Type 0

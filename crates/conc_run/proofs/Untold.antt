@@ -1,7 +1,7 @@
 -- What a run that was cut short says of its teller.
 use Rattle.std.proofs.Common.{◌≢◌, inl, inr, ⊎_elim, ℕ, Bool, List, Some, IsTrue}
 use Rattle.conc_types.specs.declared.event.Event.{Event}
-use Rattle.conc_law.specs.Alone.{opening}
+use Rattle.conc_base_law.specs.Alone.{opening}
 use Rattle.conc_run_state.specs.Handed.{Handed}
 use Rattle.conc_run_state.specs.Lists.{IsPrefix}
 use Rattle.conc_run_state.specs.declared.error.HistoryFail.{HistoryFail}

@@ -1,3 +1,4 @@
+pub mod Crashed
 pub mod Same
 pub mod Telling
 pub mod Whole

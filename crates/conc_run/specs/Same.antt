@@ -5,9 +5,9 @@ use Rattle.conc_types.specs.declared.event.Event.TheVariants as event
 use Rattle.conc_types.specs.declared.event.Extent.{Extent}
 use Rattle.conc_types.specs.declared.event.Outcome.{Outcome}
 use Rattle.conc_types.specs.declared.event.RequestId.{RequestId}
-use Rattle.conc_law.specs.Alone.{Alone}
-use Rattle.conc_law.specs.Words.{Has}
-use Rattle.conc_law_sameness.specs.Sameness.{SaySame}
+use Rattle.conc_base_law.specs.Alone.{Alone}
+use Rattle.conc_base_law.specs.Words.{Has}
+use Rattle.conc_base_law.specs.Sameness.{SaySame}
 use Rattle.conc_disk.specs.Left.{EachImage}
 use Rattle.conc_run_state.specs.Handed.{Handed}
 use Rattle.conc_run_state.specs.Stored.{AreStored}

@@ -1,22 +1,28 @@
 -- What a whole run leaves, and why it ends before its history is finished.
-use Rattle.std.specs.Prelude.{◌≡◌, ◌≢◌, ◌⊎◌, ℕ, ◌∷◌, [], ◌++◌, List, reverse, IfSome, IsFalse, IsTrue}
+use Rattle.std.specs.Prelude.{◌≡◌, ◌≢◌, ◌⊎◌, ℕ, ◌∷◌, [], ◌++◌, List, Result, reverse, IfErr, IfOk, IfSome, IsFalse, IsTrue}
 use Rattle.conc_types.specs.declared.event.Event.{Event}
-use Rattle.conc_law.specs.Alone.{Alone, opening}
-use Rattle.conc_law.specs.Law.{Finished, LawfulSoFar}
-use Rattle.conc_law.specs.State.{used}
-use Rattle.conc_law_sameness.specs.Steady.{Steady}
+use Rattle.conc_base_law.specs.Alone.{Alone, opening}
+use Rattle.conc_base_law.specs.Law.{Finished, LawfulSoFar}
+use Rattle.conc_base_law.specs.State.{used}
+use Rattle.conc_base_law.specs.Steady.{Steady}
+use Rattle.conc_disk.specs.declared.disk.Disk.{Ghosts as DiskGhosts}
 use Rattle.conc_disk.specs.Left.{EachImage, LeavesOnly}
 use Rattle.conc_journal.specs.Opens.{events_of}
-use Rattle.conc_spool.specs.Spools.{KeepsBelow}
-use Rattle.conc_resolver_alone.specs.Runs.{LacksMemory}
-use Rattle.conc_resolver_workers.specs.Runs.{AwaitsReport}
+use Rattle.conc_journal_spool.specs.Spools.{KeepsBelow}
+use Rattle.conc_run_alone.specs.Runs.{LacksMemory}
+use Rattle.conc_run_workers.specs.Runs.{AwaitsReport}
+use Rattle.conc_run_open.specs.Examined.{WasExaminedOn}
+use Rattle.conc_run_open.specs.declared.examining.Examined.{Examined}
 use Rattle.conc_run_state.specs.Causes.{HasCause, is_journal_fault, is_refusal}
 use Rattle.conc_run_state.specs.Handed.{Handed, IsTaken, IsUntouched}
 use Rattle.conc_run_state.specs.Lists.{GoesOn, GoesOnAlone, IsPrefix}
 use Rattle.conc_run_state.specs.Survival.{HoldsList, Survives}
 use Rattle.conc_run_state.specs.Stored.{AreStored}
+use Rattle.conc_run_state.specs.Stores.{handed_with}
+use Rattle.conc_run_state.specs.Works.{list_in}
 use Rattle.conc_run_state.specs.declared.error.HistoryFail.{HistoryFail}
 use Rattle.conc_run_state.specs.declared.error.HistoryFail.TheVariants as history_fail
+use Rattle.conc_run_state.specs.declared.work.Work.{Work}
 use Rattle.conc_run.specs.Same.{HasResultOfAlone}
 
 -- ---- what is left, of a run with so many threads
@@ -101,3 +107,14 @@ pub record IsCutShort (threads : ℕ) (untold : List Event → List Event → Ty
   pub left : HasLeft threads h found acknowledged last
   pub whole : IsFalse (is_journal_fault s) → last ≡ acknowledged
   pub memory : s ≡ history_fail.NoMemory → IsUntouched h ⊎ LacksMemoryThere threads untold h found acknowledged
+
+-- the run is finished, or it was cut short
+pub record HasEnded (threads : ℕ) (untold : List Event → List Event → Type 0) (h : Handed) (answer : Result Work HistoryFail) : Type 0 where
+  pub finished : IfOk answer (λ work. IsFinished threads h (list_in work))
+  pub cut_short : IfErr answer (IsCutShort threads untold h)
+
+-- such is the end of a run of what was examined over disks that stood as they did when it went on, whatever they were before
+abbrev pub EndsOn : {D E : Type 0} → DiskGhosts D → DiskGhosts E → ℕ → (List Event → List Event → Type 0) → Examined → D → D → E → E → Result Work HistoryFail → Type 0
+EndsOn {D} {E} d e threads untold examined journal journal' spool spool' answer =
+    (before : D) (texts : E) → WasExaminedOn d e examined before journal texts spool
+    → HasEnded threads untold (handed_with d e examined.input before journal' texts spool') answer

@@ -7,9 +7,9 @@ use Rattle.std.proofs.Math.Seq.{take-append-add}
 use Rattle.conc_types.specs.declared.event.Event.{Event}
 use Rattle.conc_types.specs.declared.plan.Plan.{Plan}
 use Rattle.conc_types.specs.declared.script.Reading.{Reading}
-use Rattle.conc_law.specs.Kinds.{is_resume}
-use Rattle.conc_law.specs.Law.{is_lawful, is_lawful_so_far, may_follow}
-use Rattle.conc_law.proofs.Positions.{reverse-push}
+use Rattle.conc_base_law.specs.Kinds.{is_resume}
+use Rattle.conc_base_law.specs.Law.{is_lawful, is_lawful_so_far, may_follow}
+use Rattle.conc_base_law.proofs.Positions.{reverse-push}
 use Rattle.conc_run_state.specs.Lists.{GoesOn}
 
 -- the event is no resume, and may follow these, which are given with the latest first

@@ -12,11 +12,11 @@ use Rattle.conc_types.specs.Scripts.{are_in_order}
 use Rattle.conc_disk.specs.Disk.{DiskState}
 use Rattle.conc_disk.specs.Left.{LeavesOnly}
 use Rattle.conc_journal.specs.Opens.{broken_of, events_of, may_open}
-use Rattle.conc_law.specs.Alone.{opening}
-use Rattle.conc_law.specs.Facts.{runs}
-use Rattle.conc_law.specs.Law.{LawfulSoFar}
-use Rattle.conc_law.specs.Words.{Has}
-use Rattle.conc_law.proofs.Prefixes.{is_lawful_so_far-prefix}
+use Rattle.conc_base_law.specs.Alone.{opening}
+use Rattle.conc_base_law.specs.Facts.{runs}
+use Rattle.conc_base_law.specs.Law.{LawfulSoFar}
+use Rattle.conc_base_law.specs.Words.{Has}
+use Rattle.conc_base_law.proofs.Prefixes.{is_lawful_so_far-prefix}
 use Rattle.conc_run.specs.Whole.{HasBetween, HasLeft, IsFinished}
 pub use Rattle.conc_run.proofs.Next.{not-bad, not-closed, not-other, not-other_script}
 use Rattle.conc_run.proofs.Next.{left-good}

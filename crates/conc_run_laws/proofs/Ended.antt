@@ -14,12 +14,12 @@ use Rattle.conc_types.specs.declared.program.Program.{Program}
 use Rattle.conc_types.specs.declared.table.Table.{Table}
 use Rattle.conc_types.specs.Tables.{table_named}
 use Rattle.conc_journal.specs.Opens.{events_of}
-use Rattle.conc_law.specs.Alone.{report_of}
-use Rattle.conc_law.specs.Plans.{program_of}
-use Rattle.conc_law.specs.Report.{report, Report}
-use Rattle.conc_law.proofs.AloneLawful.{report-good}
-use Rattle.conc_law.proofs.Options.{and_then-some, map-some}
-use Rattle.conc_law.proofs.Prefixes.{is_lawful_so_far-prefix}
+use Rattle.conc_base_law.specs.Alone.{report_of}
+use Rattle.conc_base_law.specs.Plans.{program_of}
+use Rattle.conc_base_law.specs.Report.{report, Report}
+use Rattle.conc_base_law.proofs.AloneLawful.{report-good}
+use Rattle.conc_base_law.proofs.Options.{and_then-some, map-some}
+use Rattle.conc_base_law.proofs.Prefixes.{is_lawful_so_far-prefix}
 use Rattle.conc_run.specs.Whole.{HasLeft, HasNow}
 use Rattle.conc_run.proofs.Next.{left-good}
 use Rattle.conc_run_state.specs.Handed.{Handed}

@@ -16,15 +16,15 @@ use Rattle.conc_journal_image.specs.Image.{is_not_begun, label_in, version_in}
 use Rattle.conc_journal_image.specs.declared.label.Label.{Label}
 use Rattle.conc_journal_image.specs.declared.label.Version.{Version}
 use Rattle.conc_journal_image.specs.declared.label.Version.TheVariants.{Two}
-use Rattle.conc_law.specs.Before.{occurs}
-use Rattle.conc_law.specs.Kinds.{is_command}
-use Rattle.conc_law.specs.Law.{LawfulSoFar}
-use Rattle.conc_law.specs.Words.{Has}
-use Rattle.conc_law.proofs.Numbering.{numbered-at}
-use Rattle.conc_law_growth.specs.Growth.{Grows}
-use Rattle.conc_law_growth.proofs.Firsts.{are_first}
-use Rattle.conc_law_growth.proofs.Fronts.{take-same}
-use Rattle.conc_plan_stamps.specs.Stamps.{hash_behind, stamp_of, stamps_behind, stamps_of}
+use Rattle.conc_base_law.specs.Before.{occurs}
+use Rattle.conc_base_law.specs.Kinds.{is_command}
+use Rattle.conc_base_law.specs.Law.{LawfulSoFar}
+use Rattle.conc_base_law.specs.Words.{Has}
+use Rattle.conc_base_law.proofs.Numbering.{numbered-at}
+use Rattle.conc_base_law.specs.Growth.{Grows}
+use Rattle.conc_base_law.proofs.Firsts.{are_first}
+use Rattle.conc_base_law.proofs.Fronts.{take-same}
+use Rattle.conc_data_digests.specs.Stamps.{hash_behind, stamp_of, stamps_behind, stamps_of}
 use Rattle.conc_run_state.specs.Inputs.{command_of, IsOwn, MayBeOfInput, NamesInput}
 use Rattle.conc_run_laws.specs.Grown.{AreOfTheirScripts}
 use Rattle.conc_run_laws.specs.Next.{IsFit}

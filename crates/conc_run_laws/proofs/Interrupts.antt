@@ -9,19 +9,19 @@ use Rattle.conc_types.specs.declared.event.RequestId.{RequestId}
 use Rattle.conc_types.specs.declared.plan.Plan.{Plan}
 use Rattle.conc_types.specs.declared.plan.Req.{Req}
 use Rattle.conc_types.specs.declared.script.Reading.{Reading}
-use Rattle.conc_law.specs.Alone.{opening}
-use Rattle.conc_law.specs.Before.{last_life}
-use Rattle.conc_law.specs.Facts.{facts_of, running_place, runs, was_started}
-use Rattle.conc_law.specs.Law.{may_follow}
-use Rattle.conc_law.specs.Next.{forced, forced_interrupt, is_left_running}
-use Rattle.conc_law.specs.Readings.{next_reading}
-use Rattle.conc_law.specs.State.{facts_at, state}
-use Rattle.conc_law.specs.Words.{Has, id_eq}
-use Rattle.conc_law.proofs.Comes.{came}
-use Rattle.conc_law.proofs.EqualEvents.{id_same}
-use Rattle.conc_law.proofs.FactsAt.{facts_at-state, is_running-state}
-use Rattle.conc_law.proofs.FirstBy.{find-found}
-use Rattle.conc_law.proofs.Positions.{reverse-push, slice_get-some, take-suc_at}
+use Rattle.conc_base_law.specs.Alone.{opening}
+use Rattle.conc_base_law.specs.Before.{last_life}
+use Rattle.conc_base_law.specs.Facts.{facts_of, running_place, runs, was_started}
+use Rattle.conc_base_law.specs.Law.{may_follow}
+use Rattle.conc_base_law.specs.Next.{forced, forced_interrupt, is_left_running}
+use Rattle.conc_base_law.specs.Readings.{next_reading}
+use Rattle.conc_base_law.specs.State.{facts_at, state}
+use Rattle.conc_base_law.specs.Words.{Has, id_eq}
+use Rattle.conc_base_law.proofs.Comes.{came}
+use Rattle.conc_base_law.proofs.EqualEvents.{id_same}
+use Rattle.conc_base_law.proofs.FactsAt.{facts_at-state, is_running-state}
+use Rattle.conc_base_law.proofs.FirstBy.{find-found}
+use Rattle.conc_base_law.proofs.Positions.{reverse-push, slice_get-some, take-suc_at}
 use Rattle.conc_run_laws.specs.Lives.{is_interrupt, OnlyInterrupts}
 use Rattle.conc_run_laws.proofs.Added.{ComesAfter, EachComesAfter}
 

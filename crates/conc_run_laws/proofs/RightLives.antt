@@ -11,15 +11,15 @@ use Rattle.conc_types.specs.declared.plan.Plan.{Plan}
 use Rattle.conc_types.specs.declared.plan.Req.{Req}
 use Rattle.conc_types.specs.declared.script.Reading.{Reading}
 use Rattle.conc_types.specs.Scripts.{are_in_order}
-use Rattle.conc_law.specs.Alone.{opening}
-use Rattle.conc_law.specs.Facts.{runs}
-use Rattle.conc_law.specs.Law.{AtRest, Finished, is_lawful_so_far}
-use Rattle.conc_law.specs.Next.{forced, is_at_rest, may_start_somewhere, runs_somewhere}
-use Rattle.conc_law.specs.State.{state}
-use Rattle.conc_law.specs.Words.{Has}
-use Rattle.conc_law.proofs.FactsAt.{is_running-state}
-use Rattle.conc_law.proofs.FirstBy.{any-some}
-use Rattle.conc_law.proofs.LawfulSoFar.{lawful_is_lawful_so_far}
+use Rattle.conc_base_law.specs.Alone.{opening}
+use Rattle.conc_base_law.specs.Facts.{runs}
+use Rattle.conc_base_law.specs.Law.{AtRest, Finished, is_lawful_so_far}
+use Rattle.conc_base_law.specs.Next.{forced, is_at_rest, may_start_somewhere, runs_somewhere}
+use Rattle.conc_base_law.specs.State.{state}
+use Rattle.conc_base_law.specs.Words.{Has}
+use Rattle.conc_base_law.proofs.FactsAt.{is_running-state}
+use Rattle.conc_base_law.proofs.FirstBy.{any-some}
+use Rattle.conc_base_law.proofs.LawfulSoFar.{lawful_is_lawful_so_far}
 use Rattle.conc_run_state.specs.Lists.{GoesOn}
 use Rattle.conc_run_state.proofs.Prefixes.{prefix-opening, prefix-twice}
 use Rattle.conc_run_laws.specs.Lives.{IsInterrupted, IsInterruptedFirst, IsRightLife, OnlyInterrupts}

@@ -7,12 +7,12 @@ use Rattle.conc_types.specs.declared.event.Event.{Event}
 use Rattle.conc_types.specs.declared.event.Event.TheVariants as event
 use Rattle.conc_types.specs.declared.plan.Plan.{Plan}
 use Rattle.conc_types.specs.declared.plan.Req.{Req}
-use Rattle.conc_law.specs.Facts.{was_completed}
-use Rattle.conc_law.specs.Law.{is_lawful_so_far}
-use Rattle.conc_law.specs.Words.{Has}
-use Rattle.conc_law.proofs.Completed.{start_not_completed, was_completed-more}
-use Rattle.conc_law.proofs.Positions.{take-suc_at}
-use Rattle.conc_law.proofs.Prefixes.{is_lawful_so_far-prefix}
+use Rattle.conc_base_law.specs.Facts.{was_completed}
+use Rattle.conc_base_law.specs.Law.{is_lawful_so_far}
+use Rattle.conc_base_law.specs.Words.{Has}
+use Rattle.conc_base_law.proofs.Completed.{start_not_completed, was_completed-more}
+use Rattle.conc_base_law.proofs.Positions.{take-suc_at}
+use Rattle.conc_base_law.proofs.Prefixes.{is_lawful_so_far-prefix}
 use Rattle.conc_run_laws.specs.Lives.{StartsNoMore}
 
 -- what is completed stays so, however many events come

@@ -6,9 +6,9 @@ use Rattle.conc_types.specs.declared.event.PlaceId.{PlaceId}
 use Rattle.conc_types.specs.declared.event.RequestId.{RequestId}
 use Rattle.conc_types.specs.declared.plan.Plan.{Plan}
 use Rattle.conc_types.specs.declared.plan.Req.{Req}
-use Rattle.conc_law.specs.Alone.{opening}
-use Rattle.conc_law.specs.Facts.{runs, was_completed}
-use Rattle.conc_law.specs.Words.{Has}
+use Rattle.conc_base_law.specs.Alone.{opening}
+use Rattle.conc_base_law.specs.Facts.{runs, was_completed}
+use Rattle.conc_base_law.specs.Words.{Has}
 use Rattle.conc_run_state.specs.Lists.{IsPrefix}
 
 -- the event interrupts a request

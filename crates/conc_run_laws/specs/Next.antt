@@ -4,15 +4,17 @@ use Rattle.conc_types.specs.declared.digests.Digests.{Digests}
 use Rattle.conc_types.specs.declared.event.Event.{Event}
 use Rattle.conc_types.specs.declared.plan.Plan.{Plan}
 use Rattle.conc_types.specs.declared.plan.Req.{Req}
+use Rattle.conc_types.specs.declared.script.Readings.{Readings}
 use Rattle.conc_disk.specs.Disk.{DiskState}
+use Rattle.conc_disk.specs.declared.disk.Disk.{Ghosts as DiskGhosts}
 use Rattle.conc_journal.specs.Opens.{broken_of, events_of}
 use Rattle.conc_journal_image.specs.declared.layout.TheConstants.{MOST_RECORDS}
-use Rattle.conc_law.specs.Facts.{runs}
-use Rattle.conc_law.specs.Words.{Has}
+use Rattle.conc_base_law.specs.Facts.{runs}
+use Rattle.conc_base_law.specs.Words.{Has}
 use Rattle.conc_restart.specs.Need.{need}
 use Rattle.conc_run.specs.Whole.{HasLeft, IsFinished}
 use Rattle.conc_run_state.specs.Causes.{HasCause}
-use Rattle.conc_run_state.specs.Handed.{Handed, IsOwnJournal, IsUntouched}
+use Rattle.conc_run_state.specs.Handed.{Handed, handed, IsOwnJournal, IsUntouched}
 use Rattle.conc_run_state.specs.Judging.{AreGood, EndWithin}
 use Rattle.conc_run_state.specs.Lists.{IsPrefix}
 use Rattle.conc_run_state.specs.Stored.{AreStored}
@@ -83,3 +85,33 @@ pub record CrashesAtEnd (h : Handed) (found : List Event) (image texts : List �
 -- nothing was written; or the images fit together, and the list in the journal begins with the one that was acknowledged
 abbrev pub IsFitEnd : Handed → List Event → List ℕ → List ℕ → Type 0
 IsFitEnd h acknowledged image texts = IsUntouched h ⊎ (IsFit h.plan h.digests image texts × IsPrefix acknowledged (events_of image))
+
+-- ---- the laws
+
+-- however an earlier run and the next one of the same files ended: let the earlier one have begun well, and a crash have left this image
+-- of its journal, over which the next one runs
+abbrev pub GoesOnFrom : Handed → Handed → Type 0
+GoesOnFrom earlier next =
+    (threads : ℕ) (found acknowledged last : List Event) (image texts : List ℕ)
+    → BeganWell earlier → HasLeft threads earlier found acknowledged last
+    → IsNextOver earlier.disks.journal_before earlier.disks.journal_after next image texts
+    → IsNextRun next found image
+
+-- the next run may have other readings
+abbrev pub ANextRunGoesOn : {D E : Type 0} → DiskGhosts D → DiskGhosts E → Type 0
+ANextRunGoesOn {D} {E} d e =
+    (plan : Plan) (readings again : Readings) (digests : Digests) (journal journal' shown shown' : D) (spool spool' texts texts' : E)
+    → GoesOnFrom (handed plan readings digests (d.state journal) (d.state journal') (e.state spool) (e.state spool'))
+    (handed plan again digests (d.state shown) (d.state shown') (e.state texts) (e.state texts'))
+
+-- what a run left is fit for the next one, if a crash at its end left these images
+abbrev pub LeavesFit : Handed → Type 0
+LeavesFit h =
+    (threads : ℕ) (found acknowledged last : List Event) (image texts : List ℕ)
+    → HasLeft threads h found acknowledged last → CrashesAtEnd h found image texts
+    → IsFitEnd h acknowledged image texts
+
+abbrev pub AnEndIsFit : {D E : Type 0} → DiskGhosts D → DiskGhosts E → Type 0
+AnEndIsFit {D} {E} d e =
+    (plan : Plan) (readings : Readings) (digests : Digests) (journal journal' : D) (spool spool' : E)
+    → LeavesFit (handed plan readings digests (d.state journal) (d.state journal') (e.state spool) (e.state spool'))

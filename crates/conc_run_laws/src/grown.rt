@@ -5,11 +5,11 @@ ghost use Rattle.conc_types.specs.declared.plan.Plan.{Plan};
 ghost use Rattle.conc_journal.specs.Opens.{events_of};
 ghost use Rattle.conc_journal_image.specs.Image.{version_in};
 ghost use Rattle.conc_journal_image.specs.declared.label.Version.TheVariants.{Two};
-ghost use Rattle.conc_law_growth.specs.Growth.{Grows};
+ghost use Rattle.conc_base_law.specs.Growth.{Grows};
 ghost use Rattle.conc_run_laws.specs.Grown.{AreOfTheirScripts};
 ghost use Rattle.conc_run_laws.specs.Next.{IsFit};
 
-use conc_law_growth::grown_list_is_lawful;
+use conc_base_law::grown_list_is_lawful;
 
 /// Let a journal of version 2 and a spool fit the files of a plan. They fit those of a grown one too: of a
 /// plan with the same setup and tables, whose script has each command that was done, and whose further

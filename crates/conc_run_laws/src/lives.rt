@@ -5,10 +5,10 @@ ghost use Rattle.conc_types.specs.declared.plan.Plan.{Plan};
 ghost use Rattle.conc_types.specs.declared.plan.Req.{Req};
 ghost use Rattle.conc_types.specs.declared.script.Reading.{Reading};
 ghost use Rattle.conc_types.specs.declared.script.Readings.{Readings};
-ghost use Rattle.conc_law.specs.Alone.{opening};
-ghost use Rattle.conc_law.specs.Facts.{runs};
-ghost use Rattle.conc_law.specs.Law.{Finished, LawfulSoFar};
-ghost use Rattle.conc_law.specs.Words.{Has};
+ghost use Rattle.conc_base_law.specs.Alone.{opening};
+ghost use Rattle.conc_base_law.specs.Facts.{runs};
+ghost use Rattle.conc_base_law.specs.Law.{Finished, LawfulSoFar};
+ghost use Rattle.conc_base_law.specs.Words.{Has};
 ghost use Rattle.conc_run_state.specs.Lists.{GoesOn};
 ghost use Rattle.conc_run_laws.specs.Lives.{IsInterrupted, IsRightLife};
 

@@ -5,10 +5,10 @@ use Rattle.std.proofs.lemmas.Bool.{cases_lt}
 use Rattle.conc_types.specs.declared.event.Event.{Event}
 use Rattle.conc_types.specs.declared.event.Event.TheVariants as event
 use Rattle.conc_types.specs.declared.plan.Plan.{Plan}
-use Rattle.conc_law.specs.Kinds.{extent_length}
-use Rattle.conc_law.specs.Law.{LawfulSoFar}
-use Rattle.conc_law.proofs.Numbering.{numbered-at}
-use Rattle.conc_law.proofs.Positions.{slice_get-some}
+use Rattle.conc_base_law.specs.Kinds.{extent_length}
+use Rattle.conc_base_law.specs.Law.{LawfulSoFar}
+use Rattle.conc_base_law.proofs.Numbering.{numbered-at}
+use Rattle.conc_base_law.proofs.Positions.{slice_get-some}
 use Rattle.conc_restart.specs.FirstBad.{IsFirstUnlawful}
 use Rattle.conc_run_state.specs.Judging.{EndsBeyond, EndWithin, IsBadRecord}
 use Rattle.conc_run_open.specs.Extents.{counted, IsFirstBeyond}

@@ -1,29 +1,34 @@
 -- What a run begins with.
-use Rattle.std.proofs.Common.{◌≡◌, ℕ, ◌+◌, List, length, reverse, sym, ◌∙◌, ap, subst, arith, length-append}
+use Rattle.std.proofs.Common.{◌≡◌, ℕ, ◌+◌, List, Result, length, reverse, sym, ◌∙◌, ap, subst, arith, length-append}
 use Rattle.conc_types.specs.declared.digests.Digests.{Digests}
 use Rattle.conc_types.specs.declared.event.Event.{Event}
 use Rattle.conc_types.specs.declared.plan.Plan.{Plan}
 use Rattle.conc_types.specs.declared.script.Reading.{Reading}
 use Rattle.conc_types.specs.declared.script.Readings.{Readings}
 use Rattle.conc_disk.specs.Disk.{DiskState, Stays}
+use Rattle.conc_disk.specs.declared.disk.Disk.{Ghosts as DiskGhosts}
 use Rattle.conc_disk.specs.Left.{EachImage, LeavesOnly}
-use Rattle.conc_law.specs.Alone.{opening}
-use Rattle.conc_law.specs.Law.{Lawful}
-use Rattle.conc_law.specs.State.{used}
+use Rattle.conc_base_law.specs.Alone.{opening}
+use Rattle.conc_base_law.specs.Law.{Lawful}
+use Rattle.conc_base_law.specs.State.{used}
 use Rattle.conc_restart.specs.Machines.{StandsFor}
 use Rattle.conc_journal.specs.Journals.{list_of, room_of}
 use Rattle.conc_journal.specs.Journals.{IsOn as JournalIsOn}
 use Rattle.conc_journal.specs.JournalStates.{has_faulted, takes_events}
 use Rattle.conc_journal.specs.declared.journal.Journal.{Journal}
-use Rattle.conc_spool.specs.Spools.{KeepsBelow}
-use Rattle.conc_run_state.specs.Handed.{handed, IsTaken}
+use Rattle.conc_journal_spool.specs.Spools.{KeepsBelow}
+use Rattle.conc_run_state.specs.Handed.{handed, IsTaken, IsUntouched}
 use Rattle.conc_run_state.specs.Inputs.{AreStampsOf, IsBegunFor, IsOfVersionTwo}
 use Rattle.conc_run_state.specs.Survival.{Survives}
+use Rattle.conc_run_state.specs.Stores.{handed_with}
 use Rattle.conc_run_state.specs.Works.{AreReady}
+use Rattle.conc_run_state.specs.declared.error.HistoryFail.{HistoryFail}
+use Rattle.conc_run_state.specs.declared.input.Input.{Input}
 use Rattle.conc_run_state.specs.declared.work.Work.{Work}
 use Rattle.conc_run_open.specs.declared.examining.Examined.{Examined}
+use Rattle.conc_run_open.specs.declared.opening.Begun.{Begun}
 use Rattle.conc_run_open.specs.Examined.{IsExamined, MayBegin, MayStartWith, WasExamined}
-use Rattle.conc_run_open.specs.Opening.{IsBegun, IsGivenUp, LeavesOpening, StillStored}
+use Rattle.conc_run_open.specs.Opening.{BeginsOn, IsBegun, IsBegunOrGivenUp, IsGivenUp, LeavesOpening, StillStored}
 use Rattle.conc_run_open.proofs.Counting.{end-within}
 use Rattle.conc_run_open.proofs.Lives.{disk-stored, opening-lawful, opening-lives, opening-used}
 use Rattle.conc_run_open.proofs.Surviving.{opening-left, texts-stay}
@@ -121,3 +126,11 @@ module _ (plan : Plan) (readings : Readings) (digests : Digests) (journal mid ne
     left = left;
     stored = stored-still;
   }
+
+-- what was examined for an input, with nothing written, is begun for it
+pub begins-input : {D E : Type 0} (d : DiskGhosts D) (e : DiskGhosts E) (input : Input) (examined : Examined) (journal mid new : D) (spool spool' : E) (answer : Result Begun HistoryFail) → examined.input ≡ input
+    → IsExamined (handed_with d e input journal mid spool spool') examined → IsUntouched (handed_with d e input journal mid spool spool') → BeginsOn d e examined mid new spool' answer
+    → IsBegunOrGivenUp (handed_with d e input journal new spool spool') answer
+begins-input d e input examined journal mid new spool spool' answer same found untouched on =
+    subst (λ (i : Input). IsBegunOrGivenUp (handed_with d e i journal new spool spool') answer) same
+    (on journal spool (subst (λ (i : Input). WasExamined (handed_with d e i journal mid spool spool') examined) (sym same) (record { is_examined = found; untouched = untouched })))

@@ -14,17 +14,17 @@ use Rattle.conc_types.specs.declared.event.RequestId.{RequestId}
 use Rattle.conc_types.specs.declared.plan.Plan.{Plan}
 use Rattle.conc_types.specs.declared.plan.Req.{Req}
 use Rattle.conc_types.specs.Words.{some_and}
-use Rattle.conc_law.specs.Kinds.{extent_length}
-use Rattle.conc_law.specs.Law.{is_lawful_so_far, may_follow, LawfulSoFar}
-use Rattle.conc_law.specs.Next.{is_next_extent, is_report_outcome, is_terminated, may_end}
-use Rattle.conc_law.specs.State.{facts_at, is_running, is_stopping, state, used}
-use Rattle.conc_law.proofs.EqualEvents.{id_same}
-use Rattle.conc_law.proofs.Options.{some_and-some, then_some-some}
-use Rattle.conc_law.proofs.Positions.{reverse-push, take-suc_at}
-use Rattle.conc_law.proofs.Prefixes.{is_lawful_so_far-prefix}
-use Rattle.conc_law.proofs.Remaining.{end_about, IsAboutOne}
-use Rattle.conc_law.proofs.Stops.{end_comes}
-use Rattle.conc_law.proofs.Used.{used_fits}
+use Rattle.conc_base_law.specs.Kinds.{extent_length}
+use Rattle.conc_base_law.specs.Law.{is_lawful_so_far, may_follow, LawfulSoFar}
+use Rattle.conc_base_law.specs.Next.{is_next_extent, is_report_outcome, is_terminated, may_end}
+use Rattle.conc_base_law.specs.State.{facts_at, is_running, is_stopping, state, used}
+use Rattle.conc_base_law.proofs.EqualEvents.{id_same}
+use Rattle.conc_base_law.proofs.Options.{some_and-some, then_some-some}
+use Rattle.conc_base_law.proofs.Positions.{reverse-push, take-suc_at}
+use Rattle.conc_base_law.proofs.Prefixes.{is_lawful_so_far-prefix}
+use Rattle.conc_base_law.proofs.Remaining.{end_about, IsAboutOne}
+use Rattle.conc_base_law.proofs.Stops.{end_comes}
+use Rattle.conc_base_law.proofs.Used.{used_fits}
 use Rattle.conc_run_state.specs.Judging.{EndWithin}
 use Rattle.conc_run_open.specs.Extents.{counted}
 

@@ -7,8 +7,8 @@ use Rattle.conc_types.specs.declared.event.Event.TheVariants as event
 use Rattle.conc_types.specs.declared.event.Extent.{Extent}
 use Rattle.conc_types.specs.declared.event.Outcome.{Outcome}
 use Rattle.conc_types.specs.declared.event.RequestId.{RequestId}
-use Rattle.conc_law.specs.Words.{id_eq}
-use Rattle.conc_law.proofs.EqualEvents.{id_same}
+use Rattle.conc_base_law.specs.Words.{id_eq}
+use Rattle.conc_base_law.proofs.EqualEvents.{id_same}
 use Rattle.conc_run_open.specs.Texts.{HasEnd, report_in}
 
 -- none of the first n events is an end of the request with a report

@@ -14,3 +14,5 @@ pub mod Beginning
 pub mod Listed
 pub mod Stored
 pub mod Ends
+pub mod Failing
+pub mod Opened

@@ -5,7 +5,7 @@ use Rattle.conc_types.specs.declared.digests.Digests.{Digests}
 use Rattle.conc_types.specs.declared.event.Event.{Event}
 use Rattle.conc_types.specs.declared.plan.Plan.{Plan}
 use Rattle.conc_disk.specs.Disk.{DiskState}
-use Rattle.conc_law.specs.Law.{LawfulSoFar}
+use Rattle.conc_base_law.specs.Law.{LawfulSoFar}
 use Rattle.conc_journal.specs.Opens.{broken_of, IsFoundIn}
 use Rattle.conc_journal.specs.declared.opened.Opened.{Opened}
 use Rattle.conc_run_state.specs.Handed.{IsOwnJournal}

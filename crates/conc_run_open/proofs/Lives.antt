@@ -7,18 +7,18 @@ use Rattle.conc_types.specs.declared.event.Event.TheVariants as event
 use Rattle.conc_types.specs.declared.plan.Plan.{Plan}
 use Rattle.conc_types.specs.declared.script.Reading.{Reading}
 use Rattle.conc_types.specs.Words.{is_empty}
-use Rattle.conc_law.specs.Alone.{opening}
-use Rattle.conc_law.specs.Law.{is_lawful, Lawful, may_follow, LawfulSoFar}
-use Rattle.conc_law.specs.Next.{may_come}
-use Rattle.conc_law.specs.Before.{last_life}
-use Rattle.conc_law.specs.State.{state, used}
-use Rattle.conc_law.proofs.Positions.{is_empty-long, reverse-push}
+use Rattle.conc_base_law.specs.Alone.{opening}
+use Rattle.conc_base_law.specs.Law.{is_lawful, Lawful, may_follow, LawfulSoFar}
+use Rattle.conc_base_law.specs.Next.{may_come}
+use Rattle.conc_base_law.specs.Before.{last_life}
+use Rattle.conc_base_law.specs.State.{state, used}
+use Rattle.conc_base_law.proofs.Positions.{is_empty-long, reverse-push}
 use Rattle.conc_restart.specs.Machines.{Machine, StandsFor}
 use Rattle.conc_disk.specs.Disk.{DiskState, Stays}
 use Rattle.conc_disk.specs.Left.{EachImage}
 use Rattle.conc_disk.proofs.Leaving.{if_some-both}
 use Rattle.conc_restart.specs.Need.{IsOfOneLife}
-use Rattle.conc_spool.specs.Spools.{Agrees}
+use Rattle.conc_journal_spool.specs.Spools.{Agrees}
 use Rattle.conc_run_state.specs.Judging.{EndWithin}
 use Rattle.conc_run_state.specs.Stored.{AreStored, IsStored}
 

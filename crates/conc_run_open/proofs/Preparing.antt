@@ -5,22 +5,25 @@ use Rattle.conc_types.specs.declared.digests.Digests.{Digests}
 use Rattle.conc_types.specs.declared.event.Event.{Event}
 use Rattle.conc_types.specs.declared.plan.Plan.{Plan}
 use Rattle.conc_types.specs.declared.script.Reading.{Reading}
-use Rattle.conc_law.specs.Law.{LawfulSoFar}
+use Rattle.conc_base_law.specs.Law.{LawfulSoFar}
 use Rattle.conc_disk.specs.Disk.{DiskState, Reaches}
+use Rattle.conc_disk.specs.declared.disk.Disk.{Ghosts as DiskGhosts}
 use Rattle.conc_disk.specs.Left.{EachImage}
 use Rattle.conc_journal.specs.Journals.{FitsState, list_of, stamps_held, state_of}
 use Rattle.conc_journal.specs.Journals.{IsOn as JournalIsOn}
 use Rattle.conc_journal.specs.declared.journal.Journal.{Journal}
 use Rattle.conc_journal.specs.declared.journal.JournalState.{JournalState}
 use Rattle.conc_journal.specs.declared.opened.Opened.{Opened}
-use Rattle.conc_spool.specs.Spools.{IsOn as SpoolIsOn}
-use Rattle.conc_spool.specs.declared.spool.Spool.{Spool}
+use Rattle.conc_journal_spool.specs.Spools.{IsOn as SpoolIsOn}
+use Rattle.conc_journal_spool.specs.declared.spool.Spool.{Spool}
 use Rattle.conc_run_state.specs.Causes.{HasCause}
 use Rattle.conc_run_state.specs.Handed.{Handed, IsFound}
 use Rattle.conc_run_state.specs.Inputs.{IsBegunFor, IsOfInput}
+use Rattle.conc_run_state.specs.Stores.{handed_with}
 use Rattle.conc_run_state.specs.declared.error.HistoryFail.{HistoryFail}
+use Rattle.conc_run_state.specs.declared.input.Input.{Input}
 use Rattle.conc_run_open.specs.declared.examining.Examined.{Examined}
-use Rattle.conc_run_open.specs.Examined.{IsExamined, IsInHand, IsReady, MayBegin, MayStart, readings_held}
+use Rattle.conc_run_open.specs.Examined.{digests_held, IsExamined, IsInHand, IsReady, MayBegin, MayStart, readings_held}
 use Rattle.conc_run_open.specs.Extents.{counted}
 use Rattle.conc_run_open.specs.Refusals.{LacksRoom, CannotBegin, IsRefused}
 use Rattle.conc_run_open.proofs.Finding.{found-good, found-cannot_begin, HasFound}
@@ -83,12 +86,15 @@ prepared h opened spool (Ok examined) has long on state spool_on ready list_is s
     }
 
 -- what may begin may do so by the plan and the readings that the machine has
-in-hand : (plan : Plan) (readings : List Reading) (digests : Digests) (examined : Examined) (journal spool : DiskState) → MayBegin plan readings digests examined journal spool → IsInHand digests examined journal spool
-in-hand plan readings digests examined journal spool may =
+in-hand : (plan : Plan) (readings : List Reading) (digests : Digests) (examined : Examined) (journal spool : DiskState) → digests_held examined ≡ digests → MayBegin plan readings digests examined journal spool → IsInHand examined journal spool
+in-hand plan readings digests examined journal spool same may =
     let known : readings_held examined ≡ readings = ap (λ (o : Option (List Reading)). unwrap_or o []) may.ready.readings_are in
-    subst (λ (p : Plan). MayBegin p (readings_held examined) digests examined journal spool) (sym may.ready.plan_is)
-    (subst (λ (l : List Reading). MayBegin plan l digests examined journal spool) (sym known) may)
+    subst (λ (p : Plan). MayBegin p (readings_held examined) (digests_held examined) examined journal spool) (sym may.ready.plan_is)
+    (subst (λ (l : List Reading). MayBegin plan l (digests_held examined) examined journal spool) (sym known)
+    (subst (λ (d : Digests). MayBegin plan readings d examined journal spool) (sym same) may))
 
-pub prepared-in_hand : (h : Handed) (r : Result Examined HistoryFail) → IfOk r (IsExamined h) → IfOk r (λ examined. IsInHand h.digests examined h.disks.journal_after h.disks.spool_after)
-prepared-in_hand h (Err e) is = tt
-prepared-in_hand h (Ok examined) is = in-hand h.plan h.readings h.digests examined h.disks.journal_after h.disks.spool_after is.may_begin
+pub prepared-in_hand : {D E : Type 0} (d : DiskGhosts D) (e : DiskGhosts E) (input : Input) (journal journal' : D) (spool spool' : E) (r : Result Examined HistoryFail) → IfOk r (λ examined. examined.input ≡ input)
+    → IfOk r (IsExamined (handed_with d e input journal journal' spool spool')) → IfOk r (λ examined. IsInHand examined (d.state journal') (e.state spool'))
+prepared-in_hand d e input journal journal' spool spool' (Err fail) same found = tt
+prepared-in_hand d e input journal journal' spool spool' (Ok examined) same found =
+    in-hand input.plan.now input.readings.now.list input.digests.now examined (d.state journal') (e.state spool') (ap (λ (i : Input). i.digests.now) same) found.may_begin

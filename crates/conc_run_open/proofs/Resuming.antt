@@ -25,7 +25,7 @@ use Rattle.conc_journal.specs.declared.error.AppendFail.TheVariants as append_fa
 use Rattle.conc_journal.specs.declared.journal.Journal.{Journal}
 use Rattle.conc_journal.specs.declared.journal.JournalState.{JournalState}
 use Rattle.conc_journal.specs.declared.journal.JournalState.TheVariants.{AppendFailed, Begun, BeginFailed, Broken, MigrateFailed, NotBegun}
-use Rattle.conc_law.specs.Alone.{opening}
+use Rattle.conc_base_law.specs.Alone.{opening}
 use Rattle.conc_run_state.specs.Inputs.{AreStampsOf, command_of, IsBegunFor, IsOfInput, NamesInput}
 use Rattle.conc_run_state.specs.Survival.{Survives}
 use Rattle.conc_run_state.proofs.Prefixes.{prefix-opening, prefix-self}

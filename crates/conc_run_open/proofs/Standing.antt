@@ -8,12 +8,12 @@ use Rattle.conc_types.specs.Plans.{stamp}
 use Rattle.conc_types.specs.declared.event.Event.{Event}
 use Rattle.conc_types.specs.declared.event.Event.TheVariants as event
 use Rattle.conc_types.specs.declared.plan.Plan.{Plan}
-use Rattle.conc_law.specs.Law.{is_lawful_so_far, LawfulSoFar}
-use Rattle.conc_law.proofs.Numbering.{numbered-at}
-use Rattle.conc_law.proofs.Positions.{reverse-push, slice_get-some}
-use Rattle.conc_law.proofs.Prefixes.{is_lawful_so_far-prefix}
-use Rattle.conc_law_growth.proofs.Firsts.{command_next}
-use Rattle.conc_law_growth.proofs.Fronts.{enumerated-at}
+use Rattle.conc_base_law.specs.Law.{is_lawful_so_far, LawfulSoFar}
+use Rattle.conc_base_law.proofs.Numbering.{numbered-at}
+use Rattle.conc_base_law.proofs.Positions.{reverse-push, slice_get-some}
+use Rattle.conc_base_law.proofs.Prefixes.{is_lawful_so_far-prefix}
+use Rattle.conc_base_law.proofs.Firsts.{command_next}
+use Rattle.conc_base_law.proofs.Fronts.{enumerated-at}
 use Rattle.conc_run_open.proofs.Scripting.{front-more}
 
 -- of a command that may follow

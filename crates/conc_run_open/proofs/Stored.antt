@@ -10,10 +10,10 @@ use Rattle.conc_outside.specs.Counts.{Rose}
 use Rattle.conc_disk.specs.Disk.{DiskState, HasAt, Reaches, Stays}
 use Rattle.conc_disk.specs.Left.{LeavesOnly}
 use Rattle.conc_disk.proofs.Leaving.{leaves-twice}
-use Rattle.conc_law.specs.Law.{LawfulSoFar}
+use Rattle.conc_base_law.specs.Law.{LawfulSoFar}
 use Rattle.conc_journal.specs.Opens.{IsFoundIn}
 use Rattle.conc_journal.specs.declared.opened.Opened.{Opened}
-use Rattle.conc_run_state.specs.Disks.{Disks}
+use Rattle.conc_run_state.specs.Disks.{AreUntouched, Disks, disks}
 use Rattle.conc_run_state.specs.Handed.{IsOwnJournal}
 use Rattle.conc_run_state.specs.Judging.{IsBadFor}
 use Rattle.conc_run_state.specs.declared.error.HistoryFail.{HistoryFail}
@@ -86,14 +86,24 @@ read-within plan events id x used so_far is ended =
 
 -- ---- the spool's disk, where it is opened and then read
 
-pub stays-twice : (old mid new : DiskState) → Stays old mid → Stays mid new → Stays old new
+stays-twice : (old mid new : DiskState) → Stays old mid → Stays mid new → Stays old new
 stays-twice old mid new first second = record {
   seen = second.seen ∙ first.seen;
   images = λ c is. first.images c (second.images c is);
 }
 
-pub survives-twice : (old mid new : DiskState) → Stays old mid → LeavesOnly old.may_leave old mid → LeavesOnly mid.may_leave mid new → LeavesOnly old.may_leave old new
+survives-twice : (old mid new : DiskState) → Stays old mid → LeavesOnly old.may_leave old mid → LeavesOnly mid.may_leave mid new → LeavesOnly old.may_leave old new
 survives-twice old mid new stays first second = leaves-twice old.may_leave old mid new first (left-wider mid.may_leave old.may_leave mid new stays.images second)
+
+-- nothing is written to either disk
+pub untouched-twice : (journal journal' spool mid spool' : DiskState) → Stays journal journal' → LeavesOnly journal.may_leave journal journal' → Stays spool mid → LeavesOnly spool.may_leave spool mid → Stays mid spool'
+    → LeavesOnly mid.may_leave mid spool' → AreUntouched (disks journal journal' spool spool')
+untouched-twice journal journal' spool mid spool' stays survives first first-survives second second-survives = record {
+  journal = stays;
+  journal_survives = survives;
+  spool = stays-twice spool mid spool' first second;
+  spool_survives = survives-twice spool mid spool' first first-survives second-survives;
+}
 
 pub rose-later : (first mid last : ℕ) → first ≤ mid → Rose mid last → Rose first last
 rose-later first mid last before (inl rose) = inl (omega (arith, rose, before))

@@ -11,7 +11,7 @@ use Rattle.conc_journal_image.specs.Image.{found_in, has_header, is_not_begun, l
 use Rattle.conc_journal.specs.Opens.{events_of}
 use Rattle.conc_run_state.specs.Handed.{Handed}
 use Rattle.conc_run_state.specs.Inputs.{MayBeOfInput}
-use Rattle.conc_spool.specs.Spools.{Agrees, KeepsBelow}
+use Rattle.conc_journal_spool.specs.Spools.{Agrees, KeepsBelow}
 use Rattle.conc_run_state.specs.Survival.{Survives}
 use Rattle.conc_run_open.specs.Opening.{HasOpening, LeavesOpening}
 

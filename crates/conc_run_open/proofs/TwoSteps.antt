@@ -10,7 +10,7 @@ use Rattle.conc_journal.specs.Journals.{state_of}
 use Rattle.conc_journal.specs.JournalStates.{takes_events}
 use Rattle.conc_journal.specs.declared.journal.Journal.{Journal}
 use Rattle.conc_journal.specs.declared.journal.JournalState.TheVariants.{NotBegun}
-use Rattle.conc_law.specs.Alone.{opening}
+use Rattle.conc_base_law.specs.Alone.{opening}
 use Rattle.conc_run_state.specs.Survival.{Survives}
 use Rattle.conc_run_state.proofs.Prefixes.{prefix-opening, prefix-self}
 use Rattle.conc_run_state.proofs.Surviving.{survives-wider}

@@ -5,19 +5,21 @@ use Rattle.conc_types.specs.declared.event.Event.{Event}
 use Rattle.conc_types.specs.declared.plan.Plan.{Plan}
 use Rattle.conc_types.specs.declared.script.Reading.{Reading}
 use Rattle.conc_disk.specs.Disk.{DiskState}
-use Rattle.conc_law.specs.Alone.{opening}
-use Rattle.conc_law.specs.Law.{LawfulSoFar}
-use Rattle.conc_law.specs.State.{used}
+use Rattle.conc_disk.specs.declared.disk.Disk.{Ghosts as DiskGhosts}
+use Rattle.conc_base_law.specs.Alone.{opening}
+use Rattle.conc_base_law.specs.Law.{LawfulSoFar}
+use Rattle.conc_base_law.specs.State.{used}
 use Rattle.conc_restart.specs.Machines.{plan_of, readings_of, StandsFor}
 use Rattle.conc_journal.specs.Journals.{list_of, room_of, state_of}
 use Rattle.conc_journal.specs.Journals.{IsOn as JournalIsOn}
 use Rattle.conc_journal.specs.declared.journal.Journal.{Journal}
 use Rattle.conc_journal.specs.declared.journal.JournalState.TheVariants.{NotBegun}
 use Rattle.conc_restart.specs.Need.{need}
-use Rattle.conc_spool.specs.Spools.{used_of}
-use Rattle.conc_spool.specs.Spools.{IsOn as SpoolIsOn}
+use Rattle.conc_journal_spool.specs.Spools.{used_of}
+use Rattle.conc_journal_spool.specs.Spools.{IsOn as SpoolIsOn}
 use Rattle.conc_run_state.specs.Handed.{Handed, IsFound, IsUntouched}
 use Rattle.conc_run_state.specs.Inputs.{AreStampsOf, IsBegunFor}
+use Rattle.conc_run_state.specs.Stores.{handed_with}
 use Rattle.conc_run_open.specs.declared.examining.Examined.{Examined}
 
 -- it is not begun, or begun for this input
@@ -61,7 +63,12 @@ pub record WasExamined (h : Handed) (examined : Examined) : Type 0 where
   pub is_examined : IsExamined h examined
   pub untouched : IsUntouched h
 
--- ---- by the machine's plan and readings
+-- this journal's disk and this spool's were examined for the input that is held when they stood so, and nothing was written until they
+-- stood as they do now
+abbrev pub WasExaminedOn : {D E : Type 0} → DiskGhosts D → DiskGhosts E → Examined → D → D → E → E → Type 0
+WasExaminedOn d e examined journal journal' spool spool' = WasExamined (handed_with d e examined.input journal journal' spool spool') examined
+
+-- ---- by the machine's plan and readings, and the digests of its input
 
 abbrev pub plan_held : Examined → Plan
 plan_held examined = plan_of examined.machine
@@ -70,5 +77,8 @@ plan_held examined = plan_of examined.machine
 abbrev pub readings_held : Examined → List Reading
 readings_held examined = unwrap_or (readings_of examined.machine) []
 
-abbrev pub IsInHand : Digests → Examined → DiskState → DiskState → Type 0
-IsInHand digests examined journal spool = MayBegin (plan_held examined) (readings_held examined) digests examined journal spool
+abbrev pub digests_held : Examined → Digests
+digests_held examined = examined.input.digests.now
+
+abbrev pub IsInHand : Examined → DiskState → DiskState → Type 0
+IsInHand examined journal spool = MayBegin (plan_held examined) (readings_held examined) (digests_held examined) examined journal spool

@@ -1,7 +1,7 @@
 -- Which event's extent is the first that ends beyond a spool.
 use Rattle.std.specs.Prelude.{ℕ, ◌-◌, ◌<◌, ◌≤◌, min, List, reverse, take}
 use Rattle.conc_types.specs.declared.event.Event.{Event}
-use Rattle.conc_law.specs.State.{used}
+use Rattle.conc_base_law.specs.State.{used}
 
 -- the bytes of all extents, or the greatest number of 64 bits where they are more
 abbrev pub counted : List Event → ℕ

@@ -5,3 +5,4 @@ pub mod Opening
 pub mod Listing
 pub mod Texts
 pub mod Scripts
+pub mod Starting

@@ -1,16 +1,22 @@
 -- What a run begins with.
-use Rattle.std.specs.Prelude.{◌≡◌, ◌⊎◌, ℕ, List, reverse, IfSome}
+use Rattle.std.specs.Prelude.{◌≡◌, ◌⊎◌, ℕ, List, Result, reverse, IfOk, IfSome, OnErr}
 use Rattle.conc_types.specs.declared.event.Event.{Event}
-use Rattle.conc_law.specs.Alone.{opening}
-use Rattle.conc_law.specs.State.{used}
+use Rattle.conc_base_law.specs.Alone.{opening}
+use Rattle.conc_base_law.specs.State.{used}
+use Rattle.conc_disk.specs.declared.disk.Disk.{Ghosts as DiskGhosts}
 use Rattle.conc_disk.specs.Left.{EachImage, LeavesOnly}
-use Rattle.conc_spool.specs.Spools.{KeepsBelow}
+use Rattle.conc_journal_spool.specs.Spools.{KeepsBelow}
 use Rattle.conc_run_state.specs.Handed.{Handed, IsTaken}
 use Rattle.conc_run_state.specs.Inputs.{IsBegunFor, IsOfVersionTwo}
 use Rattle.conc_run_state.specs.Survival.{Survives}
 use Rattle.conc_run_state.specs.Stored.{AreStored}
+use Rattle.conc_run_state.specs.Stores.{handed_with}
 use Rattle.conc_run_state.specs.Works.{AreReady, list_in}
+use Rattle.conc_run_state.specs.declared.error.HistoryFail.{HistoryFail}
 use Rattle.conc_run_state.specs.declared.work.Work.{Work}
+use Rattle.conc_run_open.specs.Examined.{WasExaminedOn}
+use Rattle.conc_run_open.specs.declared.examining.Examined.{Examined}
+use Rattle.conc_run_open.specs.declared.opening.Begun.{Begun}
 
 -- a journal with the events found, with the resume of the life that begins or without
 abbrev pub HasOpening : Handed → List Event → List ℕ → Type 0
@@ -44,3 +50,13 @@ pub record IsGivenUp (h : Handed) : Type 0 where
   pub journal : EachImage (HasOpening h found) h.disks.journal_after
   pub spool : EachImage (KeepsBelow (used (reverse found)) h.disks.spool_before) h.disks.spool_after
   pub stored : StillStored h found
+
+-- What was examined when the disks stood so, whatever they were before, is begun, or given up where the journal's disk failed.
+pub record IsBegunOrGivenUp (h : Handed) (answer : Result Begun HistoryFail) : Type 0 where
+  pub begun : IfOk answer (λ begun. IsBegun h begun.work)
+  pub given_up : OnErr answer (IsGivenUp h)
+
+abbrev pub BeginsOn : {D E : Type 0} → DiskGhosts D → DiskGhosts E → Examined → D → D → E → Result Begun HistoryFail → Type 0
+BeginsOn {D} {E} d e examined journal journal' spool answer =
+    (before : D) (texts : E) → WasExaminedOn d e examined before journal texts spool
+    → IsBegunOrGivenUp (handed_with d e examined.input before journal' texts spool) answer

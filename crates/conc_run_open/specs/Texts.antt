@@ -9,7 +9,7 @@ use Rattle.conc_types.specs.declared.event.RequestId.{RequestId}
 use Rattle.conc_types.specs.declared.plan.Plan.{Plan}
 use Rattle.conc_outside.specs.Counts.{Rose}
 use Rattle.conc_disk.specs.Disk.{DiskState, HasAt}
-use Rattle.conc_law.specs.Words.{id_eq}
+use Rattle.conc_base_law.specs.Words.{id_eq}
 use Rattle.conc_journal.specs.Opens.{broken_of, events_of, may_open}
 use Rattle.conc_run_state.specs.Causes.{IsOther, IsOtherScript}
 use Rattle.conc_run_state.specs.Disks.{Disks}

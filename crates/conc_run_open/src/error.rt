@@ -1,6 +1,8 @@
 ghost use Rattle.std.specs.Prelude.{◌≡◌};
+ghost use Rattle.conc_run_state.specs.Fails.{of_read};
 ghost use Rattle.conc_run_open.specs.declared.error.TextFail.TheVariants as text_fail;
 
+use conc_journal_spool::ReadBack;
 use conc_run_state::HistoryFail;
 use thiserror::Error;
 
@@ -20,5 +22,13 @@ impl From<HistoryFail> for TextFail {
 
     fn from(fail: HistoryFail) -> Self {
         TextFail::NoHistory(fail)
+    }
+}
+
+impl From<ReadBack> for TextFail {
+    ghost from_gives = { λ fail e. e ≡ text_fail.NoHistory (of_read fail) };
+
+    fn from(fail: ReadBack) -> Self {
+        TextFail::NoHistory(HistoryFail::from(fail))
     }
 }

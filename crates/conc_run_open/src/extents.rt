@@ -1,6 +1,6 @@
 ghost use Rattle.std.specs.Prelude.{◌≡◌, ◌<◌, reverse};
-ghost use Rattle.conc_law.specs.Kinds.{extent_length};
-ghost use Rattle.conc_law.specs.State.{used};
+ghost use Rattle.conc_base_law.specs.Kinds.{extent_length};
+ghost use Rattle.conc_base_law.specs.State.{used};
 ghost use Rattle.conc_run_open.specs.Extents.{counted, IsFirstBeyond};
 
 use conc_types::Event;

@@ -1,6 +1,6 @@
 ghost use Rattle.std.specs.Prelude.{◌≡◌, ℕ, ◌<◌, ◌≤◌, IfErr, IfOk, None, OnOk, Option, reverse};
-ghost use Rattle.conc_law.specs.Law.{LawfulSoFar};
-ghost use Rattle.conc_law.specs.State.{used};
+ghost use Rattle.conc_base_law.specs.Law.{LawfulSoFar};
+ghost use Rattle.conc_base_law.specs.State.{used};
 ghost use Rattle.conc_restart.specs.Machines.{plan_of, StandsFor};
 ghost use Rattle.conc_run_open.specs.Extents.{counted};
 ghost use Rattle.conc_run_open.specs.Refusals.{IsRefused};
@@ -44,13 +44,7 @@ pub(crate) fn resume_whole<'p>(
     ensures refused { (len : ℕ) → counted events.now ≤ len
         → IfErr result (IsRefused plan.now len events.now broken) }
 {
-    let machine = match resume(alloc, plan, events) {
-        Ok(machine) => machine,
-        Err(CheckFail::Unlawful { position }) => {
-            return Err(HistoryFail::Unlawful { number: position });
-        }
-        Err(CheckFail::NoMemory) => return Err(HistoryFail::NoMemory),
-    };
+    let machine = resume(alloc, plan, events)?;
     match broken {
         Some(number) => Err(HistoryFail::Unlawful { number }),
         None => Ok(machine),

@@ -4,8 +4,8 @@ ghost use Rattle.conc_disk.specs.Left.{LeavesOnly};
 ghost use Rattle.conc_journal.specs.Journals.{list_of, room_of, stamps_held};
 ghost use Rattle.conc_journal.specs.Journals.{IsOn as JournalIsOn};
 ghost use Rattle.conc_journal.specs.Opens.{IsFoundIn};
-ghost use Rattle.conc_spool.specs.Spools.{used_of};
-ghost use Rattle.conc_spool.specs.Spools.{IsOn as SpoolIsOn};
+ghost use Rattle.conc_journal_spool.specs.Spools.{used_of};
+ghost use Rattle.conc_journal_spool.specs.Spools.{IsOn as SpoolIsOn};
 ghost use Rattle.conc_run_state.specs.Handed.{IsOwnJournal};
 ghost use Rattle.conc_run_state.specs.Causes as causes_spec;
 ghost use Rattle.conc_run_state.specs.Inputs.{IsOfInput};
@@ -18,10 +18,10 @@ use crate::extents::count_bytes;
 use crate::judging::refuse_short;
 use crate::scripts::first_other;
 use conc_disk::Disk;
-use conc_journal::{Journal, JournalFail, Opened};
+use conc_journal::{Journal, Opened};
 use conc_journal_image::{Label, Version, base_of};
+use conc_journal_spool::{Spool, SpoolFail};
 use conc_run_state::{DiskName, HistoryFail};
-use conc_spool::{Spool, SpoolFail};
 use conc_types::{Digests, Event, Plan};
 use std::alloc::Global;
 
@@ -96,16 +96,7 @@ pub(crate) fn open_own<D: Disk>(
     ensures survives { LeavesOnly (D.state disk.old).may_leave (D.state disk.old)
         (D.state disk.new) }
 {
-    let opened = match Journal::open_on(alloc, disk) {
-        Ok(opened) => opened,
-        Err(JournalFail::NotJournal) => return Err(HistoryFail::NotJournal),
-        Err(JournalFail::DiskFault) => {
-            return Err(HistoryFail::DiskFault {
-                disk: DiskName::Journal,
-            });
-        }
-        Err(JournalFail::NoMemory) => return Err(HistoryFail::NoMemory),
-    };
+    let opened = Journal::open_on(alloc, disk)?;
     match opened.label {
         None => Ok(opened),
         Some(label) => match judge_input(plan, digests, label, &opened.journal) {

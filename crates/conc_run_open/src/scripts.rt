@@ -1,5 +1,5 @@
 ghost use Rattle.std.specs.Prelude.{◌≡◌, IfOk, MatchOption, length, count_by};
-ghost use Rattle.conc_law.specs.Law.{LawfulSoFar};
+ghost use Rattle.conc_base_law.specs.Law.{LawfulSoFar};
 ghost use Rattle.conc_journal_image.specs.Fields.{has_stamp};
 ghost use Rattle.conc_run_state.specs.Inputs.{AreStampsOf};
 ghost use Rattle.conc_run_open.specs.Scripts.{IsOtherCommand};

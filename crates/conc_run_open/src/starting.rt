@@ -1,15 +1,13 @@
-ghost use Rattle.std.specs.Prelude.{◌≡◌, ◌+◌, ◌<◌, IfOk, IfSome, IsFalse, IsNone, IsTrue, length, OnErr, OnOk, Some};
+ghost use Rattle.std.specs.Prelude.{◌≡◌, ◌<◌, IsFalse, IsTrue, OnErr, OnOk};
 ghost use Rattle.conc_outside.specs.Counts.{Rose};
 ghost use Rattle.conc_types.specs.declared.digests.Digests.{Digests as DigestsOf};
 ghost use Rattle.conc_types.specs.declared.plan.Plan.{Plan};
-ghost use Rattle.conc_law.specs.Alone.{opening};
-ghost use Rattle.conc_disk.specs.Left.{EachImage, LeavesOnly};
+ghost use Rattle.conc_base_law.specs.Alone.{opening};
 ghost use Rattle.conc_journal.specs.Journals.{IsOn, list_of, room_of, state_of};
 ghost use Rattle.conc_journal.specs.JournalStates.{has_faulted, takes_events};
-ghost use Rattle.conc_journal.specs.Receipts.{IsNextOf};
 ghost use Rattle.conc_run_state.specs.Inputs.{IsBegunFor, IsOfVersionTwo};
-ghost use Rattle.conc_run_state.specs.Survival.{Survives};
 ghost use Rattle.conc_run_open.specs.Examined.{MayStartWith};
+ghost use Rattle.conc_run_open.specs.Starting.{HasOpened, SurvivesBetween};
 
 use conc_disk::{Disk, DiskFault};
 use conc_journal::{Journal, Receipt};
@@ -33,11 +31,8 @@ fn renew<D: Disk>(
     ensures room { room_of journal.new ≡ room_of journal.old }
     ensures fault { OnErr result (Rose (D.state disk.old).faults (D.state disk.new).faults) }
     ensures survives { (plan : Plan) → MayStartWith plan digests.now due.now journal.old
-        → LeavesOnly (Survives plan digests.now (list_of journal.old) (list_of journal.old))
+        → SurvivesBetween plan digests.now (list_of journal.old) (list_of journal.old)
         (D.state disk.old) (D.state disk.new) }
-    ensures now { (plan : Plan) → MayStartWith plan digests.now due.now journal.old
-        → EachImage (Survives plan digests.now (list_of journal.old) (list_of journal.old))
-        (D.state disk.new) }
 {
     if journal.is_of_version_one() {
         journal.migrate(disk, &digests.base, due)
@@ -56,20 +51,11 @@ fn resume<D: Disk>(journal: &mut Journal, disk: &mut D) -> Result<Option<Receipt
     ensures begun_for { (plan : Plan) (digests : DigestsOf) → IsBegunFor plan digests journal.old
         → OnOk result (IsBegunFor plan digests journal.new) }
     ensures version { IsOfVersionTwo journal.old → OnOk result (IsOfVersionTwo journal.new) }
-    ensures list { OnOk result (list_of journal.new ≡ opening (list_of journal.old)) }
-    ensures room { OnOk result (room_of journal.new + length (list_of journal.new)
-        ≡ room_of journal.old + length (list_of journal.old)) }
-    ensures receipt { IfOk result (λ resumed. IfSome resumed
-        (IsNextOf (Some (list_of journal.old)) (λ list. list ≡ list_of journal.new))) }
-    ensures still { IfOk result (λ resumed. IsNone resumed
-        → list_of journal.new ≡ list_of journal.old) }
+    ensures opened { HasOpened result journal.old journal.new }
     ensures fault { OnErr result (Rose (D.state disk.old).faults (D.state disk.new).faults) }
     ensures survives { (plan : Plan) (digests : DigestsOf) → IsBegunFor plan digests journal.old
-        → LeavesOnly (Survives plan digests (list_of journal.old) (opening (list_of journal.old)))
+        → SurvivesBetween plan digests (list_of journal.old) (opening (list_of journal.old))
         (D.state disk.old) (D.state disk.new) }
-    ensures now { (plan : Plan) (digests : DigestsOf) → IsBegunFor plan digests journal.old
-        → EachImage (Survives plan digests (list_of journal.old) (opening (list_of journal.old)))
-        (D.state disk.new) }
 {
     if journal.events().is_empty() {
         return Ok(None);
@@ -96,21 +82,12 @@ pub(crate) fn start<D: Disk>(
     ensures begun_for { (plan : Plan) → MayStartWith plan digests.now due.now journal.old
         → OnOk result (IsBegunFor plan digests.now journal.new) }
     ensures version { OnOk result (IsOfVersionTwo journal.new) }
-    ensures list { OnOk result (list_of journal.new ≡ opening (list_of journal.old)) }
-    ensures room { OnOk result (room_of journal.new + length (list_of journal.new)
-        ≡ room_of journal.old + length (list_of journal.old)) }
-    ensures receipt { IfOk result (λ resumed. IfSome resumed
-        (IsNextOf (Some (list_of journal.old)) (λ list. list ≡ list_of journal.new))) }
-    ensures still { IfOk result (λ resumed. IsNone resumed
-        → list_of journal.new ≡ list_of journal.old) }
+    ensures opened { HasOpened result journal.old journal.new }
     ensures fault { OnErr result (Rose (D.state disk.old).faults (D.state disk.new).faults) }
 
     ensures survives { (plan : Plan) → MayStartWith plan digests.now due.now journal.old
-        → LeavesOnly (Survives plan digests.now (list_of journal.old)
-        (opening (list_of journal.old))) (D.state disk.old) (D.state disk.new) }
-    ensures now { (plan : Plan) → MayStartWith plan digests.now due.now journal.old
-        → EachImage (Survives plan digests.now (list_of journal.old)
-        (opening (list_of journal.old))) (D.state disk.new) }
+        → SurvivesBetween plan digests.now (list_of journal.old)
+        (opening (list_of journal.old)) (D.state disk.old) (D.state disk.new) }
 {
     if !journal.takes_events() {
         journal.begin(disk, digests)?;

@@ -1,15 +1,13 @@
 ghost use Rattle.std.specs.Prelude.{◌≡◌, IfErr, IfOk, MatchOption};
-ghost use Rattle.conc_disk.specs.Disk.{Stays};
-ghost use Rattle.conc_disk.specs.Left.{LeavesOnly};
-ghost use Rattle.conc_run_state.specs.Disks.{disks};
+ghost use Rattle.conc_run_state.specs.Disks.{AreUntouched};
+ghost use Rattle.conc_run_state.specs.Stores.{disks_of, SameStores};
 ghost use Rattle.conc_run_open.specs.Texts.{HasEnd, HasNoEnd, HasText, HasTextCause, report_in};
 
 use crate::TextFail;
 use crate::judging::resume_whole;
 use crate::reading::{open_own, open_texts};
 use conc_disk::Disk;
-use conc_run_state::{DiskName, HistoryFail};
-use conc_spool::ReadBack;
+use conc_run_state::Stores;
 use conc_types::{Digests, Event, Extent, Plan, RequestId};
 use std::alloc::Global;
 
@@ -49,33 +47,20 @@ pub fn read_text<D: Disk, E: Disk>(
     plan: &Plan,
     digests: &Digests,
     id: RequestId,
-    journal: &mut D,
-    spool: &mut E,
+    stores: &mut Stores<'_, D, E>,
 ) -> Result<Vec<u8>, TextFail>
-    ensures text { IfOk result (λ text. HasText plan.now digests.now id (D.state journal.old)
-        (E.state spool.old) text.items) }
+    ensures same { SameStores stores.old stores.new }
+    ensures text { IfOk result (λ text. HasText plan.now digests.now id
+        (D.state stores.old.journal.now) (E.state stores.old.spool.now) text.items) }
     ensures cause { IfErr result (HasTextCause plan.now digests.now id
-        (disks (D.state journal.old) (D.state journal.new) (E.state spool.old)
-        (E.state spool.new))) }
-
-    ensures journal_stays { Stays (D.state journal.old) (D.state journal.new) }
-    ensures journal_survives { LeavesOnly (D.state journal.old).may_leave (D.state journal.old)
-        (D.state journal.new) }
-    ensures spool_stays { Stays (E.state spool.old) (E.state spool.new) }
-    ensures spool_survives { LeavesOnly (E.state spool.old).may_leave (E.state spool.old)
-        (E.state spool.new) }
+        (disks_of D.Disk E.Disk stores.old stores.new)) }
+    ensures untouched { AreUntouched (disks_of D.Disk E.Disk stores.old stores.new) }
 {
-    let opened = open_own(alloc, plan, digests, journal)?;
-    let texts = open_texts(alloc, plan, opened.journal.events(), spool)?;
+    let opened = open_own(alloc, plan, digests, stores.journal)?;
+    let texts = open_texts(alloc, plan, opened.journal.events(), stores.spool)?;
     resume_whole(alloc, plan, opened.journal.events(), opened.broken)?;
     let Some(extent) = find_report(opened.journal.events(), id) else {
         return Err(TextFail::NotEnded);
     };
-    match texts.read(alloc, spool, extent) {
-        Ok(text) => Ok(text),
-        Err(ReadBack::DiskFault) => Err(TextFail::NoHistory(HistoryFail::DiskFault {
-            disk: DiskName::Spool,
-        })),
-        Err(ReadBack::NoMemory) => Err(TextFail::NoHistory(HistoryFail::NoMemory)),
-    }
+    Ok(texts.read(alloc, stores.spool, extent)?)
 }

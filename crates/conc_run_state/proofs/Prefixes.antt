@@ -2,7 +2,7 @@
 use Rattle.std.proofs.Common.{List, [], ◌∷◌, ◌++◌, refl, sym, ◌∙◌, ap, append_assoc, append-nil}
 use Rattle.conc_types.specs.declared.event.Event.{Event}
 use Rattle.conc_types.specs.declared.event.Event.TheVariants as event
-use Rattle.conc_law.specs.Alone.{opening}
+use Rattle.conc_base_law.specs.Alone.{opening}
 use Rattle.conc_run_state.specs.Lists.{IsPrefix}
 
 pub prefix-self : (list : List Event) → IsPrefix list list

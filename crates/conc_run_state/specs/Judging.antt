@@ -8,7 +8,7 @@ use Rattle.conc_types.specs.declared.event.RequestId.{RequestId}
 use Rattle.conc_types.specs.declared.plan.Plan.{Plan}
 use Rattle.conc_types.specs.Words.{numbered}
 use Rattle.conc_disk.specs.Disk.{DiskState, HasLength}
-use Rattle.conc_law.specs.Law.{LawfulSoFar}
+use Rattle.conc_base_law.specs.Law.{LawfulSoFar}
 use Rattle.conc_restart.specs.FirstBad.{IsFirstUnlawful}
 
 -- each extent of these events ends within so many bytes

@@ -9,3 +9,5 @@ pub mod Causes
 pub mod Fits
 pub mod Inputs
 pub mod Machines
+pub mod Stores
+pub mod Fails

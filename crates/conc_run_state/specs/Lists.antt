@@ -4,10 +4,10 @@ use Rattle.std.specs.List.{list_any}
 use Rattle.conc_types.specs.declared.event.Event.{Event}
 use Rattle.conc_types.specs.declared.plan.Plan.{Plan}
 use Rattle.conc_types.specs.declared.script.Reading.{Reading}
-use Rattle.conc_law.specs.Alone.{Follows}
-use Rattle.conc_law.specs.Ends.{AreReported}
-use Rattle.conc_law.specs.Kinds.{is_resume}
-use Rattle.conc_law.specs.Law.{Lawful}
+use Rattle.conc_base_law.specs.Alone.{Follows}
+use Rattle.conc_base_law.specs.Ends.{AreReported}
+use Rattle.conc_base_law.specs.Kinds.{is_resume}
+use Rattle.conc_base_law.specs.Law.{Lawful}
 use Rattle.conc_journal.specs.Journals.{list_of, state_of}
 use Rattle.conc_journal.specs.declared.journal.Journal.{Journal}
 use Rattle.conc_journal.specs.declared.journal.JournalState.{JournalState}

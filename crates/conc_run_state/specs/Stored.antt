@@ -6,7 +6,7 @@ use Rattle.conc_types.specs.declared.event.Extent.{Extent}
 use Rattle.conc_types.specs.declared.event.Outcome.{Outcome}
 use Rattle.conc_types.specs.declared.event.RequestId.{RequestId}
 use Rattle.conc_types.specs.declared.plan.Plan.{Plan}
-use Rattle.conc_law.specs.Ends.{IsReported}
+use Rattle.conc_base_law.specs.Ends.{IsReported}
 
 -- the outcome is that of the request's report, and these bytes hold its text at the extent
 pub record IsStored (plan : Plan) (bytes : List ℕ) (id : RequestId) (outcome : Outcome) (extent : Extent) : Type 0 where

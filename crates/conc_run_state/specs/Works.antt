@@ -7,9 +7,9 @@ use Rattle.conc_types.specs.declared.event.Outcome.{Outcome}
 use Rattle.conc_types.specs.declared.event.RequestId.{RequestId}
 use Rattle.conc_types.specs.declared.plan.Plan.{Plan}
 use Rattle.conc_types.specs.declared.script.Reading.{Reading}
-use Rattle.conc_law.specs.Ends.{IsReported}
-use Rattle.conc_law.specs.Law.{Lawful}
-use Rattle.conc_law.specs.State.{used}
+use Rattle.conc_base_law.specs.Ends.{IsReported}
+use Rattle.conc_base_law.specs.Law.{Lawful}
+use Rattle.conc_base_law.specs.State.{used}
 use Rattle.conc_disk.specs.Disk.{DiskState}
 use Rattle.conc_disk.specs.Left.{EachImage}
 use Rattle.conc_journal.specs.Journals.{list_of, room_of, state_of}
@@ -17,8 +17,8 @@ use Rattle.conc_journal.specs.Journals.{IsOn as JournalIsOn}
 use Rattle.conc_journal.specs.JournalStates.{has_faulted, takes_events}
 use Rattle.conc_restart.specs.Machines.{plan_of, readings_of, StandsFor}
 use Rattle.conc_restart.specs.Need.{IsOfOneLife, need}
-use Rattle.conc_spool.specs.Spools.{used_of}
-use Rattle.conc_spool.specs.Spools.{IsOn as SpoolIsOn}
+use Rattle.conc_journal_spool.specs.Spools.{used_of}
+use Rattle.conc_journal_spool.specs.Spools.{IsOn as SpoolIsOn}
 use Rattle.conc_run_state.specs.Lists.{longest_of}
 use Rattle.conc_run_state.specs.Stored.{IsStored}
 use Rattle.conc_run_state.specs.declared.work.Work.{Work}

@@ -1,3 +1,11 @@
+ghost use Rattle.std.specs.Prelude.{◌≡◌};
+ghost use Rattle.conc_run_state.specs.Fails.{of_check, of_journal, of_read, of_run};
+ghost use Rattle.conc_run_state.specs.declared.error.HistoryFail.TheVariants as history_fail;
+ghost use Rattle.conc_run_state.specs.declared.error.RunFail.TheVariants as run_fail;
+
+use conc_journal::JournalFail;
+use conc_journal_spool::ReadBack;
+use conc_types::{CheckFail, NoMemory};
 use thiserror::Error;
 
 /// One of the two disks of a run.
@@ -55,4 +63,74 @@ pub enum HistoryFail {
     },
     #[error("no memory")]
     NoMemory,
+}
+
+impl From<NoMemory> for RunFail {
+    ghost from_gives = { λ _ e. e ≡ run_fail.NoMemory };
+
+    fn from(_: NoMemory) -> Self {
+        RunFail::NoMemory
+    }
+}
+
+impl From<NoMemory> for HistoryFail {
+    ghost from_gives = { λ _ e. e ≡ history_fail.NoMemory };
+
+    fn from(_: NoMemory) -> Self {
+        HistoryFail::NoMemory
+    }
+}
+
+impl From<RunFail> for HistoryFail {
+    ghost from_gives = { λ fail e. e ≡ of_run fail };
+
+    fn from(fail: RunFail) -> Self {
+        match fail {
+            RunFail::JournalFault => HistoryFail::DiskFault {
+                disk: DiskName::Journal,
+            },
+            RunFail::SpoolFault => HistoryFail::DiskFault {
+                disk: DiskName::Spool,
+            },
+            RunFail::NoMemory => HistoryFail::NoMemory,
+        }
+    }
+}
+
+impl From<JournalFail> for HistoryFail {
+    ghost from_gives = { λ fail e. e ≡ of_journal fail };
+
+    fn from(fail: JournalFail) -> Self {
+        match fail {
+            JournalFail::NotJournal => HistoryFail::NotJournal,
+            JournalFail::DiskFault => HistoryFail::DiskFault {
+                disk: DiskName::Journal,
+            },
+            JournalFail::NoMemory => HistoryFail::NoMemory,
+        }
+    }
+}
+
+impl From<CheckFail> for HistoryFail {
+    ghost from_gives = { λ fail e. e ≡ of_check fail };
+
+    fn from(fail: CheckFail) -> Self {
+        match fail {
+            CheckFail::Unlawful { position } => HistoryFail::Unlawful { number: position },
+            CheckFail::NoMemory => HistoryFail::NoMemory,
+        }
+    }
+}
+
+impl From<ReadBack> for HistoryFail {
+    ghost from_gives = { λ fail e. e ≡ of_read fail };
+
+    fn from(fail: ReadBack) -> Self {
+        match fail {
+            ReadBack::DiskFault => HistoryFail::DiskFault {
+                disk: DiskName::Spool,
+            },
+            ReadBack::NoMemory => HistoryFail::NoMemory,
+        }
+    }
 }

@@ -3,8 +3,13 @@
 #![tactic(auto)]
 
 mod error;
+mod input;
+mod stores;
 mod work;
 
+// The machine is a part of `Work`: who works with one names this crate alone.
 pub use conc_restart::Machine;
 pub use error::{DiskName, HistoryFail, RunFail};
+pub use input::Input;
+pub use stores::Stores;
 pub use work::Work;

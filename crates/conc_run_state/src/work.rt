@@ -1,6 +1,6 @@
 use conc_journal::Journal;
+use conc_journal_spool::Spool;
 use conc_restart::Machine;
-use conc_spool::Spool;
 
 /// What a run works on. It does not hold the disks of its journal and its spool, which each call is
 /// handed.

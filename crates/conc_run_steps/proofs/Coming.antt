@@ -17,23 +17,23 @@ use Rattle.conc_types.specs.declared.script.Reading.{Reading}
 use Rattle.conc_types.specs.declared.script.Readings.{Readings}
 use Rattle.conc_types.specs.Scripts.{are_in_order}
 use Rattle.conc_types.specs.Tables.{table_named}
-use Rattle.conc_law.specs.Alone.{next_alone, report_of}
-use Rattle.conc_law.specs.Ends.{IsReported}
-use Rattle.conc_law.specs.Kinds.{extent_length, is_resume}
-use Rattle.conc_law.specs.Law.{is_lawful, is_lawful_so_far, Lawful, LawfulSoFar, may_follow}
-use Rattle.conc_law.specs.Next.{is_report_outcome, is_terminated}
-use Rattle.conc_law.specs.Plans.{program_of}
-use Rattle.conc_law.specs.Report.{Report, report}
-use Rattle.conc_law.specs.State.{used}
-use Rattle.conc_law.proofs.AloneLawful.{IsGood, next_alone-follows, report-good}
-use Rattle.conc_law.proofs.LawfulSoFar.{lawful_is_lawful_so_far}
-use Rattle.conc_law.proofs.Options.{and_then-some, map-some}
-use Rattle.conc_law.proofs.Outcomes.{close_outcome, end_outcome}
-use Rattle.conc_law.proofs.Positions.{reverse-push}
-use Rattle.conc_machine_readings.specs.declared.life.LifeReadings.{LifeReadings}
+use Rattle.conc_base_law.specs.Alone.{next_alone, report_of}
+use Rattle.conc_base_law.specs.Ends.{IsReported}
+use Rattle.conc_base_law.specs.Kinds.{extent_length, is_resume}
+use Rattle.conc_base_law.specs.Law.{is_lawful, is_lawful_so_far, Lawful, LawfulSoFar, may_follow}
+use Rattle.conc_base_law.specs.Next.{is_report_outcome, is_terminated}
+use Rattle.conc_base_law.specs.Plans.{program_of}
+use Rattle.conc_base_law.specs.Report.{Report, report}
+use Rattle.conc_base_law.specs.State.{used}
+use Rattle.conc_base_law.proofs.AloneLawful.{IsGood, next_alone-follows, report-good}
+use Rattle.conc_base_law.proofs.LawfulSoFar.{lawful_is_lawful_so_far}
+use Rattle.conc_base_law.proofs.Options.{and_then-some, map-some}
+use Rattle.conc_base_law.proofs.Outcomes.{close_outcome, end_outcome}
+use Rattle.conc_base_law.proofs.Positions.{reverse-push}
+use Rattle.conc_machine.specs.declared.life.LifeReadings.{LifeReadings}
 use Rattle.conc_run_state.specs.Machines.{Machine, readings_of, StandsFor}
-use Rattle.conc_resolver_choice.specs.Choices.{HasItsText}
-use Rattle.conc_resolver_choice.proofs.Pushes.{is_lawful-more}
+use Rattle.conc_run_choice.specs.Choices.{HasItsText}
+use Rattle.conc_run_choice.proofs.Pushes.{is_lawful-more}
 use Rattle.conc_disk.specs.Disk.{DiskState}
 use Rattle.conc_journal_image.specs.Fields.{has_record}
 use Rattle.conc_journal.specs.Journals.{room_of, state_of}
@@ -41,9 +41,9 @@ use Rattle.conc_journal.specs.Journals.{IsOn as JournalIsOn}
 use Rattle.conc_journal.specs.JournalStates.{takes_events}
 use Rattle.conc_run_state.specs.Machines.{IsOfOneLife, need}
 use Rattle.conc_run_state.proofs.Lives.{life_fits}
-use Rattle.conc_spool.specs.Spools.{used_of}
-use Rattle.conc_spool.specs.Spools.{IsOn as SpoolIsOn}
-use Rattle.conc_spool.specs.declared.spool.Spool.{Spool}
+use Rattle.conc_journal_spool.specs.Spools.{used_of}
+use Rattle.conc_journal_spool.specs.Spools.{IsOn as SpoolIsOn}
+use Rattle.conc_journal_spool.specs.declared.spool.Spool.{Spool}
 use Rattle.conc_run_state.specs.Works.{AreTied, HasPendingText, HasRoom, list_in}
 use Rattle.conc_run_state.specs.declared.work.Work.{Work}
 use Rattle.conc_run_steps.specs.Steps.{any_disk, IsReady, IsTied, MayLog, next_in, plan_in, readings_in}

@@ -7,9 +7,9 @@ use Rattle.conc_types.specs.declared.event.Event.{Event}
 use Rattle.conc_types.specs.declared.event.Event.TheVariants as event
 use Rattle.conc_types.specs.declared.plan.Plan.{Plan}
 use Rattle.conc_types.specs.declared.script.Reading.{Reading}
-use Rattle.conc_law.specs.Law.{Lawful, LawfulSoFar}
-use Rattle.conc_law.specs.State.{used}
-use Rattle.conc_law.proofs.Prefixes.{is_lawful_so_far-prefix}
+use Rattle.conc_base_law.specs.Law.{Lawful, LawfulSoFar}
+use Rattle.conc_base_law.specs.State.{used}
+use Rattle.conc_base_law.proofs.Prefixes.{is_lawful_so_far-prefix}
 use Rattle.conc_disk.specs.Disk.{DiskState}
 use Rattle.conc_disk.specs.Left.{EachImage, LeavesOnly}
 use Rattle.conc_disk.proofs.Leaving.{if_some-both, left-is-kind}
@@ -18,7 +18,7 @@ use Rattle.conc_journal.specs.Journals.{FitsState, stamps_held, state_of}
 use Rattle.conc_journal.specs.Opens.{events_of}
 use Rattle.conc_journal.specs.declared.journal.JournalState.{JournalState}
 use Rattle.conc_journal.specs.declared.journal.JournalState.TheVariants.{Begun}
-use Rattle.conc_spool.specs.Spools.{Agrees, KeepsBelow, used_of}
+use Rattle.conc_journal_spool.specs.Spools.{Agrees, KeepsBelow, used_of}
 use Rattle.conc_run_state.specs.Disks.{disks}
 use Rattle.conc_run_state.specs.Fits.{Fit, FitThroughout}
 use Rattle.conc_run_state.specs.Inputs.{IsBegunFor}

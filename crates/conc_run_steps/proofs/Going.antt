@@ -12,17 +12,17 @@ use Rattle.conc_types.specs.declared.event.Outcome.{Outcome}
 use Rattle.conc_types.specs.declared.event.RequestId.{RequestId}
 use Rattle.conc_types.specs.declared.plan.Plan.{Plan}
 use Rattle.conc_types.specs.declared.script.Reading.{Reading}
-use Rattle.conc_law.specs.Ends.{IsReported}
-use Rattle.conc_law.specs.Kinds.{is_resume}
-use Rattle.conc_law.specs.Law.{Lawful}
-use Rattle.conc_law.specs.State.{used}
+use Rattle.conc_base_law.specs.Ends.{IsReported}
+use Rattle.conc_base_law.specs.Kinds.{is_resume}
+use Rattle.conc_base_law.specs.Law.{Lawful}
+use Rattle.conc_base_law.specs.State.{used}
 use Rattle.conc_disk.specs.Disk.{DiskState, SeenFollows}
 use Rattle.conc_disk.specs.Left.{EachImage, LeavesOnly}
 use Rattle.conc_disk.proofs.Leaving.{if_some-any, leaves-none, leaves-twice, leaves-wider}
 use Rattle.conc_journal.specs.Journals.{list_of, state_of}
 use Rattle.conc_journal.specs.JournalStates.{has_faulted, state_label}
 use Rattle.conc_journal.specs.declared.journal.Journal.{Journal}
-use Rattle.conc_spool.specs.Spools.{Agrees, KeepsBelow, used_of}
+use Rattle.conc_journal_spool.specs.Spools.{Agrees, KeepsBelow, used_of}
 use Rattle.conc_run_state.specs.Inputs.{IsBegunFor, IsHeldFor}
 use Rattle.conc_run_state.specs.Lists.{GoesOn, IsPrefix, longest_of}
 use Rattle.conc_run_state.specs.Survival.{Survives}

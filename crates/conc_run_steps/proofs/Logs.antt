@@ -1,5 +1,5 @@
 -- What a crash leaves of a journal to which an event is added, and at which state it is then.
-use Rattle.std.proofs.Common.{◌≡◌, ⊎_elim, ℕ, true, false, List, [], ◌∷◌, ◌++◌, append-nil, refl, sym, ◌∙◌, ap, subst}
+use Rattle.std.proofs.Common.{◌≡◌, ◌⊎◌, inl, inr, ⊎_elim, ℕ, Bool, true, false, IsFalse, IsTrue, List, [], ◌∷◌, ◌++◌, append-nil, refl, sym, ◌∙◌, ap, subst}
 use Rattle.conc_types.specs.declared.digests.Digests.{Digests}
 use Rattle.conc_types.specs.declared.event.Event.{Event}
 use Rattle.conc_types.specs.declared.plan.Plan.{Plan}
@@ -114,3 +114,8 @@ module _ (plan : Plan) (old new : Journal) (e : Event) (s : ℕ) (is : HasStamp 
             ))
             (of-input-more plan digests begun.label (list_of old) (stamps_held old) e s is begun.of_input);
       }
+
+-- a fault of an append to a journal that had met none
+pub rose-sound : (X : Type 0) (faulted : Bool) → X ⊎ IsTrue faulted → IsFalse faulted → X
+rose-sound X faulted (inl rose) sound = rose
+rose-sound X faulted (inr is) sound = absurd (cc (is, sound))

@@ -5,14 +5,14 @@ use Rattle.std.proofs.lemmas.Option.{IfSome_then}
 use Rattle.conc_types.specs.declared.event.Event.{Event}
 use Rattle.conc_types.specs.declared.event.Event.TheVariants as event
 use Rattle.conc_types.specs.declared.plan.Plan.{Plan}
-use Rattle.conc_law.specs.Law.{LawfulSoFar}
+use Rattle.conc_base_law.specs.Law.{LawfulSoFar}
 use Rattle.conc_disk.specs.Disk.{DiskState}
 use Rattle.conc_disk.specs.Left.{EachImage}
 use Rattle.conc_disk.proofs.Leaving.{if_some-any}
-use Rattle.conc_resolver_choice.specs.Choices.{HasItsText}
+use Rattle.conc_run_choice.specs.Choices.{HasItsText}
 use Rattle.conc_run_state.specs.Stored.{AreStored}
 use Rattle.conc_types.specs.declared.script.Reading.{Reading}
-use Rattle.conc_spool.specs.Spools.{IsOn as SpoolIsOn}
+use Rattle.conc_journal_spool.specs.Spools.{IsOn as SpoolIsOn}
 use Rattle.conc_run_state.specs.Works.{AreTied, HasPendingText, list_in}
 use Rattle.conc_run_state.specs.declared.work.Work.{Work}
 use Rattle.conc_run_steps.specs.Steps.{any_disk, StoresOn}

@@ -11,10 +11,10 @@ use Rattle.conc_types.specs.declared.event.Event.TheVariants as event
 use Rattle.conc_types.specs.declared.plan.Plan.{Plan}
 use Rattle.conc_types.specs.declared.script.Order.{Order}
 use Rattle.conc_types.specs.Plans.{stamp}
-use Rattle.conc_law.specs.Law.{Lawful, may_follow}
-use Rattle.conc_law.specs.Words.{Has}
-use Rattle.conc_law.proofs.Due.{command_undone}
-use Rattle.conc_law.proofs.Numbering.{numbered-at}
+use Rattle.conc_base_law.specs.Law.{Lawful, may_follow}
+use Rattle.conc_base_law.specs.Words.{Has}
+use Rattle.conc_base_law.proofs.Due.{command_undone}
+use Rattle.conc_base_law.proofs.Numbering.{numbered-at}
 use Rattle.conc_journal_image.specs.Fields.{command_stamp}
 use Rattle.conc_journal_image.specs.declared.label.Label.{Label}
 use Rattle.conc_journal_image.specs.declared.label.Version.{Version}

@@ -5,7 +5,7 @@ use Rattle.conc_types.specs.declared.event.Event.{Event}
 use Rattle.conc_types.specs.declared.plan.Plan.{Plan}
 use Rattle.conc_journal.specs.Receipts.{event_of, IsNextOf, list_with}
 use Rattle.conc_journal.specs.declared.receipt.Receipt.{Receipt}
-use Rattle.conc_law.specs.Law.{LawfulSoFar}
+use Rattle.conc_base_law.specs.Law.{LawfulSoFar}
 use Rattle.conc_run_steps.specs.Told.{IsTold, IsUntold}
 
 -- the receipt of the next event is the next one for a teller that was told all

@@ -5,14 +5,14 @@ use Rattle.std.proofs.lemmas.Option.{IfSome_then, same_Some}
 use Rattle.conc_types.specs.declared.event.Event.{Event}
 use Rattle.conc_types.specs.declared.event.Event.TheVariants as event
 use Rattle.conc_types.specs.declared.plan.Plan.{Plan}
-use Rattle.conc_law.specs.Law.{LawfulSoFar}
-use Rattle.conc_law.specs.State.{used}
+use Rattle.conc_base_law.specs.Law.{LawfulSoFar}
+use Rattle.conc_base_law.specs.State.{used}
 use Rattle.conc_disk.specs.Disk.{DiskState, SeenFollows}
 use Rattle.conc_disk.specs.Left.{EachImage, LeavesOnly}
 use Rattle.conc_disk.proofs.Leaving.{if_some-any, leaves-none}
 use Rattle.conc_journal_image.proofs.Fronts.{part-front}
-use Rattle.conc_spool.specs.Spools.{Agrees, KeepsBelow}
-use Rattle.conc_resolver_choice.specs.Choices.{HasItsText}
+use Rattle.conc_journal_spool.specs.Spools.{Agrees, KeepsBelow}
+use Rattle.conc_run_choice.specs.Choices.{HasItsText}
 use Rattle.conc_run_state.specs.Stored.{AreStored, IsStored}
 use Rattle.conc_run_state.specs.Works.{HasPendingText}
 use Rattle.conc_run_steps.specs.Steps.{StoresOn}

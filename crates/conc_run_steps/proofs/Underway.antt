@@ -13,7 +13,7 @@ use Rattle.conc_run_steps.specs.Going.{IsUnderway, WentOn}
 use Rattle.conc_run_steps.specs.Steps.{IsReady, plan_in, readings_in}
 use Rattle.conc_run_steps.proofs.Going.{went-none, went-twice}
 use Rattle.conc_run_steps.proofs.Texts.{stores-still}
-use Rattle.conc_spool.specs.Spools.{used_of}
+use Rattle.conc_journal_spool.specs.Spools.{used_of}
 
 -- a run that does nothing
 pub went-still : (work : Work) (journal spool : DiskState) → IsReady work journal spool → IfSome spool.seen spool.may_leave → WentOn (plan_in work) (readings_in work) (disks journal journal spool spool) work work

@@ -5,12 +5,12 @@ use Rattle.conc_types.specs.declared.event.Event.{Event}
 use Rattle.conc_types.specs.declared.event.Event.TheVariants as event
 use Rattle.conc_types.specs.declared.plan.Plan.{Plan}
 use Rattle.conc_types.specs.declared.script.Reading.{Reading}
-use Rattle.conc_law.specs.Ends.{IsReported}
+use Rattle.conc_base_law.specs.Ends.{IsReported}
 use Rattle.conc_disk.specs.Disk.{SeenFollows}
 use Rattle.conc_disk.specs.Left.{EachImage, LeavesOnly}
 use Rattle.conc_journal.specs.Journals.{state_of}
 use Rattle.conc_journal.specs.JournalStates.{state_label}
-use Rattle.conc_spool.specs.Spools.{Agrees, KeepsBelow, used_of}
+use Rattle.conc_journal_spool.specs.Spools.{Agrees, KeepsBelow, used_of}
 use Rattle.conc_run_state.specs.Disks.{Disks}
 use Rattle.conc_run_state.specs.Inputs.{IsBegunFor}
 use Rattle.conc_run_state.specs.Lists.{GoesOn}

@@ -6,9 +6,9 @@ use Rattle.conc_types.specs.declared.event.Event.TheVariants as event
 use Rattle.conc_types.specs.declared.plan.Plan.{Plan}
 use Rattle.conc_types.specs.declared.script.Reading.{Reading}
 use Rattle.conc_types.specs.Plans.{stamp}
-use Rattle.conc_law.specs.Alone.{next_alone}
-use Rattle.conc_law.specs.Law.{Finished, Lawful}
-use Rattle.conc_law.specs.Remaining.{remaining}
+use Rattle.conc_base_law.specs.Alone.{next_alone}
+use Rattle.conc_base_law.specs.Law.{Finished, Lawful}
+use Rattle.conc_base_law.specs.Remaining.{remaining}
 use Rattle.conc_disk.specs.Disk.{DiskState, SeenFollows, exposes_nothing}
 use Rattle.conc_disk.specs.Left.{EachImage, LeavesOnly}
 use Rattle.conc_journal_image.specs.Fields.{has_record}
@@ -16,7 +16,7 @@ use Rattle.conc_journal.specs.Journals.{room_of, state_of}
 use Rattle.conc_journal.specs.JournalStates.{has_faulted}
 use Rattle.conc_journal.specs.declared.journal.Journal.{Journal}
 use Rattle.conc_run_state.specs.Machines.{plan_of, readings_of}
-use Rattle.conc_spool.specs.Spools.{Agrees, KeepsBelow}
+use Rattle.conc_journal_spool.specs.Spools.{Agrees, KeepsBelow}
 use Rattle.conc_run_state.specs.Disks.{Disks, disks}
 use Rattle.conc_run_state.specs.Fits.{FitThroughout}
 use Rattle.conc_run_state.specs.Inputs.{IsBegunFor, IsHeldFor}

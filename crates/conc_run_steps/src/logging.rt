@@ -1,13 +1,13 @@
-ghost use Rattle.std.specs.Prelude.{◌≡◌, ◌⊎◌, ◌+◌, ◌<◌, ◌∷◌, ◌++◌, [], IfErr, IfOk, IsTrue, None, OnErr, OnOk, Some};
+ghost use Rattle.std.specs.Prelude.{◌≡◌, ◌⊎◌, ◌+◌, ◌<◌, ◌∷◌, ◌++◌, [], IfOk, IsTrue, None, OnErr, OnOk, Some};
 ghost use Rattle.conc_journal.specs.Journals.{room_of, state_of};
 ghost use Rattle.conc_journal.specs.Receipts.{IsNextOf};
 ghost use Rattle.conc_journal.specs.JournalStates.{after_fault, has_faulted};
 ghost use Rattle.conc_journal_image.specs.Fields.{has_record};
-ghost use Rattle.conc_law.specs.Law.{Lawful};
+ghost use Rattle.conc_base_law.specs.Law.{Lawful};
 ghost use Rattle.conc_outside.specs.Counts.{Rose};
+ghost use Rattle.conc_run_steps.specs.Logging.{LogsEvent};
 ghost use Rattle.conc_run_steps.specs.Steps.{any_disk, IsTied, MayLog, plan_in, readings_in, stamp_for, StaysBegun, StaysHeld, SurvivesFor};
 ghost use Rattle.conc_run_state.specs.Works.{list_in};
-ghost use Rattle.conc_run_state.specs.declared.error.RunFail.TheVariants as RunFail;
 
 use crate::JournalFault;
 use conc_disk::Disk;
@@ -88,37 +88,8 @@ pub fn log_event<D: Disk, E: Disk>(
 ) -> Result<Receipt, RunFail>
     requires tied { IsTied (Some event) work.old (D.state journal.old) (E.state spool.now) }
     requires may { MayLog work.old event }
-
-    ensures logged { OnOk result (IsTied None work.new (D.state journal.new)
-        (E.state spool.now)) }
-    ensures added { OnOk result (list_in work.new ≡ list_in work.old ++ event ∷ []) }
-    ensures receipt { IfOk result (IsNextOf (Some (list_in work.old))
-        (λ list. list ≡ list_in work.new)) }
-    ensures state { OnOk result (state_of work.new.journal ≡ state_of work.old.journal) }
-    ensures room { OnOk result (room_of work.new.journal + 1 ≡ room_of work.old.journal) }
-    ensures begun_for { OnOk result (StaysBegun (plan_in work.old) work.old.journal
-        work.new.journal) }
-
-    // A fault.
-    ensures not_logged { OnErr result (IsTied (Some event) work.new (D.state journal.new)
-        (E.state spool.now)) }
-    ensures as_before { OnErr result (list_in work.new ≡ list_in work.old) }
-    ensures failed { OnErr result (state_of work.new.journal
-        ≡ after_fault event (stamp_for (plan_in work.old) event) (state_of work.old.journal)) }
-    ensures held_for { OnErr result (StaysHeld (plan_in work.old) work.old.journal
-        work.new.journal) }
-    ensures fault { OnErr result (Rose (D.state journal.old).faults (D.state journal.new).faults) }
-    ensures cause { IfErr result (λ e. e ≡ RunFail.JournalFault) }
-
-    // A crash at any moment, and what stays.
-    ensures survives { SurvivesFor work.old (list_in work.old)
-        (list_in work.old ++ event ∷ []) (D.state journal.old) (D.state journal.new) }
-    ensures plan { plan_in work.new ≡ plan_in work.old }
-    ensures readings { readings_in work.new ≡ readings_in work.old }
-    ensures spool { work.new.spool ≡ work.old.spool }
+    ensures { LogsEvent event result work.old work.new (D.state journal.old)
+        (D.state journal.new) (E.state spool.now) }
 {
-    match add_event(work, journal, event) {
-        Ok(receipt) => Ok(receipt),
-        Err(JournalFault) => Err(RunFail::JournalFault),
-    }
+    Ok(add_event(work, journal, event)?)
 }

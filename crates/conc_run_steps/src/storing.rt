@@ -1,14 +1,14 @@
 ghost use Rattle.std.specs.Prelude.{◌≡◌, ◌∷◌, ◌++◌, [], IfErr, IsOk, None, OnErr, OnOk, Some};
-ghost use Rattle.conc_resolver_choice.specs.Choices.{HasItsText};
-ghost use Rattle.conc_law.specs.Law.{Lawful};
+ghost use Rattle.conc_run_choice.specs.Choices.{HasItsText};
+ghost use Rattle.conc_base_law.specs.Law.{Lawful};
 ghost use Rattle.conc_outside.specs.Counts.{Rose};
 ghost use Rattle.conc_run_steps.specs.Steps.{any_disk, IsTied, MayLog, plan_in, readings_in, StoresOn};
-ghost use Rattle.conc_spool.specs.Spools.{used_of};
+ghost use Rattle.conc_journal_spool.specs.Spools.{used_of};
 ghost use Rattle.conc_run_state.specs.Works.{list_in};
 ghost use Rattle.conc_run_state.specs.declared.error.RunFail.TheVariants as RunFail;
 
 use conc_disk::{Disk, DiskFault};
-use conc_resolver_choice::Next;
+use conc_run_choice::Next;
 use conc_run_state::{RunFail, Work};
 
 /// Brings the text of the event, if it has one, to the spool's disk. After a fault the spool is as before.

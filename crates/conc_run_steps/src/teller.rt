@@ -5,7 +5,6 @@ ghost use Rattle.conc_run_state.specs.declared.error.RunFail.TheVariants as run_
 
 use conc_journal::{Receipt, Teller};
 use conc_run_state::RunFail;
-use conc_types::NoMemory;
 use std::sync::Wait;
 
 /// Tells a teller of an event that is on the disk. `NoMemory` comes only from a teller that may find none.
@@ -18,8 +17,5 @@ pub fn tell<R: Wait, T: Teller>(rt: &R, teller: &mut T, receipt: &Receipt) -> Re
     ensures cause { IfErr result (λ fail. fail ≡ run_fail.NoMemory) }
     ensures lacked { OnErr result (IsTrue (T.may_lack teller.new)) }
 {
-    match teller.tell(rt, receipt) {
-        Ok(()) => Ok(()),
-        Err(NoMemory) => Err(RunFail::NoMemory),
-    }
+    Ok(teller.tell(rt, receipt)?)
 }

@@ -4,5 +4,5 @@
 
 mod watched;
 
-pub use conc_run::{run_on_threads, run_plan};
+pub use conc_run::{Workers, run_on_threads, run_plan};
 pub use watched::{Watched, run_watched};

@@ -1,26 +1,23 @@
 ghost use Rattle.std.specs.Prelude.{◌≡◌, ◌<◌, ◌≤◌, IfErr, IfOk, IfSome, IsSome, IsSomeAnd, IsTrue, map, None};
 ghost use Rattle.std.specs.Thread.{IsSync};
 ghost use Rattle.conc_run.specs.Whole.{IsCutShort, IsFinished, LacksToTell};
-ghost use Rattle.conc_run_open.specs.Examined.{IsInHand, plan_held, WasExamined};
-ghost use Rattle.conc_run_state.specs.Handed.{handed};
+ghost use Rattle.conc_run_open.specs.Examined.{IsInHand};
+ghost use Rattle.conc_run_state.specs.Stores.{ran_over, SameStores};
 ghost use Rattle.conc_run_state.specs.Works.{list_in};
-ghost use Rattle.conc_run_watched.specs.Ends.{HasEnded, HasWatched, MayGo};
+ghost use Rattle.conc_run_watched.specs.Ends.{EndsAnswered, EndsTold, EndsWatched, MayGo};
 ghost use Rattle.conc_types.specs.Words.{is_between};
-ghost use Rattle.conc_types.specs.declared.plan.Plan.{Plan};
-ghost use Rattle.conc_types.specs.declared.script.Readings.{Readings};
 ghost use Rattle.conc_view.specs.Opened.{name_of};
-ghost use Rattle.conc_watch.specs.Lines.{AreWatchLines, watch_text};
-ghost use Rattle.conc_watch.specs.Crews.{StillWatch};
+ghost use Rattle.conc_run_watch.specs.Lines.{AreWatchLines, watch_text};
+ghost use Rattle.conc_run_watch.specs.Crews.{StillWatch};
 
 use conc_disk::Disk;
+use conc_edge_gate::Gate;
 use conc_journal::Teller;
-use conc_outside_gate::Gate;
-use conc_run::go_on;
+use conc_run::{Workers, go_on};
 use conc_run_open::{Examined, examine};
-use conc_run_state::{HistoryFail, Work};
-use conc_types::{Digests, NoMemory, Plan, Readings};
+use conc_run_state::{HistoryFail, Input, Stores, Work};
+use conc_run_watch::{Ending, Watchers};
 use conc_view::{Naming, Opened, Snapshot, new_view};
-use conc_watch::{Ending, Watchers};
 use std::alloc::Global;
 use std::marker::Brand;
 use std::sync::Wait;
@@ -35,6 +32,15 @@ pub struct Watched<'p> {
     pub kept: Vec<Vec<Snapshot>>,
 }
 
+// What the run and its watchers share: the host, the workers, and the word that the run is over.
+#[derive(Drop)]
+struct Scene<'a, 'g, R: Threads + Wait + Sync, G: Gate + Sync> {
+    rt: &'a R,
+    alloc: Global,
+    workers: &'a Workers<'g, G>,
+    ending: &'a Ending,
+}
+
 // Runs what was examined to its end, and then tells the watchers that it is over.
 fn run_out<
     'p,
@@ -44,39 +50,37 @@ fn run_out<
     T: Teller + Send,
     G: Gate + Sync,
 >(
-    rt: &R,
-    alloc: Global,
-    digests: &Digests,
-    gate: &G,
-    threads: u32,
-    ending: &Ending,
+    scene: &Scene<'_, '_, R, G>,
     examined: &mut Option<Examined<'p>>,
     journal: &mut D,
     spool: &mut E,
     teller: &mut T,
 ) -> Result<Work<'p>, HistoryFail>
-    requires { IsSomeAnd examined.old (MayGo digests.now (D.state journal.old)
-        (E.state spool.old) (T.list teller.old) (T.takes teller.old)) }
+    requires { IsSomeAnd examined.old (MayGo (D.state journal.old) (E.state spool.old)
+        (T.list teller.old) (T.takes teller.old)) }
     ensures taken { examined.new ≡ None }
-    ensures ended { (plan : Plan) (readings : Readings) (before : D) (texts : E) →
-        IfSome examined.old (WasExamined (handed plan readings digests.now (D.state before)
-        (D.state journal.old) (E.state texts) (E.state spool.old)))
-        → HasEnded threads (T.list teller.new) (T.may_lack teller.new)
-        (handed plan readings digests.now (D.state before) (D.state journal.new) (E.state texts)
-        (E.state spool.new)) result }
+    ensures ended { IfSome examined.old (EndsTold D.Disk E.Disk scene.now.workers.now.threads
+        (T.list teller.new) (T.may_lack teller.new) journal.old journal.new spool.old spool.new
+        result) }
 {
     let Some(examined) = examined.take() else {
         unreachable!()
     };
+    let mut stores = Stores { journal, spool };
     let answer = go_on(
-        rt, alloc, examined, digests, journal, spool, teller, gate, threads,
+        scene.rt,
+        scene.alloc,
+        examined,
+        &mut stores,
+        teller,
+        scene.workers,
     );
-    ending.set();
+    scene.ending.set();
     answer
 }
 
 // The run in this thread, and each watcher in one of its own, until the run is over.
-fn run_beside<
+fn run_and_watch<
     'p,
     R: Threads + Wait + Sync,
     J: Naming + Send + Sync,
@@ -85,31 +89,28 @@ fn run_beside<
     T: Teller + Send,
     G: Gate + Sync,
 >(
-    rt: &R,
-    alloc: Global,
-    digests: &Digests,
-    gate: &G,
-    threads: u32,
-    ending: &Ending,
+    scene: &Scene<'_, '_, R, G>,
     watchers: &mut Watchers<'_, J>,
     examined: &mut Option<Examined<'p>>,
-    journal: &mut D,
-    spool: &mut E,
+    stores: &mut Stores<'_, D, E>,
     teller: &mut T,
     answer: &mut Option<Result<Work<'p>, HistoryFail>>,
 )
-    requires { IsSomeAnd examined.old (MayGo digests.now (D.state journal.old)
-        (E.state spool.old) (T.list teller.old) (T.takes teller.old)) }
-    ensures ended { (plan : Plan) (readings : Readings) (before : D) (texts : E) →
-        IfSome examined.old (WasExamined (handed plan readings digests.now (D.state before)
-        (D.state journal.old) (E.state texts) (E.state spool.old)))
-        → IsSomeAnd answer.new (HasEnded threads (T.list teller.new) (T.may_lack teller.new)
-        (handed plan readings digests.now (D.state before) (D.state journal.new) (E.state texts)
-        (E.state spool.new))) }
+    requires { IsSomeAnd examined.old (MayGo (D.state stores.old.journal.now)
+        (E.state stores.old.spool.now) (T.list teller.old) (T.takes teller.old)) }
+    ensures same { SameStores stores.old stores.new }
+    ensures ended { EndsAnswered D.Disk E.Disk scene.now.workers.now.threads
+        (T.list teller.new) (T.may_lack teller.new) stores.old.journal.now
+        stores.new.journal.now stores.old.spool.now stores.new.spool.now answer.new
+        examined.old }
     ensures answered { IsSome answer.new }
     ensures taken { examined.new ≡ None }
     ensures watching { StillWatch watchers.old watchers.new }
 {
+    let rt = scene.rt;
+    let ending = scene.ending;
+    let journal = &mut *stores.journal;
+    let spool = &mut *stores.spool;
     join_mut(
         rt,
         &mut ||
@@ -117,21 +118,15 @@ fn run_beside<
             ensures { StillWatch watchers.entry.now watchers.exit.now }
         { watchers.watch(rt, ending) },
         &mut ||
-            requires { IsSomeAnd examined.now (MayGo digests.now (D.state journal.now)
+            requires { IsSomeAnd examined.now (MayGo (D.state journal.now)
                 (E.state spool.now) (T.list teller.now) (T.takes teller.now)) }
-            ensures { ((plan : Plan) (readings : Readings) (before : D) (texts : E) →
-                IfSome examined.entry.now (WasExamined (handed plan readings digests.entry.now
-                (D.state before) (D.state journal.entry.now) (E.state texts)
-                (E.state spool.entry.now)))
-                → IsSomeAnd answer.exit.now (HasEnded threads (T.list teller.exit.now)
-                (T.may_lack teller.exit.now) (handed plan readings digests.entry.now
-                (D.state before) (D.state journal.exit.now) (E.state texts)
-                (E.state spool.exit.now))))
+            ensures { EndsAnswered D.Disk E.Disk scene.entry.now.workers.now.threads
+                (T.list teller.exit.now) (T.may_lack teller.exit.now) journal.entry.now
+                journal.exit.now spool.entry.now spool.exit.now answer.exit.now
+                examined.entry.now
                 × IsSome answer.exit.now × (examined.exit.now ≡ None) }
         {
-            *answer = Some(run_out(
-                rt, alloc, digests, gate, threads, ending, examined, journal, spool, teller,
-            ));
+            *answer = Some(run_out(scene, examined, journal, spool, teller));
         },
     );
 }
@@ -146,44 +141,24 @@ fn run_told_beside<
     T: Teller + Send,
     G: Gate + Sync,
 >(
-    rt: &R,
-    alloc: Global,
-    digests: &Digests,
-    gate: &G,
-    threads: u32,
+    scene: &Scene<'_, '_, R, G>,
     examined: Examined<'p>,
     watchers: &mut Watchers<'_, J>,
-    journal: &mut D,
-    spool: &mut E,
+    stores: &mut Stores<'_, D, E>,
     teller: &mut T,
 ) -> Result<Work<'p>, HistoryFail>
-    requires { MayGo digests.now (D.state journal.old) (E.state spool.old) (T.list teller.old)
-        (T.takes teller.old) examined }
-    ensures ended { (plan : Plan) (readings : Readings) (before : D) (texts : E) → WasExamined
-        (handed plan readings digests.now (D.state before) (D.state journal.old)
-        (E.state texts) (E.state spool.old)) examined.entry
-        → HasEnded threads (T.list teller.new) (T.may_lack teller.new)
-        (handed plan readings digests.now (D.state before) (D.state journal.new) (E.state texts)
-        (E.state spool.new)) result }
+    requires { MayGo (D.state stores.old.journal.now) (E.state stores.old.spool.now)
+        (T.list teller.old) (T.takes teller.old) examined }
+    ensures same { SameStores stores.old stores.new }
+    ensures ended { EndsTold D.Disk E.Disk scene.now.workers.now.threads
+        (T.list teller.new) (T.may_lack teller.new) stores.old.journal.now
+        stores.new.journal.now stores.old.spool.now stores.new.spool.now result
+        examined.entry }
     ensures watching { StillWatch watchers.old watchers.new }
 {
-    let ending = Ending::new();
     let mut examined = Some(examined);
     let mut answer = None;
-    run_beside(
-        rt,
-        alloc,
-        digests,
-        gate,
-        threads,
-        &ending,
-        watchers,
-        &mut examined,
-        journal,
-        spool,
-        teller,
-        &mut answer,
-    );
+    run_and_watch(scene, watchers, &mut examined, stores, teller, &mut answer);
     match answer {
         Some(answer) => answer,
         None => unreachable!(),
@@ -199,60 +174,40 @@ fn run_viewed<
     E: Disk + Send,
     G: Gate + Sync,
 >(
-    rt: &R,
-    alloc: Global,
+    scene: &Scene<'_, '_, R, G>,
     opened: Opened,
-    plan: &'p Plan,
     examined: Examined<'p>,
-    digests: &Digests,
-    journal: &mut D,
-    spool: &mut E,
-    gate: &G,
-    threads: u32,
+    stores: &mut Stores<'_, D, E>,
     watchers: u32,
 ) -> Result<Watched<'p>, HistoryFail>
     requires named { name_of opened ≡ J.name }
     requires watchers { IsTrue (is_between 1 8 watchers) }
-    requires plan { plan_held examined ≡ plan.now }
-    requires in_hand { IsInHand digests.now examined (D.state journal.old) (E.state spool.old) }
-    ensures { (readings : Readings) (before : D) (texts : E) → WasExamined
-        (handed plan.now readings digests.now (D.state before) (D.state journal.old)
-        (E.state texts) (E.state spool.old)) examined.entry
-        → HasWatched threads watchers (handed plan.now readings digests.now (D.state before)
-        (D.state journal.new) (E.state texts) (E.state spool.new)) result }
+    requires in_hand { IsInHand examined (D.state stores.old.journal.now)
+        (E.state stores.old.spool.now) }
+    ensures same { SameStores stores.old stores.new }
+    ensures ended { EndsWatched D.Disk E.Disk scene.now.workers.now.threads watchers
+        examined.entry stores.old.journal.now stores.new.journal.now stores.old.spool.now
+        stores.new.spool.now result }
 {
-    let Ok((mut publisher, seated)) = new_view::<J, R>(
-        rt,
-        alloc,
+    let (mut publisher, seated) = new_view::<J, R>(
+        scene.rt,
+        scene.alloc,
         opened,
-        plan,
+        examined.plan(),
         examined.events(),
         watchers,
-    ) else {
+    )?;
+    let Ok(mut all) = Watchers::new(scene.alloc, seated) else {
+        drop(publisher.close(scene.rt));
         return Err(HistoryFail::NoMemory);
     };
-    let Ok(mut all) = Watchers::new(alloc, seated) else {
-        drop(publisher.close(rt));
-        return Err(HistoryFail::NoMemory);
-    };
-    let answer = run_told_beside(
-        rt,
-        alloc,
-        digests,
-        gate,
-        threads,
-        examined,
-        &mut all,
-        journal,
-        spool,
-        &mut publisher,
-    );
-    let mut told = publisher.close(rt);
+    let answer = run_told_beside(scene, examined, &mut all, stores, &mut publisher);
+    let mut told = publisher.close(scene.rt);
     let kept = all.finish(&mut told);
-    match answer {
-        Ok(work) => Ok(Watched { work, kept }),
-        Err(fail) => Err(fail),
-    }
+    Ok(Watched {
+        work: answer?,
+        kept,
+    })
 }
 
 /// Runs a plan as `run_on_threads` does, or without threads as `run_plan` does, beside 1 to 8 watchers. Each
@@ -262,31 +217,30 @@ fn run_viewed<
 pub fn run_watched<'p, R: Threads + Wait + Sync, D: Disk + Send, E: Disk + Send, G: Gate + Sync>(
     rt: &R,
     alloc: Global,
-    plan: &'p Plan,
-    readings: &Readings,
-    digests: &Digests,
-    journal: &mut D,
-    spool: &mut E,
-    gate: &G,
-    threads: u32,
+    input: &Input<'p>,
+    stores: &mut Stores<'_, D, E>,
+    workers: &Workers<'_, G>,
     watchers: u32,
 ) -> Result<Watched<'p>, HistoryFail>
     requires some { 0 < watchers }
     requires few { watchers ≤ 8 }
-    ensures finished { IfOk result (λ watched. IsFinished threads
-        (handed plan.now readings.now digests.now (D.state journal.old) (D.state journal.new)
-        (E.state spool.old) (E.state spool.new)) (list_in watched.work)) }
-    ensures watched { IfOk result (λ watched. AreWatchLines plan.now (list_in watched.work)
-        watchers (watch_text 1 (map (λ k. k.items) watched.kept.items))) }
-    ensures cut_short { IfErr result (IsCutShort threads (LacksToTell watchers)
-        (handed plan.now readings.now digests.now (D.state journal.old) (D.state journal.new)
-        (E.state spool.old) (E.state spool.new))) }
+    ensures same { SameStores stores.old stores.new }
+    ensures finished { IfOk result (λ watched. IsFinished workers.now.threads
+        (ran_over D.Disk E.Disk input.now stores.old stores.new) (list_in watched.work)) }
+    ensures watched { IfOk result (λ watched. AreWatchLines input.now.plan.now
+        (list_in watched.work) watchers
+        (watch_text 1 (map (λ k. k.items) watched.kept.items))) }
+    ensures cut_short { IfErr result (IsCutShort workers.now.threads (LacksToTell watchers)
+        (ran_over D.Disk E.Disk input.now stores.old stores.new)) }
 {
-    let examined = examine(alloc, plan, readings, digests, journal, spool)?;
-    let Ok(opened) = Opened::new(alloc) else {
-        return Err(HistoryFail::NoMemory);
+    let examined = examine(alloc, input, stores)?;
+    let opened = Opened::new(alloc)?;
+    let ending = Ending::new();
+    let scene = Scene {
+        rt,
+        alloc,
+        workers,
+        ending: &ending,
     };
-    run_viewed::<Brand, R, D, E, G>(
-        rt, alloc, opened, plan, examined, digests, journal, spool, gate, threads, watchers,
-    )
+    run_viewed::<Brand, R, D, E, G>(&scene, opened, examined, stores, watchers)
 }

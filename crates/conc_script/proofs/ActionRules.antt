@@ -9,8 +9,8 @@ use Rattle.conc_types.specs.declared.setup.Setup.{Setup}
 use Rattle.conc_types.specs.Decimals.{decimal_value}
 use Rattle.conc_types.specs.Faults.{first_broken}
 use Rattle.conc_types.specs.Scripts.{entered_by}
-use Rattle.conc_law.specs.Calendar.{moment_of}
-use Rattle.conc_records.specs.Records.{Record}
+use Rattle.conc_base_law.specs.Calendar.{moment_of}
+use Rattle.conc_data_records.specs.Records.{Record}
 use Rattle.conc_script.specs.declared.actions.Submission.{Submission}
 use Rattle.conc_script.specs.declared.actions.Verb.{Verb}
 use Rattle.conc_script.specs.declared.actions.Verb.TheVariants as verb
@@ -55,12 +55,6 @@ unfolding what_rules has_form
 rules_of_request setup entered r v e known =
     let word : is_word (word_field r) ≡ true = word_is_verb (word_field r) e ∙ ap (λ (o : Option Verb). is_some o) known in
     rw (word, e) refl
-
-pub rules_of_unknown : (setup : Setup) (entered : ℕ) (r : Record) → is_submit r ≡ false → verb_of (word_field r) ≡ None
-    → first_broken (action_rules setup entered r) ≡ Some refused.UnknownWord
-rules_of_unknown setup entered r e unknown =
-    let word : is_word (word_field r) ≡ false = word_is_verb (word_field r) e ∙ ap (λ (o : Option Verb). is_some o) unknown in
-    rw word refl
 
 act_on_verb : (hold unhold cancel terminate : Bool) (v : Verb) (q : RequestId)
     → (if hold then Some verb.Hold else (if unhold then Some verb.Unhold else (if cancel then Some verb.Cancel else (if terminate then Some verb.Terminate else None)))) ≡ Some v

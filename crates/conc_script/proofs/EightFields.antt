@@ -4,7 +4,7 @@ use Rattle.std.specs.Prelude.{unwrap_or, Option, None, Some}
 use Rattle.std.specs.Option.{option_map}
 use denote.Ref.{Bor}
 use Rattle.csv.specs.Records.{field_at}
-use Rattle.conc_records.specs.Records.{Record}
+use Rattle.conc_data_records.specs.Records.{Record}
 use Rattle.conc_script.specs.Script.{field}
 
 field_or : (r : Record) (n : ℕ) → unwrap_or (field_at r n) [] ≡ field n r

@@ -7,8 +7,8 @@ use lib.Utf8.{encode}
 use Rattle.conc_types.specs.declared.event.Moment.{Moment}
 use Rattle.conc_types.specs.Texts.{is_name, is_text}
 use Rattle.conc_types.specs.Words.{is_empty}
-use Rattle.conc_law.specs.Calendar.{moment_of}
-use Rattle.conc_records.specs.Records.{Record}
+use Rattle.conc_base_law.specs.Calendar.{moment_of}
+use Rattle.conc_data_records.specs.Records.{Record}
 use Rattle.conc_script.specs.Rules.{submit_form}
 use Rattle.conc_script.specs.Script.{argument_field, domain_field, domain_of, priority_field, priority_of, start_field, start_of, user_field}
 

@@ -4,7 +4,7 @@ use Rattle.std.specs.Str.{bytes_eq, chars, is_utf8}
 use Rattle.std.proofs.lemmas.Bool.{and_parts, false_from_ne_true}
 use Rattle.std.proofs.lemmas.Slice.Eq.{bytes_eq-Decides}
 use lib.Utf8.{encode}
-use Rattle.conc_records.specs.Records.{Record}
+use Rattle.conc_data_records.specs.Records.{Record}
 use Rattle.conc_script.specs.Script.{header, is_record, same_fields}
 
 header_is_record : is_record header ≡ true

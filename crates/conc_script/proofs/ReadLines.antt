@@ -107,9 +107,6 @@ none_broken true back e = absurd cc
 none_broken false true e = absurd cc
 none_broken false false e = (refl, refl)
 
-pub reads_none : (lines : List (List ℕ)) (readings : List Reading) → readings ≡ [] → Reads lines lines readings
-reads_none lines readings e = rw e (record { done = []; all = refl; list = refl; faults = refl; few = omega arith; in_order = refl })
-
 -- one more line is read
 pub reads_more : (lines after : List (List ℕ)) (line : List ℕ) (readings more : List Reading) (q : Reading) (number : ℕ) (before : Option Reading) → Reads lines (line ∷ after) readings
     → number ≡ length readings + 1 → before ≡ slice_get readings (length readings - 1) → reading_of line ≡ Some q → first_broken (line_rules number (reading_of line) before) ≡ None

@@ -14,8 +14,8 @@ use Rattle.conc_types.specs.declared.script.Order.{Order}
 use Rattle.conc_types.specs.declared.setup.Setup.{Setup}
 use Rattle.conc_types.specs.Faults.{first_broken, first_fault}
 use Rattle.conc_types.specs.Scripts.{are_commands_from, entered_by, is_act}
-use Rattle.conc_law.specs.Calendar.{civil_of, is_civil, is_spelling, moment_of}
-use Rattle.conc_records.specs.Records.{Record}
+use Rattle.conc_base_law.specs.Calendar.{civil_of, is_civil, is_spelling, moment_of}
+use Rattle.conc_data_records.specs.Records.{Record}
 use Rattle.conc_script.specs.Orders.{fault_behind, ReadsRecords}
 use Rattle.conc_script.specs.Rules.{action_rules, record_rules}
 use Rattle.conc_script.specs.Script.{at_field, entered_before, entered_by_record, header, is_earlier, is_record, order_of, record_kind}

@@ -4,7 +4,7 @@ use Rattle.std.specs.Prelude.{nat_lt, Some}
 use Rattle.conc_types.specs.declared.kind.RefusalKind.TheVariants as refused
 use Rattle.conc_types.specs.declared.script.Order.{Order}
 use Rattle.conc_types.specs.declared.setup.Setup.{Setup}
-use Rattle.conc_records.specs.Records.{Record, records_of}
+use Rattle.conc_data_records.specs.Records.{Record, records_of}
 use Rattle.conc_script.specs.Orders.{begins_with_header, fault_behind}
 use Rattle.conc_script.specs.Script.{header, order_of, records_fault, same_fields, script_fault}
 use Rattle.conc_script.proofs.HeaderRecord.{same_record}

@@ -1,8 +1,10 @@
 -- What a command does, before it has memory of its own.
-use Rattle.std.specs.Prelude.{ℕ, if◌then◌else◌, List, codes, Option, None, Some}
+use Rattle.std.specs.Prelude.{ℕ, if◌then◌else◌, Bool, ◌&&◌, List, codes, Option, None, Some}
 use Rattle.conc_types.specs.declared.event.RequestId.{RequestId}
 use Rattle.conc_types.specs.declared.script.Act.{Act}
 use Rattle.conc_types.specs.declared.script.Act.TheVariants as act
+use Rattle.conc_types.specs.Texts.{is_text}
+use Rattle.conc_types.specs.Words.{is_between}
 use Rattle.conc_script.specs.declared.actions.Action.{Action}
 use Rattle.conc_script.specs.declared.actions.Action.TheVariants as action
 use Rattle.conc_script.specs.declared.actions.Submission.{Submission}
@@ -12,6 +14,10 @@ use Rattle.conc_script.specs.Script.{is}
 
 abbrev pub submit_by : Submission → Act
 submit_by s = act.Submit s.item s.user.now s.priority s.start s.domain.now s.argument.now
+
+-- its priority and its argument are within their limits
+abbrev pub is_within_limits : Submission → Bool
+is_within_limits s = is_between 1 99 s.priority && is_text 200 s.argument.now
 
 abbrev pub act_with : Verb → RequestId → Act
 act_with verb.Hold r = act.Hold r

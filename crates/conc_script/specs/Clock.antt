@@ -9,7 +9,7 @@ use Rattle.conc_types.specs.declared.script.Reading.{Reading}
 use Rattle.conc_types.specs.declared.script.Readings.{Readings}
 use Rattle.conc_types.specs.Faults.{Fault, first_broken, first_fault}
 use Rattle.conc_types.specs.Words.{is_empty, numbered}
-use Rattle.conc_law.specs.Calendar.{moment_of}
+use Rattle.conc_base_law.specs.Calendar.{moment_of}
 
 -- ---- lines
 

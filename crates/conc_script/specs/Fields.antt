@@ -1,6 +1,6 @@
 -- The fields of a record as a list.
 use Rattle.std.specs.Prelude.{[], ◌∷◌}
-use Rattle.conc_records.specs.Records.{Record}
+use Rattle.conc_data_records.specs.Records.{Record}
 use Rattle.conc_script.specs.declared.fields.Fields.{Fields}
 
 abbrev pub list_of : Fields → Record

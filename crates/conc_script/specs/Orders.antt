@@ -4,7 +4,7 @@ use Rattle.conc_types.specs.declared.script.Order.{Order}
 use Rattle.conc_types.specs.declared.setup.Setup.{Setup}
 use Rattle.conc_types.specs.Faults.{Fault, first_fault}
 use Rattle.conc_types.specs.Scripts.{are_commands}
-use Rattle.conc_records.specs.Records.{Record}
+use Rattle.conc_data_records.specs.Records.{Record}
 use Rattle.conc_script.specs.Script.{header, order_of, record_kind, same_fields}
 
 abbrev pub begins_with_header : List Record → Bool

@@ -1,6 +1,7 @@
 -- The rules of one record of a script.
-use Rattle.std.specs.Prelude.{ℕ, Bool, not, ◌&&◌, ◌||◌, nat_lt, List, [], ◌∷◌, ◌++◌, Option, is_none}
+use Rattle.std.specs.Prelude.{◌≡◌, ℕ, Bool, not, ◌&&◌, ◌||◌, nat_lt, List, [], ◌∷◌, ◌++◌, Option, is_none, Result}
 use Rattle.std.specs.Option.{option_and_then, option_map}
+use Rattle.std.specs.Result.{result_err}
 use Rattle.conc_types.specs.declared.kind.RefusalKind.{RefusalKind}
 use Rattle.conc_types.specs.declared.kind.RefusalKind.TheVariants as refused
 use Rattle.conc_types.specs.declared.event.Moment.{Moment}
@@ -9,11 +10,16 @@ use Rattle.conc_types.specs.declared.script.Act.{Act}
 use Rattle.conc_types.specs.declared.script.Act.TheVariants as act
 use Rattle.conc_types.specs.declared.setup.Setup.{Setup}
 use Rattle.conc_types.specs.Decimals.{decimal_value}
+use Rattle.conc_types.specs.Faults.{first_broken}
 use Rattle.conc_types.specs.Texts.{is_name, is_text}
 use Rattle.conc_types.specs.Words.{is_between, is_empty, some_and}
-use Rattle.conc_law.specs.Calendar.{moment_of}
-use Rattle.conc_records.specs.Records.{Record}
+use Rattle.conc_base_law.specs.Calendar.{moment_of}
+use Rattle.conc_data_records.specs.Records.{Record}
 use Rattle.conc_script.specs.Script.{argument_field, at_field, domain_field, domain_of, has_form, is_earlier, is_record, is_word, item_named, priority_field, priority_of, start_field, start_of, user_field, what_field, what_rules, word_field}
+
+-- what is wrong is the first of these rules that is broken, and nothing is where none of them is
+abbrev pub TellsFirst : {A : Type 0} → List (Bool × RefusalKind) → Result A RefusalKind → Type 0
+TellsFirst rules result = first_broken rules ≡ result_err result
 
 -- the form of the fields behind a program or set that is submitted
 abbrev pub submit_form : Record → Bool

@@ -20,8 +20,8 @@ use Rattle.conc_types.specs.Faults.{Fault, first_broken, first_fault}
 use Rattle.conc_types.specs.Scripts.{count_of}
 use Rattle.conc_types.specs.Texts.{is_name, is_text}
 use Rattle.conc_types.specs.Words.{has_length, is_between, is_empty, some_and}
-use Rattle.conc_law.specs.Calendar.{moment_of}
-use Rattle.conc_records.specs.Records.{Record, records_of}
+use Rattle.conc_base_law.specs.Calendar.{moment_of}
+use Rattle.conc_data_records.specs.Records.{Record, records_of}
 
 -- ---- records
 

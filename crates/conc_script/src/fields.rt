@@ -7,7 +7,7 @@ ghost use Rattle.conc_script.specs.Fields.{list_of};
 ghost use Rattle.conc_script.specs.Script as script_spec;
 ghost use Rattle.conc_script.specs.Script.{header, is_record, same_fields};
 
-use conc_records::ByteRecord;
+use conc_data_records::ByteRecord;
 use conc_types::is_utf8;
 
 /// The eight fields of a record of a script.

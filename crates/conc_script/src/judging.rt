@@ -1,23 +1,20 @@
-ghost use Rattle.std.specs.Prelude.{◌≡◌, ◌+◌, ◌<◌, ◌^◌, ◌&&◌, true, false, Some, None, IfOk, IfSome, IsTrue, is_some, ℕ};
-ghost use Rattle.std.specs.Result.{result_err};
+ghost use Rattle.std.specs.Prelude.{◌≡◌, ◌+◌, ◌<◌, ◌^◌, true, false, Some, None, IfOk, IfSome, IsTrue, is_some, ℕ};
 ghost use Rattle.csv.specs.Records.{fields_of};
 ghost use Rattle.conc_types.specs.Decimals.{decimal_value};
-ghost use Rattle.conc_types.specs.Faults.{first_broken};
 ghost use Rattle.conc_types.specs.Scripts.{entered_by, is_act};
-ghost use Rattle.conc_types.specs.Texts.{is_text};
 ghost use Rattle.conc_types.specs.Words.{is_between};
-ghost use Rattle.conc_law.specs.Calendar.{moment_of};
+ghost use Rattle.conc_base_law.specs.Calendar.{moment_of};
 ghost use Rattle.conc_script.specs.Actions as actions_spec;
-ghost use Rattle.conc_script.specs.Actions.{act_by, submit_by};
+ghost use Rattle.conc_script.specs.Actions.{act_by, is_within_limits, submit_by};
 ghost use Rattle.conc_script.specs.Fields.{list_of};
-ghost use Rattle.conc_script.specs.Rules.{bare_form, action_rules, record_rules, request_rules, submission_by, submit_form, submit_rules};
+ghost use Rattle.conc_script.specs.Rules.{bare_form, action_rules, record_rules, request_rules, submission_by, submit_form, submit_rules, TellsFirst};
 ghost use Rattle.conc_script.specs.Script as script_spec;
 ghost use Rattle.conc_script.specs.Script.{act_of, at_field, entered_by_record, order_of, submission_of};
 
 use crate::actions::{Action, Submission, Verb};
 use crate::fields::{Fields, fields_in};
 use crate::words::{domain_of, item_named, priority_of, start_of};
-use conc_records::ByteRecord;
+use conc_data_records::ByteRecord;
 use conc_time::read_moment;
 use conc_types::{Item, Moment, RefusalKind, RequestId, Setup, is_name, is_text, read_decimal};
 
@@ -32,8 +29,7 @@ fn form<'a>(at: Moment, item: Item, fields: &Fields<'a>) -> Option<Submission<'a
     ensures said { IfSome result (λ s. submission_by at item (list_of fields.now)
         ≡ Some (submit_by s)) }
     ensures item { IfSome result (λ s. s.item ≡ item) }
-    ensures fits { IfSome result (λ s. IsTrue
-        (is_between 1 99 s.priority && is_text 200 s.argument.now)) }
+    ensures fits { IfSome result (λ s. IsTrue (is_within_limits s)) }
 {
     let priority = priority_of(fields.priority)?;
     let start = start_of(at, fields.start)?;
@@ -58,7 +54,7 @@ fn submission<'a>(
     at: Moment,
     fields: &Fields<'a>,
 ) -> Result<Submission<'a>, RefusalKind>
-    ensures rules { first_broken (submit_rules setup.now (list_of fields.now)) ≡ result_err result }
+    ensures rules { TellsFirst (submit_rules setup.now (list_of fields.now)) result }
     ensures said { IfOk result (λ s. submission_of setup.now at (list_of fields.now)
         ≡ Some (submit_by s)) }
     ensures item { IfOk result (λ s. script_spec.item_named setup.now fields.now.what.now
@@ -99,7 +95,7 @@ fn is_bare(fields: &Fields) -> bool
 // The request that the fields name, one of so many that were entered, or the rule that they break.
 fn request(entered: u64, fields: &Fields) -> Result<RequestId, RefusalKind>
     requires { entered < 2 ^ 32 }
-    ensures rules { first_broken (request_rules entered (list_of fields.now)) ≡ result_err result }
+    ensures rules { TellsFirst (request_rules entered (list_of fields.now)) result }
     ensures said { IfOk result (λ request. decimal_value fields.now.what.now
         ≡ Some request.number) }
     ensures fits { IfOk result (λ request. IsTrue (is_between 1 entered request.number)) }
@@ -131,8 +127,7 @@ fn action<'a>(
     fields: &Fields<'a>,
 ) -> Result<Action<'a>, RefusalKind>
     requires { entered < 2 ^ 32 }
-    ensures rules { first_broken (action_rules setup.now entered (list_of fields.now))
-        ≡ result_err result }
+    ensures rules { TellsFirst (action_rules setup.now entered (list_of fields.now)) result }
     ensures said { IfOk result (λ action. act_of setup.now at (list_of fields.now)
         ≡ Some (act_by action)) }
     ensures fits { IfOk result (λ action. IsTrue (is_act setup.now (entered + 1) (act_by action))) }
@@ -164,8 +159,8 @@ pub(crate) fn judge<'a>(
     row: &'a ByteRecord,
 ) -> Result<(Moment, Action<'a>), RefusalKind>
     requires { entered < 2 ^ 32 }
-    ensures rules { first_broken (record_rules setup.now number entered before (fields_of row.now))
-        ≡ result_err result }
+    ensures rules { TellsFirst
+        (record_rules setup.now number entered before (fields_of row.now)) result }
     ensures said { IfOk result (λ p. order_of setup.now (fields_of row.now)
         ≡ Some (record { at = p.0; act = act_by p.1 })) }
     ensures at { IfOk result (λ p. moment_of (at_field (fields_of row.now)) ≡ Some p.0) }

@@ -9,7 +9,7 @@ ghost use Rattle.conc_script.specs.Script.{header, same_fields, script_fault, Sp
 use crate::fields::{are_header, fields_in};
 use crate::judging::judge;
 use crate::owning::{entered_with, own};
-use conc_records::{ByteRecord, Records};
+use conc_data_records::{ByteRecord, Records};
 use conc_types::{FileKind, NoMemory, Order, ReadFail, RefusalKind, Script, Seq, Setup};
 use std::alloc::Global;
 

@@ -10,7 +10,7 @@ use Rattle.std.proofs.lemmas.List.Folds.{list_any-append}
 use Rattle.std.proofs.lemmas.Slice.Eq.{bytes_eq-Decides}
 use Rattle.conc_types.specs.Faults.{Fault}
 use Rattle.conc_types.specs.Words.{are_distinct}
-use Rattle.conc_setup_entries.specs.declared.raw.RawSet.{RawSet}
+use Rattle.conc_data_entries.specs.declared.raw.RawSet.{RawSet}
 use Rattle.conc_setup.specs.SecondPass.{first_again, first_set_again, has_distinct_stages, is_again, is_among, table_again}
 
 either_way : (x y : List ℕ) → bytes_eq x y ≡ bytes_eq y x

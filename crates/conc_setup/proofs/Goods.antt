@@ -1,10 +1,10 @@
 -- The limits of what is read hold of what is right among it.
 use Rattle.std.proofs.Common.{◌≤◌, List, [], ◌∷◌, length, Result, Ok, Err, arith}
 use Rattle.conc_types.specs.declared.kind.RefusalKind.{RefusalKind}
-use Rattle.conc_setup_fields.specs.Arrays.{goods}
+use Rattle.conc_data_fields.specs.Arrays.{goods}
 use Rattle.conc_setup.specs.FirstPass.{IsFew, accepted}
 use Rattle.conc_setup.specs.declared.raw.Document.{Document}
-use Rattle.conc_setup_fields.specs.Arrays.{within_most}
+use Rattle.conc_data_fields.specs.Arrays.{within_most}
 use Rattle.std.proofs.lemmas.Bool.{leb-true}
 
 goods-few : {A : Type 0} (rs : List (Result A RefusalKind)) → length (goods rs) ≤ length rs

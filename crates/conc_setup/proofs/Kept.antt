@@ -12,10 +12,10 @@ use Rattle.conc_types.specs.declared.set.SetDef.{SetDef}
 use Rattle.conc_types.specs.Setups.{are_named, are_references, is_entry, is_manager, is_set_of}
 use Rattle.conc_types.specs.Shifts.{most_places}
 use Rattle.conc_types.specs.Words.{are_distinct}
-use Rattle.conc_setup_fields.proofs.FirstWrong.{first_wrong-none}
-use Rattle.conc_setup_fields.specs.Arrays.{first_wrong, goods}
-use Rattle.conc_setup_entries.specs.declared.raw.RawManager.{RawManager}
-use Rattle.conc_setup_entries.specs.declared.raw.RawSet.{RawSet}
+use Rattle.conc_data_fields.proofs.FirstWrong.{first_wrong-none}
+use Rattle.conc_data_fields.specs.Arrays.{first_wrong, goods}
+use Rattle.conc_data_entries.specs.declared.raw.RawManager.{RawManager}
+use Rattle.conc_data_entries.specs.declared.raw.RawSet.{RawSet}
 use Rattle.conc_setup.specs.FirstPass.{IsFew}
 use Rattle.conc_setup.specs.SecondPass.{first_again, first_set_again, has_distinct_stages, name_again, table_again}
 use Rattle.conc_setup.specs.ThirdPass.{are_few, entries_of, managers_of, resolved_entry, resolved_manager, resolved_set, sets_of, wrong_name}

@@ -21,17 +21,17 @@ use Rattle.conc_types.specs.Setups.{has_members, is_entry, is_item, is_manager, 
 use Rattle.conc_types.specs.Sets.{are_stages, leads_on}
 use Rattle.conc_types.specs.Texts.{is_text}
 use Rattle.conc_types.specs.Words.{are_distinct, is_between, none_or}
-use Rattle.conc_setup_fields.specs.Arrays.{all_good}
-use Rattle.conc_setup_fields.specs.Kinds.{both, or_kind}
-use Rattle.conc_setup_fields.specs.Reads.{both_read, read_as}
-use Rattle.conc_setup_fields.specs.declared.fail.FieldFail.{FieldFail}
-use Rattle.conc_setup_fields.specs.declared.values.ShortText.{ShortText}
-use Rattle.conc_setup_fields.proofs.Combined.{IsRead, both-read, both_read-ok, read_as-is}
-use Rattle.conc_setup_entries.specs.declared.raw.RawEntry.{RawEntry}
-use Rattle.conc_setup_entries.specs.declared.raw.RawManager.{RawManager}
-use Rattle.conc_setup_entries.specs.declared.raw.RawRule.{RawRule}
-use Rattle.conc_setup_entries.specs.declared.raw.RawSet.{RawSet}
-use Rattle.conc_setup_entries.specs.declared.raw.RawStage.{RawStage}
+use Rattle.conc_data_fields.specs.Arrays.{all_good}
+use Rattle.conc_data_fields.specs.Kinds.{both, or_kind}
+use Rattle.conc_data_fields.specs.Reads.{both_read, read_as}
+use Rattle.conc_data_fields.specs.declared.fail.FieldFail.{FieldFail}
+use Rattle.conc_data_fields.specs.declared.values.ShortText.{ShortText}
+use Rattle.conc_data_fields.proofs.Combined.{IsRead, both-read, both_read-ok, read_as-is}
+use Rattle.conc_data_entries.specs.declared.raw.RawEntry.{RawEntry}
+use Rattle.conc_data_entries.specs.declared.raw.RawManager.{RawManager}
+use Rattle.conc_data_entries.specs.declared.raw.RawRule.{RawRule}
+use Rattle.conc_data_entries.specs.declared.raw.RawSet.{RawSet}
+use Rattle.conc_data_entries.specs.declared.raw.RawStage.{RawStage}
 use Rattle.conc_setup.specs.ThirdPass.{if_named, item_of, later, link_of, program_named, program_of, resolved_entry, resolved_manager, resolved_rule, resolved_set, resolved_stage, set_named, stage_named, stage_with, StageParts, to_entry, to_manager, to_rule, to_set, to_stage}
 use Rattle.conc_setup.proofs.Each.{each_count, each_passes, each_passes_at, each_same_at}
 use Rattle.conc_setup.proofs.Outcomes.{all_good-ok, both-ok, good-ok, judged-ok, or_kind-ok, proven-ok}

@@ -2,10 +2,10 @@
 use Rattle.std.proofs.Common.{◌≡◌, ◌∙◌, sym, refl, ap, Bool, true, false, List, [], ◌∷◌, length, map, Option, None, Some, Result, Ok, Err}
 use Rattle.std.specs.Prelude.{IfOk, IsTrue}
 use Rattle.conc_types.specs.declared.kind.RefusalKind.{RefusalKind}
-use Rattle.conc_setup_fields.specs.Arrays.{all_good, goods, lesser, unless, worst}
-use Rattle.conc_setup_fields.specs.Kinds.{both, good, judged, or_kind, proven}
-use Rattle.conc_setup_fields.specs.declared.fail.FieldFail.{FieldFail}
-use Rattle.conc_setup_fields.proofs.Combined.{IsRead}
+use Rattle.conc_data_fields.specs.Arrays.{all_good, goods, lesser, unless, worst}
+use Rattle.conc_data_fields.specs.Kinds.{both, good, judged, or_kind, proven}
+use Rattle.conc_data_fields.specs.declared.fail.FieldFail.{FieldFail}
+use Rattle.conc_data_fields.proofs.Combined.{IsRead}
 use Rattle.conc_setup.proofs.Each.{each_count}
 
 pub judged-ok : {A B : Type 0} (f : A → Result B RefusalKind) (r : Result A RefusalKind) (b : B) → judged f r ≡ Ok b → (a : A) × (r ≡ Ok a) × (f a ≡ Ok b)

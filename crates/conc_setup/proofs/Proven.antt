@@ -20,12 +20,12 @@ use Rattle.conc_types.specs.Sets.{are_stages}
 use Rattle.conc_types.specs.Setups.{are_named, are_references}
 use Rattle.conc_types.specs.Shifts.{most_places}
 use Rattle.conc_types.specs.Words.{is_between}
-use Rattle.conc_setup_fields.specs.Arrays.{within_most}
-use Rattle.conc_setup_fields.specs.Kinds.{proven}
-use Rattle.conc_setup_fields.specs.declared.values.Counted.{Counted}
-use Rattle.conc_setup_entries.specs.declared.raw.RawManager.{RawManager}
-use Rattle.conc_setup_entries.specs.declared.raw.RawRule.{RawRule}
-use Rattle.conc_setup_entries.specs.declared.raw.RawStage.{RawStage}
+use Rattle.conc_data_fields.specs.Arrays.{within_most}
+use Rattle.conc_data_fields.specs.Kinds.{proven}
+use Rattle.conc_data_fields.specs.declared.values.Counted.{Counted}
+use Rattle.conc_data_entries.specs.declared.raw.RawManager.{RawManager}
+use Rattle.conc_data_entries.specs.declared.raw.RawRule.{RawRule}
+use Rattle.conc_data_entries.specs.declared.raw.RawStage.{RawStage}
 use Rattle.conc_setup.specs.Lines.{on_line}
 use Rattle.conc_setup.specs.ThirdPass.{are_few, few_parts, stage_with, to_manager, to_rule, to_set, to_setup}
 

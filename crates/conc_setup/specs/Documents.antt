@@ -6,18 +6,18 @@ use Rattle.toml.specs.Parse.{parse_document}
 use Rattle.conc_types.specs.declared.kind.RefusalKind.{RefusalKind}
 use Rattle.conc_types.specs.declared.kind.RefusalKind.TheVariants as refused
 use Rattle.conc_types.specs.declared.program.Program.{Program}
-use Rattle.conc_setup_fields.specs.Arrays.{array_in, counted, goods, no_values, read_all}
-use Rattle.conc_setup_fields.specs.Fields.{default, keys_kind}
-use Rattle.conc_setup_fields.specs.Forms.{name_in}
-use Rattle.conc_setup_fields.specs.Kinds.{beside, both, judged, or_kind, proven}
-use Rattle.conc_setup_fields.specs.declared.values.Counted.{Counted}
-use Rattle.conc_setup_entries.specs.Entries.{entry_in}
-use Rattle.conc_setup_entries.specs.Managers.{manager_in}
-use Rattle.conc_setup_entries.specs.Programs.{program_in}
-use Rattle.conc_setup_entries.specs.Sets.{set_in}
-use Rattle.conc_setup_entries.specs.declared.raw.RawEntry.{RawEntry}
-use Rattle.conc_setup_entries.specs.declared.raw.RawManager.{RawManager}
-use Rattle.conc_setup_entries.specs.declared.raw.RawSet.{RawSet}
+use Rattle.conc_data_fields.specs.Arrays.{array_in, counted, goods, no_values, read_all}
+use Rattle.conc_data_fields.specs.Fields.{default, keys_kind}
+use Rattle.conc_data_fields.specs.Forms.{name_in}
+use Rattle.conc_data_fields.specs.Kinds.{beside, both, judged, or_kind, proven}
+use Rattle.conc_data_fields.specs.declared.values.Counted.{Counted}
+use Rattle.conc_data_entries.specs.Entries.{entry_in}
+use Rattle.conc_data_entries.specs.Managers.{manager_in}
+use Rattle.conc_data_entries.specs.Programs.{program_in}
+use Rattle.conc_data_entries.specs.Sets.{set_in}
+use Rattle.conc_data_entries.specs.declared.raw.RawEntry.{RawEntry}
+use Rattle.conc_data_entries.specs.declared.raw.RawManager.{RawManager}
+use Rattle.conc_data_entries.specs.declared.raw.RawSet.{RawSet}
 use Rattle.conc_setup.specs.Places.{places_in_all}
 use Rattle.conc_setup.specs.declared.raw.Document.{Document}
 

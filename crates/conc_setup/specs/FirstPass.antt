@@ -2,7 +2,7 @@
 use Rattle.std.specs.Prelude.{◌+◌, ◌≤◌, length, Option, Result}
 use Rattle.std.specs.Option.{option_or}
 use Rattle.conc_types.specs.Faults.{Fault}
-use Rattle.conc_setup_fields.specs.Arrays.{first_wrong, goods}
+use Rattle.conc_data_fields.specs.Arrays.{first_wrong, goods}
 use Rattle.conc_setup.specs.Lines.{unless_fault}
 use Rattle.conc_setup.specs.Places.{places_in_all}
 use Rattle.conc_setup.specs.declared.raw.Document.{Document}

@@ -2,7 +2,7 @@
 use Rattle.std.specs.Prelude.{ℕ, List}
 use Rattle.std.specs.List.{sum_by}
 use Rattle.conc_types.specs.Shifts.{most_places}
-use Rattle.conc_setup_entries.specs.declared.raw.RawManager.{RawManager}
+use Rattle.conc_data_entries.specs.declared.raw.RawManager.{RawManager}
 
 -- the places of managers in all
 abbrev pub places_in_all : List RawManager → ℕ

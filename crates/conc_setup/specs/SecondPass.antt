@@ -6,7 +6,7 @@ use Rattle.std.specs.Str.{bytes_eq}
 use Rattle.conc_types.specs.declared.kind.RefusalKind.TheVariants as refused
 use Rattle.conc_types.specs.Faults.{Fault}
 use Rattle.conc_types.specs.Words.{are_distinct}
-use Rattle.conc_setup_entries.specs.declared.raw.RawSet.{RawSet}
+use Rattle.conc_data_entries.specs.declared.raw.RawSet.{RawSet}
 use Rattle.conc_setup.specs.Lines.{unless_fault}
 use Rattle.conc_setup.specs.declared.raw.RawSetup.{RawSetup}
 

@@ -22,14 +22,14 @@ use Rattle.conc_types.specs.Sets.{are_stages}
 use Rattle.conc_types.specs.Shifts.{most_places}
 use Rattle.conc_types.specs.Setups.{are_named, are_references}
 use Rattle.conc_types.specs.Words.{is_between}
-use Rattle.conc_setup_fields.specs.Arrays.{all_good, first_wrong, goods, within_most}
-use Rattle.conc_setup_fields.specs.Kinds.{both, good, judged, or_kind, proven}
-use Rattle.conc_setup_fields.specs.declared.values.Counted.{Counted}
-use Rattle.conc_setup_entries.specs.declared.raw.RawEntry.{RawEntry}
-use Rattle.conc_setup_entries.specs.declared.raw.RawManager.{RawManager}
-use Rattle.conc_setup_entries.specs.declared.raw.RawRule.{RawRule}
-use Rattle.conc_setup_entries.specs.declared.raw.RawSet.{RawSet}
-use Rattle.conc_setup_entries.specs.declared.raw.RawStage.{RawStage}
+use Rattle.conc_data_fields.specs.Arrays.{all_good, first_wrong, goods, within_most}
+use Rattle.conc_data_fields.specs.Kinds.{both, good, judged, or_kind, proven}
+use Rattle.conc_data_fields.specs.declared.values.Counted.{Counted}
+use Rattle.conc_data_entries.specs.declared.raw.RawEntry.{RawEntry}
+use Rattle.conc_data_entries.specs.declared.raw.RawManager.{RawManager}
+use Rattle.conc_data_entries.specs.declared.raw.RawRule.{RawRule}
+use Rattle.conc_data_entries.specs.declared.raw.RawSet.{RawSet}
+use Rattle.conc_data_entries.specs.declared.raw.RawStage.{RawStage}
 use Rattle.conc_setup.specs.Lines.{on_line, passed, unless_fault}
 use Rattle.conc_setup.specs.declared.raw.RawSetup.{RawSetup}
 

@@ -1,7 +1,7 @@
 ghost use Rattle.std.specs.Prelude.{◌≡◌, IfOk};
 ghost use Rattle.std.specs.Option.{option_map};
 
-use conc_setup_fields::ShortText;
+use conc_data_fields::ShortText;
 use conc_types::{Name, NoMemory, Seq, Text};
 use std::alloc::Global;
 

@@ -1,17 +1,17 @@
 ghost use Rattle.std.specs.Prelude.{◌≡◌, IfOk, Option};
 ghost use Rattle.std.specs.Option.{option_map};
-ghost use Rattle.conc_setup_fields.specs.Fields as fields_spec;
-ghost use Rattle.conc_setup_fields.specs.Reads.{IfRead, judged_read};
+ghost use Rattle.conc_data_fields.specs.Fields as fields_spec;
+ghost use Rattle.conc_data_fields.specs.Reads.{IfRead, judged_read};
 ghost use Rattle.conc_setup.specs.Documents as spec;
 ghost use Rattle.toml.specs.Parse.{parse_document};
 ghost use Rattle.toml.specs.View.{table_view, view};
 
 use crate::places::places_in_all;
 use crate::raw::Document;
-use conc_setup_entries::{
+use conc_data_entries::{
     EntryForm, ManagerForm, ProgramForm, RawEntry, RawManager, RawSet, SetForm,
 };
-use conc_setup_fields::{
+use conc_data_fields::{
     ArrayForm, Counted, FieldFail, Form, Judged, NameForm, beside, both, counted, default,
     keys_kind, no_values, read_all,
 };

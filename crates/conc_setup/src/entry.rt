@@ -1,10 +1,10 @@
 ghost use Rattle.std.specs.Prelude.{◌≡◌};
-ghost use Rattle.conc_setup_fields.specs.Reads.{IfRead, good_read};
+ghost use Rattle.conc_data_fields.specs.Reads.{IfRead, good_read};
 ghost use Rattle.conc_setup.specs.ThirdPass as spec;
 
 use crate::resolve::{Items, Resolve, item_of};
-use conc_setup_entries::RawEntry;
-use conc_setup_fields::{FieldFail, both};
+use conc_data_entries::RawEntry;
+use conc_data_fields::{FieldFail, both};
 use conc_types::{Entry, Item};
 use std::alloc::Global;
 

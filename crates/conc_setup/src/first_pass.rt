@@ -5,7 +5,7 @@ ghost use Rattle.conc_types.specs.Faults.{IsFailure};
 ghost use Rattle.conc_setup.specs.FirstPass as spec;
 
 use crate::raw::{Document, Fault, RawSetup, refused};
-use conc_setup_fields::{first_wrong, goods};
+use conc_data_fields::{first_wrong, goods};
 use conc_types::{NoMemory, ReadFail};
 use std::alloc::Global;
 

@@ -1,13 +1,13 @@
 ghost use Rattle.std.specs.Prelude.{◌≡◌, ◌≤◌, ◌+◌, IfOk, IsTrue, Ok, length};
 ghost use Rattle.std.specs.Option.{option_map};
 ghost use Rattle.conc_types.specs.Fields.{is_rule};
-ghost use Rattle.conc_setup_fields.specs.Reads.{IfRead};
+ghost use Rattle.conc_data_fields.specs.Reads.{IfRead};
 ghost use Rattle.conc_setup.specs.ThirdPass as spec;
 
 use crate::copies::{copy_of_name, copy_of_text};
 use crate::resolve::{Items, Resolve, program_of, resolve_good};
-use conc_setup_entries::{RawManager, RawRule};
-use conc_setup_fields::{FieldFail, Judged, both};
+use conc_data_entries::{RawManager, RawRule};
+use conc_data_fields::{FieldFail, Judged, both};
 use conc_types::{Manager, Name, NoMemory, Rule, Seq};
 use std::alloc::Global;
 

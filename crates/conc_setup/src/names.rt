@@ -4,7 +4,7 @@ ghost use Rattle.std.specs.Str.{bytes_eq};
 ghost use Rattle.conc_types.specs.Words as words_spec;
 ghost use Rattle.conc_setup.specs.SecondPass as second_pass_spec;
 
-use conc_setup_entries::{RawManager, RawSet, RawStage};
+use conc_data_entries::{RawManager, RawSet, RawStage};
 use conc_types::{Name, Program};
 
 /// What has a name.

@@ -1,11 +1,11 @@
 ghost use Rattle.std.specs.Prelude.{◌≡◌, ◌≤◌, ◌*◌, length, map};
 ghost use Rattle.conc_types.specs.Shifts as shifts_spec;
 ghost use Rattle.conc_types.specs.Words.{greatest};
-ghost use Rattle.conc_setup_fields.specs.Arrays.{goods};
+ghost use Rattle.conc_data_fields.specs.Arrays.{goods};
 ghost use Rattle.conc_setup.specs.Places as places_spec;
 
-use conc_setup_entries::RawManager;
-use conc_setup_fields::{Counted, Judged};
+use conc_data_entries::RawManager;
+use conc_data_fields::{Counted, Judged};
 use conc_types::Shift;
 
 fn greatest_shift(shifts: &[Shift]) -> u32
@@ -27,7 +27,7 @@ fn most_places(shifts: &[Shift]) -> u32
     }
 }
 
-#[tactic(auto, unfolding(conc_setup_fields::specs::Arrays::goods))]
+#[tactic(auto, unfolding(conc_data_fields::specs::Arrays::goods))]
 fn places_of(managers: &[Judged<RawManager>]) -> u64
     requires { length managers.now ≤ 64 }
     ensures value { result ≡ places_spec.places_in_all (goods managers.now) }

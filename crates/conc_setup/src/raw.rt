@@ -1,11 +1,11 @@
 ghost use Rattle.std.specs.Prelude.{◌≡◌, IsTrue, nat_le};
 ghost use Rattle.conc_types.specs.declared.error.ReadFail.TheVariants as read_fail;
 ghost use Rattle.conc_types.specs.declared.refusal.FileKind.TheVariants as file;
-ghost use Rattle.conc_setup_fields.specs.Arrays.{goods};
+ghost use Rattle.conc_data_fields.specs.Arrays.{goods};
 ghost use Rattle.conc_setup.specs.Places.{places_in_all};
 
-use conc_setup_entries::{RawEntry, RawManager, RawSet};
-use conc_setup_fields::{Counted, Judged};
+use conc_data_entries::{RawEntry, RawManager, RawSet};
+use conc_data_fields::{Counted, Judged};
 use conc_types::{FileKind, Name, Program, ReadFail, RefusalKind, Seq};
 
 /// A line of the file, where 0 is the file as a whole, and the kind of the rule that it breaks.

@@ -1,14 +1,14 @@
 ghost use Rattle.std.specs.Prelude.{◌≡◌, ◌≤◌, IfOk, List, Result, length, map};
 ghost use Rattle.conc_types.specs.declared.kind.RefusalKind.{RefusalKind};
 ghost use Rattle.conc_types.specs.declared.program.Program.{Program};
-ghost use Rattle.conc_setup_fields.specs.Arrays as arrays_spec;
-ghost use Rattle.conc_setup_fields.specs.Reads.{IfRead, read_as};
-ghost use Rattle.conc_setup_entries.specs.declared.raw.RawSet.{RawSet};
+ghost use Rattle.conc_data_fields.specs.Arrays as arrays_spec;
+ghost use Rattle.conc_data_fields.specs.Reads.{IfRead, read_as};
+ghost use Rattle.conc_data_entries.specs.declared.raw.RawSet.{RawSet};
 ghost use Rattle.conc_setup.specs.ThirdPass as spec;
 
 use crate::names::place_of;
-use conc_setup_entries::RawSet;
-use conc_setup_fields::{FieldFail, Judged, all_good};
+use conc_data_entries::RawSet;
+use conc_data_fields::{FieldFail, Judged, all_good};
 use conc_types::{Item, Name, NoMemory, Program, RefusalKind, Seq};
 use std::alloc::Global;
 

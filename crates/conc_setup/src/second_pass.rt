@@ -4,7 +4,7 @@ ghost use Rattle.conc_setup.specs.SecondPass as spec;
 
 use crate::names::{Named, are_distinct, is_among};
 use crate::raw::{Fault, RawSetup};
-use conc_setup_entries::RawSet;
+use conc_data_entries::RawSet;
 use conc_types::{Name, Program, RefusalKind};
 
 // The first of the items from a place on that has the name of one before it, where the item at this

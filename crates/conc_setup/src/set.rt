@@ -3,15 +3,15 @@ ghost use Rattle.std.specs.List.{enumerate_from, list_all};
 ghost use Rattle.conc_types.specs.Fields.{are_links};
 ghost use Rattle.conc_types.specs.Sets.{are_stages};
 ghost use Rattle.conc_types.specs.Words.{is_between, none_or};
-ghost use Rattle.conc_setup_fields.specs.Reads.{IfRead, read_as};
+ghost use Rattle.conc_data_fields.specs.Reads.{IfRead, read_as};
 ghost use Rattle.conc_setup.specs.SecondPass.{has_distinct_stages};
 ghost use Rattle.conc_setup.specs.ThirdPass as spec;
 
 use crate::copies::copy_of_name;
 use crate::names::place_of;
 use crate::resolve::{Items, resolve_good};
-use conc_setup_entries::{RawSet, RawStage};
-use conc_setup_fields::{FieldFail, Judged, all_good, both};
+use conc_data_entries::{RawSet, RawStage};
+use conc_data_fields::{FieldFail, Judged, all_good, both};
 use conc_types::{Name, NoMemory, RefusalKind, Seq, SetDef, Stage};
 use std::alloc::Global;
 

@@ -15,7 +15,7 @@ use crate::first_pass::first_pass;
 use crate::raw::{Document, RawSetup, refused};
 use crate::second_pass::second_pass;
 use crate::third_pass::third_pass;
-use conc_setup_fields::FieldFail;
+use conc_data_fields::FieldFail;
 use conc_types::{ReadFail, Setup};
 use std::alloc::Global;
 

@@ -10,7 +10,7 @@ ghost use Rattle.conc_setup.specs.ThirdPass as spec;
 use crate::raw::{Fault, RawSetup, refused};
 use crate::resolve::{Items, resolve_all};
 use crate::set::resolve_sets;
-use conc_setup_fields::{Counted, Judged, first_wrong, goods};
+use conc_data_fields::{Counted, Judged, first_wrong, goods};
 use conc_types::{Entry, Manager, Name, NoMemory, Program, ReadFail, Seq, SetDef, Setup};
 use std::alloc::Global;
 

@@ -10,7 +10,7 @@ use Rattle.conc_types.specs.declared.kind.RefusalKind.TheVariants as refused
 use Rattle.conc_types.specs.Faults.{Fault, fault_or, first_broken, first_fault}
 use Rattle.conc_types.specs.Pieces.{concat}
 use Rattle.conc_types.specs.Words.{are_distinct, has_length}
-use Rattle.conc_records.specs.Records.{Record, records_of}
+use Rattle.conc_data_records.specs.Records.{Record, records_of}
 use Rattle.conc_tables.specs.Rows.{row_fault, rows_fault}
 use Rattle.conc_tables.specs.Tables.{records_fault, row_kind, table_fault}
 

@@ -3,7 +3,7 @@ use Rattle.std.specs.Prelude.{ℕ, ◌+◌, ◌==◌, not, nat_lt, List, [], ◌
 use Rattle.conc_types.specs.declared.kind.RefusalKind.{RefusalKind}
 use Rattle.conc_types.specs.declared.kind.RefusalKind.TheVariants as refused
 use Rattle.conc_types.specs.Faults.{Fault, fault_or, first_broken}
-use Rattle.conc_records.specs.Records.{Record}
+use Rattle.conc_data_records.specs.Records.{Record}
 use Rattle.conc_tables.specs.declared.reading.TheConstants.{MOST_ROWS}
 
 -- the kind of the first rule that a row on this line breaks, with so many fields under so many columns

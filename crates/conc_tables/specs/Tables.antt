@@ -6,7 +6,7 @@ use Rattle.conc_types.specs.declared.kind.RefusalKind.TheVariants as refused
 use Rattle.conc_types.specs.declared.table.Table.{Table}
 use Rattle.conc_types.specs.Faults.{Fault, first_broken, first_fault}
 use Rattle.conc_types.specs.Words.{are_distinct, has_length}
-use Rattle.conc_records.specs.Records.{Record, records_of}
+use Rattle.conc_data_records.specs.Records.{Record, records_of}
 use Rattle.conc_tables.specs.declared.reading.TheConstants.{MOST_ROWS}
 
 -- the first rule that the record with this number breaks: there are at most so many rows, each as long as the header

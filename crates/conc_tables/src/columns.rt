@@ -3,7 +3,7 @@ ghost use Rattle.std.specs.Str.{bytes_eq};
 ghost use Rattle.csv.specs.Records.{fields_of};
 ghost use Rattle.conc_types.specs.Words as spec;
 
-use conc_records::ByteRecord;
+use conc_data_records::ByteRecord;
 use conc_types::{Bytes, NoMemory, Seq};
 use std::alloc::Global;
 use std::collections::BTreeSet;

@@ -9,7 +9,7 @@ ghost use Rattle.conc_tables.specs.Tables.{table_fault, SpellsTable};
 ghost use Rattle.conc_tables.specs.declared.reading.TheConstants.{MOST_ROWS};
 
 use crate::columns::{are_distinct, columns_of};
-use conc_records::{ByteRecord, Records};
+use conc_data_records::{ByteRecord, Records};
 use conc_types::{Cells, FileKind, NoMemory, ReadFail, RefusalKind, Table};
 use std::alloc::Global;
 

@@ -9,22 +9,22 @@ use Rattle.conc_types.specs.declared.plan.Plan.{Plan}
 use Rattle.conc_types.specs.declared.plan.Req.{Req}
 use Rattle.conc_types.specs.Plans.{request}
 use Rattle.conc_types.specs.Words.{numbered, some_and}
-use Rattle.conc_law.specs.Plans.{are_exclusive}
-use Rattle.conc_board_seats.specs.declared.views.LeadState.{LeadState}
-use Rattle.conc_board_seats.specs.declared.views.LeadState.TheVariants.{NotLet, Let, Seen, Gone, Got, Done}
-use Rattle.conc_board_seats.specs.Places.{has, without}
-use Rattle.conc_board_seats.specs.Rule.{exclude}
-use Rattle.conc_board_seats.specs.LeadStates.{IsGone, IsLet}
-use Rattle.conc_board_seats.proofs.Facts.{place_eq}
+use Rattle.conc_base_law.specs.Plans.{are_exclusive}
+use Rattle.conc_pool_seats.specs.declared.views.LeadState.{LeadState}
+use Rattle.conc_pool_seats.specs.declared.views.LeadState.TheVariants.{NotLet, Let, Seen, Gone, Got, Done}
+use Rattle.conc_pool_seats.specs.Places.{has, without}
+use Rattle.conc_pool_seats.specs.Rule.{exclude}
+use Rattle.conc_pool_seats.specs.LeadStates.{IsGone, IsLet}
+use Rattle.conc_pool_seats.proofs.Facts.{place_eq}
 use Rattle.conc_board.specs.declared.board.Board.{Board}
 use Rattle.conc_board.specs.declared.lead.Lead.{Lead}
 use Rattle.conc_board.specs.declared.lead.Looked.{Looked}
 use Rattle.conc_board.specs.declared.lead.Looked.TheVariants.{Free, Claimed, Running, Ended}
 use Rattle.conc_board.specs.Looks.{Looks}
 use Rattle.conc_board.specs.Seats.{Changes, LeavesLeadStates, lead_state_of}
-use Rattle.conc_board_lanes.specs.Lanes.{AreHandPasses, IsHandPassOf}
-use Rattle.conc_board_lanes.specs.declared.lanes.HandPass.{HandPass}
-use Rattle.conc_board_lanes.specs.declared.lanes.Lanes.{Lanes}
+use Rattle.conc_pool_lanes.specs.Lanes.{AreHandPasses, IsHandPassOf}
+use Rattle.conc_pool_lanes.specs.declared.lanes.HandPass.{HandPass}
+use Rattle.conc_pool_lanes.specs.declared.lanes.Lanes.{Lanes}
 use Rattle.conc_test_board.specs.Rounds.{AreBothLet, IsSeen, OnlyOne}
 
 -- ---- exclusion

@@ -5,9 +5,9 @@ use Rattle.conc_types.specs.declared.plan.Plan.{Plan}
 use Rattle.conc_board.specs.declared.board.Board.{Board}
 use Rattle.conc_board.specs.declared.hand.Hand.{Hand}
 use Rattle.conc_board.specs.Seats.{plan_of}
-use Rattle.conc_board_lanes.specs.declared.lanes.Lanes.{Lanes}
-use Rattle.conc_board_lanes.specs.Lanes as lanes_spec
-use Rattle.conc_board_lanes.specs.Lanes.{IsHandPassOf}
+use Rattle.conc_pool_lanes.specs.declared.lanes.Lanes.{Lanes}
+use Rattle.conc_pool_lanes.specs.Lanes as lanes_spec
+use Rattle.conc_pool_lanes.specs.Lanes.{IsHandPassOf}
 use Rattle.conc_test_board.specs.declared.crew.Three.{Three}
 use Rattle.conc_test_board.specs.declared.crew.Worker.{Worker}
 use Rattle.conc_test_board.specs.Rounds.{IsFree}

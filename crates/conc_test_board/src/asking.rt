@@ -1,17 +1,22 @@
-ghost use Rattle.std.specs.Prelude.{◌≡◌, IsFalse, IsTrue, not};
+ghost use Rattle.std.specs.Prelude.{◌≡◌, IfOk, IsFalse, IsTrue, not, OnOk};
 ghost use Rattle.std.specs.List.{list_all};
 ghost use Rattle.conc_types.specs.declared.event.RequestId.{RequestId};
-ghost use Rattle.conc_law.specs.Plans as plans_spec;
-ghost use Rattle.conc_board_seats.specs.Rule.{exclude};
-ghost use Rattle.conc_board_seats.specs.LeadStates.{IsGone, IsLet};
-ghost use Rattle.conc_board_seats.specs.Words.{IsRequest};
-ghost use Rattle.conc_board_seats.specs.declared.views.LeadState.TheVariants as lead_state;
-ghost use Rattle.conc_board.specs.Seats.{IsLeadOf, lead_state_of, plan_of};
-ghost use Rattle.conc_test_board.specs.Rounds.{IsSeen, OnlyOne};
+ghost use Rattle.conc_base_law.specs.Plans as plans_spec;
+ghost use Rattle.conc_pool_seats.specs.Rule.{exclude};
+ghost use Rattle.conc_pool_seats.specs.LeadStates.{IsGone, IsLet};
+ghost use Rattle.conc_pool_seats.specs.Places.{has};
+ghost use Rattle.conc_pool_seats.specs.Words.{IsPlace, IsRequest};
+ghost use Rattle.conc_pool_seats.specs.declared.views.LeadState.TheVariants as lead_state;
+ghost use Rattle.conc_pool_seats.specs.declared.views.Doing.TheVariants as does;
+ghost use Rattle.conc_board.specs.Claims.{HasPermit};
+ghost use Rattle.conc_board.specs.Seats.{doing_of, IsHandOf, IsLeadOf, lead_state_of, places_of_lead, plan_of, Stays};
+ghost use Rattle.conc_test_board.specs.Rounds.{IsFree, IsSeen, OnlyOne, PassesOn};
 
-use conc_board::{Board, Lead, Looked};
+use conc_board::{Board, Hand, Lead, Looked, Permit, Posted};
 use conc_rules::are_exclusive;
-use conc_types::{Plan, Req, RequestId};
+use conc_types::{NoMemory, PlaceId, Plan, Req, RequestId};
+use conc_worker::report_for;
+use std::alloc::Global;
 
 // Whether the request excludes none of these.
 fn excludes_no_other(plan: &Plan, x: &Req, others: &[Req]) -> bool
@@ -67,4 +72,38 @@ pub fn look_gone(board: &Board, lead: &mut Lead, r: RequestId) -> Looked
     ensures lead_state { lead_state_of lead.new r ≡ lead_state_of lead.old r }
 {
     board.look(lead, r)
+}
+
+/// A hand that does nothing, with this place of the lead's.
+pub fn hand_at(board: &Board, lead: &mut Lead, place: PlaceId) -> Hand
+    requires lead { IsLeadOf board.now lead.old }
+    requires place { IsPlace (plan_of board.now) place }
+    requires own { IsTrue (has (places_of_lead lead.old) place) }
+    ensures passed { PassesOn board.now place lead.old lead.new }
+    ensures hand { IsFree board.now place result }
+{
+    board.split(lead, &[place])
+}
+
+/// Leaves the report of the request that is served. False where it has none; nothing is left then.
+pub fn post_report(
+    alloc: Global,
+    board: &Board,
+    plan: &Plan,
+    hand: &mut Hand,
+    permit: Permit,
+) -> Result<bool, NoMemory>
+    requires plan { plan.now ≡ plan_of board.now }
+    requires hand { IsHandOf board.now hand.old }
+    requires permit { HasPermit hand.old permit }
+    ensures hand { OnOk result (Stays board.now hand.old hand.new) }
+    ensures idle { IfOk result (λ left. IsTrue left → doing_of hand.new ≡ does.Idle) }
+{
+    match report_for(alloc, plan, permit.request())? {
+        Some(made) => {
+            board.post(hand, permit, Posted::Text(made));
+            Ok(true)
+        }
+        None => Ok(false),
+    }
 }

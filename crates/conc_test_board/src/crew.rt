@@ -1,5 +1,5 @@
 use conc_board::Hand;
-use conc_board_lanes::HandPass;
+use conc_pool_lanes::HandPass;
 
 /// One that serves a place: with a hand while it does nothing, and a pass for the lanes.
 #[derive(Drop)]

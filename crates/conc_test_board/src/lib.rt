@@ -4,7 +4,7 @@
 mod asking;
 mod crew;
 
-pub use asking::{excludes_none, let_out_if_apart, look_gone, look_let};
+pub use asking::{excludes_none, hand_at, let_out_if_apart, look_gone, look_let, post_report};
 pub use crew::{Three, Worker};
 
 #[cfg(test)]

@@ -1,4 +1,5 @@
 mod command_lines;
+mod pictures;
 mod plans;
 mod refusals;
 mod tables;

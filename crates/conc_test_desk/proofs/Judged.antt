@@ -3,15 +3,15 @@ use Rattle.std.proofs.Common.{◌≡◌, ◌++◌, [], ◌∷◌, Bool, true, fa
 use Rattle.conc_types.specs.declared.event.Event.{Event}
 use Rattle.conc_types.specs.declared.event.Event.TheVariants as event
 use Rattle.conc_types.specs.declared.script.Reading.{Reading}
-use Rattle.conc_law.specs.Kinds.{is_resume}
-use Rattle.conc_law.specs.Law.{is_lawful, Lawful, may_follow}
-use Rattle.conc_law.proofs.Positions.{reverse-push}
+use Rattle.conc_base_law.specs.Kinds.{is_resume}
+use Rattle.conc_base_law.specs.Law.{is_lawful, Lawful, may_follow}
+use Rattle.conc_base_law.proofs.Positions.{reverse-push}
 use Rattle.conc_machine.specs.StandsFor.{plan_of, readings_of, StandsFor}
 use Rattle.conc_machine.specs.declared.machine.Machine.{Machine}
-use Rattle.conc_resolver_choice.proofs.Pushes.{is_lawful-more}
+use Rattle.conc_run_choice.proofs.Pushes.{is_lawful-more}
 use Rattle.conc_run_steps.specs.Steps.{readings_in}
-use Rattle.conc_desk.specs.Desks.{list_at, plan_at}
-use Rattle.conc_desk.specs.State.{DeskState}
+use Rattle.conc_run_desk.specs.Desks.{list_at, plan_at}
+use Rattle.conc_run_desk.specs.State.{DeskState}
 use Rattle.conc_test_desk.specs.Driven.{IsPlain}
 
 pub plain-no_resume : (e : Event) → IsPlain e → is_resume e ≡ false

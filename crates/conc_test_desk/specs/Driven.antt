@@ -5,12 +5,12 @@ use Rattle.conc_types.specs.declared.event.Event.TheVariants as event
 use Rattle.conc_types.specs.declared.event.RequestId.{RequestId}
 use Rattle.conc_board.specs.declared.board.Board.{Board}
 use Rattle.conc_board.specs.Seats.{plan_of}
-use Rattle.conc_board_seats.specs.Words.{IsRequest}
-use Rattle.conc_desk.specs.Desks.{IsAt}
-use Rattle.conc_desk.specs.State.{DeskState}
-use Rattle.conc_disk_devices.specs.Calls.{state_of}
+use Rattle.conc_pool_seats.specs.Words.{IsRequest}
+use Rattle.conc_run_desk.specs.Desks.{IsAt}
+use Rattle.conc_run_desk.specs.State.{DeskState}
+use Rattle.conc_edge_devices.specs.Calls.{state_of}
 use Rattle.conc_journal.specs.Journals.{IsOn as JournalIsOn, room_of}
-use Rattle.conc_spool.specs.Spools.{IsOn as SpoolIsOn}
+use Rattle.conc_journal_spool.specs.Spools.{IsOn as SpoolIsOn}
 use Rattle.conc_test_desk.specs.declared.disks.Disks.{Disks}
 
 -- The desk is at the board, no end is kept, and both disks are on. The request is one of the plan.

@@ -1,4 +1,4 @@
-use conc_disk_devices::MemDisk;
+use conc_edge_devices::MemDisk;
 
 /// The disks of a run, in memory.
 #[derive(Drop)]

@@ -2,8 +2,8 @@
 use Rattle.std.proofs.Common.{◌≡◌, ℕ, ◌+◌, List, [], ◌∷◌, ◌++◌, length, None, reverse, true, sym, ◌∙◌, ap, subst, refl, arith, length-append}
 use Rattle.std.proofs.lemmas.Bool.{and_from}
 use Rattle.conc_types.specs.declared.event.Event.{Event}
-use Rattle.conc_law.proofs.Positions.{reverse-push}
-use Rattle.conc_law.specs.Law.{is_lawful_so_far, LawfulSoFar, may_follow}
+use Rattle.conc_base_law.proofs.Positions.{reverse-push}
+use Rattle.conc_base_law.specs.Law.{is_lawful_so_far, LawfulSoFar, may_follow}
 use Rattle.conc_machine.specs.StandsFor.{plan_of, readings_of, StandsFor}
 use Rattle.conc_machine.specs.declared.machine.Machine.{Machine}
 use Rattle.conc_test_view.specs.Follows.{Follows}

@@ -1,7 +1,7 @@
 -- A machine that follows a list.
 use Rattle.std.specs.Prelude.{◌≡◌, List, None, reverse}
 use Rattle.conc_types.specs.declared.event.Event.{Event}
-use Rattle.conc_law.specs.Law.{LawfulSoFar}
+use Rattle.conc_base_law.specs.Law.{LawfulSoFar}
 use Rattle.conc_machine.specs.StandsFor.{plan_of, readings_of, StandsFor}
 use Rattle.conc_machine.specs.declared.machine.Machine.{Machine}
 

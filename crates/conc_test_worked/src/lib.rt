@@ -1,5 +1,5 @@
-//! Worked examples of whole calls, derived from the rules or by another program, and a shelf for their
-//! files.
+//! Worked examples of whole calls, derived from the rules or by another program, a shelf for their files,
+//! and the plan of some files.
 #![tactic(auto)]
 
 mod examples;
@@ -8,6 +8,7 @@ mod lives;
 mod managers;
 mod month_end;
 mod plain;
+mod plans;
 mod sets;
 
 pub use examples::{Worked, worked_of};
@@ -16,4 +17,5 @@ pub use lives::LIVES;
 pub use managers::MANAGERS;
 pub use month_end::MONTH_END;
 pub use plain::PLAIN;
+pub use plans::plan_from;
 pub use sets::SETS;

@@ -9,7 +9,7 @@ use Rattle.jiff_core.specs.Date.{epoch_day}
 use Rattle.jiff_core.proofs.CalendarLemmas.{days_in_month_bounds}
 use Rattle.jiff_core.proofs.SignedLemmas.{back_small, one_part}
 use Rattle.conc_types.specs.declared.event.Moment.{Moment}
-use Rattle.conc_law.specs.Calendar.{Civil, days_before, seconds_of}
+use Rattle.conc_base_law.specs.Calendar.{Civil, days_before, seconds_of}
 use Rattle.conc_time.specs.Fields.{has_date}
 use Rattle.conc_time.proofs.Calendars.{before_start, day_number, months_same}
 use Rattle.conc_time.proofs.Dates.{days_in}

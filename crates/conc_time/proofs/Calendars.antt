@@ -8,8 +8,8 @@ use Rattle.jiff_core.proofs.CalendarLemmas.{day_count-day_of_year, day_count-lt_
 use Rattle.jiff_core.proofs.DateLemmas.{civil}
 use Rattle.jiff_core.proofs.SignedLemmas.{back_small, one_part}
 use Rattle.jiff_core.proofs.MarchLemmas.{day_count-early}
-use Rattle.conc_law.specs.Calendar.{Civil, days_before, days_in_year, month_lengths}
-use Rattle.conc_law.specs.Moments.{days_before_month, days_before_year, is_leap}
+use Rattle.conc_base_law.specs.Calendar.{Civil, days_before, days_in_year, month_lengths}
+use Rattle.conc_base_law.specs.Moments.{days_before_month, days_before_year, is_leap}
 use Rattle.conc_time.proofs.Parts.{HasDate}
 use Rattle.conc_time.proofs.Days.{days_apart, first_month, month_length, next_month, next_year}
 

@@ -4,8 +4,8 @@ use Rattle.std.specs.Prelude.{nat_lt}
 use Rattle.std.proofs.lemmas.Bool.{cases_order}
 use Rattle.std.proofs.lemmas.Bool.Decides.{nat_tests}
 use Rattle.conc_types.specs.declared.event.Moment.{Moment}
-use Rattle.conc_law.specs.Calendar.{Civil, civil_text, days_before, is_civil, seconds_of}
-use Rattle.conc_law.specs.Moments.{date_text, days_before_month, days_before_year, moment_text, time_text}
+use Rattle.conc_base_law.specs.Calendar.{Civil, civil_text, days_before, is_civil, seconds_of}
+use Rattle.conc_base_law.specs.Moments.{date_text, days_before_month, days_before_year, moment_text, time_text}
 use Rattle.conc_time.proofs.Days.{all_months, days_apart, first_month, month_length, next_month, next_year}
 use Rattle.conc_time.proofs.Parts.{HasDate, IsCivil, parts_of}
 use Rattle.conc_time.proofs.Years.{date_found, first_from, months_grow, years_grow}

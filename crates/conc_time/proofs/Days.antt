@@ -3,8 +3,8 @@ use Rattle.std.proofs.Common.{◌≡◌, refl, ℕ, zero, suc, ◌+◌, ◌-◌,
 use Rattle.std.specs.List.{range_with_len, sum_by}
 use Rattle.std.proofs.lemmas.Bool.Decides.{nat_tests}
 use Rattle.std.proofs.lemmas.List.Sums.{sum_by-cons}
-use Rattle.conc_law.specs.Calendar.{Civil, days_before, days_in_year, month_lengths}
-use Rattle.conc_law.specs.Moments.{days_before_month, days_before_year, is_leap}
+use Rattle.conc_base_law.specs.Calendar.{Civil, days_before, days_in_year, month_lengths}
+use Rattle.conc_base_law.specs.Moments.{days_before_month, days_before_year, is_leap}
 
 abbrev pub month_length : ℕ → ℕ → ℕ
 month_length year month = get_or (month_lengths year) (month - 1) 0

@@ -3,8 +3,8 @@ use Rattle.std.proofs.Common.{◌≡◌, refl, ℕ, ◌+◌, ◌/◌, ◌%◌, �
 use Rattle.std.specs.Char.{digit_value}
 use Rattle.std.specs.Str.Parse.{digits_value}
 use Rattle.std.proofs.lemmas.Bool.Decides.{nat_tests}
-use Rattle.conc_law.specs.Calendar.{Civil, civil_of, civil_text}
-use Rattle.conc_law.specs.Moments.{four_digits, two_digits}
+use Rattle.conc_base_law.specs.Calendar.{Civil, civil_of, civil_text}
+use Rattle.conc_base_law.specs.Moments.{four_digits, two_digits}
 use Rattle.conc_time.specs.Fields.{numbers_at}
 
 digit_back : (d : ℕ) → d < 10 → digit_value (48 + d) ≡ d

@@ -1,7 +1,7 @@
 -- What the tests of a date and of a time say of their numbers.
 use Rattle.std.proofs.Common.{◌≡◌, ◌<◌, ◌≤◌, true, arith}
 use Rattle.std.proofs.lemmas.Bool.Decides.{nat_tests}
-use Rattle.conc_law.specs.Calendar.{Civil, is_civil}
+use Rattle.conc_base_law.specs.Calendar.{Civil, is_civil}
 use Rattle.conc_time.specs.Fields.{has_date}
 use Rattle.conc_time.proofs.Days.{month_length}
 

@@ -5,9 +5,9 @@ use Rattle.std.proofs.lemmas.Option.{cond_some, none-some}
 use Rattle.std.proofs.lemmas.Slice.Eq.{bytes_eq-Decides}
 use Rattle.std.specs.Str.{bytes_eq}
 use Rattle.conc_types.specs.declared.event.Moment.{Moment}
-use Rattle.conc_law.specs.Calendar.{Civil, civil_of, civil_text, is_civil, is_spelling, moment_at, moment_of, seconds_of, SpellsMoment}
-use Rattle.conc_law.specs.Moments.{moment_text}
-use Rattle.conc_law.proofs.EqualEvents.{moment_same}
+use Rattle.conc_base_law.specs.Calendar.{Civil, civil_of, civil_text, is_civil, is_spelling, moment_at, moment_of, seconds_of, SpellsMoment}
+use Rattle.conc_base_law.specs.Moments.{moment_text}
+use Rattle.conc_base_law.proofs.EqualEvents.{moment_same}
 use Rattle.conc_time.specs.Fields.{numbers_at}
 use Rattle.conc_time.proofs.Calendars.{month_short}
 use Rattle.conc_time.proofs.Dates.{has_civil, text_of}

@@ -4,8 +4,8 @@ use Rattle.std.specs.Prelude.{nat_lt, unwrap_or}
 use Rattle.std.specs.List.{find, range_with_len}
 use Rattle.std.proofs.lemmas.Bool.{cases_order}
 use Rattle.std.proofs.lemmas.Bool.Decides.{nat_tests}
-use Rattle.conc_law.specs.Calendar.{Civil, days_before}
-use Rattle.conc_law.specs.Moments.{day_in_month, day_in_year, days_before_month, days_before_year, month_of, year_of}
+use Rattle.conc_base_law.specs.Calendar.{Civil, days_before}
+use Rattle.conc_base_law.specs.Moments.{day_in_month, day_in_year, days_before_month, days_before_year, month_of, year_of}
 use Rattle.conc_time.proofs.Days.{all_months, days_apart, next_month, next_year}
 use Rattle.conc_time.proofs.Parts.{HasDate}
 

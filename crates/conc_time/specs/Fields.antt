@@ -1,7 +1,7 @@
 -- The six numbers of a spelling, and how they are read at their places.
 use Rattle.std.specs.Prelude.{ℕ, ◌+◌, ◌-◌, ◌*◌, Bool, ◌&&◌, min, nat_lt, get_or, List, slice_index}
 use Rattle.conc_types.specs.Words.{is_between}
-use Rattle.conc_law.specs.Calendar.{Civil, month_lengths}
+use Rattle.conc_base_law.specs.Calendar.{Civil, month_lengths}
 use Rattle.conc_time.specs.declared.civil.Civil.{Civil as Numbers}
 
 -- what the law calls them

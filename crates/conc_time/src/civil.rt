@@ -16,11 +16,11 @@ pub struct Civil {
 }
 
 impl Civil {
-    ghost use Rattle.conc_law.specs.Calendar.{civil_text};
+    ghost use Rattle.conc_base_law.specs.Calendar.{civil_text};
     ghost use Rattle.conc_time.specs.Fields.{civil};
 
     /// Their text, `YYYY-MM-DDTHH:MM:SS`.
-    #[tactic(auto, unfolding(conc_law::specs::Calendar::civil_text))]
+    #[tactic(auto, unfolding(conc_base_law::specs::Calendar::civil_text))]
     pub fn text(&self) -> [u8; 19]
         ensures { result ≡ civil_text (civil self.now) }
     {

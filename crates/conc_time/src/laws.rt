@@ -1,7 +1,7 @@
 ghost use Rattle.std.specs.Prelude.{◌≡◌, ◌↔◌, ℕ, List, Some};
 ghost use Rattle.conc_types.specs.declared.event.Moment.{Moment};
-ghost use Rattle.conc_law.specs.Calendar.{moment_of, SpellsMoment};
-ghost use Rattle.conc_law.specs.Moments.{moment_text};
+ghost use Rattle.conc_base_law.specs.Calendar.{moment_of, SpellsMoment};
+ghost use Rattle.conc_base_law.specs.Moments.{moment_text};
 
 /// Bytes spell a moment exactly where they are its text.
 pub fn moments_have_one_spelling()

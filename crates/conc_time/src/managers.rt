@@ -4,9 +4,9 @@ ghost use Rattle.std.specs.Option.{option_map};
 ghost use Rattle.conc_types.specs.declared.manager.Manager.{Manager};
 ghost use Rattle.conc_types.specs.Shifts as shifts_spec;
 ghost use Rattle.conc_types.specs.Words.{greatest, some_and};
-ghost use Rattle.conc_law.specs.Managers as managers_spec;
-ghost use Rattle.conc_law.specs.Places as places_spec;
-ghost use Rattle.conc_law.specs.Places.{count_of_places};
+ghost use Rattle.conc_base_law.specs.Managers as managers_spec;
+ghost use Rattle.conc_base_law.specs.Places as places_spec;
+ghost use Rattle.conc_base_law.specs.Places.{count_of_places};
 
 use crate::shifts::places;
 use conc_rules::admits;
@@ -51,7 +51,7 @@ fn place_among(managers: &[Manager], owner: u32, index: u32) -> Option<(u32, &Ma
 
 /// The number of the manager that has a place of the plan, from 1, this manager, and the place's
 /// number within it, from 1.
-#[tactic(auto, unfolding(conc_law::specs::Places::place_of))]
+#[tactic(auto, unfolding(conc_base_law::specs::Places::place_of))]
 pub fn place_of(plan: &Plan, place: PlaceId) -> Option<(u32, &Manager, u32)>
     ensures { option_map {U = ℕ × Manager × ℕ} (λ p. (p.0, p.1.now, p.2)) result
         ≡ option_map {U = ℕ × Manager × ℕ} (λ p. (p.owner, p.manager, p.number))
@@ -61,7 +61,7 @@ pub fn place_of(plan: &Plan, place: PlaceId) -> Option<(u32, &Manager, u32)>
 }
 
 /// Whether a place is usable at a moment: whether its number is within its manager's places then.
-#[tactic(auto, unfolding(conc_law::specs::Places::is_usable))]
+#[tactic(auto, unfolding(conc_base_law::specs::Places::is_usable))]
 pub fn is_usable(plan: &Plan, t: Moment, place: PlaceId) -> bool
     ensures { result ≡ places_spec.is_usable plan.now t place }
 {
@@ -94,7 +94,7 @@ fn count(managers: &[Manager]) -> u32
 }
 
 /// How many places the managers of the plan have together, at most 64.
-#[tactic(auto, unfolding(conc_law::specs::Places::count_of_places))]
+#[tactic(auto, unfolding(conc_base_law::specs::Places::count_of_places))]
 pub fn place_count(plan: &Plan) -> u32
     ensures count { result ≡ count_of_places plan.now }
     ensures few { result ≤ 64 }

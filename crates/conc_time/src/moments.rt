@@ -1,7 +1,7 @@
 ghost use Rattle.std.specs.Prelude.{◌≡◌, ◌<◌, ◌++◌, IsTrue, OnErr, OnOk, pos, ◌-ℤ◌};
 ghost use Rattle.jiff.specs.Words.{epoch_day};
-ghost use Rattle.conc_law.specs.Calendar.{is_civil, seconds_of};
-ghost use Rattle.conc_law.specs.Moments.{moment_text};
+ghost use Rattle.conc_base_law.specs.Calendar.{is_civil, seconds_of};
+ghost use Rattle.conc_base_law.specs.Moments.{moment_text};
 ghost use Rattle.conc_time.specs.Fields.{civil};
 
 use crate::SECONDS_PER_DAY;

@@ -1,8 +1,8 @@
 ghost use Rattle.std.specs.Prelude.{◌≡◌, ◌+◌, ◌<◌, ℕ, IfSome, IsNone, MatchOption, None, Option, Some, if◌then◌else◌, pos, ◌+ℤ◌, ◌<ℤ◌};
 ghost use Rattle.jiff.specs.Words.{epoch_day};
 ghost use Rattle.conc_types.specs.declared.event.Moment.{Moment};
-ghost use Rattle.conc_law.specs.Calendar as calendar_spec;
-ghost use Rattle.conc_law.specs.Calendar.{is_civil, moment_of, SpellsMoment};
+ghost use Rattle.conc_base_law.specs.Calendar as calendar_spec;
+ghost use Rattle.conc_base_law.specs.Calendar.{is_civil, moment_of, SpellsMoment};
 ghost use Rattle.conc_time.specs.Fields as fields_spec;
 ghost use Rattle.conc_time.specs.Fields.{civil, has_date, has_time, two_at};
 
@@ -91,7 +91,7 @@ fn time_of(numbers: &Civil) -> Option<u64>
 
 // The seconds from 0001-01-01T00:00:00. None exactly where the calendar has no such date in a year
 // from 1 on, or a day has no such time.
-#[tactic(auto, unfolding(conc_law::specs::Calendar::is_civil, conc_law::specs::Calendar::seconds_of, crate::specs::Fields::has_date, crate::specs::Fields::has_time))]
+#[tactic(auto, unfolding(conc_base_law::specs::Calendar::is_civil, conc_base_law::specs::Calendar::seconds_of, crate::specs::Fields::has_date, crate::specs::Fields::has_time))]
 fn seconds_of(numbers: &Civil) -> Option<u64>
     ensures seconds { result ≡ (if is_civil (civil numbers.now) then Some
         (calendar_spec.seconds_of (civil numbers.now)) else None) }

@@ -5,8 +5,8 @@ ghost use Rattle.conc_types.specs.Words.{greatest};
 ghost use Rattle.jiff.specs.Words as words_spec;
 ghost use Rattle.jiff.specs.Words.{epoch_day};
 ghost use Rattle.jiff_core.specs.declared.civil.date.Date.{Date};
-ghost use Rattle.conc_law.specs.Managers as managers_spec;
-ghost use Rattle.conc_law.specs.Managers.{shift_covers};
+ghost use Rattle.conc_base_law.specs.Managers as managers_spec;
+ghost use Rattle.conc_base_law.specs.Managers.{shift_covers};
 
 use crate::SECONDS_PER_DAY;
 use conc_types::{Manager, Moment, Shift};
@@ -29,7 +29,7 @@ fn has_weekday(days: u8, weekday: u64) -> bool
 }
 
 // Whether the date, days and times of a shift, where given, have the moment.
-#[tactic(auto, unfolding(conc_law::specs::Managers::shift_covers))]
+#[tactic(auto, unfolding(conc_base_law::specs::Managers::shift_covers))]
 fn covers(t: Moment, shift: &Shift) -> bool
     ensures { result ≡ shift_covers t shift.now }
 {
@@ -50,7 +50,7 @@ fn covers(t: Moment, shift: &Shift) -> bool
 }
 
 // The level of a shift; the strongest is the greatest.
-#[tactic(auto, unfolding(conc_law::specs::Managers::level))]
+#[tactic(auto, unfolding(conc_base_law::specs::Managers::level))]
 fn level(shift: &Shift) -> u32
     ensures { result ≡ managers_spec.level shift.now }
 {
@@ -93,7 +93,7 @@ fn most_at_level(shifts: &[Shift], t: Moment, top: u32) -> u32
 /// moment, those of the strongest level count, and of these the greatest number; it is 0 where no
 /// shift covers the moment. The levels are, from the strongest: date and times; date; days and
 /// times; days; times; neither. It takes no memory.
-#[tactic(auto, unfolding(conc_law::specs::Managers::places, conc_law::specs::Managers::covering, conc_law::specs::Managers::strongest))]
+#[tactic(auto, unfolding(conc_base_law::specs::Managers::places, conc_base_law::specs::Managers::covering, conc_base_law::specs::Managers::strongest))]
 pub fn places(manager: &Manager, t: Moment) -> u32
     ensures { result ≡ managers_spec.places manager.now t }
 {

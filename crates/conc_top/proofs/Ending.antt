@@ -1,11 +1,20 @@
 -- How a run ends, from what its parts say.
-use Rattle.std.proofs.Common.{◌≡◌, arith, inl, inr, ℕ, ◌++◌, List, [], None, Option, Some, refl, subst}
+use Rattle.std.proofs.Common.{◌≡◌, ◌∙◌, arith, inl, inr, ℕ, ◌++◌, List, [], None, Option, Some, refl, subst}
 use Rattle.std.specs.Prelude.{IfSome}
 use Rattle.conc_types.specs.declared.event.Event.{Event}
-use Rattle.conc_law.specs.Law.{Lawful, LawfulSoFar}
-use Rattle.conc_law.specs.Overlap.{NoOverlap}
-use Rattle.conc_law.specs.Text.{text_of}
-use Rattle.conc_outside.specs.Taken.{Took, TookPrefix}
+use Rattle.conc_base_law.specs.Law.{Lawful, LawfulSoFar}
+use Rattle.conc_base_law.specs.Overlap.{NoOverlap}
+use Rattle.conc_base_law.specs.Text.{text_of}
+use Rattle.conc_disk.specs.declared.disk.Disk.{Ghosts as DiskGhosts}
+use Rattle.conc_types.specs.declared.digests.Digests.{Digests}
+use Rattle.conc_types.specs.declared.script.Readings.{Readings}
+use Rattle.conc_run_state.specs.Stores.{disks_of, ran_over}
+use Rattle.conc_run_state.specs.declared.input.Input.{Input}
+use Rattle.conc_run_state.specs.declared.stores.Stores.{Stores}
+use Rattle.conc_top_inputs.specs.Accepting.{IsAccepted}
+use Rattle.conc_top_inputs.specs.Given.{digests_of, Names}
+use Rattle.conc_top_inputs.specs.declared.accepting.Accepted.{Accepted}
+use Rattle.conc_top.specs.Answers.{AnswersRun, Around, exposed_in}
 use Rattle.conc_run_state.specs.Handed.{Handed}
 use Rattle.conc_run_state.specs.Survival.{HoldsList}
 use Rattle.conc_run_state.specs.declared.error.HistoryFail.{HistoryFail}
@@ -15,7 +24,7 @@ use Rattle.conc_top.specs.declared.exit.Exit.{Exit}
 use Rattle.conc_top.specs.declared.exit.Exit.TheVariants as exit
 use Rattle.conc_top.specs.Printing.{Prints, Sunk, TookNothing}
 use Rattle.conc_types.specs.declared.plan.Plan.{Plan}
-use Rattle.conc_watch.specs.Lines.{AreWatchLines, watch_text}
+use Rattle.conc_run_watch.specs.Lines.{AreWatchLines, watch_text}
 use Rattle.conc_top.specs.Runs.{IsHistory, IsRunText, RunEnds}
 use Rattle.conc_top.specs.Ways.{exit_for}
 
@@ -77,3 +86,17 @@ history-ends threads watchers h sink history printed lines end same is watched p
     ends (exit.NotLawful line) wrote = absurd wrote
     ends (exit.NotEnded number) wrote = absurd wrote
     ends (exit.OtherScript command found given) wrote = absurd wrote
+
+-- ---- a run of files that give a plan
+
+module _ {D E : Type 0} (d : DiskGhosts D) (e : DiskGhosts E) (threads watchers : ℕ) (names : Names) (a : Around) (x : Accepted) (readings : Readings) (accepted : IsAccepted (exposed_in a) names (Some readings) x)
+    (input : Input) (plan : input.plan.now ≡ x.plan) (same_readings : input.readings.now ≡ readings) (digests : input.digests.now ≡ x.digests) (old new : Stores D E) where
+  -- it ended so
+  pub ran : (end : Exit) → RunEnds threads watchers (ran_over d e input old new) a.sink end → AnswersRun threads watchers names a (disks_of d e old new) end
+  ran end ends =
+      let disks = disks_of d e old new in
+      let at : Plan → Readings → Digests → Type 0 = λ p r s. RunEnds threads watchers (record { plan = p; readings = r.list; digests = s; disks = disks }) a.sink end in
+      let of_plan : at x.plan input.readings.now input.digests.now = subst (λ p. at p input.readings.now input.digests.now) plan ends in
+      let of_readings : at x.plan readings input.digests.now = subst (λ r. at x.plan r input.digests.now) same_readings of_plan in
+      let of_digests : at x.plan readings (digests_of accepted.accepts.files) = subst (at x.plan readings) (digests ∙ accepted.digests) of_readings in
+      inl (record { plan = x.plan; readings = readings; accepted = accepted.accepts }, of_digests)

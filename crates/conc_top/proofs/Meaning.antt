@@ -1,5 +1,6 @@
 -- What a whole call means, from what its parts mean.
-use Rattle.std.proofs.Common.{◌≡◌, ◌≤◌, ◌∙◌, ℕ, List, None, Option, Some, ap, refl, subst, sym, inl, inr, le_refl, arith}
+use Rattle.std.proofs.Common.{◌≡◌, ◌≤◌, ℕ, List, None, Option, Some, Result, Ok, Err, refl, subst, sym, inl, inr, le_refl, arith}
+use Rattle.std.specs.Result.{IsErrAnd}
 use Rattle.conc_types.specs.declared.plan.Plan.{Plan}
 use Rattle.conc_types.specs.declared.script.Reading.{Reading}
 use Rattle.conc_disk.specs.Disk.{DiskState, Stays}
@@ -10,18 +11,17 @@ use Rattle.conc_top_inputs.specs.declared.error.InputFail.{InputFail}
 use Rattle.conc_top_inputs.specs.declared.error.InputFail.TheVariants as input
 use Rattle.conc_outside.specs.Counts.{Rose}
 use Rattle.conc_outside.specs.Files.{Gives, IsLater, Lacks, ShelfState}
-use Rattle.conc_history_verdict.specs.declared.verdict.Verdict.{Verdict}
-use Rattle.conc_history_verdict.specs.declared.verdict.Verdict.TheVariants as verdict
+use Rattle.conc_history_check.specs.declared.verdict.Verdict.{Verdict}
+use Rattle.conc_history_check.specs.declared.verdict.Verdict.TheVariants as verdict
 use Rattle.conc_run_state.specs.Disks.{AreUntouched, Disks, disks}
 use Rattle.conc_top.specs.declared.exit.Exit.{Exit}
 use Rattle.conc_top.specs.declared.exit.Exit.TheVariants as exit
 use Rattle.conc_top.specs.Answers.{AnswersRun, Around, IsUnplanned}
 use Rattle.conc_top.specs.Checks.{CheckEnds, IsJudged, IsVerdictText}
-use Rattle.conc_top.specs.Meaning.{IsPlain, Means, MeansRun}
+use Rattle.conc_top.specs.Meaning.{GivesNoCommand, IsPlain, Means, MeansRun}
 use Rattle.conc_top.specs.Printing.{Sunk, TookNothing}
 use Rattle.conc_top.specs.Shows.{IsDiskUntouched}
-use Rattle.conc_top.specs.Ways.{exit_for_input}
-use Rattle.conc_top_words.specs.Words.{command_of}
+use Rattle.conc_top.specs.Ways.{exit_for_input, exit_of}
 use Rattle.conc_top_words.specs.declared.command.Command.{Command}
 use Rattle.conc_top_words.specs.declared.command.Command.TheVariants as command
 
@@ -63,6 +63,11 @@ untouched-beside old new spool journal = record {
 }
 
 -- ---- exits
+
+-- what holds of a failure holds of the exit of an answer that hands it on
+pub handed : (P : Exit → Type 0) (answer : Result (Unit {0}) Exit) (end : Exit) → IsErrAnd answer (λ e. e ≡ end) → P end → P (exit_of answer)
+handed P (Ok done) end is holds = absurd is
+handed P (Err e) end is holds = subst P (sym is) holds
 
 -- files that give no plan
 pub unplanned : (names : Names) (a : Around) (fail : InputFail) → FailsWith a.before a.after names fail → TookNothing a.sink
@@ -137,9 +142,24 @@ no-memory (Some (command.Status setup script)) a d nothing left = (inr nothing, 
 no-memory (Some (command.Output setup script request)) a d nothing left = (inr nothing, left)
 no-memory (Some (command.Make seed size)) a d nothing left = (nothing, left)
 
--- the command that was read, by what it was found to be
-pub asked-is : (read : Option Command) (found is : Command) (words : List (List ℕ)) → read ≡ command_of words → read ≡ Some found → found ≡ is → Some is ≡ command_of words
-asked-is read found is words of some same = ap (λ c. Some c) (sym same) ∙ (sym some ∙ of)
+-- words that give no command
+pub no-command : (asked : Option Command) (a : Around) (d : Disks) (end : Exit) → GivesNoCommand asked end → TookNothing a.sink → AreUntouched d → Means asked a d end
+no-command asked a d exit.Usage none nothing left = subst (λ o. Means o a d exit.Usage) (sym none) (nothing, left)
+no-command asked a d exit.NoMemory none nothing left = no-memory asked a d nothing left
+no-command asked a d exit.Done none nothing left = absurd none
+no-command asked a d exit.WriteFault none nothing left = absurd none
+no-command asked a d exit.ClockFault none nothing left = absurd none
+no-command asked a d (exit.Refused refusal name) none nothing left = absurd none
+no-command asked a d (exit.Absent name) none nothing left = absurd none
+no-command asked a d (exit.ReadFault name) none nothing left = absurd none
+no-command asked a d (exit.DiskFault disk) none nothing left = absurd none
+no-command asked a d exit.NotJournal none nothing left = absurd none
+no-command asked a d (exit.OtherInput found given) none nothing left = absurd none
+no-command asked a d (exit.OtherScript command found given) none nothing left = absurd none
+no-command asked a d (exit.JournalFull len needed) none nothing left = absurd none
+no-command asked a d (exit.Unlawful number) none nothing left = absurd none
+no-command asked a d (exit.NotLawful line) none nothing left = absurd none
+no-command asked a d (exit.NotEnded number) none nothing left = absurd none
 
 -- a run that is asked for without threads and watchers
 pub plain-run : (setup script clock : List ℕ) (threads watchers : ℕ) (asked : Option Command) (a : Around) (d : Disks) (end : Exit) → Some (command.Run setup script clock threads watchers) ≡ asked → IsPlain asked

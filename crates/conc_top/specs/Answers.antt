@@ -1,11 +1,11 @@
 -- What each command answers.
 use Rattle.std.specs.Prelude.{◌≡◌, ◌⊎◌, ℕ, List, None, Some}
-use Rattle.conc_outside_clock.specs.Clocks.{ClockState}
+use Rattle.conc_edge_clock.specs.Clocks.{ClockState}
 use Rattle.conc_types.specs.declared.event.RequestId.{RequestId}
 use Rattle.conc_types.specs.declared.plan.Plan.{Plan}
 use Rattle.conc_types.specs.declared.script.Readings.{Readings}
 use Rattle.conc_disk.specs.Disk.{DiskState}
-pub use Rattle.conc_make_run.specs.Summary.{IsSummary}
+pub use Rattle.conc_run_make.specs.Summary.{IsSummary}
 use Rattle.conc_history.specs.Listing.{listing}
 use Rattle.conc_top_inputs.specs.Fails.{FailsWith}
 use Rattle.conc_top_inputs.specs.Given.{Accepts, digests_of, Names, Sources, sources, Exposed, exposed_by}

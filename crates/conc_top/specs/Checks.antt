@@ -6,9 +6,9 @@ use Rattle.conc_types.specs.declared.script.Reading.{Reading}
 use Rattle.conc_top_inputs.specs.Fails.{IsUnread}
 use Rattle.conc_top_inputs.specs.declared.error.InputFail.TheVariants as input
 use Rattle.conc_outside.specs.Files.{Gives, ShelfState}
-use Rattle.conc_history_verdict.specs.Verdicts.{IsVerdict}
-use Rattle.conc_history_verdict.specs.declared.verdict.Verdict.{Verdict}
-use Rattle.conc_history_verdict.specs.declared.verdict.Verdict.TheVariants as verdict
+use Rattle.conc_history_check.specs.Verdicts.{IsVerdict}
+use Rattle.conc_history_check.specs.declared.verdict.Verdict.{Verdict}
+use Rattle.conc_history_check.specs.declared.verdict.Verdict.TheVariants as verdict
 use Rattle.conc_top.specs.declared.exit.Exit.{Exit}
 use Rattle.conc_top.specs.declared.exit.Exit.TheVariants as exit
 use Rattle.conc_top.specs.Printing.{Prints, Sunk, TookNothing}

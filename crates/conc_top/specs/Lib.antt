@@ -5,4 +5,5 @@ pub mod Runs
 pub mod Checks
 pub mod Shows
 pub mod Answers
+pub mod Contexts
 pub mod Meaning

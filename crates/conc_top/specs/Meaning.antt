@@ -3,7 +3,7 @@ use Rattle.std.specs.Prelude.{◌≡◌, ⊤, ℕ, List, Option, None, Some}
 use Rattle.conc_disk.specs.Disk.{DiskState}
 use Rattle.conc_outside.specs.Files.{ShelfState}
 use Rattle.conc_outside.specs.Taken.{SinkState}
-use Rattle.conc_outside_clock.specs.Clocks.{ClockState}
+use Rattle.conc_edge_clock.specs.Clocks.{ClockState}
 use Rattle.conc_top_inputs.specs.Given.{named}
 use Rattle.conc_top_words.specs.declared.command.Command.{Command}
 use Rattle.conc_top_words.specs.declared.command.Command.TheVariants as command
@@ -19,6 +19,12 @@ abbrev pub IsNoCommand : Sunk → Exit → Type 0
 IsNoCommand sink exit.Usage = TookNothing sink
 IsNoCommand sink exit.NoMemory = TookNothing sink
 IsNoCommand sink _ = ⊥
+
+-- the words give no command, or there was no memory to read them
+abbrev pub GivesNoCommand : Option Command → Exit → Type 0
+GivesNoCommand asked exit.Usage = asked ≡ None
+GivesNoCommand asked exit.NoMemory = ⊤
+GivesNoCommand asked _ = ⊥
 
 -- what an exit means for the command that the words ask for. No command but a run writes to the disks
 abbrev pub Means : Option Command → Around → Disks → Exit → Type 0

@@ -2,11 +2,11 @@
 use Rattle.std.specs.Prelude.{◌≡◌, ◌⊎◌, ℕ, ◌++◌, List, length, IfSome}
 use Rattle.conc_types.specs.declared.event.Event.{Event}
 use Rattle.conc_types.specs.declared.plan.Plan.{Plan}
-use Rattle.conc_law.specs.Alone.{opening}
-use Rattle.conc_law.specs.Ends.{AreReported}
-use Rattle.conc_law.specs.Law.{Finished, Lawful}
-use Rattle.conc_law.specs.Overlap.{NoOverlap}
-use Rattle.conc_law.specs.Text.{text_of}
+use Rattle.conc_base_law.specs.Alone.{opening}
+use Rattle.conc_base_law.specs.Ends.{AreReported}
+use Rattle.conc_base_law.specs.Law.{Finished, Lawful}
+use Rattle.conc_base_law.specs.Overlap.{NoOverlap}
+use Rattle.conc_base_law.specs.Text.{text_of}
 use Rattle.conc_outside.specs.Counts.{Rose}
 use Rattle.conc_outside.specs.Taken.{Took, TookPrefix}
 use Rattle.conc_run_state.specs.Handed.{Handed}
@@ -16,7 +16,7 @@ use Rattle.conc_run_state.specs.declared.error.HistoryFail.TheVariants as histor
 use Rattle.conc_run_watched.specs.Ends.{IsCutShort, IsFinished, LacksToTell}
 use Rattle.conc_top.specs.declared.exit.Exit.{Exit}
 use Rattle.conc_top.specs.declared.exit.Exit.TheVariants as exit
-use Rattle.conc_watch.specs.Lines.{AreWatchLines}
+use Rattle.conc_run_watch.specs.Lines.{AreWatchLines}
 use Rattle.conc_top.specs.Printing.{Sunk, TookNothing}
 
 -- This is the history of the run with so many threads. From what was found it goes on lawfully, and without threads as the run

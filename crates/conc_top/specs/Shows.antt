@@ -6,7 +6,7 @@ use Rattle.conc_types.specs.declared.event.RequestId.{RequestId}
 use Rattle.conc_types.specs.declared.plan.Plan.{Plan}
 use Rattle.conc_disk.specs.Disk.{DiskState, Stays}
 use Rattle.conc_disk.specs.Left.{LeavesOnly}
-use Rattle.conc_law.specs.Text.{table_text}
+use Rattle.conc_base_law.specs.Text.{table_text}
 use Rattle.conc_run_open.specs.Listing.{HasListCause, IsListed}
 use Rattle.conc_run_open.specs.Texts.{HasReadCause, HasText, HasTextCause}
 use Rattle.conc_run_open.specs.declared.error.TextFail.TheVariants as text_fail

@@ -1,4 +1,5 @@
--- The exit that a failure makes.
+-- The exit of an answer, and the exit that a failure makes.
+use Rattle.std.specs.Prelude.{Result, Ok, Err}
 use Rattle.conc_top_inputs.specs.declared.error.InputFail.{InputFail}
 use Rattle.conc_top_inputs.specs.declared.error.InputFail.TheVariants as input
 use Rattle.conc_run_open.specs.declared.error.TextFail.{TextFail}
@@ -8,6 +9,11 @@ use Rattle.conc_run_state.specs.declared.error.HistoryFail.{HistoryFail}
 use Rattle.conc_run_state.specs.declared.error.HistoryFail.TheVariants as history_fail
 use Rattle.conc_top.specs.declared.exit.Exit.{Exit}
 use Rattle.conc_top.specs.declared.exit.Exit.TheVariants as exit
+
+-- that of a command that did what it is for, or the exit that kept it from that
+abbrev pub exit_of : Result (Unit {0}) Exit → Exit
+exit_of (Ok done) = exit.Done
+exit_of (Err end) = end
 
 -- where files give no plan
 abbrev pub exit_for_input : InputFail → Exit

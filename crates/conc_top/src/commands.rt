@@ -1,30 +1,136 @@
-//! Each command by itself, with just what it works on. The words are the whole command line behind the
-//! program's name, the command first; those that ask for anything else are Usage.
-ghost use Rattle.std.specs.Prelude.{map};
+//! The call that does whatever the words ask for, and each command by itself, with just what it works on. The
+//! words are the whole command line behind the program's name, the command first. To the call of one command
+//! those that ask for anything else are Usage.
+ghost use Rattle.std.specs.Prelude.{◌≡◌, IfErr, IfOk, map, Some};
 ghost use Rattle.std.specs.String.{string_bytes};
-ghost use Rattle.conc_outside_clock.specs.Clocks.{ClockState};
+ghost use Rattle.conc_edge_clock.specs.Clocks.{ClockState};
 ghost use Rattle.conc_outside.specs.Files.{IsLater};
-ghost use Rattle.conc_top_words.specs.Words.{command_of};
+ghost use Rattle.conc_top_words.specs.Words.{AreWithin, command_of};
 ghost use Rattle.conc_run_state.specs.Disks.{AreUntouched, disks};
 ghost use Rattle.conc_top.specs.Answers.{around};
-ghost use Rattle.conc_top.specs.Meaning.{IsPlain, MeansCheck, MeansMake, MeansOutput, MeansPlan, MeansRun, MeansStatus};
+ghost use Rattle.conc_top.specs.Meaning.{AreAnswered, GivesNoCommand, IsPlain, outside};
+ghost use Rattle.conc_top.specs.Meaning.{MeansCheck, MeansMake, MeansOutput, MeansPlan, MeansRun, MeansStatus};
 ghost use Rattle.conc_top.specs.Printing.{sunk};
 ghost use Rattle.conc_top.specs.Shows.{IsDiskUntouched};
 
 use crate::Exit;
-use crate::checking::check_files;
+use crate::context::Context;
 use crate::printing::print_summary;
-use crate::running::{run_files, run_files_plain};
-use crate::showing::{list_files, show_report, show_table};
 use conc_disk::Disk;
+use conc_edge_clock::Clock;
+use conc_edge_gate::Gate;
 use conc_outside::{Shelf, Sink};
-use conc_outside_clock::Clock;
-use conc_outside_gate::Gate;
+use conc_run_state::Stores;
+use conc_run_watched::Workers;
+use conc_top_inputs::FileNames;
 use conc_top_words::{Command, read_command};
-use conc_types::NoMemory;
 use std::alloc::Global;
 use std::sync::Wait;
 use std::thread::Threads;
+
+// The command that the words give, or the exit where they give none.
+fn asked(alloc: Global, words: &[String]) -> Result<Command, Exit>
+    ensures read { IfOk result (λ command. command_of (map string_bytes words.now)
+        ≡ Some command) }
+    ensures within { IfOk result AreWithin }
+    ensures none { IfErr result (GivesNoCommand (command_of (map string_bytes words.now))) }
+{
+    read_command(alloc, words)?.ok_or(Exit::Usage)
+}
+
+/// Does what the words ask for, which are the command line behind the program's name. Words off these
+/// forms are Usage.
+///
+/// - `run SETUP SCRIPT CLOCK` opens the journal and the spool, goes on from the journal's list to the end of
+///   a history that the files give, and writes the text of the whole history into the sink. The options
+///   `--threads N` and `--watch W`, also written with `=`, may stand anywhere behind `run`, each at most
+///   once, and either may be left out. The workers have N threads, from 0 to 32, and 4 where N is not given;
+///   each goes through `gate` between the permit for a request and its report. With 0 there are no workers,
+///   and the files and the journal's list give one history. W watchers, from 0 to 8, and none where W is not
+///   given, look at the history while it grows, each in a thread of its own; behind the text stand the lines
+///   of what each saw.
+/// - `plan SETUP SCRIPT` writes the listing of the plan that the files give.
+/// - `check SETUP SCRIPT CLOCK HISTORY` judges the text of a history, its events and its table, by the plan
+///   and, for its last life, the readings of the files, and writes how many events it has and whether it
+///   is finished. It names the first line that is not lawful.
+/// - `status SETUP SCRIPT` writes the table of the requests as they stand after the journal's events.
+/// - `output SETUP SCRIPT NUMBER` writes the text of the report with which the request ended.
+/// - `make SEED SIZE` makes inputs of a seed with so many submissions, runs them over disks in memory, and
+///   writes a summary.
+///
+/// The files are read from the shelf in the order setup, script, clock, the setup's tables, and then the
+/// history, each of them judged before the next one is read; the first one that is lacking, that cannot be
+/// read or that is refused ends the call. Where CLOCK is the word `system`, no file is read in its place:
+/// the one reading is the moment that `clock` gives (`./system` is a file), and a clock that gives no
+/// moment ends the call. Then the journal is judged, and the spool. Where anything is refused, nothing is
+/// written; and no command but `run` writes to the disks. A text is written once it is whole; where the
+/// sink fails, it has taken a prefix of it, and the journal of a run is finished.
+pub fn conc<
+    Rt: Threads + Wait + Sync,
+    F: Shelf,
+    O: Sink,
+    D: Disk + Send,
+    E: Disk + Send,
+    C: Clock,
+    G: Gate + Sync,
+>(
+    rt: &Rt,
+    alloc: Global,
+    words: &[String],
+    shelf: &mut F,
+    out: &mut O,
+    journal: &mut D,
+    spool: &mut E,
+    clock: &mut C,
+    gate: &G,
+) -> Exit
+    ensures answered { AreAnswered (map string_bytes words.now) result
+        (outside (F.state shelf.old) (C.state clock.old) (O.state out.old)
+        (D.state journal.old) (E.state spool.old))
+        (outside (F.state shelf.new) (C.state clock.new) (O.state out.new)
+        (D.state journal.new) (E.state spool.new)) }
+    ensures later { IsLater (F.state shelf.old) (F.state shelf.new) }
+{
+    let mut context = Context { alloc, shelf, out };
+    let command = match asked(alloc, words) {
+        Ok(command) => command,
+        Err(exit) => return exit,
+    };
+    match command {
+        Command::Run {
+            setup,
+            script,
+            clock: file,
+            threads,
+            watchers,
+        } => {
+            let mut stores = Stores { journal, spool };
+            let files = FileNames::new(setup, script, file);
+            let workers = Workers { gate, threads };
+            Exit::of(context.run_files(rt, clock, &mut stores, files, &workers, watchers))
+        }
+        Command::Plan { setup, script } => Exit::of(context.list_files(setup, script)),
+        Command::Check {
+            setup,
+            script,
+            clock: file,
+            history,
+        } => {
+            let files = FileNames::new(setup, script, file);
+            Exit::of(context.check_files(clock, files, history))
+        }
+        Command::Status { setup, script } => Exit::of(context.show_table(journal, setup, script)),
+        Command::Output {
+            setup,
+            script,
+            request,
+        } => {
+            let mut stores = Stores { journal, spool };
+            Exit::of(context.show_report(&mut stores, setup, script, request))
+        }
+        Command::Make { seed, size } => Exit::of(print_summary(alloc, seed, size, context.out)),
+    }
+}
 
 /// Does `run SETUP SCRIPT CLOCK`, as `conc` says.
 pub fn run<
@@ -53,23 +159,24 @@ pub fn run<
         result }
     ensures later { IsLater (F.state shelf.old) (F.state shelf.new) }
 {
-    match read_command(alloc, words) {
+    let mut context = Context { alloc, shelf, out };
+    match asked(alloc, words) {
         Ok(
-            Some(
-                Command::Run {
-                    setup,
-                    script,
-                    clock: file,
-                    threads,
-                    watchers,
-                },
-            ),
-        ) => run_files(
-            rt, alloc, shelf, out, journal, spool, clock, gate, setup, script, file, threads,
-            watchers,
-        ),
+            Command::Run {
+                setup,
+                script,
+                clock: file,
+                threads,
+                watchers,
+            },
+        ) => {
+            let mut stores = Stores { journal, spool };
+            let files = FileNames::new(setup, script, file);
+            let workers = Workers { gate, threads };
+            Exit::of(context.run_files(rt, clock, &mut stores, files, &workers, watchers))
+        }
         Ok(_) => Exit::Usage,
-        Err(NoMemory) => Exit::NoMemory,
+        Err(exit) => exit,
     }
 }
 
@@ -91,21 +198,22 @@ pub fn run_plain<F: Shelf, O: Sink, D: Disk, E: Disk, C: Clock>(
         result }
     ensures later { IsLater (F.state shelf.old) (F.state shelf.new) }
 {
-    match read_command(alloc, words) {
+    let mut context = Context { alloc, shelf, out };
+    match asked(alloc, words) {
         Ok(
-            Some(
-                Command::Run {
-                    setup,
-                    script,
-                    clock: file,
-                    ..
-                },
-            ),
-        ) => run_files_plain(
-            alloc, shelf, out, journal, spool, clock, setup, script, file,
-        ),
+            Command::Run {
+                setup,
+                script,
+                clock: file,
+                ..
+            },
+        ) => {
+            let mut stores = Stores { journal, spool };
+            let files = FileNames::new(setup, script, file);
+            Exit::of(context.run_files_plain(clock, &mut stores, files))
+        }
         Ok(_) => Exit::Usage,
-        Err(NoMemory) => Exit::NoMemory,
+        Err(exit) => exit,
     }
 }
 
@@ -122,10 +230,11 @@ pub fn show_plan<F: Shelf, O: Sink>(
         result }
     ensures later { IsLater (F.state shelf.old) (F.state shelf.new) }
 {
-    match read_command(alloc, words) {
-        Ok(Some(Command::Plan { setup, script })) => list_files(alloc, shelf, out, setup, script),
+    let mut context = Context { alloc, shelf, out };
+    match asked(alloc, words) {
+        Ok(Command::Plan { setup, script }) => Exit::of(context.list_files(setup, script)),
         Ok(_) => Exit::Usage,
-        Err(NoMemory) => Exit::NoMemory,
+        Err(exit) => exit,
     }
 }
 
@@ -143,19 +252,21 @@ pub fn check_history<F: Shelf, O: Sink, C: Clock>(
         result }
     ensures later { IsLater (F.state shelf.old) (F.state shelf.new) }
 {
-    match read_command(alloc, words) {
+    let mut context = Context { alloc, shelf, out };
+    match asked(alloc, words) {
         Ok(
-            Some(
-                Command::Check {
-                    setup,
-                    script,
-                    clock: file,
-                    history,
-                },
-            ),
-        ) => check_files(alloc, shelf, out, clock, setup, script, file, history),
+            Command::Check {
+                setup,
+                script,
+                clock: file,
+                history,
+            },
+        ) => {
+            let files = FileNames::new(setup, script, file);
+            Exit::of(context.check_files(clock, files, history))
+        }
         Ok(_) => Exit::Usage,
-        Err(NoMemory) => Exit::NoMemory,
+        Err(exit) => exit,
     }
 }
 
@@ -175,12 +286,13 @@ pub fn show_status<F: Shelf, O: Sink, D: Disk>(
     ensures untouched { IsDiskUntouched (D.state journal.old) (D.state journal.new) }
     ensures later { IsLater (F.state shelf.old) (F.state shelf.new) }
 {
-    match read_command(alloc, words) {
-        Ok(Some(Command::Status { setup, script })) => {
-            show_table(alloc, shelf, out, journal, setup, script)
+    let mut context = Context { alloc, shelf, out };
+    match asked(alloc, words) {
+        Ok(Command::Status { setup, script }) => {
+            Exit::of(context.show_table(journal, setup, script))
         }
         Ok(_) => Exit::Usage,
-        Err(NoMemory) => Exit::NoMemory,
+        Err(exit) => exit,
     }
 }
 
@@ -202,18 +314,20 @@ pub fn show_output<F: Shelf, O: Sink, D: Disk, E: Disk>(
         (E.state spool.old) (E.state spool.new)) }
     ensures later { IsLater (F.state shelf.old) (F.state shelf.new) }
 {
-    match read_command(alloc, words) {
+    let mut context = Context { alloc, shelf, out };
+    match asked(alloc, words) {
         Ok(
-            Some(
-                Command::Output {
-                    setup,
-                    script,
-                    request,
-                },
-            ),
-        ) => show_report(alloc, shelf, out, journal, spool, setup, script, request),
+            Command::Output {
+                setup,
+                script,
+                request,
+            },
+        ) => {
+            let mut stores = Stores { journal, spool };
+            Exit::of(context.show_report(&mut stores, setup, script, request))
+        }
         Ok(_) => Exit::Usage,
-        Err(NoMemory) => Exit::NoMemory,
+        Err(exit) => exit,
     }
 }
 
@@ -223,9 +337,9 @@ pub fn make_and_run<O: Sink>(alloc: Global, words: &[String], out: &mut O) -> Ex
     ensures { MeansMake (command_of (map string_bytes words.now))
         (sunk (O.state out.old) (O.state out.new)) result }
 {
-    match read_command(alloc, words) {
-        Ok(Some(Command::Make { seed, size })) => print_summary(alloc, seed, size, out),
+    match asked(alloc, words) {
+        Ok(Command::Make { seed, size }) => Exit::of(print_summary(alloc, seed, size, out)),
         Ok(_) => Exit::Usage,
-        Err(NoMemory) => Exit::NoMemory,
+        Err(exit) => exit,
     }
 }

@@ -1,6 +1,11 @@
-use conc_run_state::DiskName;
+ghost use Rattle.std.specs.Prelude.{◌≡◌};
+ghost use Rattle.conc_top.specs.declared.exit.Exit.TheVariants as exits;
+ghost use Rattle.conc_top.specs.Lines.{number_of};
+ghost use Rattle.conc_top.specs.Ways.{exit_for, exit_for_input, exit_of};
+
+use conc_run_state::{DiskName, HistoryFail};
 use conc_top_inputs::InputFail;
-use conc_types::{Name, Refusal};
+use conc_types::{Name, NoMemory, Refusal};
 
 /// How a command ended.
 #[derive(Drop)]
@@ -68,8 +73,15 @@ pub enum Exit {
 }
 
 impl Exit {
-    ghost use Rattle.std.specs.Prelude.{◌≡◌};
-    ghost use Rattle.conc_top.specs.Lines.{number_of};
+    // The exit of a command that did what it is for, or the exit that kept it from that.
+    pub(crate) fn of(answer: Result<(), Exit>) -> Exit
+        ensures { result ≡ exit_of answer }
+    {
+        match answer {
+            Ok(()) => Exit::Done,
+            Err(exit) => exit,
+        }
+    }
 
     /// The exit status of the program.
     pub fn number(&self) -> u8
@@ -96,10 +108,8 @@ impl Exit {
     }
 }
 
+// Where files give no plan.
 impl From<InputFail> for Exit {
-    ghost use Rattle.std.specs.Prelude.{◌≡◌};
-    ghost use Rattle.conc_top.specs.Ways.{exit_for_input};
-
     ghost from_gives = { λ fail exit. exit ≡ exit_for_input fail };
 
     fn from(fail: InputFail) -> Self {
@@ -110,5 +120,38 @@ impl From<InputFail> for Exit {
             InputFail::ClockFault => Exit::ClockFault,
             InputFail::NoMemory => Exit::NoMemory,
         }
+    }
+}
+
+// Where a run does not come to its end, or nothing is read of its disks.
+impl From<HistoryFail> for Exit {
+    ghost from_gives = { λ fail exit. exit ≡ exit_for fail };
+
+    fn from(fail: HistoryFail) -> Self {
+        match fail {
+            HistoryFail::NotJournal => Exit::NotJournal,
+            HistoryFail::OtherInput { found, given } => Exit::OtherInput { found, given },
+            HistoryFail::OtherScript {
+                command,
+                found,
+                given,
+            } => Exit::OtherScript {
+                command,
+                found,
+                given,
+            },
+            HistoryFail::Unlawful { number } => Exit::Unlawful { number },
+            HistoryFail::JournalFull { len, need } => Exit::JournalFull { len, need },
+            HistoryFail::DiskFault { disk } => Exit::DiskFault { disk },
+            HistoryFail::NoMemory => Exit::NoMemory,
+        }
+    }
+}
+
+impl From<NoMemory> for Exit {
+    ghost from_gives = { λ _ exit. exit ≡ exits.NoMemory };
+
+    fn from(_: NoMemory) -> Self {
+        Exit::NoMemory
     }
 }

@@ -4,17 +4,16 @@
 
 mod checking;
 mod commands;
+mod context;
 mod exit;
 mod line;
 mod printing;
 mod running;
 mod showing;
-mod top;
 
 pub use commands::{
-    check_history, make_and_run, run, run_plain, show_output, show_plan, show_status,
+    check_history, conc, make_and_run, run, run_plain, show_output, show_plan, show_status,
 };
 pub use conc_run_state::DiskName;
 pub use exit::Exit;
 pub use line::exit_text;
-pub use top::conc;

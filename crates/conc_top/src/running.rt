@@ -1,32 +1,40 @@
-ghost use Rattle.std.specs.Prelude.{◌≡◌, ◌++◌, ◌<◌, ◌≤◌, IfOk, map, Some};
-ghost use Rattle.conc_law.specs.Text.{text_of};
-ghost use Rattle.conc_outside.specs.Files.{IsLater};
-ghost use Rattle.conc_top_inputs.specs.Given.{named};
-ghost use Rattle.conc_run_state.specs.Disks.{disks};
-ghost use Rattle.conc_run_state.specs.Handed.{handed};
-ghost use Rattle.conc_top.specs.Answers.{AnswersRun, around};
+ghost use Rattle.std.specs.Prelude.{◌≡◌, ◌++◌, IfOk, map};
+ghost use Rattle.conc_base_law.specs.Text.{text_of};
+ghost use Rattle.conc_run_watch.specs.Lines.{watch_text};
 ghost use Rattle.conc_top.specs.Printing.{Prints, sunk};
-ghost use Rattle.conc_top.specs.Runs.{RunEnds};
-ghost use Rattle.conc_watch.specs.Lines.{watch_text};
+ghost use Rattle.conc_top.specs.Ways.{exit_of};
 
 use crate::Exit;
-use crate::printing::{exit_for, write_text};
+use crate::context::Context;
+use crate::printing::write_text;
+use conc_base_law::{lawful_is_lawful_so_far, no_overlap};
 use conc_disk::Disk;
+use conc_edge_clock::Clock;
+use conc_edge_gate::Gate;
 use conc_history::put_history;
-use conc_law::{lawful_is_lawful_so_far, no_overlap};
 use conc_outside::{Shelf, Sink};
-use conc_outside_clock::Clock;
-use conc_outside_gate::Gate;
-use conc_run_watched::{Watched, run_on_threads, run_plan, run_watched};
-use conc_top_inputs::{Accepted, InTurn, OnThreads, accept_run};
-use conc_types::{Digests, Event, Name, NoMemory, Plan, Readings};
+use conc_run_state::{Input, Stores};
+use conc_run_watch::put_watch_lines;
+use conc_run_watched::{Watched, Workers, run_on_threads, run_plan, run_watched};
+use conc_top_inputs::{Accepted, FileNames, InTurn, OnThreads, accept_timed};
+use conc_types::{Event, NoMemory, Plan, Readings};
 use conc_view::Snapshot;
-use conc_watch::put_watch_lines;
 use std::alloc::Global;
 use std::sync::Wait;
 use std::thread::Threads;
 
-// ---- a plan
+// What a run is of.
+fn input_of<'i>(accepted: &'i Accepted, readings: &'i Readings) -> Input<'i>
+    ensures plan { result.plan.now ≡ accepted.now.plan }
+    ensures readings { result.readings.now ≡ readings.now }
+    ensures digests { result.digests.now ≡ accepted.now.digests }
+{
+    Input {
+        plan: &accepted.plan,
+        readings,
+        digests: &accepted.digests,
+    }
+}
 
 // The whole of a history, and behind it the lines of watchers.
 fn history_text(
@@ -50,197 +58,88 @@ fn print_history<O: Sink>(
     history: &[Event],
     kept: &[Vec<Snapshot>],
     out: &mut O,
-) -> Exit
+) -> Result<(), Exit>
     ensures { Prints (λ text. text ≡ text_of plan.now history.now
         ++ watch_text 1 (map (λ k. k.items) kept.now))
-        (sunk (O.state out.old) (O.state out.new)) result }
+        (sunk (O.state out.old) (O.state out.new)) (exit_of result) }
 {
-    match history_text(alloc, plan, history, kept) {
-        Ok(text) => write_text(&text, out),
-        Err(NoMemory) => Exit::NoMemory,
+    let text = history_text(alloc, plan, history, kept)?;
+    write_text(&text, out)
+}
+
+impl<F: Shelf, O: Sink> Context<'_, F, O> {
+    ghost use Rattle.std.specs.Prelude.{◌≤◌};
+    ghost use Rattle.conc_run_state.specs.Stores.{SameStores, disks_of};
+    ghost use Rattle.conc_top_inputs.specs.Given.{names_of};
+    ghost use Rattle.conc_top.specs.Answers.{AnswersRun};
+    ghost use Rattle.conc_top.specs.Contexts.{Continues, around_by};
+    ghost use Rattle.conc_top.specs.Ways.{exit_of};
+
+    /// Runs the plan of these files without workers over its journal and its spool, and prints the whole
+    /// history once it is finished.
+    pub(crate) fn run_files_plain<D: Disk, E: Disk, C: Clock>(
+        &mut self,
+        clock: &mut C,
+        stores: &mut Stores<'_, D, E>,
+        files: FileNames,
+    ) -> Result<(), Exit>
+        ensures continues { Continues F.Shelf self.old self.new }
+        ensures stores { SameStores stores.old stores.new }
+        ensures answers { AnswersRun 0 0 (names_of files)
+            (around_by F.Shelf O.Sink self.old self.new (C.state clock.old) (C.state clock.new))
+            (disks_of D.Disk E.Disk stores.old stores.new) (exit_of result) }
+    {
+        lawful_is_lawful_so_far();
+        no_overlap();
+        let (accepted, readings) = accept_timed(self.alloc, self.shelf, clock, &InTurn, files)?;
+        let accepted = accepted.with_columns(self.alloc, &InTurn);
+        let input = input_of(&accepted, &readings);
+        let work = run_plan(self.alloc, &input, stores)?;
+        print_history(self.alloc, input.plan, work.journal.events(), &[], self.out)
     }
-}
 
-// Runs the plan without workers over its journal and its spool, and prints the whole history once it is
-// finished.
-fn run_and_print<O: Sink, D: Disk, E: Disk>(
-    alloc: Global,
-    plan: &Plan,
-    readings: &Readings,
-    digests: &Digests,
-    out: &mut O,
-    journal: &mut D,
-    spool: &mut E,
-) -> Exit
-    ensures { RunEnds 0 0 (handed plan.now readings.now digests.now (D.state journal.old)
-        (D.state journal.new) (E.state spool.old) (E.state spool.new))
-        (sunk (O.state out.old) (O.state out.new)) result }
-{
-    lawful_is_lawful_so_far();
-    no_overlap();
-    let work = match run_plan(alloc, plan, readings, digests, journal, spool) {
-        Ok(work) => work,
-        Err(fail) => return exit_for(fail),
-    };
-    print_history(alloc, plan, work.journal.events(), &[], out)
-}
-
-// Runs the plan with so many threads over its journal and its spool, and prints the whole history once it
-// is finished.
-fn run_threads_and_print<
-    Rt: Threads + Wait + Sync,
-    O: Sink,
-    D: Disk + Send,
-    E: Disk + Send,
-    G: Gate + Sync,
->(
-    rt: &Rt,
-    alloc: Global,
-    plan: &Plan,
-    readings: &Readings,
-    digests: &Digests,
-    out: &mut O,
-    journal: &mut D,
-    spool: &mut E,
-    gate: &G,
-    threads: u32,
-) -> Exit
-    requires { 0 < threads }
-    ensures { RunEnds threads 0 (handed plan.now readings.now digests.now (D.state journal.old)
-        (D.state journal.new) (E.state spool.old) (E.state spool.new))
-        (sunk (O.state out.old) (O.state out.new)) result }
-{
-    lawful_is_lawful_so_far();
-    no_overlap();
-    let ran = run_on_threads(
-        rt, alloc, plan, readings, digests, journal, spool, gate, threads,
-    );
-    let work = match ran {
-        Ok(work) => work,
-        Err(fail) => return exit_for(fail),
-    };
-    print_history(alloc, plan, work.journal.events(), &[], out)
-}
-
-// Runs the plan with so many threads, beside so many watchers, over its journal and its spool, and prints the
-// whole history and what they saw of it once it is finished.
-fn run_watched_and_print<
-    Rt: Threads + Wait + Sync,
-    O: Sink,
-    D: Disk + Send,
-    E: Disk + Send,
-    G: Gate + Sync,
->(
-    rt: &Rt,
-    alloc: Global,
-    plan: &Plan,
-    readings: &Readings,
-    digests: &Digests,
-    out: &mut O,
-    journal: &mut D,
-    spool: &mut E,
-    gate: &G,
-    threads: u32,
-    watchers: u32,
-) -> Exit
-    requires some { 0 < watchers }
-    requires few { watchers ≤ 8 }
-    ensures { RunEnds threads watchers (handed plan.now readings.now digests.now
-        (D.state journal.old) (D.state journal.new) (E.state spool.old) (E.state spool.new))
-        (sunk (O.state out.old) (O.state out.new)) result }
-{
-    lawful_is_lawful_so_far();
-    no_overlap();
-    let ran = run_watched(
-        rt, alloc, plan, readings, digests, journal, spool, gate, threads, watchers,
-    );
-    let Watched { work, kept } = match ran {
-        Ok(watched) => watched,
-        Err(fail) => return exit_for(fail),
-    };
-    print_history(alloc, plan, work.journal.events(), kept.as_slice(), out)
-}
-
-// ---- files
-
-/// Runs the plan of the files with these names without workers over its journal and its spool, and prints
-/// the whole history once it is finished.
-pub(crate) fn run_files_plain<F: Shelf, O: Sink, D: Disk, E: Disk, C: Clock>(
-    alloc: Global,
-    shelf: &mut F,
-    out: &mut O,
-    journal: &mut D,
-    spool: &mut E,
-    clock: &mut C,
-    setup: Name,
-    script: Name,
-    file: Name,
-) -> Exit
-    ensures answers { AnswersRun 0 0 (named setup script (Some file))
-        (around (F.state shelf.old) (F.state shelf.new) (C.state clock.old) (C.state clock.new)
-        (sunk (O.state out.old) (O.state out.new)))
-        (disks (D.state journal.old) (D.state journal.new) (E.state spool.old) (E.state spool.new))
-        result }
-    ensures later { IsLater (F.state shelf.old) (F.state shelf.new) }
-{
-    let (accepted, readings) = match accept_run(alloc, shelf, clock, &InTurn, setup, script, file) {
-        Ok(given) => given,
-        Err(fail) => return Exit::from(fail),
-    };
-    let Accepted { plan, digests } = &accepted;
-    run_and_print(alloc, plan, &readings, digests, out, journal, spool)
-}
-
-/// Runs the plan of the files with these names with so many threads, beside so many watchers, over its
-/// journal and its spool, and prints the whole history and what they saw of it once it is finished. Without
-/// threads it is run without workers.
-pub(crate) fn run_files<
-    Rt: Threads + Wait + Sync,
-    F: Shelf,
-    O: Sink,
-    D: Disk + Send,
-    E: Disk + Send,
-    C: Clock,
-    G: Gate + Sync,
->(
-    rt: &Rt,
-    alloc: Global,
-    shelf: &mut F,
-    out: &mut O,
-    journal: &mut D,
-    spool: &mut E,
-    clock: &mut C,
-    gate: &G,
-    setup: Name,
-    script: Name,
-    file: Name,
-    threads: u32,
-    watchers: u32,
-) -> Exit
-    requires few { watchers ≤ 8 }
-    ensures answers { AnswersRun threads watchers (named setup script (Some file))
-        (around (F.state shelf.old) (F.state shelf.new) (C.state clock.old) (C.state clock.new)
-        (sunk (O.state out.old) (O.state out.new)))
-        (disks (D.state journal.old) (D.state journal.new) (E.state spool.old) (E.state spool.new))
-        result }
-    ensures later { IsLater (F.state shelf.old) (F.state shelf.new) }
-{
-    if threads == 0 && watchers == 0 {
-        return run_files_plain(
-            alloc, shelf, out, journal, spool, clock, setup, script, file,
-        );
+    /// Runs the plan of these files with these workers, beside so many watchers, over its journal and its
+    /// spool, and prints the whole history and what the watchers saw of it once it is finished. Without
+    /// threads it is run without workers.
+    pub(crate) fn run_files<
+        Rt: Threads + Wait + Sync,
+        D: Disk + Send,
+        E: Disk + Send,
+        C: Clock,
+        G: Gate + Sync,
+    >(
+        &mut self,
+        rt: &Rt,
+        clock: &mut C,
+        stores: &mut Stores<'_, D, E>,
+        files: FileNames,
+        workers: &Workers<'_, G>,
+        watchers: u32,
+    ) -> Result<(), Exit>
+        requires few { watchers ≤ 8 }
+        ensures continues { Continues F.Shelf self.old self.new }
+        ensures stores { SameStores stores.old stores.new }
+        ensures answers { AnswersRun workers.now.threads watchers (names_of files)
+            (around_by F.Shelf O.Sink self.old self.new (C.state clock.old) (C.state clock.new))
+            (disks_of D.Disk E.Disk stores.old stores.new) (exit_of result) }
+    {
+        if workers.threads == 0 && watchers == 0 {
+            return self.run_files_plain(clock, stores, files);
+        }
+        lawful_is_lawful_so_far();
+        no_overlap();
+        let pace = OnThreads { rt };
+        let (accepted, readings) = accept_timed(self.alloc, self.shelf, clock, &pace, files)?;
+        let accepted = accepted.with_columns(self.alloc, &pace);
+        let input = input_of(&accepted, &readings);
+        if watchers == 0 {
+            let work = run_on_threads(rt, self.alloc, &input, stores, workers)?;
+            return print_history(self.alloc, input.plan, work.journal.events(), &[], self.out);
+        }
+        let Watched { work, kept } = run_watched(
+            rt, self.alloc, &input, stores, workers, watchers,
+        )?;
+        let events = work.journal.events();
+        print_history(self.alloc, input.plan, events, kept.as_slice(), self.out)
     }
-    let given = match accept_run(alloc, shelf, clock, &OnThreads { rt }, setup, script, file) {
-        Ok(given) => given,
-        Err(fail) => return Exit::from(fail),
-    };
-    let (Accepted { plan, digests }, readings) = &given;
-    if watchers == 0 {
-        return run_threads_and_print(
-            rt, alloc, plan, readings, digests, out, journal, spool, gate, threads,
-        );
-    }
-    run_watched_and_print(
-        rt, alloc, plan, readings, digests, out, journal, spool, gate, threads, watchers,
-    )
 }

@@ -1,5 +1,7 @@
 -- What was read, against what a call accepts or stops at.
-use Rattle.std.proofs.Common.{◌≡◌, ℕ, List, Option, Some, length, take, sym, ◌∙◌, ap, subst, inl, inr, refl}
+use Rattle.std.proofs.Common.{◌≡◌, ℕ, List, Option, Some, Result, Ok, Err, length, take, sym, ◌∙◌, ap, subst, inl, inr, refl}
+use Rattle.std.specs.Prelude.{IfErr}
+use Rattle.std.specs.Result.{IsErrAnd}
 use Rattle.std.specs.Prelude.{slice_get}
 use Rattle.std.specs.List.{sum_by, zip}
 use Rattle.std.proofs.lemmas.Slice.Zip.{AllZip-long}
@@ -10,17 +12,18 @@ use Rattle.conc_types.specs.declared.script.Readings.{Readings}
 use Rattle.conc_types.specs.declared.script.Script.{Script}
 use Rattle.conc_types.specs.declared.setup.Setup.{Setup}
 use Rattle.conc_types.specs.declared.table.Table.{Table}
-use Rattle.conc_journal_digest.specs.Inputs.{input_digests}
-use Rattle.conc_plan_stamps.specs.Stamps.{stamps_of}
+use Rattle.conc_data_digests.specs.Inputs.{input_digests}
+use Rattle.conc_data_digests.specs.Stamps.{stamps_of}
 use Rattle.conc_outside.specs.Files.{Files, Gives, IsLater, ShelfState}
 use Rattle.conc_plan.specs.Faults.{IsFailure, plan_fault}
 use Rattle.conc_tables.specs.Tables.{SpellsTable}
 use Rattle.conc_top_inputs.specs.declared.accepting.Accepted.{Accepted}
 use Rattle.conc_top_inputs.specs.declared.error.InputFail.{InputFail}
 use Rattle.conc_top_inputs.specs.declared.reading.Start.{Start}
-use Rattle.conc_top_inputs.specs.Accepting.{IsAccepted}
+use Rattle.conc_edge_clock.specs.Clocks.{ClockState}
+use Rattle.conc_top_inputs.specs.Accepting.{IsAccepted, IsAnswer, IsTimedAnswer, StartsReading}
 use Rattle.conc_top_inputs.specs.Fails.{FailsWith}
-use Rattle.conc_top_inputs.specs.Given.{HasAll, HasTables, Names, ReadsClock, Sources, Exposed, exposed_by}
+use Rattle.conc_top_inputs.specs.Given.{HasAll, HasTables, named, Names, ReadsClock, Sources, sources, Exposed, exposed_by}
 use Rattle.conc_top_inputs.specs.Reading.{HasInputs, HasStart}
 use Rattle.conc_top_inputs.specs.Refusals.{fault_of_table}
 use Rattle.conc_top_inputs.specs.Ways.{fail_without_plan}
@@ -113,3 +116,29 @@ pub tables-end : (old new : Sources) (mid : ShelfState) (names : Names) (start :
 tables-end old new mid names start readings has named end same later (inl none) = subst (FailsWith old new names) (sym none) tt
 tables-end old new mid names start readings has named end same later (inr file_fail) =
     at-table old new mid names start readings has named end (same ∙ ap (λ (s : Setup). s.tables) has.setup) later file_fail
+
+-- ---- an answer that hands on a failure
+
+-- what holds of the failure holds of the answer
+pub handed : {A : Type 0} (P : InputFail → Type 0) (answer : Result A InputFail) (fail : InputFail) → IsErrAnd answer (λ e. e ≡ fail) → P fail → IfErr answer P
+handed P (Ok value) fail is holds = absurd is
+handed P (Err e) fail is holds = subst P (sym is) holds
+
+pub no-start : (old new : ShelfState) (setup script : List ℕ) (answer : Result Start InputFail) (fail : InputFail) → IsErrAnd answer (λ e. e ≡ fail)
+    → ((before after : ClockState) (clock : Option (List ℕ)) → FailsWith (sources old before) (sources new after) (named setup script clock) fail)
+    → StartsReading old new setup script answer
+no-start old new setup script (Ok start) fail is why = absurd is
+no-start old new setup script (Err e) fail is why = record {
+  ok = λ clock. tt;
+  err = λ before after clock. subst (FailsWith (sources old before) (sources new after) (named setup script clock)) (sym is) (why before after clock);
+}
+
+pub no-answer : (old new : Sources) (names : Names) (readings : Option Readings) (answer : Result Accepted InputFail) (fail : InputFail) → IsErrAnd answer (λ e. e ≡ fail)
+    → FailsWith old new names fail → IsAnswer old new names readings answer
+no-answer old new names readings (Ok a) fail is why = absurd is
+no-answer old new names readings (Err e) fail is why = record { ok = tt; err = subst (FailsWith old new names) (sym is) why }
+
+pub no-timed-answer : (old new : Sources) (names : Names) (answer : Result (Accepted × Readings) InputFail) (fail : InputFail) → IsErrAnd answer (λ e. e ≡ fail)
+    → FailsWith old new names fail → IsTimedAnswer old new names answer
+no-timed-answer old new names (Ok p) fail is why = absurd is
+no-timed-answer old new names (Err e) fail is why = record { ok = tt; err = subst (FailsWith old new names) (sym is) why }

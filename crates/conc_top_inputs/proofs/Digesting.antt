@@ -4,8 +4,8 @@ use Rattle.std.specs.List.{zip}
 use Rattle.std.proofs.lemmas.List.{append-nil, take_more}
 use Rattle.std.proofs.lemmas.Slice.Zip.{AllZip-long}
 use Rattle.conc_types.specs.declared.table.Table.{Table}
-use Rattle.conc_journal_digest.specs.Taken.{HasTaken}
-use Rattle.conc_journal_digest.specs.declared.input.InputDigest.{InputDigest}
+use Rattle.conc_data_digests.specs.Taken.{HasTaken}
+use Rattle.conc_data_digests.specs.declared.input.InputDigest.{InputDigest}
 use Rattle.conc_outside.specs.Files.{Files, Gives}
 use Rattle.conc_top_inputs.specs.Given.{HasTables}
 

@@ -22,12 +22,13 @@ use Rattle.conc_top_inputs.specs.declared.error.FileFail.{FileFail}
 use Rattle.conc_top_inputs.specs.declared.error.FileFail.TheVariants as file_fail
 use Rattle.conc_top_inputs.specs.Fails.{IsThere, FailsWith}
 use Rattle.conc_top_inputs.specs.Given.{HasScript, HasTables, is_system, IsNext, Names, ReadsFrom, sources, Sources, Exposed, exposed_by}
-use Rattle.conc_top_inputs.specs.Reading.{HasTablesIn}
+use Rattle.conc_top_inputs.specs.Reading.{HasTablesIn, TakesTable}
+use Rattle.conc_top_inputs.specs.declared.given.Progress.{Progress}
 use Rattle.conc_top_inputs.specs.Refusals.{fault_of_table, HasFault, IsFileRefused}
 use Rattle.conc_top_inputs.specs.FileFails.{Ends, IsFailAt, FailsAtClock, FailsInTables, FailsUnshown}
 use Rattle.conc_top_inputs.specs.Ways.{fail_at}
-use Rattle.conc_journal_digest.specs.Taken.{HasTaken}
-use Rattle.conc_journal_digest.specs.declared.input.InputDigest.{InputDigest}
+use Rattle.conc_data_digests.specs.Taken.{HasTaken}
+use Rattle.conc_data_digests.specs.declared.input.InputDigest.{InputDigest}
 use Rattle.conc_top_inputs.proofs.Digesting.{TookTables, took-more, took-none}
 
 -- a count that rose late rose in all
@@ -99,11 +100,6 @@ clock-end old new mid names name end before named later (inl h) = unshown old ne
 clock-end old new mid names name end before named later (inr h) =
     stops-at old new mid names kind.Clock name (before, named, h.from_file) h.cause end later h.ends h.is
 
--- a read that failed, where a lacking file is told as absent, was of a file that is there
-pub failed-there : (exposed : Option Files) (name : List ℕ) → IfSome exposed (λ files. file_named files name ≡ None → fail.Failed ≡ fail.Absent) → IsThere exposed name
-failed-there None name h = tt
-failed-there (Some files) name h = λ lacking. let same : fail.Failed ≡ fail.Absent = h lacking in cc
-
 -- ---- tables
 
 sum_by-one : (bytes : List ℕ) → sum_by length (bytes ∷ []) ≡ length bytes
@@ -119,20 +115,19 @@ pub tables-none : (exposed : Option Files) (tables : List Table) (digest : Input
 tables-none exposed tables digest none = rw none (record { contents = []; given = tt; spell = tt; fit = lit≤ tt }, refl, took-none digest)
 
 -- one more table was read
-pub tables-more : (exposed : Option Files) (names : List (List ℕ)) (i : ℕ) (name bytes : List ℕ) (tables : List Table) (table : Table) (total : ℕ) (old mid new : InputDigest)
-    → i < length names → name ≡ get_or names i name → Gives exposed name bytes → SpellsTable bytes table → total + length bytes ≤ 134217728
-    → ((setup script : List ℕ) (before : List (List ℕ × List ℕ)) → HasTaken mid setup script before → HasTaken new setup script (before ++ (name, bytes) ∷ []))
-    → AreRead exposed (take i names) tables total old mid → AreRead exposed (take (i + 1) names) (tables ++ table ∷ []) (total + length bytes) old new
-tables-more exposed names i name bytes tables table total old mid new below here given spells fits adds (has, so_far, taken) =
-    let sum : sum_by length (has.contents ++ bytes ∷ []) ≡ total + length bytes = omega (arith, sum_by-append length has.contents (bytes ∷ []), sum_by-one bytes, so_far) in (
+pub tables-more : (exposed : Option Files) (names : List (List ℕ)) (i : ℕ) (name : List ℕ) (tables : List Table) (table : Table) (old : InputDigest) (mid new : Progress)
+    → i < length names → name ≡ get_or names i name → TakesTable exposed name mid new table
+    → AreRead exposed (take i names) tables mid.bytes old mid.digest → AreRead exposed (take (i + 1) names) (tables ++ table ∷ []) new.bytes old new.digest
+tables-more exposed names i name tables table old mid new below here more (has, so_far, taken) =
+    let sum : sum_by length (has.contents ++ more.bytes ∷ []) ≡ new.bytes = omega (arith, sum_by-append length has.contents (more.bytes ∷ []), sum_by-one more.bytes, so_far, more.counted) in (
       record {
-        contents = has.contents ++ bytes ∷ [];
-        given = all_zip_more (Gives exposed) names has.contents i name bytes below here has.given given;
-        spell = all_zipped_more SpellsTable has.contents tables bytes table has.spell spells;
-        fit = omega (arith, sum, fits);
+        contents = has.contents ++ more.bytes ∷ [];
+        given = all_zip_more (Gives exposed) names has.contents i name more.bytes below here has.given more.given;
+        spell = all_zipped_more SpellsTable has.contents tables more.bytes table has.spell more.spells;
+        fit = omega (arith, sum, more.fit);
       },
       sum,
-      took-more old mid new exposed names i name bytes tables has below here taken adds,
+      took-more old mid.digest new.digest exposed names i name more.bytes tables has below here taken more.digest,
     )
 
 -- all were read

@@ -1,6 +1,6 @@
 -- Why the files give no plan, and why a single file gives no bytes.
 use Rattle.std.specs.Prelude.{◌≡◌, ℕ, List, Option, None, Some, IfSome, IsTrue}
-use Rattle.conc_outside_clock.specs.Clocks.{ClockState}
+use Rattle.conc_edge_clock.specs.Clocks.{ClockState}
 use Rattle.conc_types.specs.declared.refusal.FileKind.{FileKind}
 use Rattle.conc_outside.specs.Counts.{Rose}
 use Rattle.conc_outside.specs.Files.{file_named, Files, Lacks, ShelfState}

@@ -1,7 +1,7 @@
 -- Why one file ends the reading.
-use Rattle.std.specs.Prelude.{◌≡◌, ◌⊎◌, ℕ, false, true, List, length, Option, Some, slice_get, take}
+use Rattle.std.specs.Prelude.{◌≡◌, ◌⊎◌, ℕ, false, true, List, length, Option, Some, Result, Err, slice_get, take}
 use Rattle.std.specs.List.{sum_by}
-use Rattle.conc_outside_clock.specs.Clocks.{ClockState}
+use Rattle.conc_edge_clock.specs.Clocks.{ClockState}
 use Rattle.conc_types.specs.declared.refusal.FileKind.{FileKind}
 use Rattle.conc_types.specs.declared.refusal.Refusal.{Refusal}
 use Rattle.conc_types.specs.declared.refusal.FileKind.TheVariants as kind
@@ -41,6 +41,12 @@ Ends old new has_fault file name s = EndsUnread old new name s
 -- the failure for the file with this name, unless there was no memory for it
 abbrev pub IsFailAt : FileFail → List ℕ → InputFail → Type 0
 IsFailAt s name end = (end ≡ fail_at s name) ⊎ (end ≡ input.NoMemory)
+
+-- the answer failed, and this is its failure for the file with this name
+pub record IsToldOf {T : Type 0} (answer : Result T FileFail) (name : List ℕ) (end : InputFail) : Type 0 where
+  pub cause : FileFail
+  pub was : answer ≡ Err cause
+  pub told : IsFailAt cause name end
 
 -- ---- the clock
 

@@ -2,7 +2,7 @@
 use Rattle.std.specs.Prelude.{◌≡◌, ℕ, ◌≤◌, Bool, false, true, List, [], ◌∷◌, codes, length, Ok, Option, None, Some, slice_get, take}
 use Rattle.std.specs.List.{AllZip, sum_by, zip}
 use Rattle.std.specs.Str.{bytes_eq}
-use Rattle.conc_outside_clock.specs.Clocks.{ClockState, Gives as Shows}
+use Rattle.conc_edge_clock.specs.Clocks.{ClockState, Gives as Shows}
 use Rattle.conc_types.specs.declared.event.Moment.{Moment}
 use Rattle.conc_types.specs.declared.digests.Digests.{Digests}
 use Rattle.conc_types.specs.declared.plan.Plan.{Plan}
@@ -13,13 +13,14 @@ use Rattle.conc_types.specs.declared.script.Readings.{Readings}
 use Rattle.conc_types.specs.declared.script.Script.{Script}
 use Rattle.conc_types.specs.declared.setup.Setup.{Setup}
 use Rattle.conc_types.specs.declared.table.Table.{Table}
-use Rattle.conc_journal_digest.specs.Inputs.{input_digests}
-use Rattle.conc_plan_stamps.specs.Stamps.{stamps_of}
+use Rattle.conc_data_digests.specs.Inputs.{input_digests}
+use Rattle.conc_data_digests.specs.Stamps.{stamps_of}
 use Rattle.conc_outside.specs.Files.{Files, Gives, ShelfState}
 use Rattle.conc_setup.specs.Setups.{setup_in}
 use Rattle.conc_script.specs.Clock.{SpellsClock}
 use Rattle.conc_script.specs.Script.{SpellsScript}
 use Rattle.conc_tables.specs.Tables.{SpellsTable}
+use Rattle.conc_top_inputs.specs.declared.names.FileNames.{FileNames}
 
 -- the names of the files that are read; some commands are given no clock
 pub record Names : Type 0 where
@@ -29,6 +30,10 @@ pub record Names : Type 0 where
 
 abbrev pub named : List ℕ → List ℕ → Option (List ℕ) → Names
 named setup script clock = record { setup = setup; script = script; clock = clock }
+
+-- those of a run or a check
+abbrev pub names_of : FileNames → Names
+names_of files = named files.setup files.script (Some files.clock)
 
 -- what a call reads from
 pub record Sources : Type 0 where

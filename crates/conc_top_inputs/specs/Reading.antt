@@ -1,11 +1,13 @@
 -- What was read, and its digest.
-use Rattle.std.specs.Prelude.{◌≡◌, ℕ, ◌++◌, List, [], Option}
+use Rattle.std.specs.Prelude.{◌≡◌, ℕ, ◌+◌, ◌≤◌, ◌++◌, List, [], ◌∷◌, length, Option}
 use Rattle.std.specs.List.{zip}
 use Rattle.conc_types.specs.declared.script.Readings.{Readings}
 use Rattle.conc_types.specs.declared.table.Table.{Table}
-use Rattle.conc_journal_digest.specs.Taken.{HasTaken}
-use Rattle.conc_journal_digest.specs.declared.input.InputDigest.{InputDigest}
-use Rattle.conc_outside.specs.Files.{Files}
+use Rattle.conc_data_digests.specs.Taken.{HasTaken}
+use Rattle.conc_data_digests.specs.declared.input.InputDigest.{InputDigest}
+use Rattle.conc_outside.specs.Files.{Files, Gives}
+use Rattle.conc_tables.specs.Tables.{SpellsTable}
+use Rattle.conc_top_inputs.specs.declared.given.Progress.{Progress}
 use Rattle.conc_top_inputs.specs.declared.reading.Start.{Start}
 use Rattle.conc_top_inputs.specs.Given.{HasClock, HasScript, HasTables, Names, Exposed}
 
@@ -23,6 +25,16 @@ pub record HasInputs (exposed : Exposed) (names : Names) (start : Start) (readin
   pub script : start.script ≡ files.before.script
   pub same_readings : readings ≡ files.readings
   pub digest : HasTaken start.digest files.before.before.bytes files.before.bytes []
+
+-- the table under this name was read and accepted, and is counted and digested behind those before it
+pub record TakesTable (exposed : Option Files) (name : List ℕ) (old new : Progress) (table : Table) : Type 0 where
+  pub bytes : List ℕ
+  pub given : Gives exposed name bytes
+  pub spells : SpellsTable bytes table
+  pub counted : new.bytes ≡ old.bytes + length bytes
+  pub fit : new.bytes ≤ 134217728
+  pub digest : (setup script : List ℕ) (before : List (List ℕ × List ℕ)) → HasTaken old.digest setup script before
+      → HasTaken new.digest setup script (before ++ (name, bytes) ∷ [])
 
 -- the tables with these names were read and accepted, and the digest took them in
 pub record HasTablesIn (exposed : Option Files) (names : List (List ℕ)) (old new : InputDigest) (tables : List Table) : Type 0 where

@@ -2,6 +2,8 @@
 use Rattle.std.specs.Prelude.{ℕ, List}
 use Rattle.conc_types.specs.declared.error.ReadFail.{ReadFail}
 use Rattle.conc_types.specs.declared.error.ReadFail.TheVariants as fail
+use Rattle.conc_outside.specs.declared.error.ShelfFail.{ShelfFail}
+use Rattle.conc_outside.specs.declared.error.ShelfFail.TheVariants as shelf_fail
 use Rattle.conc_top_inputs.specs.declared.error.InputFail.{InputFail}
 use Rattle.conc_top_inputs.specs.declared.error.InputFail.TheVariants as input
 use Rattle.conc_top_inputs.specs.declared.error.FileFail.{FileFail}
@@ -14,7 +16,13 @@ fail_at file_fail.Absent name = input.Absent name
 fail_at file_fail.ReadFault name = input.ReadFault name
 fail_at file_fail.NoMemory name = input.NoMemory
 
--- what a reader's refusal stops with
+-- why a file ends the reading that the shelf does not give
+abbrev pub file_fail_for_shelf : ShelfFail → FileFail
+file_fail_for_shelf shelf_fail.Absent = file_fail.Absent
+file_fail_for_shelf shelf_fail.Failed = file_fail.ReadFault
+file_fail_for_shelf shelf_fail.NoMemory = file_fail.NoMemory
+
+-- why one does that its reader refuses
 abbrev pub file_fail_for : ReadFail → FileFail
 file_fail_for (fail.Refused refusal) = file_fail.Refused refusal
 file_fail_for fail.NoMemory = file_fail.NoMemory

@@ -1,21 +1,18 @@
-ghost use Rattle.std.specs.Prelude.{◌≡◌, IfErr, IfOk, IsTrue, List, None, Option, Some, ℕ};
-ghost use Rattle.conc_outside_clock.specs.Clocks.{ClockState};
+ghost use Rattle.std.specs.Prelude.{◌≡◌, IsTrue, None};
+ghost use Rattle.conc_edge_clock.specs.Clocks.{ClockState};
 ghost use Rattle.conc_types.specs.Scripts.{are_commands};
-ghost use Rattle.conc_types.specs.declared.script.Readings.{Readings as ReadingsIn};
-ghost use Rattle.conc_outside.specs.Files.{IsLater, ShelfState};
-ghost use Rattle.conc_top_inputs.specs.Fails.{FailsWith};
-ghost use Rattle.conc_top_inputs.specs.Accepting.{IsAccepted};
-ghost use Rattle.conc_top_inputs.specs.Given.{named, sources, Exposed, exposed_by};
-ghost use Rattle.conc_top_inputs.specs.Reading.{HasInputs};
+ghost use Rattle.conc_outside.specs.Files.{IsLater};
+ghost use Rattle.conc_top_inputs.specs.Accepting.{CompletesReading, IsAnswer, IsTimedAnswer};
+ghost use Rattle.conc_top_inputs.specs.Given.{named, names_of, sources};
 ghost use Rattle.conc_top_inputs.specs.Refusals.{name_of};
 ghost use Rattle.conc_top_inputs.specs.Ways as spec;
 
-use crate::InputFail;
 use crate::clocks::read_readings;
 use crate::pace::Pace;
 use crate::reading::{Start, read_start, read_tables};
+use crate::{FileNames, InputFail};
+use conc_edge_clock::Clock;
 use conc_outside::Shelf;
-use conc_outside_clock::Clock;
 use conc_plan::make_plan;
 use conc_types::{Digests, FileKind, Name, Plan, ReadFail, Readings, Seq};
 use std::alloc::Global;
@@ -26,6 +23,21 @@ pub struct Accepted {
     pub plan: Plan,
     /// Of the files that were read, but for the clock's.
     pub digests: Digests,
+}
+
+impl Accepted {
+    ghost use Rattle.std.specs.Prelude.{◌≡◌};
+
+    /// The same, with what the reports of a run ask of the columns of its tables kept beside the cells.
+    pub fn with_columns<P: Pace>(self, alloc: Global, pace: &P) -> Self
+        ensures { result ≡ self }
+    {
+        let Accepted { plan, digests } = self;
+        Accepted {
+            plan: pace.keep_columns(alloc, plan),
+            digests,
+        }
+    }
 }
 
 // The name of the setup's or the script's file: a plan is refused in one of them.
@@ -62,32 +74,15 @@ fn plan_from<F: Shelf, P: Pace>(
 ) -> Result<Accepted, InputFail>
     requires { IsTrue (are_commands start.setup start.script.commands) }
     ensures later { IsLater (F.state shelf.old) (F.state shelf.new) }
-    ensures ok { (exposed : Exposed) (clock : Option (List ℕ)) (readings : Option ReadingsIn)
-        → exposed.files ≡ (F.state shelf.old).files
-        → HasInputs exposed (named setup script clock) start readings
-        → IfOk result (IsAccepted exposed (named setup script clock) readings) }
-    ensures err { (old : ShelfState) (before after : ClockState) (clock : Option (List ℕ))
-        (readings : Option ReadingsIn) → IsLater old (F.state shelf.old)
-        → HasInputs (exposed_by (sources old before) (sources (F.state shelf.new) after))
-        (named setup script clock) start readings
-        → IfErr result (FailsWith (sources old before) (sources (F.state shelf.new) after)
-        (named setup script clock)) }
+    ensures answer { CompletesReading (F.state shelf.old) (F.state shelf.new) setup script start
+        result }
 {
     let Start {
         setup: setup_read,
         script: script_read,
         digest,
     } = start;
-    let (tables, digest) = match read_tables(
-        alloc,
-        shelf,
-        pace,
-        setup_read.tables.as_slice(),
-        digest,
-    ) {
-        Ok(read) => read,
-        Err(fail) => return Err(fail),
-    };
+    let (tables, digest) = read_tables(alloc, shelf, pace, setup_read.tables.as_slice(), digest)?;
     match make_plan(alloc, setup_read, script_read, Seq::from_vec(tables)) {
         Ok(plan) => Ok(Accepted {
             plan,
@@ -109,17 +104,10 @@ pub fn accept<F: Shelf, P: Pace>(
     script: Name,
 ) -> Result<Accepted, InputFail>
     ensures later { IsLater (F.state shelf.old) (F.state shelf.new) }
-    ensures ok { (clock : ClockState) → IfOk result
-        (IsAccepted (exposed_by (sources (F.state shelf.old) clock)
-        (sources (F.state shelf.new) clock)) (named setup script None) None) }
-    ensures err { (clock : ClockState)
-        → IfErr result (FailsWith (sources (F.state shelf.old) clock)
-        (sources (F.state shelf.new) clock) (named setup script None)) }
+    ensures answer { (clock : ClockState) → IsAnswer (sources (F.state shelf.old) clock)
+        (sources (F.state shelf.new) clock) (named setup script None) None result }
 {
-    let start = match read_start(alloc, shelf, &setup, &script) {
-        Ok(start) => start,
-        Err(fail) => return Err(fail),
-    };
+    let start = read_start(alloc, shelf, &setup, &script)?;
     plan_from(alloc, shelf, pace, start, setup, script)
 }
 
@@ -131,63 +119,19 @@ pub fn accept_timed<F: Shelf, C: Clock, P: Pace>(
     shelf: &mut F,
     clock: &mut C,
     pace: &P,
-    setup: Name,
-    script: Name,
-    file: Name,
+    files: FileNames,
 ) -> Result<(Accepted, Readings), InputFail>
     ensures later { IsLater (F.state shelf.old) (F.state shelf.new) }
-    ensures ok { IfOk result (λ p. IsAccepted
-        (exposed_by (sources (F.state shelf.old) (C.state clock.old))
-        (sources (F.state shelf.new) (C.state clock.new))) (named setup script (Some file))
-        (Some p.1) p.0) }
-    ensures err { IfErr result (FailsWith (sources (F.state shelf.old) (C.state clock.old))
-        (sources (F.state shelf.new) (C.state clock.new)) (named setup script (Some file))) }
+    ensures answer { IsTimedAnswer (sources (F.state shelf.old) (C.state clock.old))
+        (sources (F.state shelf.new) (C.state clock.new)) (names_of files) result }
 {
-    let start = match read_start(alloc, shelf, &setup, &script) {
-        Ok(start) => start,
-        Err(fail) => return Err(fail),
-    };
-    let readings = match read_readings(alloc, shelf, clock, &file) {
-        Ok(readings) => readings,
-        Err(fail) => return Err(fail),
-    };
-    match plan_from(alloc, shelf, pace, start, setup, script) {
-        Ok(accepted) => Ok((accepted, readings)),
-        Err(fail) => Err(fail),
-    }
-}
-
-// The same, with what the plan's reports ask of columns kept beside the cells.
-fn with_columns<P: Pace>(alloc: Global, pace: &P, accepted: Accepted) -> Accepted
-    ensures { result ≡ accepted }
-{
-    let Accepted { plan, digests } = accepted;
-    Accepted {
-        plan: pace.keep_columns(alloc, plan),
-        digests,
-    }
-}
-
-/// Does what `accept_timed` does, and keeps in the tables what the reports of a run ask of their columns.
-pub fn accept_run<F: Shelf, C: Clock, P: Pace>(
-    alloc: Global,
-    shelf: &mut F,
-    clock: &mut C,
-    pace: &P,
-    setup: Name,
-    script: Name,
-    file: Name,
-) -> Result<(Accepted, Readings), InputFail>
-    ensures later { IsLater (F.state shelf.old) (F.state shelf.new) }
-    ensures ok { IfOk result (λ p. IsAccepted
-        (exposed_by (sources (F.state shelf.old) (C.state clock.old))
-        (sources (F.state shelf.new) (C.state clock.new))) (named setup script (Some file))
-        (Some p.1) p.0) }
-    ensures err { IfErr result (FailsWith (sources (F.state shelf.old) (C.state clock.old))
-        (sources (F.state shelf.new) (C.state clock.new)) (named setup script (Some file))) }
-{
-    match accept_timed(alloc, shelf, clock, pace, setup, script, file) {
-        Ok((accepted, readings)) => Ok((with_columns(alloc, pace, accepted), readings)),
-        Err(fail) => Err(fail),
-    }
+    let FileNames {
+        setup,
+        script,
+        clock: file,
+    } = files;
+    let start = read_start(alloc, shelf, &setup, &script)?;
+    let readings = read_readings(alloc, shelf, clock, &file)?;
+    let accepted = plan_from(alloc, shelf, pace, start, setup, script)?;
+    Ok((accepted, readings))
 }

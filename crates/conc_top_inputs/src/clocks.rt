@@ -5,10 +5,10 @@ ghost use Rattle.conc_top_inputs.specs.Given.{IsShown, ReadsFrom, sources, expos
 ghost use Rattle.conc_top_inputs.specs.FileFails.{FailsAtClock, FailsUnshown};
 
 use crate::InputFail;
-use crate::error::fail_at;
+use crate::error::named;
 use crate::given::judge_clock;
+use conc_edge_clock::Clock;
 use conc_outside::Shelf;
-use conc_outside_clock::Clock;
 use conc_types::{Moment, Name, NoMemory, Reading, Readings, Seq};
 use std::alloc::Global;
 
@@ -38,14 +38,10 @@ fn show<C: Clock>(alloc: Global, clock: &mut C) -> Result<Readings, InputFail>
     ensures ok { IfOk result (IsShown (C.state clock.old) (C.state clock.new)) }
     ensures err { IfErr result (FailsUnshown (C.state clock.old) (C.state clock.new)) }
 {
-    let moment = match clock.now() {
-        Ok(moment) => moment,
-        Err(_) => return Err(InputFail::ClockFault),
+    let Ok(moment) = clock.now() else {
+        return Err(InputFail::ClockFault);
     };
-    match reading_at(alloc, moment) {
-        Ok(readings) => Ok(readings),
-        Err(NoMemory) => Err(InputFail::NoMemory),
-    }
+    Ok(reading_at(alloc, moment)?)
 }
 
 // The readings of the clock with this name: that of the system, or that of a file.
@@ -66,8 +62,5 @@ pub(crate) fn read_readings<F: Shelf, C: Clock>(
     if is_system(name) {
         return show(alloc, clock);
     }
-    match judge_clock(alloc, shelf, name) {
-        Ok(readings) => Ok(readings),
-        Err(file_fail) => Err(fail_at(alloc, file_fail, name)),
-    }
+    named(alloc, name, judge_clock(alloc, shelf, name))
 }

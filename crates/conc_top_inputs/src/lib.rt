@@ -6,12 +6,14 @@ mod accepting;
 mod clocks;
 mod error;
 mod given;
+mod names;
 mod pace;
 mod reading;
 mod single;
 
-pub use accepting::{Accepted, accept, accept_run, accept_timed};
-pub use conc_columns::{InTurn, OnThreads};
+pub use accepting::{Accepted, accept, accept_timed};
+pub use conc_data_columns::{InTurn, OnThreads};
 pub use error::InputFail;
+pub use names::FileNames;
 pub use pace::Pace;
 pub use single::read_file;

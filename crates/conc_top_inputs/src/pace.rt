@@ -1,11 +1,11 @@
 ghost use Rattle.std.specs.Prelude.{◌≡◌, ◌++◌, ◌∷◌, [], IfErr, IfOk, List, ℕ};
-ghost use Rattle.conc_journal_digest.specs.Taken.{HasTaken};
+ghost use Rattle.conc_data_digests.specs.Taken.{HasTaken};
 ghost use Rattle.conc_tables.specs.Tables.{SpellsTable, table_fault};
 ghost use Rattle.conc_types.specs.Faults.{IsFailure};
 ghost use Rattle.conc_types.specs.declared.refusal.FileKind.TheVariants as file;
 
-use conc_columns::{InTurn, OnThreads, keep_columns, keep_columns_on_threads};
-use conc_journal_digest::InputDigest;
+use conc_data_columns::{InTurn, OnThreads, keep_columns, keep_columns_on_threads};
+use conc_data_digests::InputDigest;
 use conc_tables::read_table;
 use conc_types::{Plan, ReadFail, Table};
 use std::alloc::Global;

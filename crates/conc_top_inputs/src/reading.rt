@@ -1,17 +1,15 @@
-ghost use Rattle.std.specs.Prelude.{◌≡◌, ◌≤◌, length, IfErr, IfOk, IsTrue, List, Option, ℕ};
-ghost use Rattle.conc_outside_clock.specs.Clocks.{ClockState};
+ghost use Rattle.std.specs.Prelude.{◌≡◌, ◌≤◌, length, IfErr, IfOk, IsTrue};
 ghost use Rattle.conc_types.specs.Scripts.{are_commands};
 ghost use Rattle.conc_outside.specs.Files.{IsLater};
-ghost use Rattle.conc_top_inputs.specs.Fails.{FailsWith};
-ghost use Rattle.conc_top_inputs.specs.Given.{named, sources};
+ghost use Rattle.conc_top_inputs.specs.Accepting.{StartsReading};
 ghost use Rattle.conc_top_inputs.specs.FileFails.{FailsInTables};
-ghost use Rattle.conc_top_inputs.specs.Reading.{HasStart, HasTablesIn};
+ghost use Rattle.conc_top_inputs.specs.Reading.{HasTablesIn};
 
 use crate::InputFail;
-use crate::error::fail_at;
-use crate::given::{judge_script, judge_setup, judge_table};
+use crate::error::named;
+use crate::given::{Progress, judge_script, judge_setup, judge_table};
 use crate::pace::Pace;
-use conc_journal_digest::InputDigest;
+use conc_data_digests::InputDigest;
 use conc_outside::Shelf;
 use conc_types::{Name, Script, Setup, Table};
 use std::alloc::Global;
@@ -33,21 +31,13 @@ pub(crate) fn read_start<F: Shelf>(
     script: &Name,
 ) -> Result<Start, InputFail>
     ensures later { IsLater (F.state shelf.old) (F.state shelf.new) }
-    ensures ok { (clock : Option (List ℕ))
-        → IfOk result (HasStart (F.state shelf.old).files (named setup.now script.now clock)) }
+    ensures answer { StartsReading (F.state shelf.old) (F.state shelf.new) setup.now script.now
+        result }
     ensures fits { IfOk result (λ start. IsTrue (are_commands start.setup start.script.commands)) }
-    ensures err { (before after : ClockState) (clock : Option (List ℕ))
-        → IfErr result (FailsWith (sources (F.state shelf.old) before)
-        (sources (F.state shelf.new) after) (named setup.now script.now clock)) }
 {
-    let (setup_read, setup_bytes) = match judge_setup(alloc, shelf, setup) {
-        Ok(read) => read,
-        Err(file_fail) => return Err(fail_at(alloc, file_fail, setup)),
-    };
-    let (script_read, script_bytes) = match judge_script(alloc, shelf, script, &setup_read) {
-        Ok(read) => read,
-        Err(file_fail) => return Err(fail_at(alloc, file_fail, script)),
-    };
+    let (setup_read, setup_bytes) = named(alloc, setup, judge_setup(alloc, shelf, setup))?;
+    let judged = judge_script(alloc, shelf, script, &setup_read);
+    let (script_read, script_bytes) = named(alloc, script, judged)?;
     Ok(Start {
         digest: InputDigest::new(&setup_bytes, &script_bytes),
         setup: setup_read,
@@ -61,7 +51,7 @@ pub(crate) fn read_tables<F: Shelf, P: Pace>(
     shelf: &mut F,
     pace: &P,
     names: &[Name],
-    mut digest: InputDigest,
+    digest: InputDigest,
 ) -> Result<(Vec<Table>, InputDigest), InputFail>
     requires { length names.now ≤ 64 }
     ensures later { IsLater (F.state shelf.old) (F.state shelf.new) }
@@ -70,20 +60,14 @@ pub(crate) fn read_tables<F: Shelf, P: Pace>(
     ensures err { IfErr result (FailsInTables (F.state shelf.old) (F.state shelf.new) names.now) }
 {
     let mut tables = Vec::new(alloc);
-    let mut total = 0;
+    let mut progress = Progress { bytes: 0, digest };
     let mut number = 0;
     for name in names {
-        match judge_table(alloc, shelf, pace, name, number, total, digest) {
-            Ok((table, bytes, longer)) => {
-                if tables.push(table).is_err() {
-                    return Err(InputFail::NoMemory);
-                }
-                digest = longer;
-                total += bytes.len();
-            }
-            Err(file_fail) => return Err(fail_at(alloc, file_fail, name)),
-        }
+        let judged = judge_table(alloc, shelf, pace, name, number, progress);
+        let (table, longer) = named(alloc, name, judged)?;
+        tables.push(table)?;
+        progress = longer;
         number += 1;
     }
-    Ok((tables, digest))
+    Ok((tables, progress.digest))
 }

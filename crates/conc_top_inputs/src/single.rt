@@ -3,7 +3,7 @@ ghost use Rattle.conc_outside.specs.Files.{Gives, IsLater};
 ghost use Rattle.conc_top_inputs.specs.Fails.{IsUnread};
 
 use crate::InputFail;
-use crate::error::fail_at;
+use crate::error::named;
 use crate::given::read;
 use conc_outside::Shelf;
 use conc_types::Name;
@@ -15,8 +15,5 @@ pub fn read_file<F: Shelf>(alloc: Global, shelf: &mut F, name: &Name) -> Result<
     ensures ok { IfOk result (λ bytes. Gives (F.state shelf.old).files name.now bytes.items) }
     ensures err { IfErr result (IsUnread (F.state shelf.old) (F.state shelf.new) name.now) }
 {
-    match read(alloc, shelf, name) {
-        Ok(bytes) => Ok(bytes),
-        Err(file_fail) => Err(fail_at(alloc, file_fail, name)),
-    }
+    named(alloc, name, read(alloc, shelf, name))
 }

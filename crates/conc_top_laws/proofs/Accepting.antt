@@ -5,7 +5,7 @@ use Rattle.std.specs.List.{AllZip, sum_by}
 use Rattle.std.specs.Result.{result_err}
 use Rattle.std.proofs.lemmas.Bool.{cond-false, le-ltb}
 use Rattle.std.proofs.lemmas.List.Sums.{sum_by-cons}
-use Rattle.conc_outside_clock.specs.Clocks.{ClockState}
+use Rattle.conc_edge_clock.specs.Clocks.{ClockState}
 use Rattle.conc_types.specs.declared.kind.RefusalKind.TheVariants as refused
 use Rattle.conc_types.specs.declared.refusal.FileKind.{FileKind}
 use Rattle.conc_types.specs.declared.refusal.FileKind.TheVariants as kind

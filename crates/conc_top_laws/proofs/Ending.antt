@@ -10,9 +10,9 @@ use Rattle.conc_types.specs.declared.plan.Plan.{Plan}
 use Rattle.conc_types.specs.declared.script.Reading.{Reading}
 use Rattle.conc_disk.specs.Disk.{DiskState}
 use Rattle.conc_history_check.proofs.EachPosition.{lawful_positions}
-use Rattle.conc_history_verdict.specs.Verdicts.{BeginsWith, events_in, IsFirstOther, IsLawful, IsNotLawful, lines_behind, table_lines}
+use Rattle.conc_history_check.specs.Verdicts.{BeginsWith, events_in, IsFirstOther, IsLawful, IsNotLawful, lines_behind, table_lines}
 use Rattle.conc_journal.specs.Opens.{broken_of, events_of, may_open}
-use Rattle.conc_law.proofs.Numbering.{numbered-at}
+use Rattle.conc_base_law.proofs.Numbering.{numbered-at}
 use Rattle.conc_outside.specs.Files.{Files, Gives}
 use Rattle.conc_restart.proofs.ReadSoFar.{bad-not_past}
 use Rattle.conc_run_laws.proofs.Crashed.{at-some, not-bad, not-closed, not-other, not-other_script, refuses-for_room}

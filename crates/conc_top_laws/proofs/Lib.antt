@@ -1,3 +1,4 @@
 pub mod Accepting
 pub mod Printed
 pub mod Ending
+pub mod Completing

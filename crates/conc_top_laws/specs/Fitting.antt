@@ -5,10 +5,10 @@ use Rattle.conc_types.specs.declared.event.Extent.{Extent}
 use Rattle.conc_types.specs.declared.event.RequestId.{RequestId}
 use Rattle.conc_types.specs.declared.plan.Plan.{Plan}
 use Rattle.conc_disk.specs.Disk.{DiskState}
-use Rattle.conc_history_verdict.specs.declared.verdict.Verdict.TheVariants as verdict
+use Rattle.conc_history_check.specs.declared.verdict.Verdict.TheVariants as verdict
 use Rattle.conc_journal.specs.Opens.{broken_of, events_of}
 use Rattle.conc_journal_image.specs.declared.layout.TheConstants.{MOST_RECORDS}
-use Rattle.conc_law.specs.Law.{LawfulSoFar}
+use Rattle.conc_base_law.specs.Law.{LawfulSoFar}
 use Rattle.conc_restart.specs.Need.{need}
 use Rattle.conc_run_laws.specs.Next.{IsFit}
 use Rattle.conc_run_open.specs.Texts.{HasEnd}

@@ -7,7 +7,7 @@ use Rattle.conc_types.specs.Decimals.{decimal_value}
 use Rattle.conc_types.specs.Words.{is_between}
 use Rattle.conc_top_words.specs.declared.command.Command.{Command}
 use Rattle.conc_top_words.specs.declared.command.Command.TheVariants as command
-use Rattle.conc_top_words.specs.Words.{AreWithin, check_of, command_named, command_of, is, is_file, make_of, number_between, output_of, plan_of, run_among, run_said, Said, said, size_of, status_of, threads_of, watchers_of}
+use Rattle.conc_top_words.specs.Words.{AreWithin, check_of, command_named, command_of, file_pair, is, is_file, make_of, number_between, output_of, plan_of, run_among, run_said, Said, said, size_of, status_of, threads_of, watchers_of}
 
 abbrev IsWithin : Option Command → Type 0
 IsWithin command = IfSome command AreWithin
@@ -37,11 +37,12 @@ then-within : (b : Bool) (c : Command) → AreWithin c → IsWithin (then_some b
 then-within true c within = within
 then-within false c within = tt
 
+plain-within : {A : Type 0} (command : A → Command) → ((a : A) → AreWithin (command a)) → (o : Option A) → IsWithin (option_map command o)
+plain-within command within None = tt
+plain-within command within (Some a) = within a
+
 plan-within : (words : List (List ℕ)) → IsWithin (plan_of words)
-plan-within [] = tt
-plan-within (a ∷ []) = tt
-plan-within (a ∷ b ∷ []) = then-within _ (command.Plan a b) tt
-plan-within (a ∷ b ∷ c ∷ words) = tt
+plan-within words = plain-within (λ files. command.Plan files.0 files.1) (λ files. tt) (file_pair words)
 
 check-within : (words : List (List ℕ)) → IsWithin (check_of words)
 check-within [] = tt
@@ -52,10 +53,7 @@ check-within (a ∷ b ∷ c ∷ d ∷ []) = then-within _ (command.Check a b c d
 check-within (a ∷ b ∷ c ∷ d ∷ e ∷ words) = tt
 
 status-within : (words : List (List ℕ)) → IsWithin (status_of words)
-status-within [] = tt
-status-within (a ∷ []) = tt
-status-within (a ∷ b ∷ []) = then-within _ (command.Status a b) tt
-status-within (a ∷ b ∷ c ∷ words) = tt
+status-within words = plain-within (λ files. command.Status files.0 files.1) (λ files. tt) (file_pair words)
 
 -- ---- commands with numbers
 

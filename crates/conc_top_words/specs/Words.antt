@@ -123,10 +123,14 @@ run_of words = option_and_then run_said (said words)
 
 -- ---- the other commands, which have no options
 
+-- the names of a setup and a script
+abbrev pub file_pair : List (List ℕ) → Option (List ℕ × List ℕ)
+file_pair (setup ∷ script ∷ []) = then_some (is_file setup && is_file script) (setup, script)
+file_pair _ = None
+
 -- `SETUP SCRIPT`
 abbrev pub plan_of : List (List ℕ) → Option Command
-plan_of (setup ∷ script ∷ []) = then_some (is_file setup && is_file script) (command.Plan setup script)
-plan_of _ = None
+plan_of words = option_map (λ files. command.Plan files.0 files.1) (file_pair words)
 
 -- `SETUP SCRIPT CLOCK HISTORY`
 abbrev pub check_of : List (List ℕ) → Option Command
@@ -136,8 +140,7 @@ check_of _ = None
 
 -- `SETUP SCRIPT`
 abbrev pub status_of : List (List ℕ) → Option Command
-status_of (setup ∷ script ∷ []) = then_some (is_file setup && is_file script) (command.Status setup script)
-status_of _ = None
+status_of words = option_map (λ files. command.Status files.0 files.1) (file_pair words)
 
 -- `SETUP SCRIPT NUMBER`
 abbrev pub output_of : List (List ℕ) → Option Command

@@ -1,6 +1,6 @@
 ghost use Rattle.std.specs.Prelude.{◌≡◌, [], ◌∷◌, IfOk, IfSome, map};
 ghost use Rattle.std.specs.String.{string_bytes};
-ghost use Rattle.conc_top_words.specs.Words.{AreWithin, check_of, command_named, command_of, make_of, output_of, plan_of, status_of};
+ghost use Rattle.conc_top_words.specs.Words.{AreWithin, check_of, command_named, command_of, file_pair, make_of, output_of, plan_of, status_of};
 
 use crate::options::read_run;
 use crate::words::{is, is_file, own_name, request_of, size_of};
@@ -52,8 +52,9 @@ pub enum Command {
     },
 }
 
-fn read_plan(alloc: Global, words: &[String]) -> Result<Option<Command>, NoMemory>
-    ensures { IfOk result (λ command. command ≡ plan_of (map string_bytes words.now)) }
+// The names of a setup and a script, where these two words are such names.
+fn file_pair(alloc: Global, words: &[String]) -> Result<Option<(Name, Name)>, NoMemory>
+    ensures { IfOk result (λ files. files ≡ file_pair (map string_bytes words.now)) }
 {
     let [setup, script] = words else {
         return Ok(None);
@@ -61,10 +62,16 @@ fn read_plan(alloc: Global, words: &[String]) -> Result<Option<Command>, NoMemor
     if !(is_file(setup.as_bytes()) && is_file(script.as_bytes())) {
         return Ok(None);
     }
-    Ok(Some(Command::Plan {
-        setup: own_name(alloc, setup.as_bytes())?,
-        script: own_name(alloc, script.as_bytes())?,
-    }))
+    let setup = own_name(alloc, setup.as_bytes())?;
+    let script = own_name(alloc, script.as_bytes())?;
+    Ok(Some((setup, script)))
+}
+
+fn read_plan(alloc: Global, words: &[String]) -> Result<Option<Command>, NoMemory>
+    ensures { IfOk result (λ command. command ≡ plan_of (map string_bytes words.now)) }
+{
+    let files = file_pair(alloc, words)?;
+    Ok(files.map(|(setup, script)| Command::Plan { setup, script }))
 }
 
 // A check of these files, where these are their names.
@@ -107,16 +114,8 @@ fn read_check(alloc: Global, words: &[String]) -> Result<Option<Command>, NoMemo
 fn read_status(alloc: Global, words: &[String]) -> Result<Option<Command>, NoMemory>
     ensures { IfOk result (λ command. command ≡ status_of (map string_bytes words.now)) }
 {
-    let [setup, script] = words else {
-        return Ok(None);
-    };
-    if !(is_file(setup.as_bytes()) && is_file(script.as_bytes())) {
-        return Ok(None);
-    }
-    Ok(Some(Command::Status {
-        setup: own_name(alloc, setup.as_bytes())?,
-        script: own_name(alloc, script.as_bytes())?,
-    }))
+    let files = file_pair(alloc, words)?;
+    Ok(files.map(|(setup, script)| Command::Status { setup, script }))
 }
 
 fn read_output(alloc: Global, words: &[String]) -> Result<Option<Command>, NoMemory>

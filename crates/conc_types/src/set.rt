@@ -1,7 +1,6 @@
 ghost use Rattle.std.specs.Prelude.{◌≡◌, ◌≤◌, ◌*◌, length, IsTrue};
 ghost use Rattle.std.specs.List.{sum_by};
-ghost use Rattle.conc_types.specs.Sets.{are_stages};
-ghost use Rattle.conc_types.specs.Words.{is_between};
+ghost use Rattle.conc_types.specs.Sets.{are_stages, is_stage_count};
 
 use crate::{Name, Seq, Stage};
 
@@ -10,7 +9,7 @@ use crate::{Name, Seq, Stage};
 pub struct SetDef {
     pub name: Name,
     pub stages: Seq<Stage>,
-    ghost some: { IsTrue (is_between 1 64 (length stages)) },
+    ghost some: { IsTrue (is_stage_count (length stages)) },
     ghost forward: { IsTrue (are_stages stages) },
 }
 

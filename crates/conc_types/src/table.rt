@@ -134,12 +134,7 @@ impl Table {
         ensures stands { IfSome result (λ n. IsNumbering self.now.rows n.now) }
         ensures column { IfSome result (λ n. n.now.column ≡ column) }
     {
-        for numbering in &self.numberings {
-            if numbering.column == column {
-                return Some(numbering);
-            }
-        }
-        None
+        self.numberings.iter().find(|kept| kept.column == column)
     }
 
     /// The whole numbers of a column, if they are kept.
@@ -147,11 +142,6 @@ impl Table {
         ensures stand { IfSome result (λ a. AreAmounts self.now.rows a.now) }
         ensures column { IfSome result (λ a. a.now.column ≡ column) }
     {
-        for amounts in &self.amounts {
-            if amounts.column == column {
-                return Some(amounts);
-            }
-        }
-        None
+        self.amounts.iter().find(|kept| kept.column == column)
     }
 }

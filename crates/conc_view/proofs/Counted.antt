@@ -15,10 +15,10 @@ use Rattle.conc_types.specs.declared.plan.Plan.{Plan}
 use Rattle.conc_types.specs.declared.plan.Req.{Req}
 use Rattle.conc_types.specs.Plans.{request}
 use Rattle.conc_types.specs.Words.{some_and}
-use Rattle.conc_law.proofs.Numbering.{numbered-at}
-use Rattle.conc_law.proofs.Positions.{slice_get-some, take-suc_at}
-use Rattle.conc_law.specs.State.{state}
-use Rattle.conc_law.specs.Status.{status_of}
+use Rattle.conc_base_law.proofs.Numbering.{numbered-at}
+use Rattle.conc_base_law.proofs.Positions.{slice_get-some, take-suc_at}
+use Rattle.conc_base_law.specs.State.{state}
+use Rattle.conc_base_law.specs.Status.{status_of}
 use Rattle.conc_restart.specs.Machines.{Machine, plan_of, StandsFor}
 use Rattle.conc_view.specs.Stands.{Stands}
 use Rattle.conc_view.proofs.Replayed.{same_status}

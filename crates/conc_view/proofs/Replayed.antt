@@ -7,7 +7,7 @@ use Rattle.conc_types.specs.declared.event.Event.{Event}
 use Rattle.conc_types.specs.declared.event.Phase.{Phase}
 use Rattle.conc_types.specs.declared.event.Status.{Status}
 use Rattle.conc_types.specs.declared.plan.Plan.{Plan}
-use Rattle.conc_law.proofs.Positions.{reverse-push, take-suc_at}
+use Rattle.conc_base_law.proofs.Positions.{reverse-push, take-suc_at}
 use Rattle.conc_restart.specs.Machines.{Machine, plan_of, StandsFor}
 use Rattle.conc_view.specs.Stands.{Stands}
 

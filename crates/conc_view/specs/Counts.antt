@@ -10,8 +10,8 @@ use Rattle.conc_types.specs.declared.plan.Plan.{Plan}
 use Rattle.conc_types.specs.declared.plan.Req.{Req}
 use Rattle.conc_types.specs.Plans.{request}
 use Rattle.conc_types.specs.Words.{some_and}
-use Rattle.conc_law.specs.State.{state}
-use Rattle.conc_law.specs.Status.{status_of}
+use Rattle.conc_base_law.specs.State.{state}
+use Rattle.conc_base_law.specs.Status.{status_of}
 
 -- the phase and status of a request after these events, which only a submitted one has
 abbrev pub status_after : Plan → List Event → RequestId → Option (Phase × Status)

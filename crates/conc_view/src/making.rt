@@ -2,7 +2,7 @@ ghost use Rattle.std.specs.Prelude.{◌≡◌, ◌≤◌, [], IfOk, IfSome, IsTr
 ghost use Rattle.std.specs.List.{All};
 ghost use Rattle.conc_types.specs.Words.{is_between};
 ghost use Rattle.conc_journal_image.specs.declared.layout.TheConstants.{MOST_RECORDS};
-ghost use Rattle.conc_law.specs.Law.{LawfulSoFar};
+ghost use Rattle.conc_base_law.specs.Law.{LawfulSoFar};
 ghost use Rattle.conc_view.specs.Line.{shown};
 ghost use Rattle.conc_view.specs.Opened.{name_of};
 ghost use Rattle.conc_view.specs.Publisher.{list_of, told_plan};

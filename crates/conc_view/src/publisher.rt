@@ -67,7 +67,7 @@ impl<'p, J: Naming> Publisher<'p, J> {
 
 impl<'p, J: Naming> Teller for Publisher<'p, J> {
     ghost use Rattle.std.specs.Prelude.{Some, true};
-    ghost use Rattle.conc_law.specs.Law.{LawfulSoFar};
+    ghost use Rattle.conc_base_law.specs.Law.{LawfulSoFar};
     ghost use Rattle.conc_view.specs.Publisher.{list_of, told_plan};
 
     ghost list = { λ p. Some (list_of p) };

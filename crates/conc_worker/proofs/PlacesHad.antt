@@ -1,7 +1,7 @@
 -- A list of places has each of them.
 use Rattle.std.proofs.Common.{◌≡◌, ℕ, zero, suc, ◌<◌, ◌==◌, ◌||◌, Bool, true, false, List, [], ◌∷◌, length, get_or, refl, ap, arith, eq-eqb}
 use Rattle.conc_types.specs.declared.event.PlaceId.{PlaceId}
-use Rattle.conc_board_seats.specs.Places.{has}
+use Rattle.conc_pool_seats.specs.Places.{has}
 
 either : (b c : Bool) → c ≡ true → b || c ≡ true
 either true c e = refl

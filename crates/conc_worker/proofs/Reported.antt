@@ -1,11 +1,12 @@
 -- A request that a manager admits has a report.
 use Rattle.std.proofs.Common.{◌≡◌, ℕ, ◌+◌, Bool, true, false, not, List, [], ◌∷◌, ◌++◌, Option, None, Some, refl, sym, ◌∙◌, ap, subst, inl, inr, arith}
-use Rattle.std.specs.Prelude.{nat_le, nat_lt, length, map, slice_get, IsSome}
+use Rattle.std.specs.Prelude.{nat_le, nat_lt, length, map, slice_get, IfOk, IsSome, Result, Ok, Err}
 use Rattle.std.specs.List.{enumerate_from, flat_map, list_all}
 use Rattle.std.specs.Option.{option_and_then, option_map, option_map_or}
 use Rattle.std.proofs.lemmas.Bool.{and_from, and_parts, ltb-true}
 use Rattle.std.proofs.lemmas.List.Folds.{list_all-append}
 use Rattle.std.proofs.lemmas.Option.{slice_get_cases}
+use Rattle.conc_types.specs.declared.error.NoMemory.{NoMemory as NoMemoryFail}
 use Rattle.conc_types.specs.declared.event.PlaceId.{PlaceId}
 use Rattle.conc_types.specs.declared.event.RequestId.{RequestId}
 use Rattle.conc_types.specs.declared.item.Item.{Item}
@@ -26,15 +27,18 @@ use Rattle.conc_types.specs.Plans.{request}
 use Rattle.conc_types.specs.Scripts.{are_commands_from, entered_by, is_act}
 use Rattle.conc_types.specs.Setups.{has_members, is_item, is_set_of}
 use Rattle.conc_types.specs.Tables.{can_report, has_columns, table_named}
-use Rattle.conc_law.specs.Alone.{report_of}
-use Rattle.conc_law.specs.Managers.{admits}
-use Rattle.conc_law.specs.Plans.{program_at, program_of}
-use Rattle.conc_law.specs.Report.{Report, report}
-use Rattle.conc_law.specs.Words.{Has, is_set}
-use Rattle.conc_law.proofs.LawfulSoFar.{all-get}
-use Rattle.conc_law.proofs.Numbering.{found}
-use Rattle.conc_law.proofs.Options.{some_and-some}
-use Rattle.conc_board_seats.specs.Reports.{report_for}
+use Rattle.conc_base_law.specs.Alone.{report_of}
+use Rattle.conc_base_law.specs.Managers.{admits}
+use Rattle.conc_base_law.specs.Plans.{program_at, program_of}
+use Rattle.conc_base_law.specs.Report.{Report, report}
+use Rattle.conc_base_law.specs.Words.{Has, is_set}
+use Rattle.conc_base_law.proofs.LawfulSoFar.{all-get}
+use Rattle.conc_base_law.proofs.Numbering.{found}
+use Rattle.conc_base_law.proofs.Options.{some_and-some}
+use Rattle.conc_reports.specs.Reports.{as_report}
+use Rattle.conc_reports.specs.declared.making.Made.{Made}
+use Rattle.conc_pool_seats.specs.Reports.{report_for}
+use Rattle.conc_pool_seats.specs.declared.posted.Posted.{Posted}
 use Rattle.conc_board.specs.declared.board.Board.{Board}
 use Rattle.conc_board.specs.declared.hand.Hand.{Hand}
 use Rattle.conc_board.specs.declared.hand.Permit.{Permit}
@@ -42,6 +46,7 @@ use Rattle.conc_board.specs.Admission.{IsAdmitted, admits_at, admits_request}
 use Rattle.conc_board.specs.Claims.{HasPermit, permit_place, permit_request}
 use Rattle.conc_board.specs.Seats.{IsHandOf, plan_of}
 use Rattle.conc_board.specs.Owners.{manager_at}
+use Rattle.conc_worker.specs.Leaving.{IsPostedAs, Leaves}
 
 -- ---- each request of a plan is of a program or a set of the setup
 
@@ -179,3 +184,16 @@ served_has_report board plan hand permit is own has =
     subst (λ (p : Plan). IsSome (report_for p (permit_request permit))) (sym is)
     (admitted_has_report (plan_of board) (permit_place permit) (permit_request permit)
     (subst (IsAdmitted (plan_of board)) has.1 own.admitted))
+
+-- ---- what was made of it
+
+pub made_there : (o : Result (Option Made) NoMemoryFail) (want : Option Report) → IfOk o (λ made. option_map as_report made ≡ want) → IsSome want → IfOk o (λ made. IsSome made)
+made_there (Ok (Some made)) want is there = refl
+made_there (Ok None) want is there = subst IsSome (sym is) there
+made_there (Err e) want is there = tt
+
+pub leaves_made : (plan : Plan) (r : RequestId) (o : Result (Option Made) NoMemoryFail) (posted : Posted) → IfOk o (λ made. option_map as_report made ≡ report_for plan r) → IsPostedAs o posted
+    → Leaves plan r false posted
+leaves_made plan r (Ok (Some made)) posted is left = subst (Leaves plan r false) (sym left) (sym is)
+leaves_made plan r (Ok None) posted is left = absurd left
+leaves_made plan r (Err e) posted is left = subst (Leaves plan r false) (sym left) tt

@@ -1,14 +1,14 @@
 -- What calls of a hand make together, one after the other.
-use Rattle.std.proofs.Common.{◌≡◌, ℕ, List, [], ◌∷◌, ◌++◌, Option, None, Some, sym, ap, ◌∙◌, append_assoc}
-use Rattle.std.specs.Prelude.{IfSome}
-use Rattle.conc_board_seats.specs.Words.{end_word}
+use Rattle.std.proofs.Common.{◌≡◌, ℕ, List, [], ◌∷◌, ◌++◌, sym, ap, ◌∙◌, append_assoc}
+use Rattle.conc_pool_seats.specs.Words.{end_word}
 use Rattle.conc_board.specs.declared.board.Board.{Board}
 use Rattle.conc_board.specs.declared.hand.Hand.{Hand}
 use Rattle.conc_board.specs.Seats.{AddsOne, Stays, found_by_hand, plan_of}
 use Rattle.conc_board.proofs.Hands.{stays_after}
-use Rattle.conc_worker.specs.declared.worker.Next.{Next}
-use Rattle.conc_worker.specs.declared.worker.Next.TheVariants as next
-use Rattle.conc_worker.specs.Working.{Ends, FindsNext, MakesSteps, SawTheEnd}
+use Rattle.conc_worker.specs.declared.worker.Worker.{Worker}
+use Rattle.conc_worker.specs.declared.worker.ToDo.{ToDo}
+use Rattle.conc_worker.specs.declared.worker.ToDo.TheVariants as to_do
+use Rattle.conc_worker.specs.Working.{Ends, Finds, MakesSteps, SawTheEnd}
 
 -- ---- one call
 
@@ -42,11 +42,6 @@ ends_after board old mid new first second = record {
   saw = saw_after board old mid new first second.saw;
 }
 
-pub next_after : (board : Board) (count : ℕ) (old mid new : Hand) (found : Next) → MakesSteps board old mid → FindsNext board count found mid new → FindsNext board count found old new
-next_after board count old mid new (next.Serve claim first) made f = (makes_after board old mid new made f.0, f.1, f.2)
-next_after board count old mid new next.Finish made f = ends_after board old mid new made f
-
-pub next_if_found_after : (board : Board) (count : ℕ) (old mid new : Hand) (o : Option Next) → MakesSteps board old mid →
-    IfSome o (λ found. FindsNext board count found mid new) → IfSome o (λ found. FindsNext board count found old new)
-next_if_found_after board count old mid new None made f = tt
-next_if_found_after board count old mid new (Some found) made f = next_after board count old mid new found made f
+pub finds_after : (worker : Worker) (old mid new : Hand) (found : ToDo) → MakesSteps worker.board.now old mid → Finds worker found mid new → Finds worker found old new
+finds_after worker old mid new (to_do.Serve claim first) made f = (makes_after worker.board.now old mid new made f.0, f.1, f.2)
+finds_after worker old mid new to_do.Finish made f = ends_after worker.board.now old mid new made f

@@ -2,8 +2,8 @@
 use Rattle.std.specs.Prelude.{List, IsTrue}
 use Rattle.conc_types.specs.declared.event.PlaceId.{PlaceId}
 use Rattle.conc_types.specs.declared.plan.Plan.{Plan}
-use Rattle.conc_board_seats.specs.Places.{AreAmong, has}
-use Rattle.conc_board_seats.specs.Words.{IsPlace}
+use Rattle.conc_pool_seats.specs.Places.{AreAmong, has}
+use Rattle.conc_pool_seats.specs.Words.{IsPlace}
 use Rattle.conc_board.specs.declared.hand.Hand.{Hand}
 use Rattle.conc_board.specs.Seats.{places_of_hand}
 

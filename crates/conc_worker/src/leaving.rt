@@ -1,8 +1,8 @@
 ghost use Rattle.std.specs.Prelude.{◌≡◌, IfOk, IsSome};
 ghost use Rattle.std.specs.Option.{option_map};
 ghost use Rattle.conc_reports.specs.Reports.{as_report};
-ghost use Rattle.conc_board_seats.specs.Reports as reports_spec;
-ghost use Rattle.conc_worker.specs.Leaving.{Leaves};
+ghost use Rattle.conc_pool_seats.specs.Reports as reports_spec;
+ghost use Rattle.conc_worker.specs.Leaving.{IsPostedAs};
 
 use conc_board::Posted;
 use conc_reports::{Made, report};
@@ -11,7 +11,7 @@ use conc_types::{NoMemory, Plan, RequestId};
 use std::alloc::Global;
 
 /// The report of a request. Only a request of a program has one.
-#[tactic(auto, unfolding(conc_law::specs::Alone::report_of))]
+#[tactic(auto, unfolding(conc_base_law::specs::Alone::report_of))]
 pub fn report_for(alloc: Global, plan: &Plan, r: RequestId) -> Result<Option<Made>, NoMemory>
     ensures { IfOk result (λ made. option_map as_report made ≡ reports_spec.report_for plan.now r) }
 {
@@ -33,16 +33,12 @@ pub fn report_for(alloc: Global, plan: &Plan, r: RequestId) -> Result<Option<Mad
     }
 }
 
-/// What a worker leaves for a request: that it stopped, where it was told to; else its report, or
-/// that there was no memory for one.
-pub(crate) fn left_for(alloc: Global, plan: &Plan, r: RequestId, told: bool) -> Posted
-    requires { IsSome (reports_spec.report_for plan.now r) }
-    ensures { Leaves plan.now r told result }
+/// What a worker leaves that was not told to stop: the report, or that there was no memory for one.
+pub(crate) fn posted_as(made: Result<Option<Made>, NoMemory>) -> Posted
+    requires { IfOk made IsSome }
+    ensures { IsPostedAs made result }
 {
-    if told {
-        return Posted::Stopped;
-    }
-    match report_for(alloc, plan, r) {
+    match made {
         Ok(Some(made)) => Posted::Text(made),
         Ok(None) => unreachable!(),
         Err(_) => Posted::NoMemory,

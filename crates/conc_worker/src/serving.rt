@@ -1,12 +1,11 @@
 ghost use Rattle.std.specs.Prelude.{◌≡◌};
-ghost use Rattle.conc_board.specs.Claims.{HasClaim, HasPermit};
+ghost use Rattle.conc_board.specs.Claims.{HasClaim};
 ghost use Rattle.conc_board.specs.Seats.{IsHandOf, plan_of, Stays};
-ghost use Rattle.conc_worker.specs.Leaving.{Prepares};
 ghost use Rattle.conc_worker.specs.Serving.{Serves};
 
-use crate::leaving::left_for;
-use conc_board::{Board, Claim, Hand, Permit, Polled, Posted};
-use conc_outside_gate::Gate;
+use crate::leaving::{posted_as, report_for};
+use conc_board::{Board, Claim, Hand, Polled, Posted};
+use conc_edge_gate::Gate;
 use conc_types::{Plan, RequestId};
 use std::alloc::Global;
 
@@ -17,7 +16,7 @@ pub enum Served {
     Posted(RequestId),
     /// There is no answer yet.
     NotYet(Claim),
-    /// The request was taken back.
+    /// The request was withdrawn.
     Withdrawn,
 }
 
@@ -46,25 +45,11 @@ pub fn serve_once<G: Gate>(
     };
     let request = permit.request();
     gate.before(request);
-    let posted = prepare_post(alloc, board, plan, hand, &permit);
+    if board.wants_stop(hand, &permit) {
+        board.post(hand, permit, Posted::Stopped);
+        return Served::Posted(request);
+    }
+    let posted = posted_as(report_for(alloc, plan, request));
     board.post(hand, permit, posted);
     Served::Posted(request)
-}
-
-// Looks once whether the request was told to stop, and makes what is then left for it.
-fn prepare_post(
-    alloc: Global,
-    board: &Board,
-    plan: &Plan,
-    hand: &mut Hand,
-    permit: &Permit,
-) -> Posted
-    requires plan { plan.now ≡ plan_of board.now }
-    requires hand { IsHandOf board.now hand.old }
-    requires permit { HasPermit hand.old permit.now }
-    ensures hand { Stays board.now hand.old hand.new }
-    ensures posted { Prepares plan.now permit.now result hand.old hand.new }
-{
-    let told = board.wants_stop(hand, permit);
-    left_for(alloc, plan, permit.request(), told)
 }

@@ -1,15 +1,15 @@
 ghost use Rattle.std.specs.Prelude.{◌≡◌};
-ghost use Rattle.conc_board_seats.specs.declared.views.Doing.TheVariants as does;
+ghost use Rattle.conc_pool_seats.specs.declared.views.Doing.TheVariants as does;
 ghost use Rattle.conc_board.specs.Seats.{doing_of, IsHandOf, places_of_hand, plan_of};
-ghost use Rattle.conc_board_lanes.specs.Lanes as lanes_spec;
-ghost use Rattle.conc_board_lanes.specs.Lanes.{IsHandPassOf};
+ghost use Rattle.conc_pool_lanes.specs.Lanes as lanes_spec;
+ghost use Rattle.conc_pool_lanes.specs.Lanes.{IsHandPassOf};
 ghost use Rattle.conc_worker.specs.Places.{AreServed};
 ghost use Rattle.conc_worker.specs.Working.{SawTheEnd};
 
-use crate::worker::Worker;
+use crate::worker::{ToDo, Worker};
 use conc_board::{Board, Hand};
-use conc_board_lanes::{HandPass, Lanes};
-use conc_outside_gate::Gate;
+use conc_edge_gate::Gate;
+use conc_pool_lanes::{HandPass, Lanes};
 use conc_types::{PlaceId, Plan};
 use std::alloc::Global;
 use std::sync::Wait;
@@ -23,7 +23,7 @@ pub fn work<R: Wait, G: Gate>(
     alloc: Global,
     board: &Board,
     plan: &Plan,
-    hand: Hand,
+    mut hand: Hand,
     places: &[PlaceId],
     lanes: &Lanes<'_>,
     pass: &mut HandPass,
@@ -48,5 +48,15 @@ pub fn work<R: Wait, G: Gate>(
         places,
         lanes,
     };
-    worker.serve_all(rt, hand, pass, gate)
+    let mut first = 0;
+    for _ in rt.forever() {
+        match worker.next(rt, &mut hand, pass, first) {
+            ToDo::Serve(claim, next) => {
+                worker.see_through(rt, &mut hand, claim, gate);
+                first = next;
+            }
+            ToDo::Finish => return hand,
+        }
+    }
+    unreachable!()
 }

@@ -1,25 +1,20 @@
 ghost use Rattle.std.specs.Prelude.{◌≡◌, ◌≢◌, ◌<◌, ◌∷◌, [], IfOk, IsTrue, OnOk};
 ghost use Rattle.conc_types.specs.declared.event.RequestId.{RequestId};
-ghost use Rattle.conc_law.specs.Places.{count_of_places};
-ghost use Rattle.conc_board_seats.specs.Words.{count_of_requests, IsPlace, IsRequest};
-ghost use Rattle.conc_board_seats.specs.Places.{has, without};
-ghost use Rattle.conc_board_seats.specs.LeadStates.{IsGone, is_marked};
-ghost use Rattle.conc_board_seats.specs.declared.views.Doing.TheVariants as does;
-ghost use Rattle.conc_board_seats.specs.declared.views.LeadState.TheVariants as lead_state;
+ghost use Rattle.conc_base_law.specs.Places.{count_of_places};
+ghost use Rattle.conc_pool_seats.specs.Words.{count_of_requests, IsRequest};
+ghost use Rattle.conc_pool_seats.specs.LeadStates.{IsGone, is_marked};
+ghost use Rattle.conc_pool_seats.specs.declared.views.Doing.TheVariants as does;
+ghost use Rattle.conc_pool_seats.specs.declared.views.LeadState.TheVariants as lead_state;
 ghost use Rattle.conc_board.specs.Claims.{HasClaim, HasPermit};
 ghost use Rattle.conc_board.specs.Seats.{doing_of, HasAllPlaces, IsHandOf, IsLeadOf, lead_state_of, plan_of, places_of_lead, SameLeadStates, Stays};
-ghost use Rattle.conc_test_board.specs.Rounds.{IsFree, OnlyOne};
+ghost use Rattle.conc_test_board.specs.Rounds.{IsFree, OnlyOne, WaitsWith};
 
 use super::rounds::{claim_some, collect_some, go_where_claimed, let_out_apart, permit_for};
-use crate::{look_gone, look_let};
+use crate::{hand_at, look_gone, look_let, post_report};
 use conc_board::{Board, Claim, Hand, Lead, Looked, NotYet, Permit, Polled, Posted};
-use conc_plan::make_plan;
-use conc_script::read_script;
-use conc_setup::read_setup;
-use conc_tables::read_table;
+use conc_test_worked::plan_from;
 use conc_time::place_count;
-use conc_types::{NoMemory, PlaceId, Plan, ReadFail, RequestId, Seq};
-use conc_worker::report_for;
+use conc_types::{NoMemory, PlaceId, Plan, ReadFail, RequestId};
 use std::alloc::Global;
 use std::fmt::Debug;
 use std::process::Abort;
@@ -45,26 +40,10 @@ const SCRIPT: &[u8] = b"at,do,what,user,priority,start,domain,argument
 2025-03-03T09:00:00,submit,Q,ann,,,,
 ";
 
-// The plan of these files. They are not constants here, whose bytes a proof would go through.
-pub(super) fn plan_from(
-    rt: &impl Abort,
-    alloc: Global,
-    setup: &[u8],
-    script: &[u8],
-    table: &[u8],
-) -> Result<Plan, ReadFail> {
-    let setup = read_setup(alloc, setup)?;
-    let script = read_script(alloc, script, &setup)?;
-    let mut tables = Vec::new(alloc);
-    tables.push(read_table(alloc, table, 0)?)?;
-    assert!(rt; tables.len() == setup.tables.len());
-    Ok(make_plan(alloc, setup, script, Seq::from_vec(tables))?)
-}
-
 pub(super) fn plan_of_four(rt: &impl Abort, alloc: Global) -> Result<Plan, ReadFail>
     ensures { IfOk result (λ plan. (count_of_requests plan ≡ 4) × (count_of_places plan ≡ 3)) }
 {
-    let plan = plan_from(rt, alloc, SETUP, SCRIPT, b"k,v\na,1\n")?;
+    let plan = plan_from(alloc, SETUP, SCRIPT, b"k,v\na,1\n")?.expect(rt, "one table");
     assert!(rt; plan.requests.len() == 4);
     assert!(rt; place_count(&plan) == 3);
     Ok(plan)
@@ -76,40 +55,25 @@ fn same<Rt: Abort, T: PartialEq + Debug + Copy>(rt: &Rt, found: T, want: T) {
 
 // ---- answers that have to come
 
-/// A hand that does nothing, with this place of the lead's.
-pub(super) fn hand_at(board: &Board, lead: &mut Lead, place: PlaceId) -> Hand
-    requires lead { IsLeadOf board.now lead.old }
-    requires place { IsPlace (plan_of board.now) place }
-    requires own { IsTrue (has (places_of_lead lead.old) place) }
-    ensures lead { IsLeadOf board.now lead.new }
-    ensures lead_states { SameLeadStates lead.old lead.new }
-    ensures left { places_of_lead lead.new ≡ without (places_of_lead lead.old) (place ∷ []) }
-    ensures hand { IsFree board.now place result }
-{
-    board.split(lead, &[place])
-}
-
 fn not_yet<Rt: Abort>(rt: &Rt, board: &Board, hand: &mut Hand, claim: Claim) -> Claim
-    requires hand { IsHandOf board.now hand.old }
-    requires claim { HasClaim hand.old claim }
+    requires { WaitsWith board.now hand.old claim }
     ensures hand { Stays board.now hand.old hand.new }
     ensures claim { HasClaim hand.new result }
 {
-    match board.poll(hand, claim) {
-        Polled::NotYet(claim) => claim,
-        _ => panic!(rt; "an answer"),
+    if let Polled::NotYet(same) = board.poll(hand, claim) {
+        return same;
     }
+    panic!(rt; "an answer")
 }
 
 fn withdrawn<Rt: Abort>(rt: &Rt, board: &Board, hand: &mut Hand, claim: Claim)
-    requires hand { IsHandOf board.now hand.old }
-    requires claim { HasClaim hand.old claim }
+    requires { WaitsWith board.now hand.old claim }
     ensures hand { Stays board.now hand.old hand.new }
     ensures idle { doing_of hand.new ≡ does.Idle }
 {
     match board.poll(hand, claim) {
         Polled::Withdrawn => {}
-        _ => panic!(rt; "not taken back"),
+        _ => panic!(rt; "not withdrawn"),
     }
 }
 
@@ -139,47 +103,10 @@ fn post_stopped<Rt: Abort>(rt: &Rt, board: &Board, hand: &mut Hand, permit: Perm
     board.post(hand, permit, Posted::Stopped);
 }
 
-fn claim_none<Rt: Abort>(
-    rt: &Rt,
-    board: &Board,
-    plan: &Plan,
-    hand: &mut Hand,
-    place: PlaceId,
-    hint: Option<RequestId>,
-)
-    requires plan { plan.now ≡ plan_of board.now }
-    requires free { IsFree board.now place hand.old }
-    ensures hand { IsFree board.now place hand.new }
-{
-    if board.claim(hand, place, plan, hint).is_some() {
-        panic!(rt; "a claim");
-    }
-}
-
-// Leaves the report of the request that is served.
-fn post_report<Rt: Abort>(
-    rt: &Rt,
-    alloc: Global,
-    board: &Board,
-    plan: &Plan,
-    hand: &mut Hand,
-    permit: Permit,
-) -> Result<(), NoMemory>
-    requires plan { plan.now ≡ plan_of board.now }
-    requires hand { IsHandOf board.now hand.old }
-    requires permit { HasPermit hand.old permit }
-    ensures hand { OnOk result (Stays board.now hand.old hand.new) }
-    ensures idle { OnOk result (doing_of hand.new ≡ does.Idle) }
-{
-    let made = report_for(alloc, plan, permit.request())?.expect(rt, "a report");
-    board.post(hand, permit, Posted::Text(made));
-    Ok(())
-}
-
 // ---- rounds
 
-// A claim is taken back.
-fn claim_is_taken_back<Rt: Abort>(
+// A claim is withdrawn.
+fn claim_is_withdrawn<Rt: Abort>(
     rt: &Rt,
     board: &Board,
     plan: &Plan,
@@ -265,7 +192,7 @@ fn stop_comes_after_the_post<Rt: Abort>(
     let claim = claim_some(rt, board, plan, hand, place, None);
     same(rt, go_where_claimed(rt, board, lead, r), place);
     let permit = permit_for(rt, board, hand, claim);
-    post_report(rt, alloc, board, plan, hand, permit)?;
+    assert!(rt; post_report(alloc, board, plan, hand, permit)?);
     same(rt, board.stop(lead, r), false);
     match collect_some(rt, board, lead, r) {
         Posted::Text(made) => {
@@ -297,7 +224,9 @@ fn place_is_closed<Rt: Abort>(
 {
     let_out_apart(rt, board, plan, lead, r);
     board.close_place(lead, place);
-    claim_none(rt, board, plan, hand, place, Some(r));
+    if board.claim(hand, place, plan, Some(r)).is_some() {
+        panic!(rt; "a claim");
+    }
     board.open_place(lead, place);
     let claim = claim_some(rt, board, plan, hand, place, Some(r));
     board.back(lead, r);
@@ -328,7 +257,9 @@ fn hints_are_followed<Rt: Abort>(
     ensures lead { IsLeadOf board.now lead.new }
     ensures hand { IsFree board.now place hand.new }
 {
-    claim_none(rt, board, plan, hand, place, Some(first));
+    if board.claim(hand, place, plan, Some(first)).is_some() {
+        panic!(rt; "a claim");
+    }
     let_out_apart(rt, board, plan, lead, first);
     let_out_apart(rt, board, plan, lead, second);
     let claim = claim_some(rt, board, plan, hand, place, Some(second));
@@ -415,7 +346,7 @@ fn take_turns<Rt: Abort>(
     let four = RequestId { number: 4 };
     let here = PlaceId { index: 0 };
     let there = PlaceId { index: 1 };
-    claim_is_taken_back(rt, board, plan, lead, first, here, one);
+    claim_is_withdrawn(rt, board, plan, lead, first, here, one);
     stop_comes_before_the_post(rt, board, plan, lead, second, there, two);
     stop_comes_after_the_post(
         rt,

@@ -1,4 +1,4 @@
-use conc_outside_gate::{FreeGate, Gate, PairGate};
+use conc_edge_gate::{FreeGate, Gate, PairGate};
 use conc_types::RequestId;
 use std::process::Abort;
 use std::sync::Wait;

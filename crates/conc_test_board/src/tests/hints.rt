@@ -1,20 +1,20 @@
 ghost use Rattle.std.specs.Prelude.{◌≡◌};
 ghost use Rattle.conc_types.specs.declared.event.RequestId.{RequestId};
-ghost use Rattle.conc_law.specs.Places.{count_of_places};
-ghost use Rattle.conc_board_seats.specs.LeadStates.{IsLet};
-ghost use Rattle.conc_board_seats.specs.Words.{count_of_requests, IsRequest};
-ghost use Rattle.conc_board_seats.specs.declared.views.LeadState.TheVariants as lead_state;
+ghost use Rattle.conc_base_law.specs.Places.{count_of_places};
+ghost use Rattle.conc_pool_seats.specs.LeadStates.{IsLet};
+ghost use Rattle.conc_pool_seats.specs.Words.{count_of_requests, IsRequest};
+ghost use Rattle.conc_pool_seats.specs.declared.views.LeadState.TheVariants as lead_state;
 ghost use Rattle.conc_board.specs.Seats.{HasAllPlaces, IsLeadOf, lead_state_of, plan_of};
-ghost use Rattle.conc_board_lanes.specs.Lanes.{AreHandPasses};
+ghost use Rattle.conc_pool_lanes.specs.Lanes.{AreHandPasses};
 ghost use Rattle.conc_test_board.specs.Rounds.{AreBothLet, OnlyOne};
 ghost use Rattle.conc_test_board.specs.Workers.{AreOfPlan, IsReady};
 
-use super::board::{hand_at, plan_of_four};
+use super::board::plan_of_four;
 use super::rounds::let_out_apart;
 use super::workers::{hand_of, hire, work_at};
-use crate::{Worker, look_let};
+use crate::{Worker, hand_at, look_let};
 use conc_board::{Board, Lead, Looked};
-use conc_board_lanes::{HandPass, Lanes};
+use conc_pool_lanes::{HandPass, Lanes};
 use conc_types::{NoMemory, PlaceId, Plan, RequestId};
 use std::alloc::Global;
 use std::process::Abort;
@@ -63,7 +63,7 @@ fn claimed_first<Rt: Abort>(rt: &Rt, board: &Board, lead: &mut Lead) -> RequestI
     panic!(rt; "no claim")
 }
 
-// Sees that this request is claimed first. Then takes both back, and tells that there is no more to
+// Sees that this request is claimed first. Then withdraws both, and tells that there is no more to
 // come.
 fn see_claimed<Rt: Abort>(rt: &Rt, board: &Board, lead: &mut Lead, named: RequestId)
     requires four { count_of_requests (plan_of board.now) ≡ 4 }

@@ -1,9 +1,9 @@
 ghost use Rattle.std.specs.Prelude.{◌≡◌, ◌<◌, length, IfOk, IsTrue};
-ghost use Rattle.conc_board_lanes.specs.Lanes.{AreHandPasses, are_shorter, IsHandPassOf, IsLeadPassOf, plan_of, puts_of};
-ghost use Rattle.conc_board_lanes.specs.Rooms.{room_for};
+ghost use Rattle.conc_pool_lanes.specs.Lanes.{AreHandPasses, are_shorter, IsHandPassOf, IsLeadPassOf, plan_of, puts_of};
+ghost use Rattle.conc_pool_lanes.specs.Rooms.{room_for};
 
-use super::board::plan_from;
-use conc_board_lanes::{HandPass, Lanes, LeadPass, lists_grow_by_one};
+use conc_pool_lanes::{HandPass, Lanes, LeadPass, lists_grow_by_one};
+use conc_test_worked::plan_from;
 use conc_types::{Plan, ReadFail, RequestId};
 use std::alloc::Global;
 use std::process::Abort;
@@ -29,7 +29,7 @@ fn plan_of_five(rt: &impl Abort, alloc: Global) -> Result<Plan, ReadFail>
     ensures managers { IfOk result (λ plan. length plan.setup.managers ≡ 1) }
     ensures room { IfOk result (λ plan. 5 < room_for plan) }
 {
-    let plan = plan_from(rt, alloc, SETUP, SCRIPT, b"k,v\na,1\n")?;
+    let plan = plan_from(alloc, SETUP, SCRIPT, b"k,v\na,1\n")?.expect(rt, "one table");
     assert!(rt; plan.setup.managers.len() == 1);
     assert!(rt; plan.requests.len() == 5);
     Ok(plan)
@@ -59,7 +59,7 @@ fn take_and_see<R: Wait + Abort>(rt: &R, lanes: &Lanes<'_>, pass: &mut HandPass,
 }
 
 // Takes them with two passes in turn.
-#[tactic(auto, unfolding(conc_board_lanes::specs::Lanes::AreHandPasses))]
+#[tactic(auto, unfolding(conc_pool_lanes::specs::Lanes::AreHandPasses))]
 fn take_in_turn<R: Wait + Abort>(rt: &R, lanes: &Lanes<'_>, passes: &mut [HandPass])
     requires passes { AreHandPasses lanes.now passes.old }
     requires managers { length (plan_of lanes.now).setup.managers ≡ 1 }

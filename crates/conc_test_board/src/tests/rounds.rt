@@ -1,11 +1,11 @@
 ghost use Rattle.std.specs.Prelude.{◌≡◌, ℕ, Bool, false};
-ghost use Rattle.conc_board_seats.specs.LeadStates.{IsGone, IsLet, is_marked};
-ghost use Rattle.conc_board_seats.specs.Words.{IsRequest};
-ghost use Rattle.conc_board_seats.specs.declared.views.Doing.TheVariants as does;
-ghost use Rattle.conc_board_seats.specs.declared.views.LeadState.TheVariants as lead_state;
+ghost use Rattle.conc_pool_seats.specs.LeadStates.{IsGone, IsLet, is_marked};
+ghost use Rattle.conc_pool_seats.specs.Words.{IsRequest};
+ghost use Rattle.conc_pool_seats.specs.declared.views.Doing.TheVariants as does;
+ghost use Rattle.conc_pool_seats.specs.declared.views.LeadState.TheVariants as lead_state;
 ghost use Rattle.conc_board.specs.Claims.{HasClaim, HasPermit};
 ghost use Rattle.conc_board.specs.Seats.{IsHandOf, IsLeadOf, lead_state_of, plan_of, places_of_hand, Stays};
-ghost use Rattle.conc_test_board.specs.Rounds.{IsFree, OnlyOne};
+ghost use Rattle.conc_test_board.specs.Rounds.{IsFree, OnlyOne, WaitsWith};
 
 use crate::{let_out_if_apart, look_let};
 use conc_board::{Board, Claim, Hand, Lead, Looked, Permit, Polled, Posted};
@@ -13,13 +13,7 @@ use conc_types::{PlaceId, Plan, RequestId};
 use std::process::Abort;
 
 /// Lets out a request, which has to exclude none of the plan.
-pub(crate) fn let_out_apart<Rt: Abort>(
-    rt: &Rt,
-    board: &Board,
-    plan: &Plan,
-    lead: &mut Lead,
-    r: RequestId,
-)
+pub fn let_out_apart<Rt: Abort>(rt: &Rt, board: &Board, plan: &Plan, lead: &mut Lead, r: RequestId)
     requires plan { plan.now ≡ plan_of board.now }
     requires lead { IsLeadOf board.now lead.old }
     requires request { IsRequest (plan_of board.now) r }
@@ -33,7 +27,7 @@ pub(crate) fn let_out_apart<Rt: Abort>(
 }
 
 /// Claims a request, which has to be there.
-pub(crate) fn claim_some<Rt: Abort>(
+pub fn claim_some<Rt: Abort>(
     rt: &Rt,
     board: &Board,
     plan: &Plan,
@@ -50,12 +44,7 @@ pub(crate) fn claim_some<Rt: Abort>(
 }
 
 /// Gives the go to a request that has to be claimed, and answers the place.
-pub(crate) fn go_where_claimed<Rt: Abort>(
-    rt: &Rt,
-    board: &Board,
-    lead: &mut Lead,
-    r: RequestId,
-) -> PlaceId
+pub fn go_where_claimed<Rt: Abort>(rt: &Rt, board: &Board, lead: &mut Lead, r: RequestId) -> PlaceId
     requires lead { IsLeadOf board.now lead.old }
     requires request { IsRequest (plan_of board.now) r }
     requires lead_state { IsLet (lead_state_of lead.old r) }
@@ -72,9 +61,8 @@ pub(crate) fn go_where_claimed<Rt: Abort>(
 }
 
 /// The permit that has to answer a claim.
-pub(crate) fn permit_for<Rt: Abort>(rt: &Rt, board: &Board, hand: &mut Hand, claim: Claim) -> Permit
-    requires hand { IsHandOf board.now hand.old }
-    requires claim { HasClaim hand.old claim }
+pub fn permit_for<Rt: Abort>(rt: &Rt, board: &Board, hand: &mut Hand, claim: Claim) -> Permit
+    requires { WaitsWith board.now hand.old claim }
     ensures hand { Stays board.now hand.old hand.new }
     ensures permit { HasPermit hand.new result }
 {
@@ -85,12 +73,7 @@ pub(crate) fn permit_for<Rt: Abort>(rt: &Rt, board: &Board, hand: &mut Hand, cla
 }
 
 /// Takes what has to be left for a request.
-pub(crate) fn collect_some<Rt: Abort>(
-    rt: &Rt,
-    board: &Board,
-    lead: &mut Lead,
-    r: RequestId,
-) -> Posted
+pub fn collect_some<Rt: Abort>(rt: &Rt, board: &Board, lead: &mut Lead, r: RequestId) -> Posted
     requires lead { IsLeadOf board.now lead.old }
     requires request { IsRequest (plan_of board.now) r }
     requires lead_state { IsGone (lead_state_of lead.old r) }

@@ -1,4 +1,4 @@
-use conc_chart_words::{Form, read_words};
+use conc_show_model::{Form, read_words};
 use std::alloc::Global;
 use std::test::Fail;
 

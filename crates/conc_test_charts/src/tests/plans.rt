@@ -1,5 +1,5 @@
-use conc_chart_model::{ChartFail, ChartFile, ChartRefusal, ChartWhy, Planned};
-use conc_chart_plan::read_planned;
+use conc_show_model::{ChartFail, ChartFile, ChartRefusal, ChartWhy, Planned};
+use conc_show_plan::read_planned;
 use conc_types::{RequestId, numbered};
 use std::alloc::Global;
 use std::test::Fail;

@@ -1,5 +1,5 @@
-use conc_chart_model::{Chart, Planned, read_chart};
-use conc_chart_tables::{put_csv, put_json};
+use conc_show_model::{Chart, Planned, read_chart};
+use conc_show_tables::{put_csv, put_json};
 use conc_types::{RequestId, Seq};
 use std::alloc::Global;
 use std::test::Fail;
@@ -69,21 +69,21 @@ fn chart(alloc: Global, text: &str) -> Result<Chart, Fail> {
     Ok(read_chart(alloc, text.as_bytes())?)
 }
 
-#[test]
-fn a_chart_is_a_table_of_fields(rt: HostRuntime) -> Result<(), Fail> {
-    let chart = chart(rt.alloc(), EVENTS)?;
-    let mut out = Vec::new(rt.alloc());
-    put_csv(rt.alloc(), &mut out, &chart)?;
-    assert_eq!(rt; out.as_slice(), CSV.as_bytes());
-    Ok(())
+// The table of a chart as fields, and its lines of JSON.
+fn tables_of(alloc: Global, chart: &Chart) -> Result<(Vec<u8>, Vec<u8>), Fail> {
+    let mut fields = Vec::new(alloc);
+    put_csv(alloc, &mut fields, chart)?;
+    let mut lines = Vec::new(alloc);
+    put_json(alloc, &mut lines, chart)?;
+    Ok((fields, lines))
 }
 
 #[test]
-fn a_chart_is_lines_of_json(rt: HostRuntime) -> Result<(), Fail> {
+fn a_chart_is_a_table_of_fields_and_lines_of_json(rt: HostRuntime) -> Result<(), Fail> {
     let chart = chart(rt.alloc(), EVENTS)?;
-    let mut out = Vec::new(rt.alloc());
-    put_json(rt.alloc(), &mut out, &chart)?;
-    assert_eq!(rt; out.as_slice(), JSON.as_bytes());
+    let (fields, lines) = tables_of(rt.alloc(), &chart)?;
+    assert_eq!(rt; fields.as_slice(), CSV.as_bytes());
+    assert_eq!(rt; lines.as_slice(), JSON.as_bytes());
     Ok(())
 }
 
@@ -110,11 +110,8 @@ fn planned_chart(alloc: Global) -> Result<Chart, Fail> {
 #[test]
 fn a_row_tells_when_its_command_is_done(rt: HostRuntime) -> Result<(), Fail> {
     let chart = planned_chart(rt.alloc())?;
-    let mut fields = Vec::new(rt.alloc());
-    put_csv(rt.alloc(), &mut fields, &chart)?;
+    let (fields, lines) = tables_of(rt.alloc(), &chart)?;
     assert_eq!(rt; fields.as_slice(), DONE_CSV.as_bytes());
-    let mut lines = Vec::new(rt.alloc());
-    put_json(rt.alloc(), &mut lines, &chart)?;
     assert!(rt; lines.ends_with(DONE_JSON.as_bytes()));
     Ok(())
 }

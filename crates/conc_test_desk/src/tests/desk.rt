@@ -1,28 +1,28 @@
 ghost use Rattle.std.specs.Prelude.{◌≡◌, ◌≤◌, ◌+◌, IfOk, IfSome, IsTrue, None};
-ghost use Rattle.conc_law.specs.Places.{count_of_places};
+ghost use Rattle.conc_base_law.specs.Places.{count_of_places};
 ghost use Rattle.conc_board.specs.Claims.{HasPermit};
 ghost use Rattle.conc_board.specs.Seats.{HasAllPlaces, IsLeadOf, lead_state_of, places_of_lead, plan_of as board_plan, SameLeadStates, Stays};
-ghost use Rattle.conc_board_seats.specs.Places.{has};
-ghost use Rattle.conc_board_seats.specs.declared.views.LeadState.TheVariants as lead_state;
-ghost use Rattle.conc_desk.specs.Desks.{IsAt};
+ghost use Rattle.conc_pool_seats.specs.Places.{has};
+ghost use Rattle.conc_pool_seats.specs.declared.views.LeadState.TheVariants as lead_state;
+ghost use Rattle.conc_run_desk.specs.Desks.{IsAt};
 ghost use Rattle.conc_types.specs.declared.event.RequestId.{RequestId};
-ghost use Rattle.conc_board_seats.specs.Words.{count_of_requests, IsPlace};
-ghost use Rattle.conc_disk_devices.specs.Calls.{state_of};
+ghost use Rattle.conc_pool_seats.specs.Words.{count_of_requests, IsPlace};
+ghost use Rattle.conc_edge_devices.specs.Calls.{state_of};
 ghost use Rattle.conc_journal.specs.Journals.{IsOn as JournalIsOn, room_of};
 ghost use Rattle.conc_run_steps.specs.Steps.{any_disk, IsTied, plan_in};
-ghost use Rattle.conc_spool.specs.Spools.{IsOn as SpoolIsOn};
+ghost use Rattle.conc_journal_spool.specs.Spools.{IsOn as SpoolIsOn};
 ghost use Rattle.conc_test_board.specs.Rounds.{IsFree};
 ghost use Rattle.conc_test_desk.specs.Driven.{IsDriven, room_at};
 
 use super::driving::{end, log, release, see_claim, start, withdraw};
-use super::hands::{claim_at, permit_of, sees_it_taken_back, serve};
+use super::hands::{claim_at, permit_of, sees_it_withdrawn, serve};
 use crate::Disks;
 use conc_board::{Board, Hand, Lead, Permit};
-use conc_desk::{Desk, KeepFail};
-use conc_disk_devices::MemDisk;
+use conc_edge_devices::MemDisk;
 use conc_plan::make_plan;
+use conc_run_desk::{Desk, KeepFail};
 use conc_run_open::open;
-use conc_run_state::Work;
+use conc_run_state::{Input, Stores, Work};
 use conc_script::{read_clock, read_script};
 use conc_setup::read_setup;
 use conc_tables::read_table;
@@ -129,15 +129,14 @@ fn disks_of(alloc: Global, journal: &[u64], spool: &[u64]) -> Result<Disks, NoMe
     })
 }
 
-// The work of a run that begins on empty disks. None where a disk failed.
+// The work of a run of this input that begins on empty disks. None where a disk failed.
 fn begin<'p, Rt: Abort>(
     rt: &Rt,
     alloc: Global,
-    plan: &'p Plan,
-    readings: &Readings,
+    input: &Input<'p>,
     disks: &mut Disks,
 ) -> Option<Work<'p>>
-    ensures plan { IfSome result (λ work. plan_in work ≡ plan.now) }
+    ensures plan { IfSome result (λ work. plan_in work ≡ input.now.plan.now) }
     ensures parts { IfSome result (λ work. IsTied None work any_disk any_disk) }
     ensures journal { IfSome result (λ work. JournalIsOn work.journal
         (state_of disks.new.journal)) }
@@ -145,7 +144,8 @@ fn begin<'p, Rt: Abort>(
     ensures room { IfSome result (λ work. 16 ≤ room_of work.journal) }
 {
     let Disks { journal, spool } = disks;
-    match open(alloc, plan, readings, &digests(), journal, spool) {
+    let mut stores = Stores { journal, spool };
+    match open(alloc, input, &mut stores) {
         Ok(work) => {
             if work.journal.room() < 16 {
                 panic!(rt; "the journal has little room");
@@ -350,7 +350,7 @@ fn try_terminate<Rt: Abort>(
     Ok(Some(end(rt, board, desk, disks, ONE)))
 }
 
-// The request is held while it is claimed, and taken back.
+// The request is held while it is claimed, and withdrawn.
 fn try_hold<Rt: Abort>(
     rt: &Rt,
     board: &Board,
@@ -367,7 +367,7 @@ fn try_hold<Rt: Abort>(
     assert!(rt; let_out_one(rt, board, desk, disks));
     let claim = claim_at(rt, board, plan, hand, HERE);
     second_command(rt, board, desk, disks);
-    sees_it_taken_back(rt, board, hand, claim);
+    sees_it_withdrawn(rt, board, hand, claim);
     same(
         rt,
         desk.machine().status(ONE),
@@ -375,7 +375,7 @@ fn try_hold<Rt: Abort>(
     );
 }
 
-// The place is closed while the request is claimed for it. The claim stands until it is taken back.
+// The place is closed while the request is claimed for it. The claim stands until it is withdrawn.
 fn try_close<Rt: Abort>(
     rt: &Rt,
     board: &Board,
@@ -395,7 +395,7 @@ fn try_close<Rt: Abort>(
     desk.close_place(board, HERE);
     same(rt, see_claim(rt, board, desk, disks, ONE), HERE);
     withdraw(rt, board, desk, disks, ONE);
-    sees_it_taken_back(rt, board, hand, claim);
+    sees_it_withdrawn(rt, board, hand, claim);
     release(rt, board, desk, disks, ONE);
     assert!(rt; board.claim(hand, HERE, plan, None).is_none());
 }
@@ -492,8 +492,14 @@ fn over_disks<Rt: Abort>(
     requires one { count_of_requests plan.now ≡ 1 }
     requires two { count_of_places plan.now ≡ 2 }
 {
+    let digests = digests();
+    let input = Input {
+        plan,
+        readings,
+        digests: &digests,
+    };
     let mut disks = disks_of(alloc, journal_fails, spool_fails)?;
-    match begin(rt, alloc, plan, readings, &mut disks) {
+    match begin(rt, alloc, &input, &mut disks) {
         Some(work) => at_board(rt, alloc, plan, work, &mut disks, trial),
         None => Ok(None),
     }
@@ -560,7 +566,7 @@ fn a_terminate_wins_over_what_was_left(rt: HostRuntime) -> Result<(), Fail> {
 }
 
 #[test]
-fn a_claim_is_taken_back_after_a_hold_and_at_a_closed_place(rt: HostRuntime) -> Result<(), Fail> {
+fn a_claim_is_withdrawn_after_a_hold_and_at_a_closed_place(rt: HostRuntime) -> Result<(), Fail> {
     attempt(&rt, rt.alloc(), HOLDS, Trial::Hold, &[], &[])?;
     attempt(&rt, rt.alloc(), HOLDS, Trial::Close, &[], &[])?;
     Ok(())

@@ -1,11 +1,11 @@
 ghost use Rattle.std.specs.Prelude.{◌≡◌, ◌<◌, ◌+◌, IfOk, IsTrue, None};
-ghost use Rattle.conc_board_seats.specs.declared.views.LeadState.TheVariants as lead_state;
-ghost use Rattle.conc_desk.specs.Desks.{lead_state_at};
+ghost use Rattle.conc_pool_seats.specs.declared.views.LeadState.TheVariants as lead_state;
+ghost use Rattle.conc_run_desk.specs.Desks.{lead_state_at};
 ghost use Rattle.conc_test_desk.specs.Driven.{IsDriven, IsPlain, room_at};
 
 use crate::Disks;
 use conc_board::{Board, Looked, Progress};
-use conc_desk::{Desk, KeepFail, Kept};
+use conc_run_desk::{Desk, KeepFail, Kept};
 use conc_types::{Event, PlaceId, RequestId};
 use std::process::Abort;
 
@@ -52,7 +52,7 @@ pub(crate) fn release<Rt: Abort>(
     desk.release(board, r);
 }
 
-/// Takes the request back from the board, which has to be let out there.
+/// Withdraws the request from the board, which has to be let out there.
 pub(crate) fn withdraw<Rt: Abort>(
     rt: &Rt,
     board: &Board,

@@ -1,7 +1,7 @@
 ghost use Rattle.std.specs.Prelude.{◌≡◌, OnOk};
 ghost use Rattle.conc_board.specs.Claims.{HasClaim, HasPermit};
 ghost use Rattle.conc_board.specs.Seats.{doing_of, IsHandOf, plan_of, Stays};
-ghost use Rattle.conc_board_seats.specs.declared.views.Doing.TheVariants as does;
+ghost use Rattle.conc_pool_seats.specs.declared.views.Doing.TheVariants as does;
 ghost use Rattle.conc_test_board.specs.Rounds.{IsFree};
 
 use conc_board::{Board, Claim, Hand, Permit, Polled, Posted};
@@ -41,8 +41,8 @@ pub(crate) fn permit_of<Rt: Abort>(rt: &Rt, board: &Board, hand: &mut Hand, clai
     permit
 }
 
-/// Sees that the claimed request was taken back.
-pub(crate) fn sees_it_taken_back<Rt: Abort>(rt: &Rt, board: &Board, hand: &mut Hand, claim: Claim)
+/// Sees that the claimed request was withdrawn.
+pub(crate) fn sees_it_withdrawn<Rt: Abort>(rt: &Rt, board: &Board, hand: &mut Hand, claim: Claim)
     requires hand { IsHandOf board.now hand.old }
     requires claim { HasClaim hand.old claim }
     ensures hand { Stays board.now hand.old hand.new }

@@ -1,8 +1,8 @@
 use super::bytes::text_of;
-use conc_disk_devices::MemDisk;
+use conc_edge_clock::MemClock;
+use conc_edge_devices::MemDisk;
+use conc_edge_gate::{FreeGate, Gate};
 use conc_outside::MemSink;
-use conc_outside_clock::MemClock;
-use conc_outside_gate::{FreeGate, Gate};
 use conc_test_worked::{file_of, shelf_with};
 use conc_top::{Exit, conc, exit_text};
 use conc_types::{Moment, Name, NoMemory};

@@ -1,5 +1,5 @@
 use super::call::{Given, NO_CRASHES, NO_FAILS, call_through};
-use conc_outside_gate::PairGate;
+use conc_edge_gate::PairGate;
 use conc_types::RequestId;
 use std::alloc::Global;
 use std::process::Abort;

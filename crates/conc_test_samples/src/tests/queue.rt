@@ -1,5 +1,5 @@
 use super::expect::{same, same_at};
-use conc_machine_queue::Queue;
+use conc_event_queue::Queue;
 use std::test::Fail;
 
 // The seat, the key that it is given, and the least key afterwards.

@@ -1,5 +1,5 @@
 use super::expect::same;
-use conc_records::{ByteRecord, Records};
+use conc_data_records::{ByteRecord, Records};
 use conc_types::NoMemory;
 use std::process::Abort;
 use std::test::Fail;

@@ -1,6 +1,6 @@
 use super::expect::same;
+use conc_edge_clock::{Clock, MemClock, SystemClock, SystemZone};
 use conc_outside::Failed;
-use conc_outside_clock::{Clock, MemClock, SystemClock, SystemZone};
 use conc_types::Moment;
 use std::io;
 use std::test::Fail;

@@ -1,5 +1,5 @@
 use super::expect::same;
-use conc_journal_digest::InputDigest;
+use conc_data_digests::InputDigest;
 use conc_types::Digests;
 
 // `printf` of the message `00 .. 01 s 00 .. 02 ab 00 .. 05 t.csv 00 .. 03 k,v` into sha256sum, and of the same

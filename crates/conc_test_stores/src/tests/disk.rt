@@ -1,6 +1,6 @@
 use super::expect::{same, same_at};
 use conc_disk::Disk;
-use conc_disk_devices::{MemDisk, open_disk};
+use conc_edge_devices::{MemDisk, open_disk};
 use conc_outside::Failed;
 use std::alloc::Global;
 use std::process::Abort;

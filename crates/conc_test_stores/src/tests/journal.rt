@@ -7,7 +7,7 @@ use super::images::{
     COMMAND, DIGESTS, LABEL, NINE_IN_ONE, NINE_IN_TWO, STAMPS, TICK, TWO_IN_ONE, TWO_IN_TWO,
 };
 use conc_disk::Disk;
-use conc_disk_devices::MemDisk;
+use conc_edge_devices::MemDisk;
 use conc_journal::{AppendFail, Journal, JournalFail, Receipt, Silent, Teller};
 use conc_journal_image::{Version, has_record};
 use conc_types::{Event, Extent, Outcome, PlaceId, RequestId};

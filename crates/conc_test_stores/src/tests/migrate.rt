@@ -7,7 +7,7 @@ use super::expect::{same, same_at};
 use super::images::{BASE, COMMAND, DIGEST, DIGESTS, NINE_IN_ONE, NINE_IN_TWO, STAMPS, TICK};
 use super::journal::{bytes_on, disk_of, in_turn};
 use conc_disk::Disk;
-use conc_disk_devices::MemDisk;
+use conc_edge_devices::MemDisk;
 use conc_journal::{AppendFail, Journal};
 use conc_journal_image::{Label, Version};
 use conc_types::Event;

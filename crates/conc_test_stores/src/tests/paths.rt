@@ -1,6 +1,6 @@
 use super::expect::same;
 use conc_disk::Disk;
-use conc_disk_devices::{GrowingDisk, LockFile, PathDisk, SnapshotDisk};
+use conc_edge_devices::{GrowingDisk, LockFile, PathDisk, SnapshotDisk};
 use conc_outside::Failed;
 use std::alloc::Global;
 use std::os::unix::fs::FileExt;

@@ -1,7 +1,7 @@
 use super::expect::{same, same_at};
 use conc_disk::DiskFault;
-use conc_disk_devices::MemDisk;
-use conc_spool::{Spool, SpoolFail};
+use conc_edge_devices::MemDisk;
+use conc_journal_spool::{Spool, SpoolFail};
 use std::alloc::Global;
 use std::process::Abort;
 use std::test::Fail;

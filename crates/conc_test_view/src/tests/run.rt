@@ -1,27 +1,24 @@
 //! A run of two requests that may not run at once, and what a watcher sees of it.
 ghost use Rattle.std.specs.Prelude.{◌≡◌, [], IfOk, List};
 ghost use Rattle.conc_types.specs.declared.event.Event.{Event as any_event};
-ghost use Rattle.conc_disk_devices.specs.Calls.{state_of};
+ghost use Rattle.conc_edge_devices.specs.Calls.{state_of};
 ghost use Rattle.conc_journal.specs.Journals.{IsOn, list_of as journal_list};
-ghost use Rattle.conc_law.specs.Law.{LawfulSoFar};
+ghost use Rattle.conc_base_law.specs.Law.{LawfulSoFar};
 ghost use Rattle.conc_machine.specs.StandsFor.{plan_of as machine_plan};
 ghost use Rattle.conc_view.specs.Opened.{name_of};
 ghost use Rattle.conc_view.specs.Publisher.{list_of, told_plan};
 ghost use Rattle.conc_test_view.specs.Follows.{Follows};
 
 use super::telling::tell;
-use conc_disk_devices::MemDisk;
+use conc_edge_devices::MemDisk;
 use conc_journal::Journal;
 use conc_machine::Machine;
-use conc_plan::make_plan;
-use conc_script::read_script;
-use conc_setup::read_setup;
-use conc_tables::read_table;
+use conc_run_watch::{Watchers, put_watch_lines};
+use conc_test_worked::plan_from;
 use conc_types::{
-    Digests, Event, Extent, Moment, Outcome, Phase, PlaceId, Plan, ReadFail, RequestId, Seq, Status,
+    Digests, Event, Extent, Moment, Outcome, Phase, PlaceId, Plan, ReadFail, RequestId, Status,
 };
 use conc_view::{Naming, Opened, Publisher, Snapshot, Told, Watcher, new_view};
-use conc_watch::{Watchers, put_watch_lines};
 use std::alloc::Global;
 use std::process::Abort;
 use std::sync::Wait;
@@ -115,23 +112,8 @@ const ALL: Snapshot = Snapshot {
 
 /// The plan of the two requests.
 pub(super) fn plan_of(rt: &impl Abort, alloc: Global) -> Result<Plan, ReadFail> {
-    plan_from(rt, alloc, SETUP, SCRIPT, TABLE)
-}
-
-// The plan of these files. They are not constants here, whose bytes a proof would go through.
-fn plan_from(
-    rt: &impl Abort,
-    alloc: Global,
-    setup: &[u8],
-    script: &[u8],
-    table: &[u8],
-) -> Result<Plan, ReadFail> {
-    let setup = read_setup(alloc, setup)?;
-    let script = read_script(alloc, script, &setup)?;
-    let mut tables = Vec::new(alloc);
-    tables.push(read_table(alloc, table, 0)?)?;
-    assert!(rt; tables.len() == setup.tables.len());
-    Ok(make_plan(alloc, setup, script, Seq::from_vec(tables))?)
+    let plan = plan_from(alloc, SETUP, SCRIPT, TABLE)?;
+    Ok(plan.expect(rt, "one table"))
 }
 
 // Some digests.

@@ -1,14 +1,14 @@
 //! Events that are added to a journal and told to a view.
 ghost use Rattle.std.specs.Prelude.{◌≡◌, List};
 ghost use Rattle.conc_types.specs.declared.event.Event.{Event as any_event};
-ghost use Rattle.conc_disk_devices.specs.Calls.{state_of};
+ghost use Rattle.conc_edge_devices.specs.Calls.{state_of};
 ghost use Rattle.conc_journal.specs.Journals.{IsOn, list_of as journal_list};
-ghost use Rattle.conc_law.specs.Law.{LawfulSoFar};
+ghost use Rattle.conc_base_law.specs.Law.{LawfulSoFar};
 ghost use Rattle.conc_machine.specs.StandsFor.{plan_of as machine_plan};
 ghost use Rattle.conc_view.specs.Publisher.{list_of, told_plan};
 ghost use Rattle.conc_test_view.specs.Follows.{Follows};
 
-use conc_disk_devices::MemDisk;
+use conc_edge_devices::MemDisk;
 use conc_journal::{Journal, Teller};
 use conc_journal_image::has_record;
 use conc_machine::Machine;

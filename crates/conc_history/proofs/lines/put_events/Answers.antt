@@ -1,5 +1,5 @@
 use Rattle.std.proofs.Common.{arith}
-use Rattle.conc_law.specs.Text.{event_words, events_text, line_of}
+use Rattle.conc_base_law.specs.Text.{event_words, events_text, line_of}
 use Rattle.conc_history.proofs.Joined.{joined_more}
 use Rattle.conc_history.proofs.lines.put_events.Goals as goal
 

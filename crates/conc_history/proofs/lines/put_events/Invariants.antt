@@ -1,5 +1,5 @@
 use Rattle.std.proofs.Common.{◌≡◌, ◌++◌, take}
-use Rattle.conc_law.specs.Text.{events_text}
+use Rattle.conc_base_law.specs.Text.{events_text}
 use Rattle.conc_history.proofs.lines.put_events.Given as goal
 
 abbrev pub invariant-loop-event : goal.invariant-loop-event

@@ -2,8 +2,8 @@ use Rattle.std.proofs.Common.{◌≡◌, ◌<◌, length, Some, sym, ◌∙◌, 
 use Rattle.std.specs.Prelude.{slice_get}
 use Rattle.std.proofs.lemmas.Option.{get_or_from_slice_get}
 use Rattle.conc_types.specs.declared.plan.Req.{Req}
-use Rattle.conc_law.specs.Next.{forced_step}
-use Rattle.conc_law.proofs.Positions.{slice_get-some}
+use Rattle.conc_base_law.specs.Next.{forced_step}
+use Rattle.conc_base_law.proofs.Positions.{slice_get-some}
 use Rattle.conc_history_check.specs.Steps.{step_among}
 use Rattle.conc_history_check.proofs.FirstStep.{step-here, step-later, step-none}
 use Rattle.conc_history_check.proofs.forcing.forced_step.Goals as goal

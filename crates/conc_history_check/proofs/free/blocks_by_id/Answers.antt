@@ -1,5 +1,5 @@
 use Rattle.std.proofs.Common.{sym, ◌∙◌}
-use Rattle.conc_law.proofs.Numbering.{found}
+use Rattle.conc_base_law.proofs.Numbering.{found}
 use Rattle.conc_history_check.proofs.FreeOnes.{free-blocked}
 use Rattle.conc_history_check.proofs.free.blocks_by_id.Goals as goal
 

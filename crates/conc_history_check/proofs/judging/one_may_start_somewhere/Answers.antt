@@ -1,7 +1,7 @@
 use Rattle.std.proofs.Common.{◌∙◌, ap, map}
 use Rattle.std.specs.List.{list_any, range_with_len}
-use Rattle.conc_law.specs.Next.{may_start}
-use Rattle.conc_law.specs.Places.{all_places}
+use Rattle.conc_base_law.specs.Next.{may_start}
+use Rattle.conc_base_law.specs.Places.{all_places}
 use Rattle.conc_history_check.proofs.Places.{somewhere}
 use Rattle.conc_history_check.proofs.judging.one_may_start_somewhere.Goals as goal
 

@@ -2,10 +2,10 @@ use Rattle.std.proofs.Common.{◌≡◌, ◌<◌, suc, length, Some, true, refl,
 use Rattle.std.specs.Prelude.{slice_get}
 use Rattle.std.proofs.lemmas.Option.{slice_get_read}
 use Rattle.conc_types.specs.declared.plan.Req.{Req}
-use Rattle.conc_law.specs.State.{facts_at, is_live}
-use Rattle.conc_law.proofs.Positions.{slice_get-some}
-use Rattle.conc_machine_classes.specs.Classes.{class_at}
-use Rattle.conc_machine_queue.proofs.Maps.{request_at_place}
+use Rattle.conc_base_law.specs.State.{facts_at, is_live}
+use Rattle.conc_base_law.proofs.Positions.{slice_get-some}
+use Rattle.conc_event_classes.specs.Classes.{class_at}
+use Rattle.conc_event_queue.proofs.Maps.{request_at_place}
 use Rattle.conc_history_check.specs.Live.{AreLiveTo}
 use Rattle.conc_history_check.proofs.AtIndex.{live-index}
 use Rattle.conc_history_check.proofs.Noted.{live-next, live-not}

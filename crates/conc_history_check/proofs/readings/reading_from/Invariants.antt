@@ -1,7 +1,7 @@
 use Rattle.std.proofs.Common.{◌≡◌, drop}
 use Rattle.std.specs.Prelude.{slice_get}
 use Rattle.std.specs.List.{filter}
-use Rattle.conc_law.specs.State.{is_not_earlier}
+use Rattle.conc_base_law.specs.State.{is_not_earlier}
 use Rattle.conc_history_check.proofs.readings.reading_from.Given as goal
 
 -- so many are left to be passed over

@@ -1,4 +1,4 @@
-use Rattle.conc_law_effects.proofs.NextState.{state-next}
+use Rattle.conc_event_effects.proofs.NextState.{state-next}
 use Rattle.conc_history_replay.proofs.replay.advance.Goals as goal
 
 pub returns : goal.returns

@@ -1,8 +1,8 @@
 use Rattle.std.proofs.Common.{sym, ◌∙◌, add-one, arith}
 use Rattle.conc_types.specs.declared.event.Event.TheVariants as event
-use Rattle.conc_law_effects.proofs.Passes.{all_after-more}
-use Rattle.conc_machine_reach.proofs.Passes.{all_after-before, all_after-from}
-use Rattle.conc_machine_reach.proofs.Within.{bounds_within}
+use Rattle.conc_event_effects.proofs.Passes.{all_after-more}
+use Rattle.conc_event_reach.proofs.Passes.{all_after-before, all_after-from}
+use Rattle.conc_event_reach.proofs.Within.{bounds_within}
 use Rattle.conc_history_replay.proofs.OfCommands.{entry-leaves}
 use Rattle.conc_history_replay.proofs.replay.enter.Goals as goal
 

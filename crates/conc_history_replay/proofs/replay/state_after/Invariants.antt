@@ -1,5 +1,5 @@
 use Rattle.std.proofs.Common.{◌≡◌, take, reverse}
-use Rattle.conc_law.specs.State.{state}
+use Rattle.conc_base_law.specs.State.{state}
 use Rattle.conc_history_replay.proofs.replay.state_after.Given as goal
 
 abbrev pub invariant-loop-e : goal.invariant-loop-e

@@ -1,5 +1,5 @@
 use Rattle.std.proofs.Common.{◌-◌, ◌∙◌, arith}
-use Rattle.conc_law.specs.State.{no_facts}
+use Rattle.conc_base_law.specs.State.{no_facts}
 use Rattle.conc_history_replay.proofs.OneAlone.{alone-zero, one-pass}
 use Rattle.conc_history_replay.proofs.replay.step_one.Goals as goal
 

@@ -1,6 +1,6 @@
 use Rattle.std.proofs.Common.{sym, ◌∙◌, add-one, arith}
-use Rattle.conc_law_effects.proofs.Passes.{all_after-more}
-use Rattle.conc_machine_reach.proofs.Passes.{all_after-before, all_after-from}
+use Rattle.conc_event_effects.proofs.Passes.{all_after-more}
+use Rattle.conc_event_reach.proofs.Passes.{all_after-before, all_after-from}
 use Rattle.conc_history_replay.proofs.replay.step_within.Goals as goal
 
 pub loop-i-init : goal.loop-i-init

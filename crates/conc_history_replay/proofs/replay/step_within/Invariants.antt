@@ -1,5 +1,5 @@
 use Rattle.std.proofs.Common.{◌≡◌, take}
-use Rattle.conc_law_effects.specs.Advance.{all_after}
+use Rattle.conc_event_effects.specs.Advance.{all_after}
 use Rattle.conc_history_replay.proofs.replay.step_within.Given as goal
 
 abbrev pub invariant-loop-i : goal.invariant-loop-i

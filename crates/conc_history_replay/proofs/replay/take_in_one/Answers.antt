@@ -1,5 +1,5 @@
 use Rattle.std.proofs.Common.{◌∙◌, sym, ap}
-use Rattle.conc_law_effects.specs.Advance.{all_after}
+use Rattle.conc_event_effects.specs.Advance.{all_after}
 use Rattle.conc_history_replay.proofs.OneAlone.{named-none}
 use Rattle.conc_history_replay.proofs.replay.take_in_one.Goals as goal
 

@@ -3,6 +3,6 @@ use Rattle.conc_journal_image.proofs.laws.gate_adds.Goals as goal
 
 pub returns : goal.returns
 returns c = record {
-  either = λ label stamps old new events e stamp j room next before after long. gate-either label stamps events e stamp old new j room next before after long;
-  opened = λ label stamps old new events e stamp j room next before after opens. opened-adds label stamps events e stamp old new j room next before after opens;
+  either = λ label stamps old new events e stamp has gate long. gate-either label stamps events e stamp old new has.journal has.room has.next gate.0 gate.1 long;
+  opened = λ label stamps old new events e stamp has gate opens. opened-adds label stamps events e stamp old new has.journal has.room has.next gate.0 gate.1 opens;
 }

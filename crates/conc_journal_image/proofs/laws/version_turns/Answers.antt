@@ -3,6 +3,6 @@ use Rattle.conc_journal_image.proofs.laws.version_turns.Goals as goal
 
 pub returns : goal.returns
 returns c = record {
-  either = λ label based stamps old new events one two j base has long front back. version-turns label based stamps old new events one two j base has long front back;
-  turned = λ label based stamps old new events one two j base has long front back opens. version-turned label based stamps old new events two j base has long front back opens;
+  either = λ label based stamps old new events is long same. version-turns label based stamps old new events is.one is.two is.journal is.base is.stamped long same.0 same.1;
+  turned = λ label based stamps old new events is long same opens. version-turned label based stamps old new events is.two is.journal is.base is.stamped long same.0 same.1 opens;
 }

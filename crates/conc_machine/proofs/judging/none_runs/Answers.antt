@@ -1,6 +1,6 @@
 use Rattle.std.proofs.Common.{◌∙◌, ap, not, sym}
 use Rattle.std.specs.Prelude.{is_some}
-use Rattle.conc_law.specs.Next.{runs_somewhere}
+use Rattle.conc_base_law.specs.Next.{runs_somewhere}
 use Rattle.conc_machine.proofs.Rest.{find-any, other-of, some-map}
 use Rattle.conc_machine.proofs.judging.none_runs.Goals as goal
 

@@ -1,6 +1,6 @@
 use Rattle.std.proofs.Common.{add-one, arith}
-use Rattle.conc_law_effects.proofs.Passes.{all_after-more}
-use Rattle.conc_machine_reach.proofs.Passes.{all_after-from}
+use Rattle.conc_event_effects.proofs.Passes.{all_after-more}
+use Rattle.conc_event_reach.proofs.Passes.{all_after-from}
 use Rattle.conc_machine.proofs.Passes.{AreFacts-is, AreFacts-none, AreFacts-then}
 use Rattle.conc_machine.proofs.writing.write_all.Goals as goal
 

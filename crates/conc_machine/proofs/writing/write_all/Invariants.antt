@@ -1,5 +1,5 @@
 use Rattle.std.proofs.Common.{take}
-use Rattle.conc_law_effects.specs.Advance.{all_after}
+use Rattle.conc_event_effects.specs.Advance.{all_after}
 use Rattle.conc_machine.specs.Indexes.{AreFacts, AreParts}
 use Rattle.conc_machine.proofs.writing.write_all.Given as goal
 

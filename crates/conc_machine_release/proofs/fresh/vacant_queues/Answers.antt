@@ -1,7 +1,7 @@
 use Rattle.std.proofs.Common.{ap, sym, ◌∙◌, ◌++◌, [], ◌∷◌, arith}
 use Rattle.std.specs.Prelude.{slice_index}
 use Rattle.std.proofs.lemmas.List.FromFn.{map-range_with_len_more}
-use Rattle.conc_machine_queue.specs.Least.{vacant}
+use Rattle.conc_event_queue.specs.Least.{vacant}
 use Rattle.conc_machine_release.proofs.fresh.vacant_queues.Goals as goal
 
 pub loop-class-preserved : goal.loop-class-preserved

@@ -1,7 +1,7 @@
 use Rattle.std.proofs.Common.{get_or, length, map, sym, ◌∙◌, ap, arith, refl}
 use Rattle.std.proofs.lemmas.Option.{slice_get_read}
-use Rattle.conc_machine_classes.specs.Classes.{class_at, slot_at}
-use Rattle.conc_machine_queue.proofs.Maps.{request_at_place}
+use Rattle.conc_event_classes.specs.Classes.{class_at, slot_at}
+use Rattle.conc_event_queue.proofs.Maps.{request_at_place}
 use Rattle.conc_machine_release.specs.Refresh.{key, refreshed_all}
 use Rattle.conc_machine_release.proofs.Loops.{refreshed_all-next, refreshed_all-none}
 use Rattle.conc_machine_release.proofs.Slots.{HaveSlots-put_in}

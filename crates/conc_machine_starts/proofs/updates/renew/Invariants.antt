@@ -1,5 +1,5 @@
 use Rattle.std.proofs.Common.{◌≡◌, ℕ, ◌<◌, false, length, get_or}
-use Rattle.conc_law.specs.Places.{count_of_places}
+use Rattle.conc_base_law.specs.Places.{count_of_places}
 use Rattle.conc_machine_starts.specs.Starts.{is_usable_now}
 use Rattle.conc_machine_starts.proofs.updates.renew.Given as goal
 

@@ -9,5 +9,5 @@ loop-stage-preserved c =
     record {
       number = omega arith;
       fits = omega (arith, simp length-append at (ap length split), many);
-      entered = entered_more c.args.setup.now _ _ c.args.order.now.act _ _ _ _ _ _ _ _ split many c.in_ok-enter_stage.ensures c.loop-stage.invariant.entered;
+      entered = entered_more c.args.command.setup.now _ _ c.args.command.order.now.act _ _ _ _ _ _ _ _ split many c.in_ok-enter_stage.ensures c.loop-stage.invariant.entered;
     }

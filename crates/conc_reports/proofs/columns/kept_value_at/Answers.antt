@@ -1,5 +1,5 @@
 use Rattle.std.proofs.Common.{◌∙◌, sym, ap, ℕ, Option}
-use Rattle.conc_law.specs.Numbers.{whole_number}
+use Rattle.conc_base_law.specs.Numbers.{whole_number}
 use Rattle.conc_reports.specs.Columns.{cells_at, value_in}
 use Rattle.conc_reports.proofs.Kept.{cell_in-column}
 use Rattle.conc_reports.proofs.columns.kept_value_at.Goals as goal

@@ -1,6 +1,6 @@
 use Rattle.std.proofs.Common.{◌≡◌, take}
 use Rattle.std.specs.List.{list_all}
-use Rattle.conc_law.specs.Report.{Row, passes_filter}
+use Rattle.conc_base_law.specs.Report.{Row, passes_filter}
 use Rattle.conc_reports.specs.Checks.{holds}
 use Rattle.conc_reports.proofs.filters.conditions.Given as goal
 

@@ -3,7 +3,7 @@ use mir.Syntax.{w64}
 use Rattle.std.specs.List.{list_all}
 use Rattle.std.specs.Option.{option_map}
 use Rattle.std.proofs.lemmas.Int.{ints}
-use Rattle.conc_law.specs.Report.{passes}
+use Rattle.conc_base_law.specs.Report.{passes}
 use Rattle.conc_reports.specs.Checks.{holds}
 use Rattle.conc_reports.specs.Columns.{cell_in, cells_at, place_if_named, row_at, value_in}
 use Rattle.conc_reports.specs.Figures.{grown, shown}

@@ -1,6 +1,6 @@
-use Rattle.std.proofs.Common.{◌≡◌, ◌∙◌, ap, Result, Ok, Err}
+use Rattle.std.proofs.Common.{◌≡◌, ◌∙◌, ap, subst, sym, Result, Ok, Err}
 use Rattle.std.specs.Result.{IfOk, OnOk}
-use Rattle.conc_law.specs.Report.{Report}
+use Rattle.conc_base_law.specs.Report.{Report}
 use Rattle.conc_reports.proofs.Texts.{report-bad, report-tally}
 use Rattle.conc_reports.specs.Figures.{shown}
 use Rattle.conc_reports.proofs.making.report_by_rows.Goals as goal
@@ -13,12 +13,14 @@ with_fact (Err e) f x y Q h q same = tt
 pub returns-in-Bad-clause-outcome : goal.returns-in-Bad-clause-outcome
 returns-in-Bad-clause-outcome c =
     let bad = rw c.in-Bad.is at c.in_ok-number.ensures in
-    rw (report-bad c.args.job.now c.args.argument.now c.args.table.now c.in-Bad.number bad) c.bad_row.ensures.outcome
+    subst (λ (r : Report). IfOk c.bad_row.result (λ made. made.outcome ≡ r.outcome))
+    (sym (report-bad c.args.job.now c.args.argument.now c.args.table.now c.in-Bad.number bad)) c.bad_row.ensures.outcome
 
 pub returns-in-Bad-clause-text : goal.returns-in-Bad-clause-text
 returns-in-Bad-clause-text c =
     let bad = rw c.in-Bad.is at c.in_ok-number.ensures in
-    rw (report-bad c.args.job.now c.args.argument.now c.args.table.now c.in-Bad.number bad) c.bad_row.ensures.text
+    subst (λ (r : Report). IfOk c.bad_row.result (λ made. made.text ≡ r.text))
+    (sym (report-bad c.args.job.now c.args.argument.now c.args.table.now c.in-Bad.number bad)) c.bad_row.ensures.text
 
 pub returns-in-Whole-clause-outcome : goal.returns-in-Whole-clause-outcome
 returns-in-Whole-clause-outcome c =

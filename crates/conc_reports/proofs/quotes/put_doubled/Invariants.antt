@@ -1,5 +1,5 @@
 use Rattle.std.proofs.Common.{◌≡◌, ◌++◌, drop}
-use Rattle.conc_law.specs.Report.{doubled}
+use Rattle.conc_base_law.specs.Report.{doubled}
 use Rattle.conc_reports.proofs.quotes.put_doubled.Given as goal
 
 abbrev pub invariant-loop-byte : goal.invariant-loop-byte

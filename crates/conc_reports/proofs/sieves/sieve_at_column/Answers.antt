@@ -1,6 +1,6 @@
 use Rattle.std.proofs.Common.{◌≡◌, ◌<◌, ◌∙◌, ap, sym, ℕ, List, length}
 use Rattle.conc_types.specs.Kept.{cell_of}
-use Rattle.conc_law.specs.Numbers.{whole_number}
+use Rattle.conc_base_law.specs.Numbers.{whole_number}
 use Rattle.conc_reports.specs.Checks.{is_less, meets}
 use Rattle.conc_reports.specs.Columns.{cell_in, cells_at}
 use Rattle.conc_reports.specs.declared.filters.Check.{Check}

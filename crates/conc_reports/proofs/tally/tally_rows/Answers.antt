@@ -4,7 +4,7 @@ use Rattle.std.specs.Borrow.{Bor}
 use Rattle.std.specs.List.{list_all}
 use Rattle.std.specs.Option.{is_none, option_map}
 use Rattle.std.proofs.lemmas.Int.{ints}
-use Rattle.conc_law.specs.Report.{Row, passes, passing}
+use Rattle.conc_base_law.specs.Report.{Row, passes, passing}
 use Rattle.conc_reports.specs.Checks.{holds}
 use Rattle.conc_reports.specs.Columns.{cell_in, cells_at, place_if_named, row_at, value_in}
 use Rattle.conc_reports.specs.Figures.{figures_at, grown, grown_at, shown}

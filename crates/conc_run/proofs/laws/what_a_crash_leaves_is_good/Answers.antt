@@ -1,4 +1,4 @@
-use Rattle.conc_law.proofs.Prefixes.{is_lawful_so_far-prefix}
+use Rattle.conc_base_law.proofs.Prefixes.{is_lawful_so_far-prefix}
 use Rattle.conc_run.proofs.Next.{left-good}
 use Rattle.conc_run.proofs.laws.what_a_crash_leaves_is_good.Goals as goal
 

@@ -1,9 +1,11 @@
 use Rattle.std.proofs.Common.{◌≡◌, ℕ, Result, Ok, Err, IfErr, None, sym, true, false}
 use Rattle.std.proofs.lemmas.Result.{err_from_is_err_and}
-use Rattle.conc_run_state.specs.Handed.{handed, Handed}
+use Rattle.conc_run_state.specs.Handed.{Handed}
+use Rattle.conc_run_state.specs.Stores.{handed_with}
 use Rattle.conc_run_state.specs.declared.error.HistoryFail.{HistoryFail}
 use Rattle.conc_run.specs.Telling.{LacksTelling}
 use Rattle.conc_run.specs.Whole.{IsCutShort, LacksToTell}
+use Rattle.conc_run.proofs.Ended.{ended-input}
 use Rattle.conc_run.proofs.Opened.{cut-untouched}
 use Rattle.conc_run.proofs.Untold.{cut-wider}
 use Rattle.conc_run.proofs.whole.run_on_threads.Goals as goal
@@ -19,15 +21,19 @@ cut-silent (Err e) threads h cut = cut-wider threads (LacksTelling false None) (
 pub returns-in_err-examined-clause-cut_short : goal.returns-in_err-examined-clause-cut_short
 returns-in_err-examined-clause-cut_short g c =
     let p = err_from_is_err_and c.from_residual.result c.from_residual.ensures.1 in
-    let h : Handed = handed c.args.plan.now c.args.readings.now c.args.digests.now (g.D.Disk.state c.args.journal.now) (g.D.Disk.state c.examine.new.journal) (g.E.Disk.state c.args.spool.now) (g.E.Disk.state c.examine.new.spool) in
-    rw (p.1, p.2) (cut-untouched c.args.threads (LacksToTell 0) h c.in_err-examined.field-0.0 c.in_err-examined.ensures.cause c.examine.ensures.untouched)
+    let h : Handed = handed_with g.D.Disk g.E.Disk c.args.input.now c.args.stores.now.journal.now c.examine.new.stores.journal.now c.args.stores.now.spool.now c.examine.new.stores.spool.now in
+    rw (p.1, p.2) (cut-untouched c.args.workers.now.threads (LacksToTell 0) h c.in_err-examined.field-0.0 c.in_err-examined.ensures.cause c.examine.ensures.untouched)
 
 pub returns-clause-finished : goal.returns-clause-finished
 returns-clause-finished g c =
-    c.go_on.ensures.finished c.args.plan.now c.args.readings.now c.args.journal.now c.args.spool.now (record { is_examined = c.in_ok-examined.ensures.examined; untouched = c.examine.ensures.untouched })
+    (ended-input g.D.Disk g.E.Disk c.args.workers.now.threads (LacksTelling false None) c.args.input.now c.in_ok-examined.examined c.args.stores.now.journal.now c.examine.new.stores.journal.now c.go_on.new.stores.journal.now
+    c.args.stores.now.spool.now c.examine.new.stores.spool.now c.go_on.new.stores.spool.now c.go_on.result
+    c.in_ok-examined.ensures.input c.in_ok-examined.ensures.examined c.examine.ensures.untouched c.go_on.ensures.ends).finished
 
 pub returns-clause-cut_short : goal.returns-clause-cut_short
 returns-clause-cut_short g c =
-    let h : Handed = handed c.args.plan.now c.args.readings.now c.args.digests.now (g.D.Disk.state c.args.journal.now) (g.D.Disk.state c.go_on.new.journal) (g.E.Disk.state c.args.spool.now) (g.E.Disk.state c.go_on.new.spool) in
-    cut-silent c.go_on.result c.args.threads h
-    (c.go_on.ensures.cut_short c.args.plan.now c.args.readings.now c.args.journal.now c.args.spool.now (record { is_examined = c.in_ok-examined.ensures.examined; untouched = c.examine.ensures.untouched }))
+    let h : Handed = handed_with g.D.Disk g.E.Disk c.args.input.now c.args.stores.now.journal.now c.go_on.new.stores.journal.now c.args.stores.now.spool.now c.go_on.new.stores.spool.now in
+    cut-silent c.go_on.result c.args.workers.now.threads h
+    (ended-input g.D.Disk g.E.Disk c.args.workers.now.threads (LacksTelling false None) c.args.input.now c.in_ok-examined.examined c.args.stores.now.journal.now c.examine.new.stores.journal.now c.go_on.new.stores.journal.now
+    c.args.stores.now.spool.now c.examine.new.stores.spool.now c.go_on.new.stores.spool.now c.go_on.result
+    c.in_ok-examined.ensures.input c.in_ok-examined.ensures.examined c.examine.ensures.untouched c.go_on.ensures.ends).cut_short

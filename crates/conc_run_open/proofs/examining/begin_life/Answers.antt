@@ -1,5 +1,5 @@
 use Rattle.std.proofs.Common.{reverse, sym, subst}
-use Rattle.conc_law.specs.Alone.{opening}
+use Rattle.conc_base_law.specs.Alone.{opening}
 use Rattle.conc_restart.specs.Machines.{Machine, StandsFor}
 use Rattle.conc_run_open.proofs.Lives.{life-empty, on-ok, stands-alone, stands-resumed}
 use Rattle.conc_run_open.proofs.examining.begin_life.Goals as goal

@@ -1,6 +1,6 @@
 use Rattle.std.proofs.Common.{subst, sym}
 use Rattle.std.proofs.lemmas.Result.{err_from_is_err_and}
-use Rattle.conc_law.specs.Law.{LawfulSoFar}
+use Rattle.conc_base_law.specs.Law.{LawfulSoFar}
 use Rattle.conc_run_open.specs.Listing.{IsListed}
 use Rattle.conc_run_open.proofs.Listed.{listed, unlisted-cause, unopened-listed}
 use Rattle.conc_run_open.proofs.listing.read_list.Goals as goal

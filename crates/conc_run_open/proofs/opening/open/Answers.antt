@@ -1,5 +1,6 @@
 use Rattle.std.proofs.Common.{inl}
 use Rattle.std.proofs.lemmas.Result.{err_from_is_err_and}
+use Rattle.conc_run_open.proofs.Beginning.{begins-input}
 use Rattle.conc_run_open.proofs.opening.open.Goals as goal
 
 pub returns-in_err-examined-clause-given_up : goal.returns-in_err-examined-clause-given_up
@@ -7,4 +8,5 @@ returns-in_err-examined-clause-given_up g c = rw (err_from_is_err_and c.from_res
 
 pub returns-clause-begun : goal.returns-clause-begun
 returns-clause-begun g c =
-    c.in_ok-work.ensures.begun c.args.plan.now c.args.readings.now c.args.journal.now c.args.spool.now (record { is_examined = c.in_ok-examined.ensures.examined; untouched = c.examine.ensures.untouched })
+    (begins-input g.D.Disk g.E.Disk c.args.input.now c.in_ok-examined.examined c.args.stores.now.journal.now c.examine.new.stores.journal.now c.begin.new.journal c.args.stores.now.spool.now c.examine.new.stores.spool.now _
+    c.in_ok-examined.ensures.input c.in_ok-examined.ensures.examined c.examine.ensures.untouched c.in_ok-work.ensures.begins).begun

@@ -1,5 +1,5 @@
 use Rattle.std.proofs.Common.{subst, ℕ}
-use Rattle.conc_spool.specs.Spools.{IsShort}
+use Rattle.conc_journal_spool.specs.Spools.{IsShort}
 use Rattle.conc_run_open.specs.Refusals.{IsRefused}
 use Rattle.conc_run_open.proofs.Finding.{short-unreadable}
 use Rattle.conc_run_open.proofs.reading.open_texts.Goals as goal

@@ -24,27 +24,21 @@ returns-then-is_of_version_one-clause-survives g c = λ plan may.
     let journal = c.args.journal.now in
     let one = is-one journal.state (sym c.is_of_version_one.ensures ∙ c.if-is_of_version_one.true) in
     let begun = is-begun plan c.args.digests.now journal may.may_start c.requires.begun in
-    migrating-left plan c.args.digests.now one.0 c.args.due.now journal.events.items (g.D.Disk.state c.args.disk.now) (g.D.Disk.state c.migrate.new.disk) one.2
-    (one-named plan c.args.digests.now journal one.0 begun one.1 one.2) may.due_are (c.migrate.ensures.survives one.0 one.1)
-
-pub returns-then-is_of_version_one-clause-now : goal.returns-then-is_of_version_one-clause-now
-returns-then-is_of_version_one-clause-now g c = λ plan may.
-    let journal = c.args.journal.now in
-    let one = is-one journal.state (sym c.is_of_version_one.ensures ∙ c.if-is_of_version_one.true) in
-    let begun = is-begun plan c.args.digests.now journal may.may_start c.requires.begun in
-    migrated-now c.migrate.result plan c.args.digests.now one.0 c.args.due.now journal.events.items c.migrate.new.self (g.D.Disk.state c.migrate.new.disk) one.2
-    (one-named plan c.args.digests.now journal one.0 begun one.1 one.2) may.due_are (c.migrate.ensures.migrated one.0 one.1) (c.migrate.ensures.failed one.0 one.1) c.migrate.ensures.list c.migrate.ensures.stamps c.migrate.ensures.on
+    let named = one-named plan c.args.digests.now journal one.0 begun one.1 one.2 in
+    record {
+      survives = migrating-left plan c.args.digests.now one.0 c.args.due.now journal.events.items (g.D.Disk.state c.args.disk.now) (g.D.Disk.state c.migrate.new.disk) one.2 named may.due_are (c.migrate.ensures.survives one.0 one.1);
+      now = migrated-now c.migrate.result plan c.args.digests.now one.0 c.args.due.now journal.events.items c.migrate.new.self (g.D.Disk.state c.migrate.new.disk) one.2
+          named may.due_are (c.migrate.ensures.migrated one.0 one.1) (c.migrate.ensures.failed one.0 one.1) c.migrate.ensures.list c.migrate.ensures.stamps c.migrate.ensures.on;
+    }
 
 pub returns-else-is_of_version_one-clause-begun_for : goal.returns-else-is_of_version_one-clause-begun_for
 returns-else-is_of_version_one-clause-begun_for g c = λ plan may. is-begun plan c.args.digests.now c.args.journal.now may.may_start c.requires.begun
 
 pub returns-else-is_of_version_one-clause-survives : goal.returns-else-is_of_version_one-clause-survives
-returns-else-is_of_version_one-clause-survives g c = λ plan may.
-    leaves-none (Survives plan c.args.digests.now c.args.journal.now.events.items c.args.journal.now.events.items) (g.D.Disk.state c.args.disk.now)
-
-pub returns-else-is_of_version_one-clause-now : goal.returns-else-is_of_version_one-clause-now
-returns-else-is_of_version_one-clause-now g c = λ plan may.
-    begun-now plan c.args.digests.now c.args.journal.now (g.D.Disk.state c.args.disk.now) (is-begun plan c.args.digests.now c.args.journal.now may.may_start c.requires.begun) c.requires.on
+returns-else-is_of_version_one-clause-survives g c = λ plan may. record {
+  survives = leaves-none (Survives plan c.args.digests.now c.args.journal.now.events.items c.args.journal.now.events.items) (g.D.Disk.state c.args.disk.now);
+  now = begun-now plan c.args.digests.now c.args.journal.now (g.D.Disk.state c.args.disk.now) (is-begun plan c.args.digests.now c.args.journal.now may.may_start c.requires.begun) c.requires.on;
+}
 
 pub returns-then-is_of_version_one-clause-version : goal.returns-then-is_of_version_one-clause-version
 returns-then-is_of_version_one-clause-version g c =

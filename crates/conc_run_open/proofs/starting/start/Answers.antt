@@ -2,11 +2,12 @@ use Rattle.std.proofs.Common.{List, refl, sym, ap, ◌∙◌, subst}
 use Rattle.conc_types.specs.declared.event.Event.{Event}
 use Rattle.conc_disk.specs.Left.{EachImage}
 use Rattle.conc_journal_image.specs.Headers.{label_for}
-use Rattle.conc_law.specs.Alone.{opening}
+use Rattle.conc_base_law.specs.Alone.{opening}
 use Rattle.conc_journal.specs.JournalStates.{has_faulted, takes_events}
 use Rattle.conc_run_state.specs.Survival.{Survives}
 use Rattle.conc_run_open.proofs.Renewing.{version-two}
 use Rattle.conc_run_open.proofs.Resuming.{header-begun-for, header-left, header-now}
+use Rattle.conc_run_open.proofs.Opened.{opened-same}
 use Rattle.conc_run_open.proofs.TwoSteps.{now-wider, renewed-left, start-twice, unbegun}
 use Rattle.conc_run_open.proofs.starting.start.Goals as goal
 
@@ -14,34 +15,30 @@ pub begin-requires-clause-state : goal.begin-requires-clause-state
 begin-requires-clause-state g c = let may = c.requires.may in unbegun may.0 c.args.digests.now c.args.journal.now may.1.may_start (sym c.takes_events.ensures ∙ c.if-not-takes_events.true)
 
 pub returns-in_err-begin-clause-survives : goal.returns-in_err-begin-clause-survives
-returns-in_err-begin-clause-survives g c = λ plan may.
-    header-left plan c.args.digests.now c.args.journal.now.events.items (g.D.Disk.state c.args.disk.now) (g.D.Disk.state c.begin.new.disk) (sym c.begin.ensures.list ∙ c.begin.ensures.empty) c.begin.ensures.survives
-
-pub returns-in_err-begin-clause-now : goal.returns-in_err-begin-clause-now
-returns-in_err-begin-clause-now g c = λ plan may.
-    header-now c.begin.result plan c.args.digests.now c.args.journal.now.events.items c.begin.new.self.events.items c.begin.new.self.stamps.items c.begin.new.self.state (g.D.Disk.state c.begin.new.disk)
-    c.begin.ensures.begun c.begin.ensures.failed c.begin.ensures.list c.begin.ensures.empty c.begin.ensures.stamps c.begin.ensures.on
+returns-in_err-begin-clause-survives g c = λ plan may. record {
+  survives = header-left plan c.args.digests.now c.args.journal.now.events.items (g.D.Disk.state c.args.disk.now) (g.D.Disk.state c.begin.new.disk) (sym c.begin.ensures.list ∙ c.begin.ensures.empty) c.begin.ensures.survives;
+  now = header-now c.begin.result plan c.args.digests.now c.args.journal.now.events.items c.begin.new.self.events.items c.begin.new.self.stamps.items c.begin.new.self.state (g.D.Disk.state c.begin.new.disk)
+      c.begin.ensures.begun c.begin.ensures.failed c.begin.ensures.list c.begin.ensures.empty c.begin.ensures.stamps c.begin.ensures.on;
+}
 
 pub returns-then-not-takes_events-clause-begun_for : goal.returns-then-not-takes_events-clause-begun_for
 returns-then-not-takes_events-clause-begun_for g c = λ plan may.
     header-begun-for plan c.args.digests.now c.begin.new.self c.in_ok-begin.ensures.begun c.begin.ensures.empty c.begin.ensures.stamps
 
 pub returns-then-not-takes_events-clause-survives : goal.returns-then-not-takes_events-clause-survives
-returns-then-not-takes_events-clause-survives g c = λ plan may.
-    header-left plan c.args.digests.now c.args.journal.now.events.items (g.D.Disk.state c.args.disk.now) (g.D.Disk.state c.begin.new.disk) (sym c.begin.ensures.list ∙ c.begin.ensures.empty) c.begin.ensures.survives
-
-pub returns-then-not-takes_events-clause-now : goal.returns-then-not-takes_events-clause-now
-returns-then-not-takes_events-clause-now g c = λ plan may.
-    header-now c.begin.result plan c.args.digests.now c.args.journal.now.events.items c.begin.new.self.events.items c.begin.new.self.stamps.items c.begin.new.self.state (g.D.Disk.state c.begin.new.disk)
-    c.begin.ensures.begun c.begin.ensures.failed c.begin.ensures.list c.begin.ensures.empty c.begin.ensures.stamps c.begin.ensures.on
+returns-then-not-takes_events-clause-survives g c = λ plan may. record {
+  survives = header-left plan c.args.digests.now c.args.journal.now.events.items (g.D.Disk.state c.args.disk.now) (g.D.Disk.state c.begin.new.disk) (sym c.begin.ensures.list ∙ c.begin.ensures.empty) c.begin.ensures.survives;
+  now = header-now c.begin.result plan c.args.digests.now c.args.journal.now.events.items c.begin.new.self.events.items c.begin.new.self.stamps.items c.begin.new.self.state (g.D.Disk.state c.begin.new.disk)
+      c.begin.ensures.begun c.begin.ensures.failed c.begin.ensures.list c.begin.ensures.empty c.begin.ensures.stamps c.begin.ensures.on;
+}
 
 pub returns-in_err-renew-clause-survives : goal.returns-in_err-renew-clause-survives
 returns-in_err-renew-clause-survives g c = λ plan may.
-    renewed-left plan c.args.digests.now c.args.journal.now.events.items (g.D.Disk.state c.args.disk.now) (g.D.Disk.state c.renew.new.disk) (c.renew.ensures.survives plan may)
-
-pub returns-in_err-renew-clause-now : goal.returns-in_err-renew-clause-now
-returns-in_err-renew-clause-now g c = λ plan may.
-    now-wider plan c.args.digests.now c.args.journal.now.events.items (g.D.Disk.state c.renew.new.disk) (c.renew.ensures.now plan may)
+    let renewed = c.renew.ensures.survives plan may in
+    record {
+      survives = renewed-left plan c.args.digests.now c.args.journal.now.events.items (g.D.Disk.state c.args.disk.now) (g.D.Disk.state c.renew.new.disk) renewed.survives;
+      now = now-wider plan c.args.digests.now c.args.journal.now.events.items (g.D.Disk.state c.renew.new.disk) renewed.now;
+    }
 
 pub resume-requires-clause-begun : goal.resume-requires-clause-begun
 resume-requires-clause-begun g c = let may = c.requires.may in ap takes_events (c.in_ok-renew.ensures.begun_for may.0 may.1).state
@@ -54,12 +51,17 @@ returns-clause-begun_for g c = λ plan may. c.resume.ensures.begun_for plan c.ar
 
 pub returns-clause-survives : goal.returns-clause-survives
 returns-clause-survives g c = λ plan may.
-    start-twice plan c.args.digests.now c.args.journal.now.events.items c.renew.new.journal.events.items (g.D.Disk.state c.args.disk.now) (g.D.Disk.state c.renew.new.disk) (g.D.Disk.state c.resume.new.disk) c.renew.ensures.list
-    (c.renew.ensures.survives plan may) (c.resume.ensures.survives plan c.args.digests.now (c.in_ok-renew.ensures.begun_for plan may))
+    let resumed = c.resume.ensures.survives plan c.args.digests.now (c.in_ok-renew.ensures.begun_for plan may) in
+    record {
+      survives = start-twice plan c.args.digests.now c.args.journal.now.events.items c.renew.new.journal.events.items (g.D.Disk.state c.args.disk.now) (g.D.Disk.state c.renew.new.disk) (g.D.Disk.state c.resume.new.disk) c.renew.ensures.list
+          (c.renew.ensures.survives plan may).survives resumed.survives;
+      now = subst (λ (l : List Event). EachImage (Survives plan c.args.digests.now l (opening l)) (g.D.Disk.state c.resume.new.disk)) c.renew.ensures.list resumed.now;
+    }
 
-pub returns-clause-now : goal.returns-clause-now
-returns-clause-now g c = λ plan may.
-    subst (λ (l : List Event). EachImage (Survives plan c.args.digests.now l (opening l)) (g.D.Disk.state c.resume.new.disk)) c.renew.ensures.list (c.resume.ensures.now plan c.args.digests.now (c.in_ok-renew.ensures.begun_for plan may))
+-- ---- the resume
+
+pub returns-clause-opened : goal.returns-clause-opened
+returns-clause-opened g c = opened-same c.resume.result c.args.journal.now c.renew.new.journal c.resume.new.journal c.renew.ensures.list c.renew.ensures.room c.resume.ensures.opened
 
 pub returns-then-not-takes_events-clause-version : goal.returns-then-not-takes_events-clause-version
 returns-then-not-takes_events-clause-version g c = version-two c.begin.new.self (label_for c.args.digests.now) c.in_ok-begin.ensures.begun refl

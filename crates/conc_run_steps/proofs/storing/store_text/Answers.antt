@@ -1,6 +1,6 @@
 use Rattle.std.proofs.Common.{◌≡◌, ◌∷◌, ◌++◌, [], None, Some, sym, subst, arith}
-use Rattle.conc_resolver_choice.specs.Choices.{HasItsText}
-use Rattle.conc_spool.specs.Spools.{used_of}
+use Rattle.conc_run_choice.specs.Choices.{HasItsText}
+use Rattle.conc_journal_spool.specs.Spools.{used_of}
 use Rattle.conc_run_state.specs.Works.{list_in}
 use Rattle.conc_run_steps.specs.Steps.{any_disk, plan_in, readings_in}
 use Rattle.conc_run_steps.proofs.Coming.{lawful-past, text-fits, text-length, tied-pending, without-text}

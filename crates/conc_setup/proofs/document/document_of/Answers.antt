@@ -1,4 +1,4 @@
-use Rattle.conc_setup_fields.proofs.Combined.{beside-read, both-read, judged-read}
+use Rattle.conc_data_fields.proofs.Combined.{beside-read, both-read, judged-read}
 use Rattle.conc_setup.specs.Documents.{document_of}
 use Rattle.conc_setup.proofs.document.document_of.Goals as goal
 

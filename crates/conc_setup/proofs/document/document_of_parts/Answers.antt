@@ -1,4 +1,4 @@
-use Rattle.conc_setup_fields.proofs.Proven.{proven-pass}
+use Rattle.conc_data_fields.proofs.Proven.{proven-pass}
 use Rattle.conc_setup.proofs.document.document_of_parts.Goals as goal
 
 pub returns-then-places_in_all-le64 : goal.returns-then-places_in_all-le64

@@ -1,7 +1,7 @@
 use Rattle.std.proofs.Common.{refl}
 use Rattle.std.proofs.lemmas.Bool.{and_from}
 use Rattle.std.proofs.lemmas.Result.{err_from_is_err_and}
-use Rattle.conc_setup_fields.proofs.Combined.{judged-fails}
+use Rattle.conc_data_fields.proofs.Combined.{judged-fails}
 use Rattle.conc_setup.specs.ThirdPass.{resolved_stage}
 use Rattle.conc_setup.proofs.Looked.{looked-read, parts-read, stage-resolved}
 use Rattle.conc_setup.proofs.set.resolve_stage.Goals as goal

@@ -2,7 +2,7 @@ use Rattle.std.proofs.Common.{◌≡◌, ◌∙◌, List, Some, ap, not, sym, ru
 use Rattle.std.specs.List.{list_all}
 use Rattle.conc_types.specs.declared.plan.Req.{Req}
 use Rattle.conc_types.specs.Plans.{request}
-use Rattle.conc_law.specs.Plans.{are_exclusive}
+use Rattle.conc_base_law.specs.Plans.{are_exclusive}
 use Rattle.conc_test_board.proofs.Rules.{excludes_no}
 use Rattle.conc_test_board.proofs.asking.excludes_none.Goals as goal
 

@@ -1,5 +1,5 @@
 use Rattle.std.proofs.Common.{refl}
-use Rattle.conc_law.specs.Moments.{moment_text}
+use Rattle.conc_base_law.specs.Moments.{moment_text}
 use Rattle.conc_time.proofs.Spellings.{spelled_once, spells_is_read}
 use Rattle.conc_time.proofs.laws.moments_are_read_back.Goals as goal
 

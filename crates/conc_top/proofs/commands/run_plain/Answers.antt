@@ -1,19 +1,36 @@
-use Rattle.std.proofs.Common.{map}
+use Rattle.std.proofs.Common.{map, refl, subst, sym}
 use Rattle.std.specs.String.{string_bytes}
 use Rattle.conc_top_words.specs.Words.{command_of}
 use Rattle.conc_top_words.specs.declared.command.Command.TheVariants as command
 use Rattle.conc_run_state.specs.Disks.{disks}
-use Rattle.conc_top.specs.Answers.{around}
+use Rattle.conc_top_inputs.specs.Given.{names_of}
+use Rattle.conc_top_inputs.specs.declared.names.FileNames.{FileNames}
+use Rattle.conc_top.specs.Answers.{AnswersRun, around}
+use Rattle.conc_top.specs.Meaning.{MeansRun}
 use Rattle.conc_top.specs.Printing.{sunk}
-use Rattle.conc_top.proofs.Meaning.{asked-is, plain-run}
+use Rattle.conc_top.specs.Ways.{exit_of}
+use Rattle.conc_top.proofs.Called.{asked-is, of-same, of-same-disks}
+use Rattle.conc_top.proofs.Meaning.{plain-run}
 use Rattle.conc_top.proofs.commands.run_plain.Goals as goal
 
-pub returns-in-Ok-Some-Run-clause-means : goal.returns-in-Ok-Some-Run-clause-means
-returns-in-Ok-Some-Run-clause-means g c =
-    let a = around (g.F.Shelf.state c.args.shelf.now) (g.F.Shelf.state c.run_files_plain.new.shelf) (g.C.Clock.state c.args.clock.now) (g.C.Clock.state c.run_files_plain.new.clock)
-    (sunk (g.O.Sink.state c.args.out.now) (g.O.Sink.state c.run_files_plain.new.out)) in
-    let d = disks (g.D.Disk.state c.args.journal.now) (g.D.Disk.state c.run_files_plain.new.journal) (g.E.Disk.state c.args.spool.now) (g.E.Disk.state c.run_files_plain.new.spool) in
-    let run = c.in-Ok-Some-Run in
-    let words = map string_bytes c.args.words.now in
-    let asked = asked-is run.field-0 run.field-0-0 (command.Run run.setup run.script run.file run.field-0-0-3 run.field-0-0-4) words run.ensures.read run.field-0-is run.field-0-0-is in
-    plain-run run.setup run.script run.file run.field-0-0-3 run.field-0-0-4 (command_of words) a d c.run_files_plain.result asked c.requires.plain c.run_files_plain.ensures.answers
+pub returns-in-Ok-Run-clause-means : goal.returns-in-Ok-Run-clause-means
+returns-in-Ok-Run-clause-means g c =
+    let run = c.in-Ok-Run in
+    let is = command.Run run.setup run.script run.file run.field-0-3 run.field-0-4 in
+    let asked = command_of (map string_bytes c.args.words.now) in
+    let new = c.run_files_plain.new in
+    let found = asked-is asked run.field-0 is run.ensures.read run.field-0-is in
+    of-same (λ shelf out end asked. MeansRun asked (around (g.F.Shelf.state c.args.shelf.now) (g.F.Shelf.state shelf) (g.C.Clock.state c.args.clock.now) (g.C.Clock.state new.clock) (sunk (g.O.Sink.state c.args.out.now) (g.O.Sink.state out)))
+    (disks (g.D.Disk.state c.args.journal.now) (g.D.Disk.state c.journal-1.given.0) (g.E.Disk.state c.args.spool.now) (g.E.Disk.state c.spool-1.given.0)) end)
+    c.run_files_plain.new.self.shelf.now c.shelf-1.given.0 c.run_files_plain.new.self.out.now c.out-1.given.0 (exit_of c.run_files_plain.result) c.of.result asked asked
+    (c.shelf-1.given.1 (sym c.run_files_plain.ensures.continues.same_shelf)) (c.out-1.given.1 (sym c.run_files_plain.ensures.continues.same_sink)) c.of.ensures refl
+    (plain-run run.setup run.script run.file run.field-0-3 run.field-0-4 asked (around (g.F.Shelf.state c.args.shelf.now) (g.F.Shelf.state new.self.shelf.now) (g.C.Clock.state c.args.clock.now) (g.C.Clock.state new.clock) (sunk (g.O.Sink.state c.args.out.now) (g.O.Sink.state new.self.out.now))) (disks (g.D.Disk.state c.args.journal.now) (g.D.Disk.state c.journal-1.given.0) (g.E.Disk.state c.args.spool.now) (g.E.Disk.state c.spool-1.given.0)) (exit_of c.run_files_plain.result) (sym found) c.requires.plain
+    (of-same-disks (λ journal spool. AnswersRun 0 0 (names_of (record { setup = run.setup; script = run.script; clock = run.file }))
+    (around (g.F.Shelf.state c.args.shelf.now) (g.F.Shelf.state new.self.shelf.now) (g.C.Clock.state c.args.clock.now) (g.C.Clock.state new.clock) (sunk (g.O.Sink.state c.args.out.now) (g.O.Sink.state new.self.out.now)))
+    (disks (g.D.Disk.state c.args.journal.now) (g.D.Disk.state journal) (g.E.Disk.state c.args.spool.now) (g.E.Disk.state spool)) (exit_of c.run_files_plain.result))
+    new.stores.journal.now c.journal-1.given.0 new.stores.spool.now c.spool-1.given.0
+    (c.journal-1.given.1 (sym c.run_files_plain.ensures.stores.journal)) (c.spool-1.given.1 (sym c.run_files_plain.ensures.stores.spool))
+    (subst (λ (files : FileNames). AnswersRun 0 0 (names_of files)
+    (around (g.F.Shelf.state c.args.shelf.now) (g.F.Shelf.state new.self.shelf.now) (g.C.Clock.state c.args.clock.now) (g.C.Clock.state new.clock) (sunk (g.O.Sink.state c.args.out.now) (g.O.Sink.state new.self.out.now)))
+    (disks (g.D.Disk.state c.args.journal.now) (g.D.Disk.state new.stores.journal.now) (g.E.Disk.state c.args.spool.now) (g.E.Disk.state new.stores.spool.now)) (exit_of c.run_files_plain.result))
+    c.new-files.ensures c.run_files_plain.ensures.answers)))

@@ -2,38 +2,42 @@ use Rattle.std.proofs.Common.{refl, subst}
 use Rattle.conc_types.specs.declared.refusal.FileKind.TheVariants as kind
 use Rattle.conc_outside.specs.Files.{Gives}
 use Rattle.conc_top_inputs.specs.Given.{named, sources}
+use Rattle.conc_top_inputs.proofs.Acceptance.{no-start}
 use Rattle.conc_top_inputs.proofs.Digesting.{taken-of}
-use Rattle.conc_top_inputs.proofs.FileFailing.{IsLater-refl, stops-at}
+use Rattle.conc_top_inputs.proofs.FileFailing.{stops-at}
 use Rattle.conc_top_inputs.proofs.reading.read_start.Goals as goal
 
-pub returns-in-Err-clause-err : goal.returns-in-Err-clause-err
-returns-in-Err-clause-err g c before after clock =
+pub returns-in_err-script_read-clause-answer : goal.returns-in_err-script_read-clause-answer
+returns-in_err-script_read-clause-answer g c =
     let state = g.F.Shelf.state in
-    stops-at (sources (state c.args.shelf.now) before) (sources (state c.judge_setup.new.shelf) after) (state c.args.shelf.now)
-    (named c.args.setup.now c.args.script.now clock) kind.Setup c.args.setup.now refl c.in-Err.file_fail c.fail_at.result
-    (IsLater-refl (state c.args.shelf.now)) c.in-Err.ensures.err c.fail_at.ensures
-
-pub returns-in-Err-judge_script-clause-err : goal.returns-in-Err-judge_script-clause-err
-returns-in-Err-judge_script-clause-err g c before after clock =
-    let state = g.F.Shelf.state in
-    stops-at (sources (state c.args.shelf.now) before) (sources (state c.judge_script.new.shelf) after) (state c.judge_setup.new.shelf)
+    let setup = rw c.in_ok-setup_read.ensures.ok at c.judge_setup.ensures.ok in
+    let told = c.in_err-script_read.ensures.err in
+    let ends = rw told.was at c.judge_script-judged.ensures.err in
+    no-start (state c.args.shelf.now) (state c.judge_script-judged.new.shelf) c.args.setup.now c.args.script.now
+    c.from_residual-in_err-script_read.result c.in_err-script_read.field-0.0 c.from_residual-in_err-script_read.ensures.1
+    (λ before after clock. stops-at (sources (state c.args.shelf.now) before) (sources (state c.judge_script-judged.new.shelf) after) (state c.judge_setup.new.shelf)
     (named c.args.setup.now c.args.script.now clock) kind.Script c.args.script.now (
-      record { bytes = c.in-Ok.read.1.items; given = c.in-Ok.ensures.ok.0; setup = c.in-Ok.read.0; spells = c.in-Ok.ensures.ok.1 },
+      record { bytes = c.in_ok-setup_read.setup_bytes.items; given = setup.0; setup = c.in_ok-setup_read.setup_read; spells = setup.1 },
       refl,
     )
-    c.in-Err-judge_script.file_fail c.fail_at-in-Err-judge_script.result c.judge_setup.ensures.later c.in-Err-judge_script.ensures.err
-    c.fail_at-in-Err-judge_script.ensures
+    told.cause c.in_err-script_read.field-0.0 c.judge_setup.ensures.later ends told.told)
 
-pub returns-clause-ok : goal.returns-clause-ok
-returns-clause-ok g c clock = record {
-  files = record {
-    before = record { bytes = c.in-Ok.read.1.items; given = c.in-Ok.ensures.ok.0; setup = c.in-Ok.read.0; spells = c.in-Ok.ensures.ok.1 };
-    bytes = c.in-Ok-judge_script.read.1.items;
-    given = subst (λ t. Gives t c.args.script.now c.in-Ok-judge_script.read.1.items) c.judge_setup.ensures.later.files c.in-Ok-judge_script.ensures.ok.0;
-    script = c.in-Ok-judge_script.read.0;
-    spells = c.in-Ok-judge_script.ensures.ok.1;
-  };
-  setup = refl;
-  script = refl;
-  digest = taken-of c.new.result c.in-Ok.read.1.items c.in-Ok-judge_script.read.1.items c.deref.result.now c.deref-2.result.now c.deref.ensures.value c.deref-2.ensures.value c.new.ensures;
-}
+pub returns-clause-answer : goal.returns-clause-answer
+returns-clause-answer g c =
+    let setup = rw c.in_ok-setup_read.ensures.ok at c.judge_setup.ensures.ok in
+    let script = rw c.in_ok-script_read.ensures.ok at c.judge_script-judged.ensures.ok in
+    record {
+      ok = λ clock. record {
+        files = record {
+          before = record { bytes = c.in_ok-setup_read.setup_bytes.items; given = setup.0; setup = c.in_ok-setup_read.setup_read; spells = setup.1 };
+          bytes = c.in_ok-script_read.script_bytes.items;
+          given = subst (λ t. Gives t c.args.script.now c.in_ok-script_read.script_bytes.items) c.judge_setup.ensures.later.files script.0;
+          script = c.in_ok-script_read.script_read;
+          spells = script.1;
+        };
+        setup = refl;
+        script = refl;
+        digest = taken-of c.new.result c.in_ok-setup_read.setup_bytes.items c.in_ok-script_read.script_bytes.items c.deref.result.now c.deref-2.result.now c.deref.ensures.value c.deref-2.ensures.value c.new.ensures;
+      };
+      err = λ before after clock. tt;
+    }

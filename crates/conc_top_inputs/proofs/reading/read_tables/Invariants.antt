@@ -9,6 +9,6 @@ invariant-loop-name g l =
     record {
       number : l.number ≡ l.name-index;
       later : IsLater (state l.fn.shelf) (state l.shelf);
-      fit : l.total ≤ 134217728;
-      read : AreRead (state l.fn.shelf).files (take l.name-index l.names) l.tables.items l.total l.fn.digest l.digest;
+      fit : l.progress.bytes ≤ 134217728;
+      read : AreRead (state l.fn.shelf).files (take l.name-index l.names) l.tables.items l.progress.bytes l.fn.digest l.progress.digest;
     }

@@ -1,19 +1,8 @@
-use Rattle.std.proofs.Common.{Some, inl, inr}
-use Rattle.conc_run_state.specs.Disks.{disks}
-use Rattle.conc_top.specs.Answers.{around, handed_in}
-use Rattle.conc_top.specs.Printing.{sunk}
-use Rattle.conc_top_inputs.specs.Given.{named}
-use Rattle.conc_top_laws.proofs.Ending.{run-done}
-use Rattle.conc_top_laws.proofs.Printed.{unplanned-done}
+use Rattle.conc_top_laws.specs.Complete.{around_by, disks_by}
+use Rattle.conc_top_laws.proofs.Completing.{run}
 use Rattle.conc_top_laws.proofs.completeness.run_completes.Goals as goal
 
 pub returns : goal.returns
-returns g c shelf shelf_after out out_after journal journal_after spool spool_after clock clock_after setup script file threads watchers end means accepted quiet still fits =
-    let a = around (g.F.Shelf.state shelf) (g.F.Shelf.state shelf_after) (g.C.Clock.state clock) (g.C.Clock.state clock_after)
-    (sunk (g.O.Sink.state out) (g.O.Sink.state out_after)) in
-    let d = disks (g.D.Disk.state journal) (g.D.Disk.state journal_after) (g.E.Disk.state spool) (g.E.Disk.state spool_after) in
-    let names = named setup script (Some file) in
-    elim means [
-      | inl planned ↦ run-done threads watchers (handed_in a names d planned.0) a.sink (fits planned.0) still.journal still.spool quiet.sink end planned.1
-      | inr not ↦ unplanned-done names a end not.0 accepted quiet
-    ]
+returns g c setup script file threads watchers old new end =
+    let around = around_by g.F.Shelf g.O.Sink g.D.Disk g.E.Disk g.C.Clock old new in
+    run around (disks_by g.F.Shelf g.O.Sink g.D.Disk g.E.Disk g.C.Clock old new) end setup script file threads watchers

@@ -6,5 +6,5 @@ abbrev pub invariant-loop-index : goal.invariant-loop-index
 invariant-loop-index l = record {
   steps : List (ℕ × ℕ);
   made : ClaimsNone l.self l.initial.hand l.hand steps;
-  missed : AreMissed l.plan l.place steps l.index;
+  missed : AreMissed l.at.plan.now l.at.place steps l.index;
 }

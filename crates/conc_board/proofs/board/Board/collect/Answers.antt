@@ -4,15 +4,15 @@ use Rattle.atomic_table.specs.Table.{rest}
 use Rattle.conc_types.specs.declared.event.PlaceId.{PlaceId}
 use Rattle.conc_types.specs.declared.event.RequestId.{RequestId}
 use Rattle.conc_types.specs.declared.plan.Plan.{Plan}
-use Rattle.conc_board_seats.specs.declared.posted.Posted.{Posted}
-use Rattle.conc_board_seats.specs.declared.views.LeadState.{LeadState}
-use Rattle.conc_board_seats.specs.declared.views.LeadState.TheVariants.{Done, Gone, Got, NotLet}
-use Rattle.conc_board_seats.specs.declared.views.View.{View}
-use Rattle.conc_board_seats.specs.Courses.{GoesOn}
-use Rattle.conc_board_seats.specs.LeadStates.{WordFits, cleared, got, lead_state_at, lead_state_in}
-use Rattle.conc_board_seats.specs.Steps.{EndedFits, with_lead_state, with_post}
-use Rattle.conc_board_seats.specs.Words.{IsRequest, count_of_requests, ended, request_word}
-use Rattle.conc_board_seats.proofs.LeadSteps.{clears, collects}
+use Rattle.conc_pool_seats.specs.declared.posted.Posted.{Posted}
+use Rattle.conc_pool_seats.specs.declared.views.LeadState.{LeadState}
+use Rattle.conc_pool_seats.specs.declared.views.LeadState.TheVariants.{Done, Gone, Got, NotLet}
+use Rattle.conc_pool_seats.specs.declared.views.View.{View}
+use Rattle.conc_pool_seats.specs.Courses.{GoesOn}
+use Rattle.conc_pool_seats.specs.LeadStates.{WordFits, cleared, got, lead_state_at, lead_state_in}
+use Rattle.conc_pool_seats.specs.Steps.{EndedFits, with_lead_state, with_post}
+use Rattle.conc_pool_seats.specs.Words.{IsRequest, count_of_requests, ended, request_word}
+use Rattle.conc_pool_seats.proofs.LeadSteps.{clears, collects}
 use Rattle.conc_board.specs.Seats.{lead_state_of}
 use Rattle.conc_board.proofs.Leads.{adds_two, changes_twice, lead_state_there, new_lead_state}
 use Rattle.conc_board.proofs.StoppedSo.{gone_place}

@@ -1,6 +1,6 @@
 use Rattle.std.proofs.Common.{◌≡◌, ◌≤◌, ◌+◌, ◌==◌, ap, arith, refl}
-use Rattle.conc_board_seats.specs.declared.views.View.{View}
-use Rattle.conc_board_seats.proofs.LeadSteps.{sees}
+use Rattle.conc_pool_seats.specs.declared.views.View.{View}
+use Rattle.conc_pool_seats.proofs.LeadSteps.{sees}
 use Rattle.conc_board.proofs.Hands.{stays_noted}
 use Rattle.conc_board.proofs.Leads.{adds_one}
 use Rattle.conc_board.proofs.board.Board.is_open.Goals as goal

@@ -1,6 +1,6 @@
 use Rattle.std.proofs.Common.{◌∙◌, ap, arith}
-use Rattle.conc_board_seats.specs.Doings.{carried_by}
-use Rattle.conc_board_seats.proofs.Seats.{joins}
+use Rattle.conc_pool_seats.specs.Doings.{carried_by}
+use Rattle.conc_pool_seats.proofs.Seats.{joins}
 use Rattle.conc_board.proofs.board.Board.join.Goals as goal
 
 pub join_seat-requires : goal.join_seat-requires

@@ -1,13 +1,13 @@
 use Rattle.std.proofs.Common.{◌∙◌, arith, ap, inr, refl, subst, sym}
 use Rattle.conc_types.specs.declared.event.RequestId.{RequestId}
-use Rattle.conc_board_seats.specs.declared.views.LeadState.{LeadState}
-use Rattle.conc_board_seats.specs.declared.views.LeadState.TheVariants.{Let}
-use Rattle.conc_board_seats.specs.declared.views.View.{View}
-use Rattle.conc_board_seats.specs.Courses.{GoesOn}
-use Rattle.conc_board_seats.specs.Rule.{exclude}
-use Rattle.conc_board_seats.specs.LeadStates.{IsLive, WordFits}
-use Rattle.conc_board_seats.specs.Words.{request_of}
-use Rattle.conc_board_seats.proofs.LeadSteps.{lets_out}
+use Rattle.conc_pool_seats.specs.declared.views.LeadState.{LeadState}
+use Rattle.conc_pool_seats.specs.declared.views.LeadState.TheVariants.{Let}
+use Rattle.conc_pool_seats.specs.declared.views.View.{View}
+use Rattle.conc_pool_seats.specs.Courses.{GoesOn}
+use Rattle.conc_pool_seats.specs.Rule.{exclude}
+use Rattle.conc_pool_seats.specs.LeadStates.{IsLive, WordFits}
+use Rattle.conc_pool_seats.specs.Words.{request_of}
+use Rattle.conc_pool_seats.proofs.LeadSteps.{lets_out}
 use Rattle.conc_board.specs.Seats.{lead_state_of}
 use Rattle.conc_board.proofs.Leads.{adds_one, changes, lead_state_in-word, lead_state_there, let_or_gone, new_lead_state, request_there}
 use Rattle.conc_board.proofs.board.Board.let_out.Goals as goal
@@ -24,13 +24,11 @@ swap-requires c =
           ∙ c.requires.apart (request_of j) (let_or_gone (lead_state_of c.args.lead.now (request_of j)) (c.requires.lead.settled (request_of j)) (subst IsLive (sym (lead_state_in-word ss j)) live))),
     )
 
-pub returns-clause-lead : goal.returns-clause-lead
-returns-clause-lead c = changes _ _ _ _ c.request_word.result Let c.swap.result c.requires.lead c.requires.request c.request_word.ensures c.swap.ensures.0 c.swap.ensures.2.0
-    (subst (λ (z : LeadState). GoesOn z Let) (sym c.requires.lead_state) (inr refl)) tt
-
-pub returns-clause-lead_state : goal.returns-clause-lead_state
-returns-clause-lead_state c = new_lead_state _ c.args.r _ _ c.request_word.result Let c.swap.result c.requires.lead.lead_states c.requires.request c.request_word.ensures c.swap.ensures.2.0
-
-pub returns-clause-found : goal.returns-clause-found
-returns-clause-found c = adds_one (WordFits (lead_state_of c.args.lead.now c.args.r)) _ c.request_word.result c.swap.result _ _ c.request_word.ensures
-    (subst (λ (z : LeadState). WordFits z c.swap.result) (sym c.requires.lead_state) c.swap.ensures.2.2) (ap (λ (v : View). v.found) c.swap.ensures.2.0)
+pub returns : goal.returns
+returns c = record {
+  lead = changes _ _ _ _ c.request_word.result Let c.swap.result c.requires.lead c.requires.request c.request_word.ensures c.swap.ensures.0 c.swap.ensures.2.0
+      (subst (λ (z : LeadState). GoesOn z Let) (sym c.requires.lead_state) (inr refl)) tt;
+  lead_state = new_lead_state _ c.args.r _ _ c.request_word.result Let c.swap.result c.requires.lead.lead_states c.requires.request c.request_word.ensures c.swap.ensures.2.0;
+  found = adds_one (WordFits (lead_state_of c.args.lead.now c.args.r)) _ c.request_word.result c.swap.result _ _ c.request_word.ensures
+      (subst (λ (z : LeadState). WordFits z c.swap.result) (sym c.requires.lead_state) c.swap.ensures.2.2) (ap (λ (v : View). v.found) c.swap.ensures.2.0);
+}

@@ -1,10 +1,10 @@
 use Rattle.std.proofs.Common.{◌∙◌, Option, arith, ap, subst, sym}
 use Rattle.conc_types.specs.declared.plan.Plan.{Plan}
-use Rattle.conc_board_seats.specs.declared.views.LeadState.{LeadState}
-use Rattle.conc_board_seats.specs.declared.views.View.{View}
-use Rattle.conc_board_seats.specs.LeadStates.{looked}
-use Rattle.conc_board_seats.specs.Steps.{HasPlace, LookFits, with_lead_state}
-use Rattle.conc_board_seats.proofs.LeadSteps.{looks}
+use Rattle.conc_pool_seats.specs.declared.views.LeadState.{LeadState}
+use Rattle.conc_pool_seats.specs.declared.views.View.{View}
+use Rattle.conc_pool_seats.specs.LeadStates.{looked}
+use Rattle.conc_pool_seats.specs.Steps.{HasPlace, LookFits, with_lead_state}
+use Rattle.conc_pool_seats.proofs.LeadSteps.{looks}
 use Rattle.conc_board.specs.Looks.{Looks, Shows}
 use Rattle.conc_board.specs.Seats.{lead_state_of, plan_of}
 use Rattle.conc_board.proofs.Leads.{adds_one, changes, lead_state_there, new_lead_state}

@@ -1,11 +1,11 @@
 use Rattle.std.proofs.Common.{◌≡◌, ◌∙◌, ◌+◌, ◌<◌, ℕ, ap, arith, replicate, rules, subst, sym, None}
 use Rattle.atomic_table.specs.Table.{opening}
 use Rattle.conc_types.specs.declared.plan.Plan.{Plan}
-use Rattle.conc_law.specs.Places.{count_of_places}
-use Rattle.conc_board_seats.specs.Places.{has}
-use Rattle.conc_board_seats.specs.Rule.{Keep, first_view}
-use Rattle.conc_board_seats.specs.Words.{count_of_words}
-use Rattle.conc_board_seats.proofs.Seats.{opens}
+use Rattle.conc_base_law.specs.Places.{count_of_places}
+use Rattle.conc_pool_seats.specs.Places.{has}
+use Rattle.conc_pool_seats.specs.Rule.{Keep, first_view}
+use Rattle.conc_pool_seats.specs.Words.{count_of_words}
+use Rattle.conc_pool_seats.proofs.Seats.{opens}
 use Rattle.conc_board.proofs.Opened.{has-below}
 use Rattle.conc_board.proofs.board.Board.new.Goals as goal
 

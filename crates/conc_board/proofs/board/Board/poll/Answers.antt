@@ -1,9 +1,9 @@
 use Rattle.std.proofs.Common.{◌∙◌, arith, ap, sym}
 use Rattle.conc_types.specs.declared.event.RequestId.{RequestId}
-use Rattle.conc_board_seats.specs.declared.views.Doing.TheVariants.{Waits}
-use Rattle.conc_board_seats.specs.declared.views.View.{View}
-use Rattle.conc_board_seats.specs.Doings.{carried_by, polled}
-use Rattle.conc_board_seats.proofs.HandSteps.{polls}
+use Rattle.conc_pool_seats.specs.declared.views.Doing.TheVariants.{Waits}
+use Rattle.conc_pool_seats.specs.declared.views.View.{View}
+use Rattle.conc_pool_seats.specs.Doings.{carried_by, polled}
+use Rattle.conc_pool_seats.proofs.HandSteps.{polls}
 use Rattle.conc_board.specs.Seats.{doing_of, plan_of}
 use Rattle.conc_board.proofs.Hands.{stays_doing}
 use Rattle.conc_board.proofs.Leads.{request_there}

@@ -1,15 +1,15 @@
 use Rattle.std.proofs.Common.{◌≡◌, ◌∙◌, ℕ, List, ◌∷◌, ◌++◌, [], Option, Some, None, arith, ap, false, subst, sym}
 use Rattle.atomic_table.specs.Table.{rest}
 use Rattle.conc_types.specs.declared.event.RequestId.{RequestId}
-use Rattle.conc_board_seats.specs.declared.posted.Posted.{Posted}
-use Rattle.conc_board_seats.specs.declared.views.Doing.{Doing}
-use Rattle.conc_board_seats.specs.declared.views.Doing.TheVariants.{Idle, Serves}
-use Rattle.conc_board_seats.specs.declared.views.View.{View}
-use Rattle.conc_board_seats.specs.Doings.{carried_by}
-use Rattle.conc_board_seats.specs.Reports.{MayLeave}
-use Rattle.conc_board_seats.specs.Rule.{Runs}
-use Rattle.conc_board_seats.specs.Steps.{ServedFits, with_doing, with_left, with_post}
-use Rattle.conc_board_seats.proofs.HandSteps.{posts_by}
+use Rattle.conc_pool_seats.specs.declared.posted.Posted.{Posted}
+use Rattle.conc_pool_seats.specs.declared.views.Doing.{Doing}
+use Rattle.conc_pool_seats.specs.declared.views.Doing.TheVariants.{Idle, Serves}
+use Rattle.conc_pool_seats.specs.declared.views.View.{View}
+use Rattle.conc_pool_seats.specs.Doings.{carried_by}
+use Rattle.conc_pool_seats.specs.Reports.{MayLeave}
+use Rattle.conc_pool_seats.specs.Rule.{Runs}
+use Rattle.conc_pool_seats.specs.Steps.{ServedFits, with_doing, with_left, with_post}
+use Rattle.conc_pool_seats.proofs.HandSteps.{posts_by}
 use Rattle.conc_board.specs.Seats.{doing_of, plan_of}
 use Rattle.conc_board.proofs.Hands.{stays_left}
 use Rattle.conc_board.proofs.Leads.{adds_one, request_there}

@@ -1,6 +1,6 @@
 use Rattle.std.proofs.Common.{◌∙◌, ap, arith}
-use Rattle.conc_board_seats.specs.Places.{has}
-use Rattle.conc_board_seats.proofs.Seats.{splits}
+use Rattle.conc_pool_seats.specs.Places.{has}
+use Rattle.conc_pool_seats.proofs.Seats.{splits}
 use Rattle.conc_board.proofs.board.Board.split_off.Goals as goal
 
 pub split_seat-seat-requires : goal.split_seat-seat-requires

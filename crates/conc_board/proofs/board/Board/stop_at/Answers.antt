@@ -1,8 +1,8 @@
 use Rattle.std.proofs.Common.{◌≡◌, ◌∙◌, ◌==◌, ◌∷◌, ◌++◌, [], ℕ, arith, ap, if◌then◌else◌, subst}
-use Rattle.conc_board_seats.specs.declared.views.LeadState.{LeadState}
-use Rattle.conc_board_seats.specs.LeadStates.{WordFits, marked}
-use Rattle.conc_board_seats.specs.Steps.{noted, with_lead_state}
-use Rattle.conc_board_seats.proofs.LeadSteps.{stops_by}
+use Rattle.conc_pool_seats.specs.declared.views.LeadState.{LeadState}
+use Rattle.conc_pool_seats.specs.LeadStates.{WordFits, marked}
+use Rattle.conc_pool_seats.specs.Steps.{noted, with_lead_state}
+use Rattle.conc_pool_seats.proofs.LeadSteps.{stops_by}
 use Rattle.conc_board.proofs.Leads.{lead_state_there}
 use Rattle.conc_board.proofs.StoppedSo.{exchanged, stop_changes, stop_found, stop_lead_state}
 use Rattle.conc_board.proofs.board.Board.stop_at.Goals as goal

@@ -1,11 +1,11 @@
 use Rattle.std.proofs.Common.{◌∙◌, ◌==◌, ◌||◌, ◌∷◌, ◌++◌, [], ℕ, arith, ap, subst, sym}
 use Rattle.conc_types.specs.declared.event.RequestId.{RequestId}
-use Rattle.conc_board_seats.specs.declared.views.Doing.{Doing}
-use Rattle.conc_board_seats.specs.declared.views.Doing.TheVariants.{Serves}
-use Rattle.conc_board_seats.specs.declared.views.View.{View}
-use Rattle.conc_board_seats.specs.Doings.{warned}
-use Rattle.conc_board_seats.specs.Steps.{ServedFits}
-use Rattle.conc_board_seats.proofs.HandSteps.{warns}
+use Rattle.conc_pool_seats.specs.declared.views.Doing.{Doing}
+use Rattle.conc_pool_seats.specs.declared.views.Doing.TheVariants.{Serves}
+use Rattle.conc_pool_seats.specs.declared.views.View.{View}
+use Rattle.conc_pool_seats.specs.Doings.{warned}
+use Rattle.conc_pool_seats.specs.Steps.{ServedFits}
+use Rattle.conc_pool_seats.proofs.HandSteps.{warns}
 use Rattle.conc_board.specs.Seats.{doing_of, plan_of}
 use Rattle.conc_board.proofs.Hands.{stays_doing}
 use Rattle.conc_board.proofs.Leads.{request_there}

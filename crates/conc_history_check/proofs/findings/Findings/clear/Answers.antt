@@ -1,8 +1,8 @@
 use Rattle.std.proofs.Common.{refl, ◌∙◌}
-use Rattle.conc_law.specs.Before.{earlier_lives, last_life}
-use Rattle.conc_law.specs.Readings.{ticks}
-use Rattle.conc_law.specs.State.{now}
-use Rattle.conc_law_effects.proofs.NoEvents.{state-none}
+use Rattle.conc_base_law.specs.Before.{earlier_lives, last_life}
+use Rattle.conc_base_law.specs.Readings.{ticks}
+use Rattle.conc_base_law.specs.State.{now}
+use Rattle.conc_event_effects.proofs.NoEvents.{state-none}
 use Rattle.conc_history_check.proofs.Cleared.{cleared-alike}
 use Rattle.conc_history_check.proofs.findings.Findings.clear.Goals as goal
 

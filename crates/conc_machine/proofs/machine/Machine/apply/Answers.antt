@@ -1,4 +1,4 @@
-use Rattle.conc_law_effects.proofs.NextState.{state-next}
+use Rattle.conc_event_effects.proofs.NextState.{state-next}
 use Rattle.conc_machine.specs.StandsFor.{readings_of}
 use Rattle.conc_machine.proofs.States.{time-of}
 use Rattle.conc_machine.proofs.machine.Machine.apply.Goals as goal

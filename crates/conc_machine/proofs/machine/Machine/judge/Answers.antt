@@ -1,8 +1,8 @@
 use Rattle.std.proofs.Common.{◌∙◌, ap}
 use Rattle.std.specs.Option.{option_map}
-use Rattle.conc_law.specs.Law.{may_follow}
-use Rattle.conc_law.specs.Next.{may_come}
-use Rattle.conc_law.specs.Readings.{next_reading}
+use Rattle.conc_base_law.specs.Law.{may_follow}
+use Rattle.conc_base_law.specs.Next.{may_come}
+use Rattle.conc_base_law.specs.Readings.{next_reading}
 use Rattle.conc_machine.specs.StandsFor.{readings_of}
 use Rattle.conc_machine.proofs.machine.Machine.judge.Goals as goal
 

@@ -1,7 +1,7 @@
 use Rattle.std.proofs.Common.{Some, sym, ◌∙◌, ap}
 use Rattle.std.specs.Option.{option_map}
-use Rattle.conc_law.specs.Readings.{next_reading}
-use Rattle.conc_machine_readings.specs.declared.life.LifeReadings.{LifeReadings}
+use Rattle.conc_base_law.specs.Readings.{next_reading}
+use Rattle.conc_machine.specs.declared.life.LifeReadings.{LifeReadings}
 use Rattle.conc_machine.specs.StandsFor.{readings_of}
 use Rattle.conc_machine.proofs.machine.Machine.known_next.Goals as goal
 

@@ -1,6 +1,6 @@
 use Rattle.std.proofs.Common.{sym, ◌∙◌, ap}
 use Rattle.conc_types.specs.Words.{some_and}
-use Rattle.conc_law.specs.Places.{is_usable}
+use Rattle.conc_base_law.specs.Places.{is_usable}
 use Rattle.conc_machine.proofs.States.{time-of}
 use Rattle.conc_machine.proofs.machine.Machine.usable.Goals as goal
 

@@ -1,8 +1,8 @@
 use Rattle.std.proofs.Common.{sym, ◌∙◌, ap}
 use Rattle.std.specs.Option.{option_and_then, option_map}
-use Rattle.conc_law.specs.Next.{forced_let, let_event, may_let}
-use Rattle.conc_machine_queue.specs.Turns.{request_at_turn}
-use Rattle.conc_machine_queue.proofs.Firsts.{first-least}
+use Rattle.conc_base_law.specs.Next.{forced_let, let_event, may_let}
+use Rattle.conc_event_queue.specs.Turns.{request_at_turn}
+use Rattle.conc_event_queue.proofs.Firsts.{first-least}
 use Rattle.conc_machine_release.proofs.lets.Lets.forced_let.Goals as goal
 
 pub returns : goal.returns

@@ -1,8 +1,8 @@
 use Rattle.std.proofs.Common.{length, sym, ◌∙◌, ap, arith}
 use Rattle.std.specs.Prelude.{unwrap_or}
 use Rattle.conc_types.specs.Words.{numbered}
-use Rattle.conc_law.specs.State.{facts_at, no_facts}
-use Rattle.conc_law.specs.Next.{is_ready}
+use Rattle.conc_base_law.specs.State.{facts_at, no_facts}
+use Rattle.conc_base_law.specs.Next.{is_ready}
 use Rattle.conc_machine_release.specs.Lets.{live_rivals}
 use Rattle.conc_machine_release.specs.Refresh.{queues_of}
 use Rattle.conc_machine_release.specs.declared.starts.StartWindow.{StartWindow}

@@ -1,9 +1,9 @@
 use Rattle.std.proofs.Common.{◌≡◌, get_or, length, Some, refl, ◌∙◌, ap}
 use Rattle.std.specs.Prelude.{slice_get}
 use Rattle.std.proofs.lemmas.Option.{slice_get_read}
-use Rattle.conc_law.specs.State.{has_come}
-use Rattle.conc_machine_queue.proofs.Maps.{request_at_place}
-use Rattle.conc_machine_classes.specs.Classes.{class_at}
+use Rattle.conc_base_law.specs.State.{has_come}
+use Rattle.conc_event_queue.proofs.Maps.{request_at_place}
+use Rattle.conc_event_classes.specs.Classes.{class_at}
 use Rattle.conc_machine_release.specs.Refresh.{queues_of}
 use Rattle.conc_machine_release.proofs.Counts.{recounted-is}
 use Rattle.conc_machine_release.proofs.Slots.{HaveSlots-kept, rivals-counted}

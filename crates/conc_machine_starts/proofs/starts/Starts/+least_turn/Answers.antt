@@ -1,5 +1,5 @@
 use Rattle.std.proofs.Common.{◌∙◌, ap, sym, ◌-◌, arith}
-use Rattle.conc_machine_queue.specs.Least.{lesser}
+use Rattle.conc_event_queue.specs.Least.{lesser}
 use Rattle.conc_machine_starts.proofs.LeastTurns.{least-more, least-nowhere}
 use Rattle.conc_machine_starts.proofs.starts.Starts.+least_turn.Goals as goal
 

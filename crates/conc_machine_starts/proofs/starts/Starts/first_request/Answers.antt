@@ -1,6 +1,6 @@
 use Rattle.std.proofs.Common.{◌∙◌, ap, sym}
 use Rattle.std.specs.Option.{option_and_then, option_copied}
-use Rattle.conc_machine_queue.specs.Turns.{request_at_turn}
+use Rattle.conc_event_queue.specs.Turns.{request_at_turn}
 use Rattle.conc_machine_starts.proofs.LeastTurns.{first-somewhere}
 use Rattle.conc_machine_starts.proofs.starts.Starts.first_request.Goals as goal
 

@@ -1,6 +1,6 @@
 use Rattle.std.proofs.Common.{◌∙◌, ap, sym}
 use Rattle.std.specs.Option.{option_and_then}
-use Rattle.conc_machine_queue.specs.Least.{least}
+use Rattle.conc_event_queue.specs.Least.{least}
 use Rattle.conc_machine_starts.proofs.LeastTurns.{least-closed, least-open}
 use Rattle.conc_machine_starts.proofs.starts.Starts.least_turn_at.Goals as goal
 

@@ -1,7 +1,7 @@
 use Rattle.std.proofs.Common.{not, ◌&&◌, ◌∙◌, ap, sym}
 use Rattle.conc_types.specs.Words.{some_and}
-use Rattle.conc_law.specs.Managers.{admits}
-use Rattle.conc_law.specs.State.{is_running}
+use Rattle.conc_base_law.specs.Managers.{admits}
+use Rattle.conc_base_law.specs.State.{is_running}
 use Rattle.conc_machine_starts.specs.Updates.{is_open, manager_at}
 use Rattle.conc_machine_starts.proofs.Places.{may_start_is}
 use Rattle.conc_machine_starts.proofs.starts.Starts.may_start.Goals as goal

@@ -3,8 +3,8 @@ use Rattle.std.proofs.lemmas.List.{take_all}
 use Rattle.std.specs.List.{range_with_len}
 use Rattle.conc_types.specs.declared.event.PlaceId.{PlaceId}
 use Rattle.conc_types.specs.declared.manager.Manager.{Manager}
-use Rattle.conc_law.specs.Places.{all_places, count_of_places}
-use Rattle.conc_machine_queue.specs.Least.{vacant}
+use Rattle.conc_base_law.specs.Places.{all_places, count_of_places}
+use Rattle.conc_event_queue.specs.Least.{vacant}
 use Rattle.conc_machine_starts.specs.Starts.{owner_of}
 use Rattle.conc_machine_starts.proofs.NoStarts.{starts-none}
 use Rattle.conc_machine_starts.proofs.Ranges.{places-all}

@@ -2,7 +2,7 @@ use Rattle.std.proofs.Common.{◌≡◌, false, length, map, take}
 use Rattle.std.specs.List.{range_with_len}
 use Rattle.conc_types.specs.declared.event.PlaceId.{PlaceId}
 use Rattle.conc_types.specs.declared.manager.Manager.{Manager}
-use Rattle.conc_machine_queue.specs.Least.{vacant}
+use Rattle.conc_event_queue.specs.Least.{vacant}
 use Rattle.conc_machine_starts.specs.Starts.{owner_of}
 use Rattle.conc_machine_starts.proofs.starts.Starts.new.Given as goal
 

@@ -1,7 +1,7 @@
 use Rattle.std.proofs.Common.{◌∙◌, ◌<◌, All, ap, arith, get_or, length, map, refl, set, subst, sym}
 use Rattle.std.proofs.lemmas.Option.{slice_get_read, slice_get_within}
 use Rattle.conc_types.specs.declared.manager.Manager.{Manager}
-use Rattle.conc_law.specs.State.{facts_at}
+use Rattle.conc_base_law.specs.State.{facts_at}
 use Rattle.conc_machine_starts.specs.Updates.{key_of, with_one, without_one}
 use Rattle.conc_machine_starts.proofs.Writes.{all-written, slots-kept, starts-written}
 use Rattle.conc_machine_starts.proofs.starts.Starts.write.Goals as goal

@@ -1,5 +1,5 @@
 use Rattle.std.proofs.Common.{◌∙◌, ap}
-use Rattle.conc_machine_queue.specs.Least.{vacant}
+use Rattle.conc_event_queue.specs.Least.{vacant}
 use Rattle.conc_machine_steps.proofs.Fresh.{none_run}
 use Rattle.conc_machine_steps.proofs.running.Running.new.Goals as goal
 

@@ -1,6 +1,6 @@
 use Rattle.std.proofs.Common.{◌∙◌, ap}
-use Rattle.conc_law.specs.Next.{is_left_running, runs_somewhere}
-use Rattle.conc_machine_queue.proofs.Maps.{request_at_place}
+use Rattle.conc_base_law.specs.Next.{is_left_running, runs_somewhere}
+use Rattle.conc_event_queue.proofs.Maps.{request_at_place}
 use Rattle.conc_machine_steps.specs.Slots.{refreshed}
 use Rattle.conc_machine_steps.proofs.Numbers.{HasSlot-numbers_of}
 use Rattle.conc_machine_steps.proofs.Written.{running_written, written_read}

@@ -1,6 +1,6 @@
 use Rattle.std.proofs.Common.{sym, ◌∙◌, ap, subst}
-use Rattle.conc_law.specs.Next.{has_step}
-use Rattle.conc_machine_queue.proofs.Maps.{request_at_place}
+use Rattle.conc_base_law.specs.Next.{has_step}
+use Rattle.conc_event_queue.proofs.Maps.{request_at_place}
 use Rattle.conc_machine_steps.specs.Slots.{HasSlot, refreshed}
 use Rattle.conc_machine_steps.proofs.Numbers.{HasSlot-numbers_of, HasSlot-refreshed}
 use Rattle.conc_machine_steps.proofs.Written.{parent_there, steps_written, steps_written_member, written_read}

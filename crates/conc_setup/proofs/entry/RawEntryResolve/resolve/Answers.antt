@@ -1,4 +1,4 @@
-use Rattle.conc_setup_fields.proofs.Combined.{both-read, good-read, read_as-is}
+use Rattle.conc_data_fields.proofs.Combined.{both-read, good-read, read_as-is}
 use Rattle.conc_setup.specs.ThirdPass.{resolved_entry}
 use Rattle.conc_setup.proofs.entry.RawEntryResolve.resolve.Goals as goal
 

@@ -1,5 +1,5 @@
 use Rattle.std.proofs.lemmas.Result.{err_from_is_err_and}
-use Rattle.conc_setup_fields.proofs.Combined.{both-read, judged-fails}
+use Rattle.conc_data_fields.proofs.Combined.{both-read, judged-fails}
 use Rattle.conc_setup.specs.ThirdPass.{resolved_manager}
 use Rattle.conc_setup.proofs.Looked.{manager-resolved}
 use Rattle.conc_setup.proofs.manager.RawManagerResolve.resolve.Goals as goal

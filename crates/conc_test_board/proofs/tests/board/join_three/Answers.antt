@@ -1,6 +1,6 @@
 use Rattle.std.proofs.Common.{◌∙◌, ◌++◌, List, ap, arith}
 use Rattle.conc_types.specs.declared.event.PlaceId.{PlaceId}
-use Rattle.conc_board_seats.specs.Places.{has}
+use Rattle.conc_pool_seats.specs.Places.{has}
 use Rattle.conc_board.specs.Seats.{places_of_hand, places_of_lead}
 use Rattle.conc_test_board.proofs.Rules.{three_have}
 use Rattle.conc_test_board.proofs.tests.board.join_three.Goals as goal

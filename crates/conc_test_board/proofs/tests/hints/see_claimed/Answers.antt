@@ -1,5 +1,5 @@
 use Rattle.std.proofs.Common.{subst, sym}
-use Rattle.conc_board_seats.specs.LeadStates.{IsLet}
+use Rattle.conc_pool_seats.specs.LeadStates.{IsLet}
 use Rattle.conc_test_board.proofs.Rules.{two_not_one}
 use Rattle.conc_test_board.proofs.tests.hints.see_claimed.Goals as goal
 

@@ -1,6 +1,6 @@
 use Rattle.std.proofs.Common.{None, arith}
-use Rattle.conc_board_lanes.specs.Lanes.{plan_of, puts_of}
-use Rattle.conc_board_lanes.specs.Rooms.{room_for}
+use Rattle.conc_pool_lanes.specs.Lanes.{plan_of, puts_of}
+use Rattle.conc_pool_lanes.specs.Rooms.{room_for}
 use Rattle.conc_test_board.proofs.tests.lanes.put_five.Goals as goal
 
 pub put-requires-clause-room : goal.put-requires-clause-room

@@ -1,5 +1,5 @@
 use Rattle.std.specs.Prelude.{IsTrue}
-use Rattle.conc_board_lanes.specs.Lanes.{are_shorter, IsLeadPassOf, puts_of}
+use Rattle.conc_pool_lanes.specs.Lanes.{are_shorter, IsLeadPassOf, puts_of}
 use Rattle.conc_test_board.proofs.tests.lanes.put_five.Given as goal
 
 abbrev pub invariant-loop-number : goal.invariant-loop-number

@@ -1,4 +1,4 @@
-use Rattle.conc_board_seats.specs.LeadStates.{IsGone}
+use Rattle.conc_pool_seats.specs.LeadStates.{IsGone}
 use Rattle.conc_board.specs.Seats.{lead_state_of}
 use Rattle.conc_test_board.specs.Rounds.{OnlyOne}
 use Rattle.conc_test_board.proofs.tests.workers.collect_when_left.Given as goal

@@ -1,6 +1,6 @@
 use Rattle.std.proofs.Common.{◌≡◌, ◌≤◌}
 use Rattle.conc_types.specs.declared.event.RequestId.{RequestId}
-use Rattle.conc_board_seats.specs.declared.views.LeadState.TheVariants.{NotLet}
+use Rattle.conc_pool_seats.specs.declared.views.LeadState.TheVariants.{NotLet}
 use Rattle.conc_board.specs.Seats.{IsLeadOf, lead_state_of}
 use Rattle.conc_test_board.proofs.tests.workers.see_all.Given as goal
 

@@ -1,4 +1,4 @@
-use Rattle.conc_desk.proofs.Waiting.{let-in}
+use Rattle.conc_run_desk.proofs.Waiting.{let-in}
 use Rattle.conc_test_desk.proofs.tests.driving.release.Goals as goal
 
 pub release-requires-clause-let_out : goal.release-requires-clause-let_out

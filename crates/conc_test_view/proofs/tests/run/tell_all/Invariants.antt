@@ -1,8 +1,8 @@
 use Rattle.std.proofs.Common.{◌≡◌, List}
 use Rattle.conc_types.specs.declared.event.Event.{Event}
-use Rattle.conc_disk_devices.specs.Calls.{state_of}
+use Rattle.conc_edge_devices.specs.Calls.{state_of}
 use Rattle.conc_journal.specs.Journals.{IsOn, list_of as journal_list}
-use Rattle.conc_law.specs.Law.{LawfulSoFar}
+use Rattle.conc_base_law.specs.Law.{LawfulSoFar}
 use Rattle.conc_machine.specs.StandsFor.{plan_of}
 use Rattle.conc_view.specs.Publisher.{list_of, told_plan}
 use Rattle.conc_test_view.specs.Follows.{Follows}

@@ -1,6 +1,6 @@
 use Rattle.std.proofs.Common.{List, refl, subst, sym}
 use Rattle.conc_types.specs.declared.event.Event.{Event}
-use Rattle.conc_law.specs.Law.{is_lawful_so_far}
+use Rattle.conc_base_law.specs.Law.{is_lawful_so_far}
 use Rattle.conc_test_view.specs.Follows.{Follows}
 use Rattle.conc_test_view.proofs.Following.{follows_none}
 use Rattle.conc_test_view.proofs.tests.run.told_view.Goals as goal

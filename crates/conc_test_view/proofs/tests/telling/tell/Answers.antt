@@ -1,7 +1,7 @@
 use Rattle.std.proofs.Common.{◌≡◌, ◌∙◌, ◌++◌, ◌∷◌, [], List, reverse, subst, sym, true}
 use Rattle.conc_types.specs.declared.event.Event.{Event}
 use Rattle.conc_journal.specs.Journals.{list_of as journal_list}
-use Rattle.conc_law.specs.Law.{LawfulSoFar, may_follow}
+use Rattle.conc_base_law.specs.Law.{LawfulSoFar, may_follow}
 use Rattle.conc_machine.specs.StandsFor.{plan_of, readings_of}
 use Rattle.conc_view.specs.Publisher.{list_of, told_plan}
 use Rattle.conc_test_view.specs.Follows.{Follows}

@@ -1,6 +1,0 @@
-use Rattle.std.proofs.Common.{All}
-use Rattle.conc_bench_board.specs.Crews.{Fits}
-use Rattle.conc_bench_board.proofs.workers.poll_all.Given as goal
-
-abbrev pub invariant-loop-worker : goal.invariant-loop-worker
-invariant-loop-worker g l = All (Fits l.board) l.workers

@@ -1,5 +1,0 @@
-use Rattle.conc_board_lanes.proofs.Rules.{begins}
-use Rattle.conc_board_lanes.proofs.lane.Lane.new.Goals as goal
-
-pub ruled-requires-clause-rule : goal.ruled-requires-clause-rule
-ruled-requires-clause-rule c = begins

@@ -1,5 +1,0 @@
-use Rattle.conc_board_lanes.proofs.Puts.{puts-shorter}
-use Rattle.conc_board_lanes.proofs.laws.lanes_have_room.Goals as goal
-
-pub returns : goal.returns
-returns c = puts-shorter

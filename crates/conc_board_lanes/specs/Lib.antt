@@ -1,5 +1,0 @@
-pub mod Rule
-pub mod Lane
-pub mod Rooms
-pub mod Lanes
-pub mod Puts

@@ -1,9 +1,0 @@
-pub mod Words
-pub mod Apart
-pub mod Judged
-pub mod Ends
-pub mod Tabled
-pub mod Rising
-pub mod Charted
-pub mod AllMoments
-pub mod LastTurns

@@ -1,9 +1,0 @@
-use Rattle.std.proofs.Common.{◌≡◌, ◌++◌, take, drop}
-use Rattle.conc_chart_places.specs.Places.{with_place}
-use Rattle.conc_chart_places.proofs.order.add_place.Given as goal
-
-abbrev pub invariant-loop-i : goal.invariant-loop-i
-invariant-loop-i l = record {
-  same : l.places.items ≡ l.initial.places.items;
-  so_far : with_place l.place l.places.items ≡ take l.i l.places.items ++ with_place l.place (drop l.i l.places.items);
-}

@@ -1,6 +1,0 @@
-use Rattle.std.proofs.Common.{◌≡◌, drop}
-use Rattle.conc_chart_places.specs.Places.{places_of, with_places}
-use Rattle.conc_chart_places.proofs.order.places.Given as goal
-
-abbrev pub invariant-loop-run : goal.invariant-loop-run
-invariant-loop-run l = with_places (drop l.run-index l.runs) l.places.items ≡ places_of l.runs

@@ -1,6 +1,0 @@
-use Rattle.std.proofs.Common.{◌≡◌, ◌++◌, None, drop}
-use Rattle.conc_chart_svg.specs.Moments.{moments_from}
-use Rattle.conc_chart_svg.proofs.moments.moments_of.Given as goal
-
-abbrev pub invariant-loop-event : goal.invariant-loop-event
-invariant-loop-event l = l.moments.items ++ moments_from l.last (drop l.event-index l.events) ≡ moments_from None l.events

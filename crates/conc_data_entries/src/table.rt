@@ -1,0 +1,66 @@
+ghost use Rattle.std.specs.Prelude.{◌≡◌, List, Result, ℕ};
+ghost use Rattle.conc_types.specs.declared.kind.RefusalKind.{RefusalKind};
+ghost use Rattle.conc_data_fields.specs.Reads.{IfRead};
+ghost use Rattle.conc_data_entries.specs.Tables.{table_in, word_in};
+ghost use Rattle.toml.specs.Data.{Members};
+ghost use Rattle.toml.specs.View.{table_view, view};
+
+use conc_data_fields::{FieldFail, Form, Judged};
+use conc_types::RefusalKind;
+use std::alloc::Global;
+use std::marker::PhantomData;
+use toml::{Table, Value};
+
+/// What a setup file gives as a table, read by its keys.
+pub trait FromTable: Drop {
+    ghost fields: { Members → Result Self RefusalKind };
+
+    /// What the table gives, or the least kind of the rules that it breaks, unless memory lacks.
+    fn from_table(alloc: Global, table: &Table) -> Result<Self, FieldFail>
+        ensures { IfRead result (λ r. r ≡ fields (table_view table.now)) };
+}
+
+/// The form of a table that is read by its keys.
+pub struct TableForm<T> {
+    out: PhantomData<T>,
+}
+
+impl<T: FromTable> Form for TableForm<T> {
+    type Out = T;
+
+    ghost form = { table_in T.fields };
+
+    fn read(alloc: Global, value: &Value) -> Result<T, FieldFail> {
+        match value.as_table() {
+            None => Err(FieldFail::Refused(RefusalKind::WrongKind)),
+            Some(table) => T::from_table(alloc, table),
+        }
+    }
+}
+
+/// What a setup file gives as one of a few words.
+pub(crate) trait FromWord: Drop {
+    ghost of_word: { List ℕ → Result Self RefusalKind };
+
+    /// What the word stands for, or what is wrong with it.
+    fn from_word(word: &str) -> Judged<Self>
+        ensures { result ≡ of_word word.now };
+}
+
+/// The form of a word.
+pub(crate) struct WordForm<T> {
+    out: PhantomData<T>,
+}
+
+impl<T: FromWord> Form for WordForm<T> {
+    type Out = T;
+
+    ghost form = { word_in T.of_word };
+
+    fn read(_alloc: Global, value: &Value) -> Result<T, FieldFail> {
+        match value.as_str() {
+            None => Err(FieldFail::Refused(RefusalKind::WrongKind)),
+            Some(word) => Ok(T::from_word(word)?),
+        }
+    }
+}

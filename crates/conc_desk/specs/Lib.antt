@@ -1,6 +1,0 @@
-pub mod Seated
-pub mod Kept
-pub mod State
-pub mod Desks
-pub mod Logging
-pub mod Keeping

@@ -1,5 +1,0 @@
-use Rattle.conc_disk.proofs.Same.{shortened-same}
-use Rattle.conc_disk_devices.proofs.path.PathDiskDisk.cut.Goals as goal
-
-pub returns-clause-images : goal.returns-clause-images
-returns-clause-images g c = λ image left. (image, tt, shortened-same c.args.len image)

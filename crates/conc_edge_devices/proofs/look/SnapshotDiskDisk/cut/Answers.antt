@@ -1,0 +1,5 @@
+use Rattle.conc_disk.proofs.Same.{shortened-same}
+use Rattle.conc_edge_devices.proofs.look.SnapshotDiskDisk.cut.Goals as goal
+
+pub returns-clause-images : goal.returns-clause-images
+returns-clause-images g c = λ image left. (image, tt, shortened-same c.args._len image)

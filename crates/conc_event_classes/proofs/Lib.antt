@@ -1,0 +1,11 @@
+pub mod KindEquality
+pub mod Pushes
+pub mod Slots
+pub mod PartitionSteps
+pub mod Passing
+pub mod RivalRows
+pub mod Rising
+pub mod Covering
+pub mod Putting
+pub mod Numbered
+pub mod Built

@@ -1,0 +1,149 @@
+ghost use Rattle.std.specs.Prelude.{◌≡◌, ◌+◌, ◌<◌, ◌^◌, length, unwrap_or, false};
+ghost use Rattle.std.specs.List.{enumerate_from, find, list_any};
+ghost use Rattle.std.specs.Option.{option_copied, option_map};
+ghost use Rattle.conc_types.specs.Words as words_spec;
+ghost use Rattle.conc_base_law.specs.Next as next_spec;
+ghost use Rattle.conc_event_decisions.specs.Members.{AreMembers};
+
+use crate::lookup::{facts_at, has_come, is_completed, is_live, is_running, is_waiting};
+use crate::stages::set_step;
+use conc_rules::{are_exclusive, can_run, is_set};
+use conc_types::{Event, Order, Plan, Req, State, numbered};
+
+// ---- interrupts
+
+/// Whether r ran at the stop of the system: it runs, and was not started since.
+#[tactic(auto, unfolding(conc_base_law::specs::Next::is_left_running))]
+pub fn is_left_running(state: &State, r: &Req) -> bool
+    ensures { result ≡ next_spec.is_left_running state.now r.now }
+{
+    let facts = facts_at(state, r);
+    is_running(facts) && !facts.started
+}
+
+fn first_left_running<'a>(plan: &'a Plan, state: &State) -> Option<&'a Req>
+    ensures { option_copied result ≡ find (next_spec.is_left_running state.now) plan.now.requests }
+{
+    plan.requests
+        .as_slice()
+        .iter()
+        .find(|r| is_left_running(state, r))
+}
+
+/// The interrupt that is forced, if one is due: that of the first request that ran at the stop.
+#[tactic(auto, unfolding(conc_base_law::specs::Next::forced_interrupt))]
+pub fn forced_interrupt(plan: &Plan, state: &State) -> Option<Event>
+    ensures { result ≡ next_spec.forced_interrupt plan.now state.now }
+{
+    match first_left_running(plan, state) {
+        Some(r) => Some(Event::Interrupt { request: r.number }),
+        None => None,
+    }
+}
+
+// ---- commands
+
+fn is_done(state: &State, number: u32) -> bool
+    ensures { result ≡ unwrap_or (words_spec.numbered state.now.done number) false }
+{
+    numbered(state.done.as_slice(), number)
+        .copied()
+        .unwrap_or(false)
+}
+
+/// Whether a command, which is given with its number, is due: it is not done, and its moment has come.
+#[tactic(auto, unfolding(conc_base_law::specs::Next::is_due))]
+pub fn is_due(state: &State, number: u32, order: &Order) -> bool
+    ensures { result ≡ next_spec.is_due state.now (number, order.now) }
+{
+    !is_done(state, number) && has_come(state.time, order.at)
+}
+
+// The number of the first command that is due, of those from this number on.
+fn first_due(state: &State, orders: &[Order], number: u32) -> Option<u32>
+    requires { number + length orders.now < 2 ^ 32 }
+    ensures { result ≡ option_map (λ order. order.0)
+        (find (next_spec.is_due state.now) (enumerate_from number orders.now)) }
+{
+    match orders.split_first() {
+        None => None,
+        Some((order, _)) if is_due(state, number, order) => Some(number),
+        Some((_, rest)) => first_due(state, rest, number + 1),
+    }
+}
+
+/// The command that is forced, if one is due.
+#[tactic(auto, unfolding(conc_base_law::specs::Next::forced_command))]
+pub fn forced_command(plan: &Plan, state: &State) -> Option<Event>
+    ensures { result ≡ next_spec.forced_command plan.now state.now }
+{
+    match first_due(state, plan.script.commands.as_slice(), 1) {
+        Some(number) => Some(Event::Command { number }),
+        None => None,
+    }
+}
+
+// ---- steps of sets
+
+/// Whether a request is an open set that has something to do. All members of the set stand among the
+/// requests that are given.
+#[tactic(auto, unfolding(conc_base_law::specs::Next::has_step))]
+pub fn has_step(plan: &Plan, state: &State, r: &Req, members: &[Req]) -> bool
+    requires { AreMembers plan.now r.now.number members.now }
+    ensures { result ≡ next_spec.has_step plan.now state.now r.now }
+{
+    facts_at(state, r).opened && set_step(plan, state, r, members).is_some()
+}
+
+// ---- lets
+
+/// Whether q is live and excludes r.
+#[tactic(auto, unfolding(conc_base_law::specs::Next::blocks))]
+pub fn blocks(plan: &Plan, state: &State, r: &Req, q: &Req) -> bool
+    ensures { result ≡ next_spec.blocks plan.now state.now r.now q.now }
+{
+    is_live(facts_at(state, q)) && are_exclusive(plan, q, r)
+}
+
+fn is_blocked(plan: &Plan, state: &State, r: &Req) -> bool
+    ensures { result ≡ list_any (next_spec.blocks plan.now state.now r.now) plan.now.requests }
+{
+    plan.requests
+        .as_slice()
+        .iter()
+        .any(|q| blocks(plan, state, r, q))
+}
+
+/// Whether no live request excludes r.
+#[tactic(auto, unfolding(conc_base_law::specs::Next::is_free))]
+pub fn is_free(plan: &Plan, state: &State, r: &Req) -> bool
+    ensures { result ≡ next_spec.is_free plan.now state.now r.now }
+{
+    !is_blocked(plan, state, r)
+}
+
+/// Whether r can be let out, or opened, unless a live request excludes it.
+#[tactic(auto, unfolding(conc_base_law::specs::Next::is_ready))]
+pub fn is_ready(plan: &Plan, state: &State, r: &Req) -> bool
+    ensures { result ≡ next_spec.is_ready plan.now state.now r.now }
+{
+    let facts = facts_at(state, r);
+    facts.entered
+        && !is_live(facts)
+        && !is_completed(facts)
+        && !facts.held
+        && has_come(state.time, r.start)
+        && can_run(plan, r)
+        && !is_waiting(plan, state, r)
+}
+
+/// The let of a request, or the open where it is a set.
+pub fn let_event(r: &Req) -> Event
+    ensures { result ≡ next_spec.let_event r.now }
+{
+    if is_set(r.item) {
+        Event::OpenSet { set: r.number }
+    } else {
+        Event::LetOut { request: r.number }
+    }
+}

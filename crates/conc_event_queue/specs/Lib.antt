@@ -1,0 +1,5 @@
+pub mod Least
+pub mod Tournament
+pub mod Turns
+pub mod Written
+pub mod Laws

@@ -1,5 +1,0 @@
-use Rattle.conc_law.proofs.Finishes.{next_alone-none}
-use Rattle.conc_law.proofs.alone_finishes.Goals as goal
-
-pub returns : goal.returns
-returns c = next_alone-none

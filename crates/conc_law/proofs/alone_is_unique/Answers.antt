@@ -1,5 +1,0 @@
-use Rattle.conc_law.proofs.AloneUnique.{alone_unique}
-use Rattle.conc_law.proofs.alone_is_unique.Goals as goal
-
-pub returns : goal.returns
-returns c = alone_unique

@@ -1,5 +1,0 @@
-use Rattle.conc_law.proofs.BegunStages.{stages_begun-occur}
-use Rattle.conc_law.proofs.begun_stages_occur.Goals as goal
-
-pub returns : goal.returns
-returns c = stages_begun-occur

@@ -1,6 +1,0 @@
-use Rattle.std.proofs.Common.{reverse}
-use Rattle.conc_law.proofs.AloneLawful.{next_alone-follows}
-use Rattle.conc_law.proofs.choice_is_lawful.Goals as goal
-
-pub returns : goal.returns
-returns c = λ plan readings history e h. next_alone-follows plan readings (reverse history) e h

@@ -1,5 +1,0 @@
-use Rattle.conc_law.proofs.Prefixes.{is_lawful_so_far-prefix}
-use Rattle.conc_law.proofs.prefix_is_lawful_so_far.Goals as goal
-
-pub returns : goal.returns
-returns c = is_lawful_so_far-prefix

@@ -1,5 +1,0 @@
-use Rattle.conc_law.proofs.Numbering.{numbered_plan}
-use Rattle.conc_law.proofs.requests_are_numbered.Goals as goal
-
-pub returns : goal.returns
-returns c = λ plan r has. numbered_plan plan r has

@@ -1,5 +1,0 @@
-use Rattle.std.proofs.Common.{length}
-use Rattle.conc_law_decisions.proofs.stages.+worst_critical.Given as goal
-
-abbrev pub decreases-worst_critical : goal.decreases-worst_critical
-decreases-worst_critical l = length l.stages.now

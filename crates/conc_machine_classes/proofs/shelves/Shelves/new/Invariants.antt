@@ -1,5 +1,0 @@
-use Rattle.conc_machine_classes.specs.Shelves.{AreShelvesTo}
-use Rattle.conc_machine_classes.proofs.shelves.Shelves.new.Given as goal
-
-abbrev pub invariant-loop-i : goal.invariant-loop-i
-invariant-loop-i l = AreShelvesTo l.plan l.heads l.i l.shelves

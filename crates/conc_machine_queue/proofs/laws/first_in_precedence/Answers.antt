@@ -1,5 +1,0 @@
-use Rattle.conc_machine_queue.proofs.Firsts.{first-least}
-use Rattle.conc_machine_queue.proofs.laws.first_in_precedence.Goals as goal
-
-pub returns : goal.returns
-returns c = λ plan test. first-least plan test

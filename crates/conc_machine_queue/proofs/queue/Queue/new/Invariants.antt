@@ -1,6 +1,0 @@
-use Rattle.std.proofs.Common.{◌≡◌}
-use Rattle.conc_machine_queue.specs.Least.{vacant}
-use Rattle.conc_machine_queue.proofs.queue.Queue.new.Given as goal
-
-abbrev pub invariant-loop : goal.invariant-loop
-invariant-loop l = l.nodes.items ≡ vacant l.counter

@@ -1,4 +1,0 @@
-pub mod Least
-pub mod Tournament
-pub mod Turns
-pub mod Written

@@ -1,4 +1,0 @@
-pub mod Crews
-pub mod Filling
-pub mod Resolving
-pub mod Runs

@@ -1,0 +1,18 @@
+use Rattle.conc_run_state.specs.Disks.{disks}
+use Rattle.conc_run_state.specs.Lists.{GoesOnAlone}
+use Rattle.conc_run_state.specs.Works.{list_in}
+use Rattle.conc_run_steps.specs.Steps.{left_in, plan_in, readings_in}
+use Rattle.conc_run_steps.specs.Going.{IsUnderway}
+use Rattle.conc_run_steps.specs.Told.{IsTold}
+use Rattle.conc_run_alone.proofs.told.run_told.Given as goal
+
+abbrev pub invariant-loop-receipt : goal.invariant-loop-receipt
+invariant-loop-receipt g l = record {
+  under : IsUnderway l.initial.work l.work
+      (disks (g.D.Disk.state l.initial.journal) (g.D.Disk.state l.journal) (g.E.Disk.state l.initial.spool) (g.E.Disk.state l.spool));
+  alone : GoesOnAlone (plan_in l.initial.work) (readings_in l.initial.work) (list_in l.initial.work) (list_in l.work);
+  is_told : IsTold (g.T.Teller.list l.teller) (g.T.Teller.takes l.teller) (plan_in l.initial.work) (list_in l.work);
+}
+
+abbrev pub decreases-loop-receipt : goal.decreases-loop-receipt
+decreases-loop-receipt g l = left_in l.work

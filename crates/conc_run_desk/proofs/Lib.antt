@@ -1,0 +1,10 @@
+pub mod Ends
+pub mod Logged
+pub mod Moves
+pub mod Taken
+pub mod Waiting
+pub mod Ties
+pub mod After
+pub mod Named
+pub mod Apart
+pub mod Stopping

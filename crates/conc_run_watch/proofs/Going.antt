@@ -1,0 +1,47 @@
+-- A watcher that looks again and again.
+use Rattle.std.proofs.Common.{◌≡◌, ◌<◌, ◌++◌, [], ℕ, List, refl, sym, ◌∙◌, ap, append_assoc, arith, length}
+use Rattle.std.proofs.lemmas.List.{append-nil}
+use mathlib.Core.List.{IsPrefix}
+use Rattle.conc_view.specs.declared.naming.Naming.{Ghosts}
+use Rattle.conc_types.specs.declared.plan.Plan.{Plan}
+use Rattle.conc_run_watch.specs.Crews.{AreWatching, StillWatch}
+use Rattle.conc_run_watch.specs.Looks.{Goes, HasLooked, kept_in, plan_in, seen_in}
+use Rattle.conc_run_watch.specs.Watches.{ComesOfLook, with_early_look}
+use Rattle.conc_run_watch.proofs.Kept.{keeps_early, up_to_date}
+use Rattle.conc_run_watch.specs.declared.crew.Watchers.{Watchers}
+use Rattle.conc_run_watch.specs.declared.looks.Looks.{Looks}
+
+-- what begins a beginning begins the whole
+prefix_on : {A : Type 0} (xs ys zs : List A) → IsPrefix xs ys → IsPrefix ys zs → IsPrefix xs zs
+prefix_on xs ys zs p q = (p.0 ++ q.0, sym (append_assoc xs p.0 q.0) ∙ (ap (λ l. l ++ q.0) p.1 ∙ q.1))
+
+module _ {J : Type 0} {names : Ghosts J} where
+  -- before the first look
+  pub goes_none : (looks : Looks J names) → Goes looks looks
+  goes_none looks = record { plan = refl; begins = ([], append-nil (seen_in looks)); keeps = ([], append-nil (kept_in looks)) }
+
+  -- one look more
+  pub goes_more : (first before after : Looks J names) → Goes first before → plan_in after ≡ plan_in before → IsPrefix (seen_in before) (seen_in after)
+      → ComesOfLook (plan_in after) (seen_in after) (with_early_look (kept_in before)) (kept_in after) → Goes first after
+  goes_more first before after went plan begins look = record {
+    plan = plan ∙ went.plan;
+    begins = prefix_on (seen_in first) (seen_in before) (seen_in after) went.begins begins;
+    keeps = prefix_on (kept_in first) (kept_in before) (kept_in after) went.keeps
+        (keeps_early (plan_in after) (seen_in after) (kept_in before) (kept_in after) look);
+  }
+
+  -- the last look
+  pub has_looked : (first before after : Looks J names) → Goes first before → plan_in after ≡ plan_in before → IsPrefix (seen_in before) (seen_in after)
+      → ComesOfLook (plan_in after) (seen_in after) (with_early_look (kept_in before)) (kept_in after) → HasLooked first after
+  has_looked first before after went plan begins look = record {
+    goes = goes_more first before after went plan begins look;
+    up_to_date = up_to_date (plan_in before) (plan_in after) (seen_in before) (seen_in after) (kept_in before) (kept_in after) plan begins before.looks look;
+  }
+
+  -- watchers that watch what they watched watch the plan still
+  pub still_watching : (plan : Plan) (count : ℕ) (before after : Watchers J names) → StillWatch before after → AreWatching plan count before → AreWatching plan count after
+  still_watching plan count before after still watching = record {
+    long = still.long ∙ watching.long;
+    watches = λ i d inside.
+        let within : i < length before.looks.items = omega (arith, inside, still.long) in (still.each i d within).goes.plan ∙ watching.watches i d within;
+  }

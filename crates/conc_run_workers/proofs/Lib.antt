@@ -1,0 +1,12 @@
+pub mod Advancing
+pub mod Logged
+pub mod Coming
+pub mod Awaiting
+pub mod Ending
+pub mod Filled
+pub mod Kept
+pub mod PutWaiting
+pub mod Quiet
+pub mod Stepping
+pub mod Crews
+pub mod Waiting

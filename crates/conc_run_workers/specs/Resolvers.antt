@@ -1,0 +1,62 @@
+-- A resolver between two events, and what a step of it comes to.
+use Rattle.std.specs.Prelude.{◌≡◌, Result, Ok}
+use Rattle.conc_types.specs.declared.event.Event.{Event}
+use Rattle.conc_disk.specs.declared.disk.Disk.{Ghosts as DiskGhosts}
+use Rattle.conc_journal.specs.declared.teller.Teller.{Ghosts as TellerGhosts}
+use Rattle.conc_run_desk.specs.State.{DeskState}
+use Rattle.conc_run_state.specs.declared.error.RunFail.{RunFail}
+use Rattle.conc_run_workers.specs.declared.resolving.Resolver.{Resolver}
+use Rattle.conc_run_workers.specs.Filling.{AddsEvent, AreFilled, Fills}
+use Rattle.conc_run_workers.specs.Resolving.{Concludes, IsAtWork, Resolves, Situation}
+
+-- what stands with this desk, these disks and this teller
+abbrev pub standing : {D E T : Type 0} → DiskGhosts D → DiskGhosts E → TellerGhosts T → DeskState → D → E → T → Situation
+standing d e t desk journal spool teller = record {
+  desk = desk;
+  journal = d.state journal;
+  spool = e.state spool;
+  told = t.list teller;
+  takes = t.takes teller;
+  may_lack = t.may_lack teller;
+}
+
+-- what stands where a resolver works
+abbrev pub situation : {D E T : Type 0} → DiskGhosts D → DiskGhosts E → TellerGhosts T → Resolver D E T → Situation
+situation d e t r = standing d e t r.desk.now r.journal.now r.spool.now r.teller.now
+
+-- It is at work at its board, and all that has to be in its lanes is there.
+pub record MayStep {D E T : Type 0} (d : DiskGhosts D) (e : DiskGhosts E) (t : TellerGhosts T) (r : Resolver D E T) : Type 0 where
+  pub at_work : IsAtWork r.shared.now.board (situation d e t r)
+  pub filled : AreFilled r.shared.now.lanes r.desk.now r.hints.now.pass
+
+-- It has the same board and lanes, and works on the same desk, disks, teller and hints.
+pub record SameLoans {D E T : Type 0} (old new : Resolver D E T) : Type 0 where
+  pub shared : new.shared.now ≡ old.shared.now
+  pub desk : new.desk.ghost_name ≡ old.desk.ghost_name
+  pub journal : new.journal.ghost_name ≡ old.journal.ghost_name
+  pub spool : new.spool.ghost_name ≡ old.spool.ghost_name
+  pub teller : new.teller.ghost_name ≡ old.teller.ghost_name
+  pub hints : new.hints.ghost_name ≡ old.hints.ghost_name
+
+-- What a step comes to, by its answer.
+pub record Steps {A D E T : Type 0} (d : DiskGhosts D) (e : DiskGhosts E) (t : TellerGhosts T) (answer : Result A RunFail) (old new : Resolver D E T) : Type 0 where
+  pub loans : SameLoans old new
+  pub resolves : Resolves old.shared.now.board answer (situation d e t old) (situation d e t new)
+  pub fills : Fills old.shared.now.lanes answer old.desk.now new.desk.now new.hints.now.pass
+
+-- some steps that succeeded
+abbrev pub Went : {D E T : Type 0} → DiskGhosts D → DiskGhosts E → TellerGhosts T → Resolver D E T → Resolver D E T → Type 0
+Went d e t old new = Steps {A = Unit {0}} d e t (Ok tt) old new
+
+-- What a step comes to that logs this event. Nothing is put into the lanes.
+pub record Logs {D E T : Type 0} (d : DiskGhosts D) (e : DiskGhosts E) (t : TellerGhosts T) (event : Event) (answer : Result Unit RunFail) (old new : Resolver D E T) : Type 0 where
+  pub loans : SameLoans old new
+  pub hints : new.hints.now ≡ old.hints.now
+  pub resolves : Resolves old.shared.now.board answer (situation d e t old) (situation d e t new)
+  pub adds : AddsEvent event answer old.desk.now new.desk.now
+
+-- What a whole run comes to, by its answer.
+pub record Directs {D E T : Type 0} (d : DiskGhosts D) (e : DiskGhosts E) (t : TellerGhosts T) (answer : Result Unit RunFail) (old new : Resolver D E T) : Type 0 where
+  pub loans : SameLoans old new
+  pub concludes : Concludes old.shared.now.board answer (situation d e t old) (situation d e t new)
+  pub fills : Fills old.shared.now.lanes answer old.desk.now new.desk.now new.hints.now.pass

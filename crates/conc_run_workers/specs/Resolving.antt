@@ -1,0 +1,87 @@
+-- What a step of the resolver takes and leaves.
+use Rattle.std.specs.Prelude.{◌≡◌, ◌⊎◌, Bool, List, Option, None, Result, Ok, Err, IsTrue, OnOk}
+use Rattle.conc_types.specs.declared.event.Event.{Event}
+use Rattle.conc_base_law.specs.Law.{Finished}
+use Rattle.conc_outside.specs.Counts.{Rose}
+use Rattle.conc_disk.specs.Disk.{DiskState}
+use Rattle.conc_journal.specs.Journals.{state_of}
+use Rattle.conc_board.specs.declared.board.Board.{Board}
+use Rattle.conc_board.specs.Seats.{places_of_lead}
+use Rattle.conc_run_state.specs.Disks.{Disks, disks}
+use Rattle.conc_run_state.specs.declared.error.RunFail.{RunFail}
+use Rattle.conc_run_state.specs.declared.error.RunFail.TheVariants as run_fail
+use Rattle.conc_run_steps.specs.Going.{IsUnderway, WentOn}
+use Rattle.conc_run_steps.specs.Steps.{IsReady, readings_in}
+use Rattle.conc_run_desk.specs.Desks.{IsAt, list_at, plan_at, SameWork}
+use Rattle.conc_run_desk.specs.State.{DeskState}
+use Rattle.conc_run_workers.specs.Runs.{AwaitsReport}
+use Rattle.conc_run_steps.specs.Told.{IsTold, IsUntold}
+
+-- What stands at one moment of a run: the desk, its two disks, and of the teller what it was told, what it takes, and whether it may
+-- find no memory.
+pub record Situation : Type 1 where
+  pub desk : DeskState
+  pub journal : DiskState
+  pub spool : DiskState
+  pub told : Option (List Event)
+  pub takes : List Event → Type 0
+  pub may_lack : Bool
+
+-- the disks at two moments
+abbrev pub disks_between : Situation → Situation → Disks
+disks_between before after = disks before.journal after.journal before.spool after.spool
+
+-- A desk at this board between two events: its work is ready for the two disks, no end is kept, and the teller, if it has a
+-- list, was told all.
+pub record IsAtWork (board : Board) (s : Situation) : Type 0 where
+  pub at : IsAt board s.desk
+  pub ready : IsReady s.desk.work s.journal s.spool
+  pub nothing_kept : s.desk.kept ≡ None
+  pub is_told : IsTold s.told s.takes (plan_at s.desk) (list_at s.desk)
+
+-- a step on the board alone: the work is as it was, and the lead has the places that it had
+pub record StaysAt (board : Board) (old new : DeskState) : Type 0 where
+  pub at : IsAt board new
+  pub same : SameWork old new
+  pub places : places_of_lead new.lead ≡ places_of_lead old.lead
+
+-- from one moment between two events the run went on to another
+pub record Advances (board : Board) (before after : Situation) : Type 0 where
+  pub at : IsAt board after.desk
+  pub places : places_of_lead after.desk.lead ≡ places_of_lead before.desk.lead
+  pub under : IsUnderway before.desk.work after.desk.work (disks_between before after)
+  pub nothing_kept : after.desk.kept ≡ None
+  pub is_told : IsTold after.told after.takes (plan_at after.desk) (list_at after.desk)
+
+-- where a run that found no memory stands: a report may have found none, or the last event was not told, by a teller that may
+-- find none
+abbrev pub IsShortOfMemory : Situation → Type 0
+IsShortOfMemory s = AwaitsReport (plan_at s.desk) (list_at s.desk) ⊎ (IsTrue s.may_lack × IsUntold s.told (list_at s.desk))
+
+-- The run ended before its history was finished. But for a fault of the journal's disk no append met one.
+pub record Halts (board : Board) (fail : RunFail) (before after : Situation) : Type 0 where
+  pub at : IsAt board after.desk
+  pub places : places_of_lead after.desk.lead ≡ places_of_lead before.desk.lead
+  pub went : WentOn (plan_at before.desk) (readings_in before.desk.work) (disks_between before after) before.desk.work after.desk.work
+  pub journal_fault : fail ≡ run_fail.JournalFault → Rose before.journal.faults after.journal.faults
+  pub spool_fault : fail ≡ run_fail.SpoolFault → Rose before.spool.faults after.spool.faults
+  pub memory : fail ≡ run_fail.NoMemory → IsShortOfMemory after
+  pub sound : (fail ≡ run_fail.JournalFault → ⊥) → state_of after.desk.work.journal ≡ state_of before.desk.work.journal
+
+-- what a step comes to, by its answer
+abbrev pub Resolves : {T : Type 0} → Board → Result T RunFail → Situation → Situation → Type 0
+Resolves board (Ok x) before after = Advances board before after
+Resolves board (Err fail) before after = Halts board fail before after
+
+-- What a whole run comes to, by its answer. Where it found no memory, it may have added nothing, since not all workers came; else
+-- it is as where a step did.
+pub record Concludes (board : Board) (answer : Result Unit RunFail) (before after : Situation) : Type 0 where
+  pub at : IsAt board after.desk
+  pub places : places_of_lead after.desk.lead ≡ places_of_lead before.desk.lead
+  pub went : WentOn (plan_at before.desk) (readings_in before.desk.work) (disks_between before after) before.desk.work after.desk.work
+  pub finished : OnOk answer (Finished (plan_at before.desk) (readings_in before.desk.work) (list_at after.desk))
+  pub is_told : OnOk answer (IsTold after.told after.takes (plan_at before.desk) (list_at after.desk))
+  pub journal_fault : answer ≡ Err run_fail.JournalFault → Rose before.journal.faults after.journal.faults
+  pub spool_fault : answer ≡ Err run_fail.SpoolFault → Rose before.spool.faults after.spool.faults
+  pub memory : answer ≡ Err run_fail.NoMemory → (list_at after.desk ≡ list_at before.desk) ⊎ (AwaitsReport (plan_at before.desk) (list_at after.desk) ⊎ (IsTrue after.may_lack × IsUntold after.told (list_at after.desk)))
+  pub sound : (answer ≡ Err run_fail.JournalFault → ⊥) → state_of after.desk.work.journal ≡ state_of before.desk.work.journal

@@ -1,0 +1,298 @@
+ghost use Rattle.std.specs.Prelude.{◌≡◌, ◌⊎◌, ◌<◌, [], IfOk, IsErrOf, IsTrue, length, OnOk, replicate, Result};
+ghost use Rattle.conc_types.specs.declared.event.RequestId.{RequestId};
+ghost use Rattle.conc_pool_seats.specs.declared.views.LeadState.TheVariants as lead_state;
+ghost use Rattle.std.specs.Thread.{IsSync};
+ghost use Rattle.conc_board.specs.Seats.{IsLeadOf, lead_state_of, plan_of};
+ghost use Rattle.conc_journal.specs.Journals.{state_of};
+ghost use Rattle.conc_base_law.specs.Law.{Finished};
+ghost use Rattle.conc_outside.specs.Counts.{Rose};
+ghost use Rattle.conc_run_state.specs.Disks.{disks};
+ghost use Rattle.conc_run_state.specs.Works.{list_in};
+ghost use Rattle.conc_run_state.specs.declared.error.RunFail.{RunFail};
+ghost use Rattle.conc_run_state.specs.declared.error.RunFail.TheVariants as run_fail;
+ghost use Rattle.conc_run_steps.specs.Going.{WentOn};
+ghost use Rattle.conc_run_steps.specs.Steps.{IsReady, plan_in, readings_in};
+ghost use Rattle.conc_pool_lanes.specs.Lanes.{IsLeadPassOf, puts_of};
+ghost use Rattle.conc_run_workers.specs.Crews.{Covers, HasOnePlan, HaveServed, MayServe};
+ghost use Rattle.conc_run_workers.specs.Filling.{AreFilled, Fills, HasPuts};
+ghost use Rattle.conc_run_workers.specs.Resolvers.{standing};
+ghost use Rattle.conc_run_workers.specs.Resolving.{Concludes, IsAtWork};
+ghost use Rattle.conc_run_steps.specs.Told.{IsTold, IsUntold};
+ghost use Rattle.conc_run_workers.specs.Runs.{AwaitsReport};
+
+use crate::arrivals::Arrivals;
+use crate::boarding::{dismiss, put_waiting};
+use crate::crew::{CrewMember, Shared, give_hands, hire, run_crew, take_in};
+use crate::resolving::{Hints, Resolver};
+use conc_board::{Board, Lead};
+use conc_disk::Disk;
+use conc_edge_gate::Gate;
+use conc_journal::Teller;
+use conc_pool_lanes::{Lanes, LeadPass};
+use conc_run_desk::Desk;
+use conc_run_state::{RunFail, Work};
+use conc_time::place_count;
+use conc_types::{NoMemory, Plan, RequestId};
+use std::alloc::Global;
+use std::sync::Wait;
+use std::thread::{Threads, join_mut};
+
+/// What a run with workers gives back, however it ended.
+#[derive(Drop)]
+pub struct Ran<'p> {
+    /// The work, whose parts stand for the list that was acknowledged.
+    pub work: Work<'p>,
+    /// The pass that filled the lanes of the run. None only where the run found no memory.
+    pub puts: Option<LeadPass>,
+    /// Whether the history is finished, or why it is not.
+    pub answer: Result<(), RunFail>,
+}
+
+/// What goes on beside the workers of a run, in the thread that started them.
+pub(crate) trait Director {
+    ghost may_direct: { Self → Type 0 };
+
+    ghost directs: { Result Unit RunFail → Self → Self → Type 0 };
+
+    /// Goes on to the end, and then dismisses the workers, however it ended.
+    fn direct<R: Wait>(&mut self, rt: &R) -> Result<(), RunFail>
+        requires { may_direct self.old }
+        ensures { directs result self.old self.new };
+}
+
+impl<D: Disk, E: Disk, T: Teller> Director for Resolver<'_, '_, '_, D, E, T> {
+    ghost use Rattle.conc_run_workers.specs.Resolvers.{Directs, MayStep};
+
+    ghost may_direct = { λ resolver. MayStep D.Disk E.Disk T.Teller resolver };
+
+    ghost directs = { λ answer old new. Directs D.Disk E.Disk T.Teller answer old new };
+
+    // It begins once all workers are here. Where they do not come in time it leaves the work as it is.
+    fn direct<R: Wait>(&mut self, rt: &R) -> Result<(), RunFail> {
+        if !self.shared.arrivals.are_all_here(rt) {
+            dismiss(&self.shared.board, self.desk);
+            return Err(RunFail::NoMemory);
+        }
+        let answer = self.resolve(rt);
+        dismiss(&self.shared.board, self.desk);
+        answer
+    }
+}
+
+// The workers beside the director, until all is finished.
+fn direct_crew<R: Threads + Wait + Sync, G: Gate + Sync, L: Director>(
+    rt: &R,
+    shared: &Shared<'_>,
+    crew: &mut [CrewMember],
+    gate: &G,
+    director: &mut L,
+) -> Result<(), RunFail>
+    requires crew { MayServe shared.now crew.old }
+    requires director { L.may_direct director.old }
+    ensures crew { HaveServed shared.now crew.old crew.new }
+    ensures director { L.directs result director.old director.new }
+{
+    let mut answer = Ok(());
+    join_mut(
+        rt,
+        &mut ||
+            requires { IsSync R.row × MayServe shared.now crew.now }
+            ensures { HaveServed shared.entry.now crew.entry.now crew.exit.now }
+        { run_crew(rt, shared, crew, gate) },
+        &mut ||
+            requires { L.may_direct director.now }
+            ensures { L.directs answer.exit director.entry.now director.exit.now }
+        {
+            answer = director.direct(rt);
+        },
+    );
+    answer
+}
+
+// Runs the crew, and beside it a resolver that works on these.
+fn resolve_beside<
+    'a,
+    R: Threads + Wait + Sync,
+    D: Disk + Send,
+    E: Disk + Send,
+    T: Teller + Send,
+    G: Gate + Sync,
+>(
+    rt: &R,
+    shared: &'a Shared<'_>,
+    crew: &mut [CrewMember],
+    gate: &G,
+    desk: &'a mut Desk<'_>,
+    journal: &'a mut D,
+    spool: &'a mut E,
+    teller: &'a mut T,
+    hints: &'a mut Hints,
+) -> Result<(), RunFail>
+    requires crew { MayServe shared.now crew.old }
+    requires at_work { IsAtWork shared.now.board (standing D.Disk E.Disk T.Teller desk.old
+        journal.old spool.old teller.old) }
+    requires filled { AreFilled shared.now.lanes desk.old hints.old.pass }
+    ensures crew { HaveServed shared.now crew.old crew.new }
+    ensures concludes { Concludes shared.now.board result
+        (standing D.Disk E.Disk T.Teller desk.old journal.old spool.old teller.old)
+        (standing D.Disk E.Disk T.Teller desk.new journal.new spool.new teller.new) }
+    ensures fills { Fills shared.now.lanes result desk.old desk.new hints.new.pass }
+{
+    let mut resolver = Resolver {
+        shared,
+        desk,
+        journal,
+        spool,
+        teller,
+        hints,
+    };
+    direct_crew(rt, shared, crew, gate, &mut resolver)
+}
+
+// What a run with workers needs beside its work: what the threads share, the board's lead, the workers, and what the resolver keeps
+// beside its desk.
+struct Means<'p> {
+    shared: Shared<'p>,
+    lead: Lead,
+    crew: Vec<CrewMember>,
+    hints: Hints,
+}
+
+// How many workers a run has: no more than places, since one without a place has nothing to do.
+fn crew_size(plan: &Plan, threads: u32) -> u32
+    requires { 0 < threads }
+    ensures { 0 < result }
+{
+    let places = place_count(plan);
+    if 0 < places && places < threads {
+        places
+    } else {
+        threads
+    }
+}
+
+// Takes all memory that the run needs but for reports.
+fn prepare<'p>(alloc: Global, plan: &'p Plan, threads: u32) -> Result<Means<'p>, NoMemory>
+    requires threads { 0 < threads }
+    ensures plan { IfOk result (λ means. means.shared.plan.now ≡ plan.now) }
+    ensures one_plan { IfOk result (λ means. HasOnePlan means.shared) }
+    ensures lead { IfOk result (λ means. IsLeadOf means.shared.board means.lead) }
+    ensures lead_states { IfOk result (λ means. (r : RequestId)
+        → lead_state_of means.lead r ≡ lead_state.NotLet) }
+    ensures pass { IfOk result (λ means. IsLeadPassOf means.shared.lanes means.hints.pass) }
+    ensures empty { IfOk result (λ means. puts_of means.hints.pass
+        ≡ replicate (length plan.now.setup.managers) []) }
+    ensures crew { IfOk result (λ means. MayServe means.shared means.crew.items) }
+    ensures covers { IfOk result (λ means. Covers plan.now means.lead means.crew.items) }
+{
+    let size = crew_size(plan, threads);
+    let started = vec![in alloc; None; place_count(plan) as usize]?;
+    let (lanes, pass, passes) = Lanes::new(alloc, plan, size)?;
+    let mut crew = hire(alloc, plan, size, passes)?;
+    let (board, mut lead) = Board::new(alloc, plan)?;
+    give_hands(&board, &mut lead, crew.as_mut_slice());
+    let arrivals = Arrivals::new(size);
+    Ok(Means {
+        shared: Shared {
+            alloc,
+            plan,
+            board,
+            lanes,
+            arrivals,
+        },
+        lead,
+        crew,
+        hints: Hints { pass, started },
+    })
+}
+
+/// Goes on from the journal's list to the end of the history, with so many workers in threads of their own, but no more than
+/// there are places: the place with index `i` is served by the worker `i` modulo `threads`. It takes the memory for the board,
+/// the lanes and the workers before it writes anything, and begins only when all workers have: where not all of them begin within
+/// ten seconds, as where a thread cannot be made, it returns `NoMemory`, and nothing was added to the list. After that a report
+/// may find no memory, which leaves its request without an end. However it ends, no worker is left running. The text of a report
+/// is on the spool's disk before its end is journaled, and an event is journaled before the machine takes it in, before it means
+/// anything to a worker, and before it is told.
+pub fn run_with_workers<
+    'p,
+    R: Threads + Wait + Sync,
+    D: Disk + Send,
+    E: Disk + Send,
+    T: Teller + Send,
+    G: Gate + Sync,
+>(
+    rt: &R,
+    alloc: Global,
+    work: Work<'p>,
+    journal: &mut D,
+    spool: &mut E,
+    teller: &mut T,
+    gate: &G,
+    threads: u32,
+) -> Ran<'p>
+    requires threads { 0 < threads }
+    requires ready { IsReady work (D.state journal.old) (E.state spool.old) }
+    requires told { IsTold (T.list teller.old) (T.takes teller.old) (plan_in work) (list_in work) }
+
+    // What it makes, however it ends.
+    ensures went_on { WentOn (plan_in work.entry) (readings_in work.entry)
+        (disks (D.state journal.old) (D.state journal.new) (E.state spool.old) (E.state spool.new))
+        work.entry result.work }
+    ensures finished { OnOk result.answer (Finished (plan_in work.entry) (readings_in work.entry)
+        (list_in result.work)) }
+    ensures told { OnOk result.answer (IsTold (T.list teller.new) (T.takes teller.new)
+        (plan_in work.entry) (list_in result.work)) }
+
+    // What it put into the lanes.
+    ensures puts { HasPuts (plan_in work.entry) (list_in work.entry) (list_in result.work)
+        result.answer result.puts }
+
+    // Why it ends before.
+    ensures journal_fault { IsErrOf result.answer run_fail.JournalFault
+        → Rose (D.state journal.old).faults (D.state journal.new).faults }
+    ensures spool_fault { IsErrOf result.answer run_fail.SpoolFault
+        → Rose (E.state spool.old).faults (E.state spool.new).faults }
+    ensures memory { IsErrOf result.answer run_fail.NoMemory
+        → (list_in result.work ≡ list_in work.entry)
+        ⊎ (AwaitsReport (plan_in work.entry) (list_in result.work)
+        ⊎ (IsTrue (T.may_lack teller.new) × IsUntold (T.list teller.new) (list_in result.work))) }
+    ensures sound { (IsErrOf result.answer run_fail.JournalFault → ⊥)
+        → state_of result.work.journal ≡ state_of work.entry.journal }
+{
+    let plan = work.machine.plan();
+    let Ok(means) = prepare(alloc, plan, threads) else {
+        return Ran {
+            work,
+            puts: None,
+            answer: Err(RunFail::NoMemory),
+        };
+    };
+    let Means {
+        shared,
+        lead,
+        mut crew,
+        mut hints,
+    } = means;
+    let mut desk = Desk::new(plan, lead, work);
+    put_waiting(rt, &shared.lanes, &desk, &mut hints.pass);
+    let answer = resolve_beside(
+        rt,
+        &shared,
+        crew.as_mut_slice(),
+        gate,
+        &mut desk,
+        journal,
+        spool,
+        teller,
+        &mut hints,
+    );
+    let (mut lead, work) = desk.into_parts();
+    take_in(&shared.board, &mut lead, crew);
+    shared.board.close(lead);
+    let Hints { pass, .. } = hints;
+    Ran {
+        work,
+        puts: Some(pass),
+        answer,
+    }
+}

@@ -1,0 +1,11 @@
+pub mod FirstWord
+pub mod Apart
+pub mod Judged
+pub mod Ends
+pub mod Tabled
+pub mod Rising
+pub mod Charted
+pub mod AllMoments
+pub mod LastTurns
+pub mod Ordered
+pub mod SaidWords

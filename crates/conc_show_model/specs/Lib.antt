@@ -1,0 +1,9 @@
+pub mod Runs
+pub mod Whys
+pub mod Rows
+pub mod Judging
+pub mod Reading
+pub mod Turns
+pub mod Places
+pub mod Words
+pub mod Grammar

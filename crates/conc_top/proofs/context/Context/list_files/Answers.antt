@@ -1,0 +1,19 @@
+use Rattle.std.proofs.Common.{None, refl, inl, inr}
+use Rattle.conc_top_inputs.specs.Given.{named}
+use Rattle.conc_top.specs.Answers.{AnswersPlan, around}
+use Rattle.conc_top.specs.Printing.{sunk}
+use Rattle.conc_top.specs.Ways.{exit_for_input}
+use Rattle.conc_top.proofs.Meaning.{handed, unplanned}
+use Rattle.conc_top.proofs.context.Context.list_files.Goals as goal
+
+pub returns-in_err-accepted-clause-answers : goal.returns-in_err-accepted-clause-answers
+returns-in_err-accepted-clause-answers g c clock =
+    let names = named c.args.setup c.args.script None in
+    let before = c.args.self.now in
+    let a = around (g.F.Shelf.state before.shelf.now) (g.F.Shelf.state c.accept.new.shelf) clock clock (sunk (g.O.Sink.state before.out.now) (g.O.Sink.state before.out.now)) in
+    let fail = c.in_err-accepted.field-0.0 in
+    handed (AnswersPlan names a) c.from_residual.result (exit_for_input fail) c.from_residual.ensures.1 (inr (unplanned names a fail (c.in_err-accepted.ensures.answer clock).err refl))
+
+pub returns-clause-answers : goal.returns-clause-answers
+returns-clause-answers g c clock =
+    inl (record { plan = c.in_ok-accepted.accepted.plan; accepted = (c.in_ok-accepted.ensures.answer clock).ok.accepts }, c.print_listing.ensures)
