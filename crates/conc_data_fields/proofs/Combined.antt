@@ -1,10 +1,9 @@
 -- What is read of several values is what is read of each, put together.
 use Rattle.std.proofs.Common.{◌≡◌, ap, refl, Option, None, Some, Result, Ok, Err}
+use Rattle.conc_types.specs.declared.error.ReadFail.TheVariants as fail
 use Rattle.conc_types.specs.declared.kind.RefusalKind.{RefusalKind}
-use Rattle.conc_data_fields.specs.declared.fail.FieldFail.{FieldFail}
-use Rattle.conc_data_fields.specs.declared.fail.FieldFail.TheVariants as fail
 use Rattle.conc_data_fields.specs.Kinds.{beside, both, good, judged}
-use Rattle.conc_data_fields.specs.Reads.{IfRead, beside_read, both_read, good_read, judged_read, read_as}
+use Rattle.conc_data_fields.specs.Reads.{FieldFail, IfRead, beside_read, both_read, good_read, judged_read, read_as}
 
 -- what is read is this
 abbrev pub IsRead : {A : Type 0} → Result A FieldFail → Result A RefusalKind → Type 0

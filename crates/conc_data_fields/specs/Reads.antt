@@ -1,9 +1,13 @@
 -- What is read of values where memory may lack.
 use Rattle.std.specs.Prelude.{Option, None, Some, Result, Ok, Err}
+use Rattle.conc_types.specs.declared.error.ReadFail.{ReadFail}
+use Rattle.conc_types.specs.declared.error.ReadFail.TheVariants as fail
 use Rattle.conc_types.specs.declared.kind.RefusalKind.{RefusalKind}
 use Rattle.conc_types.specs.RefusalKinds.{lesser_of}
-use Rattle.conc_data_fields.specs.declared.fail.FieldFail.{FieldFail}
-use Rattle.conc_data_fields.specs.declared.fail.FieldFail.TheVariants as fail
+
+-- why a value of a document is not read
+abbrev pub FieldFail : Type 0
+FieldFail = ReadFail RefusalKind
 
 -- what is said of the value or the kind that is read, of which nothing is said where memory lacked
 abbrev pub IfRead : {A : Type 0} → Result A FieldFail → (Result A RefusalKind → Type 0) → Type 0

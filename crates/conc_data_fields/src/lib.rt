@@ -3,7 +3,6 @@
 #![tactic(auto)]
 
 mod arrays;
-mod fail;
 mod fields;
 mod forms;
 mod keys;
@@ -12,10 +11,9 @@ mod lines;
 mod values;
 
 pub use arrays::{ArrayForm, ListForm, all_good, counted, no_values, read_all};
-pub use fail::FieldFail;
 pub use fields::{default, field, optional, required};
 pub use forms::{Form, NameForm, TextForm, TruthForm, WholeForm, no_text};
 pub use keys::keys_kind;
-pub use kinds::{Judged, beside, both};
+pub use kinds::{FieldFail, Judged, beside, both};
 pub use lines::{first_wrong, goods};
 pub use values::{Counted, ShortText};

@@ -3,6 +3,8 @@
 
 mod disk;
 mod error;
+mod settling;
 
 pub use disk::Disk;
-pub use error::DiskFault;
+pub use error::{DiskFault, ReadBack};
+pub use settling::settle;

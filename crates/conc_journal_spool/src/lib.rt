@@ -4,5 +4,5 @@
 mod error;
 mod spool;
 
-pub use error::{ReadBack, SpoolFail};
+pub use error::SpoolFail;
 pub use spool::Spool;

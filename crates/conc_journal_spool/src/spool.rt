@@ -4,8 +4,8 @@ ghost use Rattle.conc_outside.specs.Counts.{Rose};
 ghost use Rattle.conc_disk.specs.Disk.{HasAt, Reaches, SeenFollows, Stays, Torn};
 ghost use Rattle.conc_disk.specs.Left.{HasWritten, LeavesOnly, TornFrom};
 
-use crate::{ReadBack, SpoolFail};
-use conc_disk::{Disk, DiskFault};
+use crate::SpoolFail;
+use conc_disk::{Disk, DiskFault, ReadBack, settle};
 use conc_types::Extent;
 use std::alloc::Global;
 
@@ -35,8 +35,10 @@ impl Spool {
         ensures survives { LeavesOnly (E.state disk.old).may_leave (E.state disk.old)
             (E.state disk.new) }
     {
-        disk.sync()?; // so that what is read is on the disk
-        let len = disk.len()?;
+        // What is read later is on the disk.
+        let Ok(len) = settle(disk) else {
+            return Err(SpoolFail::DiskFault);
+        };
         if len < used {
             return Err(SpoolFail::Short { len });
         }

@@ -8,6 +8,7 @@ use Rattle.conc_types.specs.declared.refusal.FileKind.{FileKind}
 use Rattle.conc_types.specs.declared.refusal.FileKind.TheVariants as file
 use Rattle.conc_types.specs.declared.error.ReadFail.{ReadFail}
 use Rattle.conc_types.specs.declared.error.ReadFail.TheVariants as fail
+use Rattle.conc_types.specs.declared.refusal.Refusal.{Refusal}
 use Rattle.conc_types.specs.declared.script.Order.{Order}
 use Rattle.conc_types.specs.declared.setup.Setup.{Setup}
 use Rattle.conc_types.specs.declared.table.Table.{Table}
@@ -36,6 +37,6 @@ plan_fault setup orders tables =
     (option_map (λ fault. (file.Script, fault)) (first_fault (record_kind setup orders) 2 (length orders)))
 
 -- no plan is given for its first fault, or there was no memory
-abbrev pub IsFailure : Option (FileKind × Fault) → ReadFail → Type 0
+abbrev pub IsFailure : Option (FileKind × Fault) → ReadFail Refusal → Type 0
 IsFailure fault (fail.Refused refusal) = fault ≡ Some (refusal.file, (refusal.line, refusal.kind))
 IsFailure fault fail.NoMemory = Unit {0}

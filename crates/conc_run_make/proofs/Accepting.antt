@@ -6,6 +6,7 @@ use Rattle.conc_types.specs.declared.plan.Plan.{Plan}
 use Rattle.conc_types.specs.declared.refusal.FileKind.{FileKind}
 use Rattle.conc_types.specs.declared.error.ReadFail.{ReadFail}
 use Rattle.conc_types.specs.declared.error.ReadFail.TheVariants as fail
+use Rattle.conc_types.specs.declared.refusal.Refusal.{Refusal}
 use Rattle.conc_types.specs.declared.script.Readings.{Readings}
 use Rattle.conc_types.specs.declared.script.Script.{Script}
 use Rattle.conc_types.specs.declared.setup.Setup.{Setup}
@@ -24,7 +25,7 @@ use Rattle.conc_make.proofs.TheSetup.{got, reading, setup-is, the_setup}
 use Rattle.conc_run_make.specs.Generated.{AreGenerated}
 
 -- what is said of the bytes that were read holds of a text that is the same
-pub read-as : {A : Type 0} (P : List ℕ → A → Type 0) (bytes text : List ℕ) (r : Result A ReadFail) (value : A) → bytes ≡ text → r ≡ Ok value → IfOk r (P bytes) → P text value
+pub read-as : {A : Type 0} (P : List ℕ → A → Type 0) (bytes text : List ℕ) (r : Result A (ReadFail Refusal)) (value : A) → bytes ≡ text → r ≡ Ok value → IfOk r (P bytes) → P text value
 read-as P bytes text r value same ok holds = subst (λ (b : List ℕ). P b value) same (IfOk-at_ok (P bytes) ok holds)
 
 -- ---- the plan
@@ -41,12 +42,12 @@ plan-faultless setup_bytes script_bytes clock_bytes table_bytes setup script tab
     let same_table = table-one table_bytes accepted.table_read table accepted.table_is table_is in
     cc (same_setup, same_commands, same_table, accepted.planned)
 
-no-refusal : (e : ReadFail) → IsFailure None e → e ≡ fail.NoMemory
+no-refusal : (e : ReadFail Refusal) → IsFailure None e → e ≡ fail.NoMemory
 no-refusal fail.NoMemory is = refl
 no-refusal (fail.Refused refusal) is = absurd (cc is)
 
 -- without a fault a plan fails for want of memory alone
-pub plan-fails : (fault : Option (FileKind × Fault)) (r : Result Plan ReadFail) → fault ≡ None → IfErr r (IsFailure fault) → IfErr r (λ e. e ≡ fail.NoMemory)
+pub plan-fails : (fault : Option (FileKind × Fault)) (r : Result Plan (ReadFail Refusal)) → fault ≡ None → IfErr r (IsFailure fault) → IfErr r (λ e. e ≡ fail.NoMemory)
 plan-fails fault (Ok value) none is = tt
 plan-fails fault (Err e) none is = no-refusal e (subst (λ (f : Option (FileKind × Fault)). IsFailure f e) none is)
 

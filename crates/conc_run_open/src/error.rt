@@ -2,7 +2,7 @@ ghost use Rattle.std.specs.Prelude.{◌≡◌};
 ghost use Rattle.conc_run_state.specs.Fails.{of_read};
 ghost use Rattle.conc_run_open.specs.declared.error.TextFail.TheVariants as text_fail;
 
-use conc_journal_spool::ReadBack;
+use conc_disk::ReadBack;
 use conc_run_state::HistoryFail;
 use thiserror::Error;
 

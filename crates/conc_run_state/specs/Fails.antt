@@ -1,10 +1,10 @@
 -- Which failure of a history comes of each failure below it.
 use Rattle.conc_types.specs.declared.error.CheckFail.{CheckFail}
 use Rattle.conc_types.specs.declared.error.CheckFail.TheVariants as check_fail
+use Rattle.conc_disk.specs.declared.error.ReadBack.{ReadBack}
+use Rattle.conc_disk.specs.declared.error.ReadBack.TheVariants as read_back
 use Rattle.conc_journal.specs.declared.error.JournalFail.{JournalFail}
 use Rattle.conc_journal.specs.declared.error.JournalFail.TheVariants as journal_fail
-use Rattle.conc_journal_spool.specs.declared.error.ReadBack.{ReadBack}
-use Rattle.conc_journal_spool.specs.declared.error.ReadBack.TheVariants as read_back
 use Rattle.conc_run_state.specs.declared.error.DiskName.TheVariants as disk_name
 use Rattle.conc_run_state.specs.declared.error.HistoryFail.{HistoryFail}
 use Rattle.conc_run_state.specs.declared.error.HistoryFail.TheVariants as history_fail

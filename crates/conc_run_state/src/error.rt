@@ -3,8 +3,8 @@ ghost use Rattle.conc_run_state.specs.Fails.{of_check, of_journal, of_read, of_r
 ghost use Rattle.conc_run_state.specs.declared.error.HistoryFail.TheVariants as history_fail;
 ghost use Rattle.conc_run_state.specs.declared.error.RunFail.TheVariants as run_fail;
 
+use conc_disk::ReadBack;
 use conc_journal::JournalFail;
-use conc_journal_spool::ReadBack;
 use conc_types::{CheckFail, NoMemory};
 use thiserror::Error;
 
@@ -25,6 +25,14 @@ pub enum RunFail {
     SpoolFault,
     #[error("no memory")]
     NoMemory,
+}
+
+impl From<NoMemory> for RunFail {
+    ghost from_gives = { λ _ e. e ≡ run_fail.NoMemory };
+
+    fn from(_: NoMemory) -> Self {
+        RunFail::NoMemory
+    }
 }
 
 /// Why a run does not begin, or ends before its history is finished.
@@ -65,14 +73,6 @@ pub enum HistoryFail {
     NoMemory,
 }
 
-impl From<NoMemory> for RunFail {
-    ghost from_gives = { λ _ e. e ≡ run_fail.NoMemory };
-
-    fn from(_: NoMemory) -> Self {
-        RunFail::NoMemory
-    }
-}
-
 impl From<NoMemory> for HistoryFail {
     ghost from_gives = { λ _ e. e ≡ history_fail.NoMemory };
 
@@ -103,9 +103,7 @@ impl From<JournalFail> for HistoryFail {
     fn from(fail: JournalFail) -> Self {
         match fail {
             JournalFail::NotJournal => HistoryFail::NotJournal,
-            JournalFail::DiskFault => HistoryFail::DiskFault {
-                disk: DiskName::Journal,
-            },
+            JournalFail::DiskFault => HistoryFail::from(RunFail::JournalFault),
             JournalFail::NoMemory => HistoryFail::NoMemory,
         }
     }
@@ -127,9 +125,7 @@ impl From<ReadBack> for HistoryFail {
 
     fn from(fail: ReadBack) -> Self {
         match fail {
-            ReadBack::DiskFault => HistoryFail::DiskFault {
-                disk: DiskName::Spool,
-            },
+            ReadBack::DiskFault => HistoryFail::from(RunFail::SpoolFault),
             ReadBack::NoMemory => HistoryFail::NoMemory,
         }
     }

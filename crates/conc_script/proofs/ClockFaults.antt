@@ -6,6 +6,7 @@ use Rattle.conc_types.specs.declared.kind.RefusalKind.TheVariants as refused
 use Rattle.conc_types.specs.declared.refusal.FileKind.{FileKind}
 use Rattle.conc_types.specs.declared.error.ReadFail.{ReadFail}
 use Rattle.conc_types.specs.declared.error.ReadFail.TheVariants as fail
+use Rattle.conc_types.specs.declared.refusal.Refusal.{Refusal}
 use Rattle.conc_types.specs.declared.script.Reading.{Reading}
 use Rattle.conc_types.specs.Faults.{Fault, first_fault, IsFailure}
 use Rattle.conc_types.specs.Words.{is_empty}
@@ -42,7 +43,7 @@ fault_of_lines [] fault e = let none = fault_none (line_kind []) 1 in absurd cc
 fault_of_lines (line ∷ lines) fault e = e
 
 -- a line of it breaks a rule
-pub line_fault : (bytes : List ℕ) (file : FileKind) (e : ReadFail) → nat_lt 67108864 (length bytes) ≡ false → IsFailure file (first_fault (line_kind (lines_of bytes)) 1 (length (lines_of bytes))) e
+pub line_fault : (bytes : List ℕ) (file : FileKind) (e : ReadFail Refusal) → nat_lt 67108864 (length bytes) ≡ false → IsFailure file (first_fault (line_kind (lines_of bytes)) 1 (length (lines_of bytes))) e
     → IsFailure file (clock_fault bytes) e
 unfolding clock_fault
 line_fault bytes file (fail.Refused refusal) short h = (h.0, rw short (fault_of_lines (lines_of bytes) (refusal.line, refusal.kind) h.1))

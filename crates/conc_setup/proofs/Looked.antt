@@ -23,8 +23,7 @@ use Rattle.conc_types.specs.Texts.{is_text}
 use Rattle.conc_types.specs.Words.{are_distinct, is_between, none_or}
 use Rattle.conc_data_fields.specs.Arrays.{all_good}
 use Rattle.conc_data_fields.specs.Kinds.{both, or_kind}
-use Rattle.conc_data_fields.specs.Reads.{both_read, read_as}
-use Rattle.conc_data_fields.specs.declared.fail.FieldFail.{FieldFail}
+use Rattle.conc_data_fields.specs.Reads.{FieldFail, both_read, read_as}
 use Rattle.conc_data_fields.specs.declared.values.ShortText.{ShortText}
 use Rattle.conc_data_fields.proofs.Combined.{IsRead, both-read, both_read-ok, read_as-is}
 use Rattle.conc_data_entries.specs.declared.raw.RawEntry.{RawEntry}

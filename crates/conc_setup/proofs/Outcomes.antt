@@ -4,7 +4,7 @@ use Rattle.std.specs.Prelude.{IfOk, IsTrue}
 use Rattle.conc_types.specs.declared.kind.RefusalKind.{RefusalKind}
 use Rattle.conc_data_fields.specs.Arrays.{all_good, goods, lesser, unless, worst}
 use Rattle.conc_data_fields.specs.Kinds.{both, good, judged, or_kind, proven}
-use Rattle.conc_data_fields.specs.declared.fail.FieldFail.{FieldFail}
+use Rattle.conc_data_fields.specs.Reads.{FieldFail}
 use Rattle.conc_data_fields.proofs.Combined.{IsRead}
 use Rattle.conc_setup.proofs.Each.{each_count}
 

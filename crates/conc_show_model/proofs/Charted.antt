@@ -3,7 +3,7 @@ use Rattle.std.proofs.Common.{◌≡◌, refl, sym, ◌∙◌, ap, subst, ◌+�
 use Rattle.std.specs.Prelude.{Option, None, Some}
 use Rattle.conc_history_lines.specs.declared.history.Lines.{Lines}
 use Rattle.conc_history_lines.specs.History.{history_in, whole_lines}
-use Rattle.conc_show_model.specs.declared.fail.ChartFail.{ChartFail}
+use Rattle.conc_types.specs.declared.error.ReadFail.{ReadFail}
 use Rattle.conc_show_model.specs.declared.fail.ChartRefusal.{ChartRefusal}
 use Rattle.conc_show_model.specs.declared.model.Row.{Row}
 use Rattle.conc_show_model.specs.Judging.{events_fault}
@@ -17,7 +17,7 @@ fault_is : (history : List ℕ) → (lines_of history).bad ≡ None → table_fa
 fault_is history b t = rw (b, t) refl
 
 -- the events are refused, behind lines and a table that are fine
-pub events_failure : (history places table : List ℕ) (lines : Lines) (rows : List Row) (count : ℕ) (e : ChartFail) → places ≡ first_places → lines ≡ history_in places history
+pub events_failure : (history places table : List ℕ) (lines : Lines) (rows : List Row) (count : ℕ) (e : ReadFail ChartRefusal) → places ≡ first_places → lines ≡ history_in places history
     → ((x : ℕ) → lines.bad ≡ Some x → ⊥) → table ≡ drop lines.next history → count ≡ length lines.events → table_fault_of (count + 2) table ≡ None → rows ≡ rows_from 0 (whole_lines table)
     → IsFailure (events_fault rows lines.events) e → IsFailure (history_fault history) e
 events_failure history places table lines rows count e p l good t n fine r h =

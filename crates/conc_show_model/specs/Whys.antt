@@ -1,7 +1,7 @@
 -- Refusals: the words that tell them, and what a failure is.
 use Rattle.std.specs.Prelude.{◌≡◌, ⊤, ℕ, List, codes, Option, Some}
-use Rattle.conc_show_model.specs.declared.fail.ChartFail.{ChartFail}
-use Rattle.conc_show_model.specs.declared.fail.ChartFail.TheVariants as chart_fail
+use Rattle.conc_types.specs.declared.error.ReadFail.{ReadFail}
+use Rattle.conc_types.specs.declared.error.ReadFail.TheVariants as fail
 use Rattle.conc_show_model.specs.declared.fail.ChartFile.TheVariants as file
 use Rattle.conc_show_model.specs.declared.fail.ChartRefusal.{ChartRefusal}
 use Rattle.conc_show_model.specs.declared.fail.ChartWhy.{ChartWhy}
@@ -22,6 +22,6 @@ abbrev pub in_history : ChartWhy → ℕ → ChartRefusal
 in_history w line = record { file = file.History; line = Some line; why = w }
 
 -- the failure is this refusal, or memory lacks
-abbrev pub IsFailure : Option ChartRefusal → ChartFail → Type 0
-IsFailure refusal (chart_fail.Refused r) = refusal ≡ Some r
-IsFailure refusal chart_fail.NoMemory = ⊤
+abbrev pub IsFailure : Option ChartRefusal → ReadFail ChartRefusal → Type 0
+IsFailure refusal (fail.Refused r) = refusal ≡ Some r
+IsFailure refusal fail.NoMemory = ⊤

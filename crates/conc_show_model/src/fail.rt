@@ -1,9 +1,7 @@
-ghost use Rattle.std.specs.Prelude.{◌≡◌, ⊤};
-ghost use Rattle.conc_show_model.specs.declared.fail.ChartFail.TheVariants as chart_fail;
+ghost use Rattle.std.specs.Prelude.{◌≡◌, Some};
+ghost use Rattle.conc_types.specs.declared.error.ReadFail.TheVariants as fail;
 
-use conc_types::NoMemory;
-use std::alloc::{AllocError, AllocFailed};
-use thiserror::Error;
+use conc_types::ReadFail;
 
 /// Which file is refused.
 #[derive(Clone, Copy, Debug, PartialEq, Eq)]
@@ -43,12 +41,19 @@ pub struct ChartRefusal {
 }
 
 /// Why there is no chart.
-#[derive(Clone, Copy, Debug, PartialEq, Eq, Error)]
-pub enum ChartFail {
-    #[error("the file is refused")]
-    Refused(ChartRefusal),
-    #[error("no memory")]
-    NoMemory,
+pub type ChartFail = ReadFail<ChartRefusal>;
+
+impl ChartFile {
+    /// The refusal of this file at a line.
+    pub fn refused(self, line: u64, why: ChartWhy) -> ChartFail
+        ensures { result ≡ fail.Refused (record { file = self; line = Some line; why = why }) }
+    {
+        ChartFail::Refused(ChartRefusal {
+            file: self,
+            line: Some(line),
+            why,
+        })
+    }
 }
 
 impl ChartWhy {
@@ -68,42 +73,5 @@ impl ChartWhy {
             ChartWhy::NoPlanLine => b"no line of the plan",
             ChartWhy::NoScriptRecord => b"no record of the script",
         }
-    }
-}
-
-impl ChartFail {
-    /// The refusal of a file at a line.
-    pub fn at(file: ChartFile, line: u64, why: ChartWhy) -> Self
-        ensures { result ≡ chart_fail.Refused (record { file = file; line = Some line; why = why }) }
-    {
-        ChartFail::Refused(ChartRefusal {
-            file,
-            line: Some(line),
-            why,
-        })
-    }
-}
-
-impl From<NoMemory> for ChartFail {
-    ghost from_gives = { λ _ e. e ≡ chart_fail.NoMemory };
-
-    fn from(_: NoMemory) -> Self {
-        ChartFail::NoMemory
-    }
-}
-
-impl From<AllocError> for ChartFail {
-    ghost from_gives = { λ _ e. e ≡ chart_fail.NoMemory };
-
-    fn from(_: AllocError) -> Self {
-        ChartFail::NoMemory
-    }
-}
-
-impl<T: Drop> From<AllocFailed<T>> for ChartFail {
-    ghost from_gives = { λ _ e. e ≡ chart_fail.NoMemory };
-
-    fn from(_: AllocFailed<T>) -> Self {
-        ChartFail::NoMemory
     }
 }

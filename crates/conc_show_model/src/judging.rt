@@ -131,7 +131,7 @@ pub(crate) fn judge(alloc: Global, rows: &[Row], events: &[Event]) -> Result<(),
     for i in 0..events.len() {
         let event = events[i];
         if let Some(why) = fault_at(rows, going.as_slice(), event) {
-            return Err(ChartFail::at(ChartFile::History, i as u64 + 1, why));
+            return Err(ChartFile::History.refused(i as u64 + 1, why));
         }
         go_on(&mut going, event)?;
     }

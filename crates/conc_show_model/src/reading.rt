@@ -39,7 +39,7 @@ pub fn read_chart(alloc: Global, history: &[u8]) -> Result<Chart, ChartFail>
 {
     let lines = read_history(alloc, history, first_places())?;
     if let Some(line) = lines.bad {
-        return Err(ChartFail::at(ChartFile::History, line, ChartWhy::NoEventLine));
+        return Err(ChartFile::History.refused(line, ChartWhy::NoEventLine));
     }
     let count = lines.events.len() as u64;
     if count > MOST || history.len() as u64 > MOST {

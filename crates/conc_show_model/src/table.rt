@@ -54,7 +54,7 @@ pub(crate) fn read_table(alloc: Global, first: u64, text: &[u8]) -> Result<Vec<R
         rest = after;
     }
     match watch_fault(first + rows.len() as u64, rest) {
-        Some(line) => Err(ChartFail::at(ChartFile::History, line, ChartWhy::NoTableLine)),
+        Some(line) => Err(ChartFile::History.refused(line, ChartWhy::NoTableLine)),
         None => Ok(rows),
     }
 }

@@ -19,14 +19,14 @@ pub(crate) fn read_sets(alloc: Global, listing: &[u8]) -> Result<Vec<Option<Requ
     while let Some((line, after)) = split_line(rest) {
         let number = sets.len() as u64 + 1;
         let Some(set) = plan_line(number, line) else {
-            return Err(ChartFail::at(ChartFile::Plan, number, ChartWhy::NoPlanLine));
+            return Err(ChartFile::Plan.refused(number, ChartWhy::NoPlanLine));
         };
         sets.push(set)?;
         rest = after;
     }
     if !rest.is_empty() {
         let number = sets.len() as u64 + 1;
-        return Err(ChartFail::at(ChartFile::Plan, number, ChartWhy::NoPlanLine));
+        return Err(ChartFile::Plan.refused(number, ChartWhy::NoPlanLine));
     }
     Ok(sets)
 }

@@ -62,7 +62,7 @@ fn submits_in(alloc: Global, records: &mut Records) -> Result<Vec<u32>, ChartFai
         let next = after(number)?;
         if row.len() < 2 {
             let place = u64::from(next);
-            return Err(ChartFail::at(ChartFile::Script, place, ChartWhy::NoScriptRecord));
+            return Err(ChartFile::Script.refused(place, ChartWhy::NoScriptRecord));
         }
         note(&mut submits, number, &row)?;
         number = next;

@@ -8,6 +8,7 @@ use Rattle.std.proofs.lemmas.Slice.Zip.{AllZip-long}
 use Rattle.conc_types.specs.declared.refusal.FileKind.TheVariants as kind
 use Rattle.conc_types.specs.declared.error.ReadFail.{ReadFail}
 use Rattle.conc_types.specs.declared.error.ReadFail.TheVariants as fail
+use Rattle.conc_types.specs.declared.refusal.Refusal.{Refusal}
 use Rattle.conc_types.specs.declared.script.Readings.{Readings}
 use Rattle.conc_types.specs.declared.script.Script.{Script}
 use Rattle.conc_types.specs.declared.setup.Setup.{Setup}
@@ -79,7 +80,7 @@ accepted exposed before names a start readings has named tables same files read 
 -- all was read, and gives no plan
 pub without-plan : (old new : Sources) (before : Option Files) (names : Names) (start : Start) (readings : Option Readings) (has : HasInputs (exposed_by old new) names start readings) (named : List (List ℕ)) (tables : List Table)
     → named ≡ start.setup.tables → before ≡ old.shelf.files → HasTables before named tables
-    → (made : List Table) → made ≡ tables → (e : ReadFail) → IsFailure (plan_fault start.setup start.script.commands made) e
+    → (made : List Table) → made ≡ tables → (e : ReadFail Refusal) → IsFailure (plan_fault start.setup start.script.commands made) e
     → FailsWith old new names (fail_without_plan names.setup names.script e)
 unfolding tables-of
 without-plan old new before names start readings has named tables same files read made these fail.NoMemory failed = tt

@@ -2,6 +2,7 @@
 use Rattle.std.specs.Prelude.{ℕ, List}
 use Rattle.conc_types.specs.declared.error.ReadFail.{ReadFail}
 use Rattle.conc_types.specs.declared.error.ReadFail.TheVariants as fail
+use Rattle.conc_types.specs.declared.refusal.Refusal.{Refusal}
 use Rattle.conc_outside.specs.declared.error.ShelfFail.{ShelfFail}
 use Rattle.conc_outside.specs.declared.error.ShelfFail.TheVariants as shelf_fail
 use Rattle.conc_top_inputs.specs.declared.error.InputFail.{InputFail}
@@ -23,11 +24,11 @@ file_fail_for_shelf shelf_fail.Failed = file_fail.ReadFault
 file_fail_for_shelf shelf_fail.NoMemory = file_fail.NoMemory
 
 -- why one does that its reader refuses
-abbrev pub file_fail_for : ReadFail → FileFail
+abbrev pub file_fail_for : ReadFail Refusal → FileFail
 file_fail_for (fail.Refused refusal) = file_fail.Refused refusal
 file_fail_for fail.NoMemory = file_fail.NoMemory
 
 -- the failure where the files give no plan
-abbrev pub fail_without_plan : List ℕ → List ℕ → ReadFail → InputFail
+abbrev pub fail_without_plan : List ℕ → List ℕ → ReadFail Refusal → InputFail
 fail_without_plan setup script (fail.Refused refusal) = input.Refused refusal (name_of setup script refusal.file)
 fail_without_plan setup script fail.NoMemory = input.NoMemory

@@ -4,6 +4,7 @@ use Rattle.conc_types.specs.declared.kind.RefusalKind.{RefusalKind}
 use Rattle.conc_types.specs.declared.refusal.FileKind.{FileKind}
 use Rattle.conc_types.specs.declared.error.ReadFail.{ReadFail}
 use Rattle.conc_types.specs.declared.error.ReadFail.TheVariants as fail
+use Rattle.conc_types.specs.declared.refusal.Refusal.{Refusal}
 
 -- a line, where 0 is the file as a whole, and the kind of the rule that it breaks
 abbrev pub Fault : Type 0
@@ -25,6 +26,6 @@ first_fault kind_at line zero = None
 first_fault kind_at line (suc count) = fault_or line (kind_at line) (first_fault kind_at (line + 1) count)
 
 -- a file with this first fault is refused for it, unless there was no memory
-abbrev pub IsFailure : FileKind → Option Fault → ReadFail → Type 0
+abbrev pub IsFailure : FileKind → Option Fault → ReadFail Refusal → Type 0
 IsFailure file fault (fail.Refused refusal) = (refusal.file ≡ file) × (fault ≡ Some (refusal.line, refusal.kind))
 IsFailure file fault fail.NoMemory = Unit {0}

@@ -45,11 +45,12 @@ impl From<NoMemory> for CheckFail {
     }
 }
 
-/// Why a file gives no value.
+/// Why input, by default a file, gives no value.
 #[derive(Clone, Copy, Debug, PartialEq, Eq, Error)]
-pub enum ReadFail {
-    #[error("the file is refused")]
-    Refused(Refusal),
+pub enum ReadFail<R = Refusal> {
+    /// It breaks a rule.
+    #[error("the input is refused")]
+    Refused(R),
     #[error("no memory")]
     NoMemory,
 }
@@ -63,7 +64,15 @@ impl ReadFail {
     }
 }
 
-impl From<NoMemory> for ReadFail {
+impl From<RefusalKind> for ReadFail<RefusalKind> {
+    ghost from_gives = { λ kind e. e ≡ read_fail.Refused kind };
+
+    fn from(kind: RefusalKind) -> Self {
+        ReadFail::Refused(kind)
+    }
+}
+
+impl<R> From<NoMemory> for ReadFail<R> {
     ghost from_gives = { λ _ e. e ≡ read_fail.NoMemory };
 
     fn from(_: NoMemory) -> Self {
@@ -71,7 +80,7 @@ impl From<NoMemory> for ReadFail {
     }
 }
 
-impl From<AllocError> for ReadFail {
+impl<R> From<AllocError> for ReadFail<R> {
     ghost from_gives = { λ _ e. e ≡ read_fail.NoMemory };
 
     fn from(_: AllocError) -> Self {
@@ -79,7 +88,7 @@ impl From<AllocError> for ReadFail {
     }
 }
 
-impl<T: Drop> From<AllocFailed<T>> for ReadFail {
+impl<R, T: Drop> From<AllocFailed<T>> for ReadFail<R> {
     ghost from_gives = { λ _ e. e ≡ read_fail.NoMemory };
 
     fn from(_: AllocFailed<T>) -> Self {
