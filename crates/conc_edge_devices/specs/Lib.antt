@@ -6,4 +6,5 @@ pub mod Laws
 pub mod Looks
 pub mod Memory
 pub mod Paths
+pub mod Promises
 pub mod Trace

@@ -9,4 +9,4 @@ module _ {R F D : Type 0} where
   growing_state disk = exposes_nothing disk.faults.count
 
   abbrev pub snapshot_state : SnapshotDisk R F D → DiskState
-  snapshot_state disk = exposes_nothing disk.faults.count
+  snapshot_state disk = growing_state disk.file

@@ -2,10 +2,9 @@
 // its length, that a sync which succeeds has brought all of it to the disk, and that nobody else
 // writes the file, which is locked. No clause can say any of this, so a `FileDisk` exposes nothing of
 // its bytes.
-ghost use Rattle.std.specs.Prelude.{◌≡◌, ◌≤◌, ◌+◌, length, take, is_err, IfOk, IsErr, IsTrue, OnErr, OnOk, false};
-ghost use Rattle.std.specs.Option.{option_map};
+ghost use Rattle.std.specs.Prelude.{◌≡◌, ◌≤◌, is_err, IsErr, IsTrue, OnErr, false};
 ghost use Rattle.conc_outside.specs.Counts.{Rose};
-ghost use Rattle.conc_disk.specs.Disk.{Follows, HasAt, HasLength, IsLater, LeavesWhatWasSeen, Reaches, SeenFollows, Shortened, Stays, Torn, written};
+ghost use Rattle.conc_edge_devices.specs.Promises.{Cuts, GivesLength, Reads, Syncs, Writes};
 
 use crate::faults::Faults;
 use conc_disk::Disk;
@@ -110,10 +109,29 @@ impl<F: FileExt + OpenFile> FileDisk<F> {
             faults: Faults::new(),
         }
     }
+
+    /// What a call to the file gives, which is not made after a sync that failed. A call that fails is counted.
+    fn call<T, C: FnOnce(&mut OwnFile<F>) -> Result<T, Failed>>(
+        &mut self,
+        call: C,
+    ) -> Result<T, Failed>
+        requires { C.IsAlwaysCallable call }
+        ensures later { self.old.faults.count ≤ self.new.faults.count }
+        ensures failed { OnErr result (Rose self.old.faults.count self.new.faults.count) }
+        ensures broken { IsTrue (is_broken self.old) → IsErr result }
+        ensures stays_broken { is_broken self.new ≡ is_broken self.old }
+    {
+        let done = if self.broken {
+            Err(Failed)
+        } else {
+            call(&mut self.own)
+        };
+        self.faults.counted(done)
+    }
 }
 
 impl<F: FileExt + OpenFile> Disk for FileDisk<F> {
-    ghost use Rattle.conc_edge_devices.specs.Files.{file_state, is_broken};
+    ghost use Rattle.conc_edge_devices.specs.Files.{CallsFile, file_state, is_broken};
 
     ghost state = { λ d. file_state d };
 
@@ -124,99 +142,39 @@ impl<F: FileExt + OpenFile> Disk for FileDisk<F> {
     ghost only_now = { λ d c left. tt };
 
     fn len(&mut self) -> Result<u64, Failed>
-        ensures later { IsLater (file_state self.old) (file_state self.new) }
-        ensures length { IfOk result (λ n. HasLength (file_state self.old) n) }
-        ensures stays { Stays (file_state self.old) (file_state self.new) }
-        ensures failed { OnErr result (Rose (file_state self.old).faults
-            (file_state self.new).faults) }
-        ensures broken { IsTrue (is_broken self.old) → IsErr result }
+        ensures called { CallsFile GivesLength self.old self.new result }
         ensures stays_broken { is_broken self.new ≡ is_broken self.old }
     {
-        let done = if self.broken {
-            Err(Failed)
-        } else {
-            length_of(&self.own.file)
-        };
-        self.faults.counted(done)
+        self.call(|own| length_of(&own.file))
     }
 
     fn read(&mut self, at: u64, into: &mut [u8]) -> Result<(), Failed>
-        requires { Reaches (file_state self.old) (at + length into.old) }
-        ensures later { IsLater (file_state self.old) (file_state self.new) }
-        ensures bytes { OnOk result (HasAt (file_state self.old) at into.new) }
-        ensures stays { Stays (file_state self.old) (file_state self.new) }
-        ensures failed { OnErr result (Rose (file_state self.old).faults
-            (file_state self.new).faults) }
-        ensures broken { IsTrue (is_broken self.old) → IsErr result }
+        ensures called { CallsFile (Reads at into.new) self.old self.new result }
         ensures stays_broken { is_broken self.new ≡ is_broken self.old }
     {
-        let done = if self.broken {
-            Err(Failed)
-        } else {
-            read_piece(&self.own.file, at, into)
-        };
-        self.faults.counted(done)
+        self.call(|own| read_piece(&own.file, at, into))
     }
 
     fn write_at(&mut self, at: u64, bytes: &[u8]) -> Result<(), Failed>
-        requires { Reaches (file_state self.old) at }
-        ensures later { IsLater (file_state self.old) (file_state self.new) }
-        ensures written { OnOk result ((file_state self.new).seen
-            ≡ option_map (written at bytes.now) (file_state self.old).seen) }
-        ensures torn { OnErr result (SeenFollows (Torn at (length bytes.now)) (file_state self.old)
-            (file_state self.new)) }
-        ensures images { Follows (Torn at (length bytes.now)) (file_state self.old)
-            (file_state self.new) }
-        ensures failed { OnErr result (Rose (file_state self.old).faults
-            (file_state self.new).faults) }
-        ensures broken { IsTrue (is_broken self.old) → IsErr result }
+        ensures called { CallsFile (Writes at bytes.now) self.old self.new result }
         ensures stays_broken { is_broken self.new ≡ is_broken self.old }
     {
-        let done = if self.broken {
-            Err(Failed)
-        } else {
-            self.own.write_piece(at, bytes)
-        };
-        self.faults.counted(done)
+        self.call(|own| own.write_piece(at, bytes))
     }
 
     fn cut(&mut self, len: u64) -> Result<(), Failed>
-        requires { Reaches (file_state self.old) len }
-        ensures later { IsLater (file_state self.old) (file_state self.new) }
-        ensures cut { OnOk result ((file_state self.new).seen
-            ≡ option_map (λ bytes. take len bytes) (file_state self.old).seen) }
-        ensures torn { OnErr result (SeenFollows (Shortened len) (file_state self.old)
-            (file_state self.new)) }
-        ensures images { Follows (Shortened len) (file_state self.old) (file_state self.new) }
-        ensures failed { OnErr result (Rose (file_state self.old).faults
-            (file_state self.new).faults) }
-        ensures broken { IsTrue (is_broken self.old) → IsErr result }
+        ensures called { CallsFile (Cuts len) self.old self.new result }
         ensures stays_broken { is_broken self.new ≡ is_broken self.old }
     {
-        let done = if self.broken {
-            Err(Failed)
-        } else {
-            self.own.cut_to(len)
-        };
-        self.faults.counted(done)
+        self.call(|own| own.cut_to(len))
     }
 
     fn sync(&mut self) -> Result<(), Failed>
-        ensures later { IsLater (file_state self.old) (file_state self.new) }
-        ensures durable { OnOk result (LeavesWhatWasSeen (file_state self.old)
-            (file_state self.new)) }
-        ensures stays { Stays (file_state self.old) (file_state self.new) }
-        ensures failed { OnErr result (Rose (file_state self.old).faults
-            (file_state self.new).faults) }
-        ensures broken { IsTrue (is_broken self.old) → IsErr result }
+        ensures called { CallsFile Syncs self.old self.new result }
         ensures breaks { is_broken self.new ≡ is_err result }
     {
-        let done = if self.broken {
-            Err(Failed)
-        } else {
-            self.own.sync_whole()
-        };
+        let done = self.call(|own| own.sync_whole());
         self.broken = done.is_err();
-        self.faults.counted(done)
+        done
     }
 }

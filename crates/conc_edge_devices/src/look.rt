@@ -1,7 +1,8 @@
 // The edge, which is trusted: that a read gives what the file has. The disks of this page are for looking
 // alone: they open the file for reading, make none, write nothing, and lock nothing, so that they stand
 // beside a run that has the file. Where there is no file they look at an empty one.
-ghost use Rattle.std.specs.Prelude.{◌≡◌, ◌≤◌, IfOk, vec_len};
+ghost use Rattle.std.specs.Prelude.{◌≡◌, ◌≤◌, IfOk, IsErr, vec_len};
+ghost use Rattle.conc_outside.specs.Counts.{Rose};
 ghost use Rattle.conc_edge_devices.specs.Looks.{growing_state, snapshot_state};
 
 use crate::faults::Faults;
@@ -12,19 +13,6 @@ use conc_outside::{Failed, metadata_of, read_up_to};
 use std::alloc::Global;
 use std::os::unix::fs::FileExt;
 use std::rt::Files;
-
-/// Opens the file at this path for reading, which may stand at none of the other paths and is no
-/// folder. There may be none.
-fn open_to_look<R: Files>(rt: &R, path: &str, others: &[&str]) -> Result<Option<R::File>, Failed> {
-    let opened = open_old(rt, path, false)?;
-    if let Some(file) = &opened {
-        must_be_elsewhere(rt, file, others)?;
-        if metadata_of(file)?.is_dir() {
-            return Err(Failed);
-        }
-    }
-    Ok(opened)
-}
 
 /// A look at a file that others may append to, whose first bytes stay. Each call opens the file. A call
 /// that fails is counted, and so is each that would write. The count is of 64 bits and stands still at
@@ -51,9 +39,41 @@ impl<'a, R: Files> GrowingDisk<'a, R> {
         }
     }
 
+    /// Opens the file for reading. Returns `None` where there is no file; fails where it is a folder, and where
+    /// it stands at one of the other paths.
+    fn open(&self) -> Result<Option<R::File>, Failed> {
+        let opened = open_old(self.rt, self.path, false)?;
+        if let Some(file) = &opened {
+            must_be_elsewhere(self.rt, file, self.others)?;
+            if metadata_of(file)?.is_dir() {
+                return Err(Failed);
+            }
+        }
+        Ok(opened)
+    }
+
+    /// The first bytes of the file, up to so many; none where there is no file.
+    fn first_bytes(&self, alloc: Global, most: usize) -> Result<Vec<u8>, Failed>
+        ensures { IfOk result (λ bytes. vec_len bytes ≤ most) }
+    {
+        let Some(mut file) = self.open()? else {
+            return Ok(Vec::new(alloc));
+        };
+        read_up_to(alloc, &mut file, most).map_err(|_| Failed)
+    }
+
+    /// Fails, and counts that.
+    fn refuse(&mut self) -> Result<(), Failed>
+        ensures fails { IsErr result }
+        ensures later { self.old.faults.count ≤ self.new.faults.count }
+        ensures fault { Rose self.old.faults.count self.new.faults.count }
+    {
+        self.faults.counted(Err(Failed))
+    }
+
     /// The length of the file.
     fn length(&self) -> Result<u64, Failed> {
-        match open_to_look(self.rt, self.path, self.others)? {
+        match self.open()? {
             Some(file) => length_of(&file),
             None => Ok(0),
         }
@@ -64,7 +84,7 @@ impl<'a, R: Files> GrowingDisk<'a, R> {
     where
         R::File: FileExt,
     {
-        match open_to_look(self.rt, self.path, self.others)? {
+        match self.open()? {
             Some(file) => read_piece(&file, at, into),
             None if at == 0 && into.is_empty() => Ok(()),
             None => Err(Failed),
@@ -95,11 +115,11 @@ where
     }
 
     fn write_at(&mut self, _at: u64, _bytes: &[u8]) -> Result<(), Failed> {
-        self.faults.counted(Err(Failed))
+        self.refuse()
     }
 
     fn cut(&mut self, _len: u64) -> Result<(), Failed> {
-        self.faults.counted(Err(Failed))
+        self.refuse()
     }
 
     /// Nothing was written.
@@ -115,30 +135,11 @@ where
 /// count is of 64 bits and stands still at its end.
 #[derive(Drop)]
 pub struct SnapshotDisk<'a, R: Files> {
-    rt: &'a R,
+    file: GrowingDisk<'a, R>,
     alloc: Global,
-    path: &'a str,
-    others: &'a [&'a str],
     most: usize,
     // Once they are read.
     bytes: Option<Vec<u8>>,
-    faults: Faults,
-}
-
-/// The first bytes of the file at this path, up to so many; none where there is no file.
-fn read_first<R: Files>(
-    rt: &R,
-    alloc: Global,
-    path: &str,
-    others: &[&str],
-    most: usize,
-) -> Result<Vec<u8>, Failed>
-    ensures { IfOk result (λ bytes. vec_len bytes ≤ most) }
-{
-    let Some(mut file) = open_to_look(rt, path, others)? else {
-        return Ok(Vec::new(alloc));
-    };
-    read_up_to(alloc, &mut file, most).map_err(|_| Failed)
 }
 
 /// Fills the piece with those of the bytes that stand from here on.
@@ -156,22 +157,19 @@ impl<'a, R: Files> SnapshotDisk<'a, R> {
         ensures { (snapshot_state result).faults ≡ 0 }
     {
         SnapshotDisk {
-            rt,
+            file: GrowingDisk::new(rt, path, others),
             alloc,
-            path,
-            others,
             most,
             bytes: None,
-            faults: Faults::new(),
         }
     }
 
     /// Reads what the file has, where it was not read yet.
     fn look(&mut self) -> Result<(), Failed>
-        ensures faults { self.new.faults ≡ self.old.faults }
+        ensures faults { self.new.file.faults ≡ self.old.file.faults }
     {
         if self.bytes.is_none() {
-            let bytes = read_first(self.rt, self.alloc, self.path, self.others, self.most)?;
+            let bytes = self.file.first_bytes(self.alloc, self.most)?;
             self.bytes = Some(bytes);
         }
         Ok(())
@@ -185,17 +183,9 @@ impl<'a, R: Files> SnapshotDisk<'a, R> {
         }
     }
 
-    /// How many bytes the file had.
-    fn length(&mut self) -> Result<u64, Failed>
-        ensures faults { self.new.faults ≡ self.old.faults }
-    {
-        self.look()?;
-        Ok(self.seen().len() as u64)
-    }
-
     /// Fills the piece with those of the bytes that stand from here on.
     fn fill(&mut self, at: u64, into: &mut [u8]) -> Result<(), Failed>
-        ensures faults { self.new.faults ≡ self.old.faults }
+        ensures faults { self.new.file.faults ≡ self.old.file.faults }
     {
         self.look()?;
         copy_from(self.seen(), at, into)
@@ -212,21 +202,21 @@ impl<'a, R: Files> Disk for SnapshotDisk<'a, R> {
     ghost only_now = { λ d c left. tt };
 
     fn len(&mut self) -> Result<u64, Failed> {
-        let done = self.length();
-        self.faults.counted(done)
+        let done = self.look().map(|()| self.seen().len() as u64);
+        self.file.faults.counted(done)
     }
 
     fn read(&mut self, at: u64, into: &mut [u8]) -> Result<(), Failed> {
         let done = self.fill(at, into);
-        self.faults.counted(done)
+        self.file.faults.counted(done)
     }
 
     fn write_at(&mut self, _at: u64, _bytes: &[u8]) -> Result<(), Failed> {
-        self.faults.counted(Err(Failed))
+        self.file.refuse()
     }
 
     fn cut(&mut self, _len: u64) -> Result<(), Failed> {
-        self.faults.counted(Err(Failed))
+        self.file.refuse()
     }
 
     /// Nothing was written.

@@ -1,8 +1,6 @@
-ghost use Rattle.std.specs.Prelude.{◌≡◌, ◌≤◌, ◌+◌, List, ℕ, Some, IfOk, OnErr, OnOk, Vec, length, take};
+ghost use Rattle.std.specs.Prelude.{◌≡◌, ◌≤◌, ◌+◌, List, ℕ, Some, IfOk, OnErr, OnOk, Vec, length};
 ghost use Rattle.std.specs.declared.alloc.Global.{Global};
-ghost use Rattle.std.specs.Option.{option_map};
-ghost use Rattle.conc_outside.specs.Counts.{Rose};
-ghost use Rattle.conc_disk.specs.Disk.{Follows, HasAt, HasLength, IsLater, LeavesWhatWasSeen, Reaches, SeenFollows, Shortened, Stays, Torn, written};
+ghost use Rattle.conc_disk.specs.Disk.{Reaches};
 ghost use Rattle.conc_edge_devices.specs.Trace.{start_of};
 ghost use Rattle.conc_edge_devices.specs.Laws.{now-counts, only-now, seen-is-left};
 
@@ -70,6 +68,7 @@ impl MemDisk {
 impl Disk for MemDisk {
     ghost use Rattle.conc_edge_devices.specs.Calls.{calls_of, FailsAsListed, state_of};
     ghost use Rattle.conc_edge_devices.specs.Grows.{Grows, IsSame};
+    ghost use Rattle.conc_edge_devices.specs.Promises.{Cuts, GivesLength, Reads, Syncs, Writes};
     ghost use Rattle.conc_edge_devices.specs.declared.trace.Act.TheVariants.{Write, Cut, Sync};
 
     ghost state = { λ d. state_of d };
@@ -85,10 +84,7 @@ impl Disk for MemDisk {
         (start_of d.trace.first d.trace.bytes.items) c left };
 
     fn len(&mut self) -> Result<u64, Failed>
-        ensures later { IsLater (state_of self.old) (state_of self.new) }
-        ensures length { IfOk result (λ n. HasLength (state_of self.old) n) }
-        ensures stays { Stays (state_of self.old) (state_of self.new) }
-        ensures failed { OnErr result (Rose (state_of self.old).faults (state_of self.new).faults) }
+        ensures kept { GivesLength (state_of self.old) (state_of self.new) result }
         ensures exact { FailsAsListed self.old self.new result }
         ensures unchanged { IsSame self.old.trace self.new.trace }
     {
@@ -98,10 +94,7 @@ impl Disk for MemDisk {
 
     fn read(&mut self, at: u64, into: &mut [u8]) -> Result<(), Failed>
         requires { Reaches (state_of self.old) (at + length into.old) }
-        ensures later { IsLater (state_of self.old) (state_of self.new) }
-        ensures bytes { OnOk result (HasAt (state_of self.old) at into.new) }
-        ensures stays { Stays (state_of self.old) (state_of self.new) }
-        ensures failed { OnErr result (Rose (state_of self.old).faults (state_of self.new).faults) }
+        ensures kept { Reads at into.new (state_of self.old) (state_of self.new) result }
         ensures exact { FailsAsListed self.old self.new result }
         ensures unchanged { IsSame self.old.trace self.new.trace }
     {
@@ -113,14 +106,7 @@ impl Disk for MemDisk {
 
     fn write_at(&mut self, at: u64, bytes: &[u8]) -> Result<(), Failed>
         requires { Reaches (state_of self.old) at }
-        ensures later { IsLater (state_of self.old) (state_of self.new) }
-        ensures written { OnOk result ((state_of self.new).seen
-            ≡ option_map (written at bytes.now) (state_of self.old).seen) }
-        ensures torn { OnErr result (SeenFollows (Torn at (length bytes.now)) (state_of self.old)
-            (state_of self.new)) }
-        ensures images { Follows (Torn at (length bytes.now)) (state_of self.old)
-            (state_of self.new) }
-        ensures failed { OnErr result (Rose (state_of self.old).faults (state_of self.new).faults) }
+        ensures kept { Writes at bytes.now (state_of self.old) (state_of self.new) result }
         ensures exact { FailsAsListed self.old self.new result }
         ensures traced { OnOk result ((kept : Vec ℕ Global) × (kept.items ≡ bytes.now)
             × Grows self.old.trace self.new.trace (calls_of self.old) (Write at kept)) }
@@ -135,13 +121,7 @@ impl Disk for MemDisk {
 
     fn cut(&mut self, len: u64) -> Result<(), Failed>
         requires { Reaches (state_of self.old) len }
-        ensures later { IsLater (state_of self.old) (state_of self.new) }
-        ensures cut { OnOk result ((state_of self.new).seen
-            ≡ option_map (λ bytes. take len bytes) (state_of self.old).seen) }
-        ensures torn { OnErr result (SeenFollows (Shortened len) (state_of self.old)
-            (state_of self.new)) }
-        ensures images { Follows (Shortened len) (state_of self.old) (state_of self.new) }
-        ensures failed { OnErr result (Rose (state_of self.old).faults (state_of self.new).faults) }
+        ensures kept { Cuts len (state_of self.old) (state_of self.new) result }
         ensures exact { FailsAsListed self.old self.new result }
         ensures traced { OnOk result (Grows self.old.trace self.new.trace (calls_of self.old)
             (Cut len)) }
@@ -155,10 +135,7 @@ impl Disk for MemDisk {
     }
 
     fn sync(&mut self) -> Result<(), Failed>
-        ensures later { IsLater (state_of self.old) (state_of self.new) }
-        ensures durable { OnOk result (LeavesWhatWasSeen (state_of self.old) (state_of self.new)) }
-        ensures stays { Stays (state_of self.old) (state_of self.new) }
-        ensures failed { OnErr result (Rose (state_of self.old).faults (state_of self.new).faults) }
+        ensures kept { Syncs (state_of self.old) (state_of self.new) result }
         ensures exact { FailsAsListed self.old self.new result }
         ensures traced { OnOk result (Grows self.old.trace self.new.trace (calls_of self.old)
             Sync) }

@@ -1,8 +1,7 @@
-ghost use Rattle.std.specs.Prelude.{◌≡◌, ◌≤◌, ◌+◌, length, take, is_err, None, IfOk, IfSome, IsErr, IsSomeAnd, OnErr, OnOk};
-ghost use Rattle.std.specs.Option.{option_map};
+ghost use Rattle.std.specs.Prelude.{◌≡◌, ◌≤◌, is_err, None, IfSome, IsSomeAnd, OnErr};
 ghost use Rattle.std.specs.Fn.{FnOnceReturnsAtMut};
 ghost use Rattle.conc_outside.specs.Counts.{Rose};
-ghost use Rattle.conc_disk.specs.Disk.{Follows, HasAt, HasLength, IsLater, LeavesWhatWasSeen, Reaches, SeenFollows, Shortened, Stays, Torn, written};
+ghost use Rattle.conc_edge_devices.specs.Promises.{Cuts, GivesLength, Reads, Syncs, Writes};
 
 use crate::faults::Faults;
 use crate::{FileDisk, LockFile, open_disk};
@@ -77,7 +76,7 @@ impl<'a, R: Files> Disk for PathDisk<'a, R>
 where
     R::File: FileExt + LockFile,
 {
-    ghost use Rattle.conc_edge_devices.specs.Paths.{BreaksAs, IsBroken, path_state};
+    ghost use Rattle.conc_edge_devices.specs.Paths.{CallsPath, path_state};
 
     ghost state = { λ d. path_state d };
 
@@ -88,72 +87,31 @@ where
     ghost only_now = { λ d c left. tt };
 
     fn len(&mut self) -> Result<u64, Failed>
-        ensures later { IsLater (path_state self.old) (path_state self.new) }
-        ensures length { IfOk result (λ n. HasLength (path_state self.old) n) }
-        ensures stays { Stays (path_state self.old) (path_state self.new) }
-        ensures failed { OnErr result (Rose (path_state self.old).faults
-            (path_state self.new).faults) }
-        ensures broken { IsBroken self.old → IsErr result }
-        ensures stays_broken { BreaksAs (λ broken. broken) self.old self.new }
+        ensures { CallsPath GivesLength (λ broken. broken) self.old self.new result }
     {
         self.call(|disk| disk.len())
     }
 
     fn read(&mut self, at: u64, into: &mut [u8]) -> Result<(), Failed>
-        requires { Reaches (path_state self.old) (at + length into.old) }
-        ensures later { IsLater (path_state self.old) (path_state self.new) }
-        ensures bytes { OnOk result (HasAt (path_state self.old) at into.new) }
-        ensures stays { Stays (path_state self.old) (path_state self.new) }
-        ensures failed { OnErr result (Rose (path_state self.old).faults
-            (path_state self.new).faults) }
-        ensures broken { IsBroken self.old → IsErr result }
-        ensures stays_broken { BreaksAs (λ broken. broken) self.old self.new }
+        ensures { CallsPath (Reads at into.new) (λ broken. broken) self.old self.new result }
     {
         self.call(|disk| disk.read(at, into))
     }
 
     fn write_at(&mut self, at: u64, bytes: &[u8]) -> Result<(), Failed>
-        requires { Reaches (path_state self.old) at }
-        ensures later { IsLater (path_state self.old) (path_state self.new) }
-        ensures written { OnOk result ((path_state self.new).seen
-            ≡ option_map (written at bytes.now) (path_state self.old).seen) }
-        ensures torn { OnErr result (SeenFollows (Torn at (length bytes.now)) (path_state self.old)
-            (path_state self.new)) }
-        ensures images { Follows (Torn at (length bytes.now)) (path_state self.old)
-            (path_state self.new) }
-        ensures failed { OnErr result (Rose (path_state self.old).faults
-            (path_state self.new).faults) }
-        ensures broken { IsBroken self.old → IsErr result }
-        ensures stays_broken { BreaksAs (λ broken. broken) self.old self.new }
+        ensures { CallsPath (Writes at bytes.now) (λ broken. broken) self.old self.new result }
     {
         self.call(|disk| disk.write_at(at, bytes))
     }
 
     fn cut(&mut self, len: u64) -> Result<(), Failed>
-        requires { Reaches (path_state self.old) len }
-        ensures later { IsLater (path_state self.old) (path_state self.new) }
-        ensures cut { OnOk result ((path_state self.new).seen
-            ≡ option_map (λ bytes. take len bytes) (path_state self.old).seen) }
-        ensures torn { OnErr result (SeenFollows (Shortened len) (path_state self.old)
-            (path_state self.new)) }
-        ensures images { Follows (Shortened len) (path_state self.old) (path_state self.new) }
-        ensures failed { OnErr result (Rose (path_state self.old).faults
-            (path_state self.new).faults) }
-        ensures broken { IsBroken self.old → IsErr result }
-        ensures stays_broken { BreaksAs (λ broken. broken) self.old self.new }
+        ensures { CallsPath (Cuts len) (λ broken. broken) self.old self.new result }
     {
         self.call(|disk| disk.cut(len))
     }
 
     fn sync(&mut self) -> Result<(), Failed>
-        ensures later { IsLater (path_state self.old) (path_state self.new) }
-        ensures durable { OnOk result (LeavesWhatWasSeen (path_state self.old)
-            (path_state self.new)) }
-        ensures stays { Stays (path_state self.old) (path_state self.new) }
-        ensures failed { OnErr result (Rose (path_state self.old).faults
-            (path_state self.new).faults) }
-        ensures broken { IsBroken self.old → IsErr result }
-        ensures breaks { BreaksAs (λ broken. is_err result) self.old self.new }
+        ensures { CallsPath Syncs (λ broken. is_err result) self.old self.new result }
     {
         self.call(|disk| disk.sync())
     }

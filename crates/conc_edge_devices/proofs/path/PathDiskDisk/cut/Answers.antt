@@ -1,5 +1,16 @@
+use Rattle.std.proofs.Common.{rules}
 use Rattle.conc_disk.proofs.Same.{shortened-same}
 use Rattle.conc_edge_devices.proofs.path.PathDiskDisk.cut.Goals as goal
 
-pub returns-clause-images : goal.returns-clause-images
-returns-clause-images g c = λ image left. (image, tt, shortened-same c.args.len image)
+pub returns : goal.returns
+returns g c = record {
+  promises = record {
+    later = search rules;
+    cut = search rules;
+    torn = search rules;
+    images = λ image left. (image, tt, shortened-same c.args.len image);
+    failed = search rules;
+  };
+  broken = search rules;
+  breaks = search rules;
+}
