@@ -44,13 +44,13 @@ type StageParts = (
 fn to_stage(parts: Result<StageParts, FieldFail>) -> Result<RawStage, FieldFail>
     ensures { result ≡ good_read spec.to_stage parts }
 {
-    let (name, (critical, (on_success, (on_warning, (on_error, members))))) = parts?;
+    let (name, (critical, (success, (warning, (error, members))))) = parts?;
     Ok(RawStage {
         name,
         critical,
-        on_success,
-        on_warning,
-        on_error,
+        on_success: success,
+        on_warning: warning,
+        on_error: error,
         members,
     })
 }
@@ -58,7 +58,6 @@ fn to_stage(parts: Result<StageParts, FieldFail>) -> Result<RawStage, FieldFail>
 impl FromTable for RawStage {
     ghost fields = { spec.stage_of };
 
-    #[tactic(auto, unfolding(crate::specs::Sets::stage_of))]
     fn from_table(alloc: Global, table: &Table) -> Result<Self, FieldFail> {
         let name = required::<NameForm>(alloc, table, "name");
         let critical = default::<TruthForm>(alloc, false, table, "critical");
@@ -93,7 +92,6 @@ fn to_set(parts: Result<(Name, Counted<RawStage, 1, 64>), FieldFail>) -> Result<
 impl FromTable for RawSet {
     ghost fields = { spec.set_of };
 
-    #[tactic(auto, unfolding(crate::specs::Sets::set_of))]
     fn from_table(alloc: Global, table: &Table) -> Result<Self, FieldFail> {
         let name = required::<NameForm>(alloc, table, "name");
         let stages = required::<ArrayForm<StageForm, 1, 64>>(alloc, table, "stage");
