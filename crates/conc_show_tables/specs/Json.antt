@@ -15,7 +15,7 @@ use Rattle.conc_show_model.specs.declared.model.Place.{Place}
 use Rattle.conc_show_model.specs.declared.model.Row.{Row}
 use Rattle.conc_show_model.specs.Runs.{place_of}
 use Rattle.conc_show_tables.specs.declared.facts.Facts.{Facts}
-use Rattle.conc_show_tables.specs.Facts.{facts_of, seconds_between}
+use Rattle.conc_show_tables.specs.Facts.{rows_text, seconds_between}
 use Rattle.conc_show_model.specs.Words.{place_text}
 
 -- ---- members: a comma, the key, and the value
@@ -117,9 +117,6 @@ json_facts f =
 abbrev pub json_with : Row → Facts → List ℕ
 json_with row f = json_names row f ++ json_facts f ++ codes "}\n"
 
-unfoldable pub json_row : Chart → Row → List ℕ
-json_row chart row = json_with row (facts_of chart row)
-
 -- a line for each event, then a line for each row
 unfoldable pub json_text : Chart → List ℕ
-json_text chart = json_events 1 chart.events ++ flat_map (json_row chart) chart.rows
+json_text chart = json_events 1 chart.events ++ rows_text json_with chart
