@@ -103,7 +103,7 @@ word_member key word = member key (quoted word)
 -- request,program,set,phase,status
 abbrev pub json_names : Row → Facts → List ℕ
 json_names row f =
-    codes "{\"request\":" ++ decimal row.request.number ++ name_member row.name ++ json_set f.set ++ word_member (codes "phase") (phase_word row.phase)
+    codes "\"request\":" ++ decimal row.request.number ++ name_member row.name ++ json_set f.set ++ word_member (codes "phase") (phase_word row.phase)
     ++ word_member (codes "status") (status_word row.status)
 
 -- place,do,let,start,end,waited,ran,offset,length
@@ -115,7 +115,7 @@ json_facts f =
     ++ json_number (codes "ran") (seconds_between f.start_at f.end_at) ++ json_extent f.extent
 
 abbrev pub json_with : Row → Facts → List ℕ
-json_with row f = json_names row f ++ json_facts f ++ codes "}\n"
+json_with row f = codes "{" ++ json_names row f ++ json_facts f ++ codes "}\n"
 
 -- a line for each event, then a line for each row
 unfoldable pub json_text : Chart → List ℕ

@@ -15,6 +15,9 @@ use std::alloc::Global;
 const HEAD: &[u8] =
     b"request,program,set,phase,status,place,do,let,start,end,waited,ran,offset,length\n";
 
+// The format of the table.
+struct Csv;
+
 // Whether a field has to stand in quotes.
 fn needs_quotes(text: &[u8]) -> bool
     ensures { result ≡ list_any (λ byte. byte == 44 || byte == 34) text.now }
@@ -28,8 +31,7 @@ fn put_byte(out: &mut Vec<u8>, byte: u8) -> Result<(), NoMemory>
     if byte == b'"' {
         put_bytes(out, b"\"\"")
     } else {
-        out.push(byte)?;
-        Ok(())
+        put_bytes(out, &[byte])
     }
 }
 
@@ -149,8 +151,6 @@ fn put_facts(out: &mut Vec<u8>, facts: Facts) -> Result<(), NoMemory>
     put_extent(out, facts.extent)
 }
 
-struct Csv;
-
 impl RowFormat for Csv {
     ghost line = { csv_with };
 
@@ -162,7 +162,6 @@ impl RowFormat for Csv {
 }
 
 /// Appends the table of a chart as comma-separated fields: a head, and a line for each row.
-#[tactic(auto, unfolding(crate::specs::Csv::csv_text))]
 pub fn put_csv(alloc: Global, out: &mut Vec<u8>, chart: &Chart) -> Result<(), NoMemory>
     ensures { OnOk result (out.new.items ≡ out.old.items ++ csv_text chart.now) }
 {

@@ -11,6 +11,9 @@ use conc_time::put_moment;
 use conc_types::{Event, Extent, Moment, NoMemory, Outcome, PlaceId, RequestId, put_decimal};
 use std::alloc::Global;
 
+// The format of the lines.
+struct Json;
+
 fn put_byte(out: &mut Vec<u8>, byte: u8) -> Result<(), NoMemory>
     ensures { OnOk result (out.new.items ≡ out.old.items ++ escaped byte) }
 {
@@ -252,7 +255,7 @@ fn put_name(out: &mut Vec<u8>, name: &[u8]) -> Result<(), NoMemory>
 fn put_names(out: &mut Vec<u8>, row: &Row, facts: Facts) -> Result<(), NoMemory>
     ensures { OnOk result (out.new.items ≡ out.old.items ++ spec.json_names row.now facts) }
 {
-    put_bytes(out, b"{\"request\":")?;
+    put_bytes(out, b"\"request\":")?;
     put_decimal(out, u64::from(row.request.number))?;
     put_name(out, row.name.as_bytes())?;
     put_set(out, facts.set)?;
@@ -278,12 +281,11 @@ fn put_facts(out: &mut Vec<u8>, facts: Facts) -> Result<(), NoMemory>
     put_extent(out, facts.extent)
 }
 
-struct Json;
-
 impl RowFormat for Json {
     ghost line = { json_with };
 
     fn put_line(out: &mut Vec<u8>, row: &Row, facts: Facts) -> Result<(), NoMemory> {
+        put_bytes(out, b"{")?;
         put_names(out, row, facts)?;
         put_facts(out, facts)?;
         put_bytes(out, b"}\n")
