@@ -8,12 +8,28 @@ ghost use Rattle.conc_setup.specs.SecondPass.{has_distinct_stages};
 ghost use Rattle.conc_setup.specs.ThirdPass as spec;
 
 use crate::copies::copy_of_name;
-use crate::names::place_of;
+use crate::names::{Named, place_of};
 use crate::resolve::{Items, resolve_good};
 use conc_data_entries::{RawSet, RawStage};
 use conc_data_fields::{FieldFail, Judged, all_good, both};
 use conc_types::{Name, NoMemory, RefusalKind, Seq, SetDef, Stage};
 use std::alloc::Global;
+
+impl Named for RawSet {
+    ghost name_of = { λ set. set.name };
+
+    fn name(&self) -> &Name {
+        &self.name
+    }
+}
+
+impl Named for RawStage {
+    ghost name_of = { λ stage. stage.name };
+
+    fn name(&self) -> &Name {
+        &self.name
+    }
+}
 
 // The place of the stage with this name, to which the stage at the place given leads.
 fn link_of(stages: &[RawStage], at: usize, name: &Name) -> Judged<u32>
