@@ -12,14 +12,6 @@ use conc_data_fields::{FieldFail, Judged, both};
 use conc_types::{Manager, Name, NoMemory, Rule, Seq};
 use std::alloc::Global;
 
-impl Named for RawManager {
-    ghost name_of = { λ manager. manager.name };
-
-    fn name(&self) -> &Name {
-        &self.name
-    }
-}
-
 fn program_if_named(items: &Items, name: &Option<Name>) -> Judged<Option<u32>>
     ensures { result ≡ spec.if_named (spec.program_of items.now.programs.now) name.now }
 {
@@ -70,6 +62,14 @@ fn manager_with(
         exclude,
         shifts,
     })
+}
+
+impl Named for RawManager {
+    ghost name_of = { λ manager. manager.name };
+
+    fn name(&self) -> &Name {
+        &self.name
+    }
 }
 
 impl Resolve for RawManager {
