@@ -5,7 +5,7 @@ ghost use Rattle.conc_data_entries.specs.Sets as spec;
 ghost use Rattle.toml.specs.View.{table_view};
 
 use crate::table::{FromTable, TableForm};
-use crate::{RawSet, RawStage};
+use crate::{RawLinks, RawSet, RawStage};
 use conc_data_fields::{
     ArrayForm, Counted, FieldFail, NameForm, TruthForm, beside, both, default, keys_kind, optional,
     required,
@@ -45,15 +45,21 @@ fn to_stage(parts: Result<StageParts, FieldFail>) -> Result<RawStage, FieldFail>
     ensures { result ≡ good_read spec.to_stage parts }
 {
     let (name, (critical, (success, (warning, (error, members))))) = parts?;
+    let links = RawLinks {
+        success,
+        warning,
+        error,
+    };
     Ok(RawStage {
         name,
         critical,
-        on_success: success,
-        on_warning: warning,
-        on_error: error,
+        links,
         members,
     })
 }
+
+/// A stage of a set, with 1 to 64 members.
+type StageForm = TableForm<RawStage>;
 
 impl FromTable for RawStage {
     ghost fields = { spec.stage_of };
@@ -72,9 +78,6 @@ impl FromTable for RawStage {
         beside(stage_keys(table), to_stage(parts))
     }
 }
-
-/// A stage of a set, with 1 to 64 members.
-type StageForm = TableForm<RawStage>;
 
 fn set_keys(table: &Table) -> Option<RefusalKind>
     ensures { result ≡ fields_spec.keys_kind spec.set_keys (table_view table.now) }

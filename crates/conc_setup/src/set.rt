@@ -96,9 +96,9 @@ fn resolve_stage(
     ensures { IfRead result (λ r. r ≡ spec.resolved_stage items.now.programs.now stages.now
         (at, stage.now)) }
 {
-    let success = link_if_named(stages, at, &stage.on_success);
-    let warning = link_if_named(stages, at, &stage.on_warning);
-    let error = link_if_named(stages, at, &stage.on_error);
+    let success = link_if_named(stages, at, &stage.links.success);
+    let warning = link_if_named(stages, at, &stage.links.warning);
+    let error = link_if_named(stages, at, &stage.links.error);
     let members = resolve_good(alloc, items, stage.members.list.as_slice());
     let parts = both(success, both(warning, both(error, members)));
     let (success, (warning, (error, members))) = parts?;
