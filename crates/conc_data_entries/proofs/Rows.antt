@@ -58,7 +58,7 @@ abbrev program_parts : Program → List ℕ × (List ℕ × (Bool × (Bool × Bo
 program_parts p = (p.name, (p.request_type, (p.enabled, (p.run_alone, p.restart))))
 
 abbrev stage_parts : RawStage → List ℕ × (Option (List ℕ) × List (List ℕ))
-stage_parts s = (s.name, (s.on_error, s.members.list))
+stage_parts s = (s.name, (s.links.error, s.members.list))
 
 -- ---- what is read
 

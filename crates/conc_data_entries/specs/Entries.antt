@@ -1,6 +1,5 @@
 -- The incompatibilities, as the tables of a setup file give them.
-use Rattle.std.specs.Prelude.{ℕ, codes, if◌then◌else◌, List, [], ◌∷◌, Result, Ok, Err}
-use Rattle.std.specs.Str.{bytes_eq}
+use Rattle.std.specs.Prelude.{ℕ, codes, List, [], ◌∷◌, Option, Result}
 use Rattle.toml.specs.Data.{Data, Members, get_member}
 use Rattle.conc_types.specs.declared.kind.RefusalKind.{RefusalKind}
 use Rattle.conc_types.specs.declared.kind.RefusalKind.TheVariants as refused
@@ -12,25 +11,19 @@ use Rattle.conc_data_fields.specs.Fields.{default, keys_kind, required}
 use Rattle.conc_data_fields.specs.Forms.{name_in}
 use Rattle.conc_data_fields.specs.Kinds.{beside, both, good}
 use Rattle.conc_data_entries.specs.declared.raw.RawEntry.{RawEntry}
-use Rattle.conc_data_entries.specs.Tables.{table_in, word_in}
+use Rattle.conc_data_entries.specs.Tables.{one_of, table_in, word_in}
 
-abbrev pub scope_of : List ℕ → Result Scope RefusalKind
-scope_of word =
-    if bytes_eq word (codes "program") then Ok scope.Program
-    else if bytes_eq word (codes "set") then Ok scope.Set
-    else Err refused.OutOfRange
+abbrev pub scope_of : List ℕ → Option Scope
+scope_of = one_of ((codes "program", scope.Program) ∷ (codes "set", scope.Set) ∷ [])
 
 abbrev pub scope_in : Data → Result Scope RefusalKind
-scope_in = word_in scope_of
+scope_in = word_in refused.OutOfRange scope_of
 
-abbrev pub reach_of : List ℕ → Result Reach RefusalKind
-reach_of word =
-    if bytes_eq word (codes "domain") then Ok reach.Domain
-    else if bytes_eq word (codes "global") then Ok reach.Global
-    else Err refused.OutOfRange
+abbrev pub reach_of : List ℕ → Option Reach
+reach_of = one_of ((codes "domain", reach.Domain) ∷ (codes "global", reach.Global) ∷ [])
 
 abbrev pub reach_in : Data → Result Reach RefusalKind
-reach_in = word_in reach_of
+reach_in = word_in refused.OutOfRange reach_of
 
 abbrev pub entry_keys : List (List ℕ)
 entry_keys = codes "program" ∷ codes "with" ∷ codes "scope" ∷ codes "type" ∷ []

@@ -1,6 +1,5 @@
 -- Programs and their filters, as the tables of a setup file give them.
-use Rattle.std.specs.Prelude.{ℕ, codes, if◌then◌else◌, Bool, true, false, List, [], ◌∷◌, Option, Result, Ok, Err}
-use Rattle.std.specs.Str.{bytes_eq}
+use Rattle.std.specs.Prelude.{ℕ, codes, Bool, true, false, List, [], ◌∷◌, Option, Result}
 use Rattle.toml.specs.Data.{Data, Members, get_member}
 use Rattle.conc_types.specs.declared.kind.RefusalKind.{RefusalKind}
 use Rattle.conc_types.specs.declared.kind.RefusalKind.TheVariants as refused
@@ -15,21 +14,18 @@ use Rattle.conc_data_fields.specs.Forms.{name_in, no_text, text_in, truth_in, wh
 use Rattle.conc_data_fields.specs.Kinds.{beside, both, good}
 use Rattle.conc_data_fields.specs.declared.values.Counted.{Counted}
 use Rattle.conc_data_fields.specs.declared.values.ShortText.{ShortText}
-use Rattle.conc_data_entries.specs.Tables.{table_in, word_in}
+use Rattle.conc_data_entries.specs.Tables.{one_of, table_in, word_in}
 
 -- ---- filters
 
-abbrev pub test_of : List ℕ → Result Test RefusalKind
-test_of word =
-    if bytes_eq word (codes "is") then Ok test.Is
-    else if bytes_eq word (codes "is_not") then Ok test.IsNot
-    else if bytes_eq word (codes "starts_with") then Ok test.StartsWith
-    else if bytes_eq word (codes "above") then Ok test.Above
-    else if bytes_eq word (codes "below") then Ok test.Below
-    else Err refused.OutOfRange
+abbrev pub test_of : List ℕ → Option Test
+test_of =
+    one_of (
+    (codes "is", test.Is) ∷ (codes "is_not", test.IsNot) ∷ (codes "starts_with", test.StartsWith)
+    ∷ (codes "above", test.Above) ∷ (codes "below", test.Below) ∷ [])
 
 abbrev pub test_in : Data → Result Test RefusalKind
-test_in = word_in test_of
+test_in = word_in refused.OutOfRange test_of
 
 abbrev pub filter_keys : List (List ℕ)
 filter_keys = codes "column" ∷ codes "test" ∷ codes "value" ∷ []

@@ -23,9 +23,7 @@ abbrev pub to_stage : StageParts → RawStage
 to_stage parts = record {
   name = parts.0;
   critical = parts.1.0;
-  on_success = parts.1.1.0;
-  on_warning = parts.1.1.1.0;
-  on_error = parts.1.1.1.1.0;
+  links = record { success = parts.1.1.0; warning = parts.1.1.1.0; error = parts.1.1.1.1.0 };
   members = parts.1.1.1.1.1;
 }
 

@@ -1,8 +1,7 @@
 -- Work shifts, as the tables of a setup file give them.
-use Rattle.std.specs.Prelude.{ℕ, codes, if◌then◌else◌, ◌+◌, ◌-◌, ◌*◌, ◌/◌, Bool, not, ◌&&◌, ◌==◌, nat_le, List, [], ◌∷◌, ◌++◌, length, slice_index, Option, None, Some, Result, Ok, Err}
+use Rattle.std.specs.Prelude.{ℕ, codes, if◌then◌else◌, ◌+◌, ◌-◌, ◌*◌, ◌/◌, Bool, not, ◌&&◌, ◌==◌, nat_le, nat_lt, List, [], ◌∷◌, ◌++◌, length, slice_index, Option, None, Some, Result, Ok, Err}
 use Rattle.std.specs.List.{list_any}
 use Rattle.std.specs.Option.{option_map}
-use Rattle.std.specs.Str.{bytes_eq}
 use Rattle.toml.specs.Data.{Data, Members, get_member, as_str}
 use Rattle.conc_types.specs.declared.kind.RefusalKind.{RefusalKind}
 use Rattle.conc_types.specs.declared.kind.RefusalKind.TheVariants as refused
@@ -14,7 +13,7 @@ use Rattle.conc_data_fields.specs.Arrays.{list_in}
 use Rattle.conc_data_fields.specs.Fields.{default, keys_kind, optional, required}
 use Rattle.conc_data_fields.specs.Forms.{whole_in}
 use Rattle.conc_data_fields.specs.Kinds.{beside, both, judged, or_kind, proven}
-use Rattle.conc_data_entries.specs.Tables.{table_in}
+use Rattle.conc_data_entries.specs.Tables.{one_of, table_in, word_in}
 
 -- ---- dates, times, days and places
 
@@ -50,19 +49,14 @@ abbrev pub time_in : Data → Result ℕ RefusalKind
 time_in value = or_kind refused.WrongKind time_of (as_str value)
 
 -- a day of the week, from 0 for Monday
-abbrev pub day_of : List ℕ → Result ℕ RefusalKind
-day_of word =
-    if bytes_eq word (codes "Mon") then Ok 0
-    else if bytes_eq word (codes "Tue") then Ok 1
-    else if bytes_eq word (codes "Wed") then Ok 2
-    else if bytes_eq word (codes "Thu") then Ok 3
-    else if bytes_eq word (codes "Fri") then Ok 4
-    else if bytes_eq word (codes "Sat") then Ok 5
-    else if bytes_eq word (codes "Sun") then Ok 6
-    else Err refused.BadShift
+abbrev pub day_of : List ℕ → Option ℕ
+day_of =
+    one_of (
+    (codes "Mon", 0) ∷ (codes "Tue", 1) ∷ (codes "Wed", 2) ∷ (codes "Thu", 3) ∷ (codes "Fri", 4)
+    ∷ (codes "Sat", 5) ∷ (codes "Sun", 6) ∷ [])
 
 abbrev pub day_in : Data → Result ℕ RefusalKind
-day_in value = or_kind refused.WrongKind day_of (as_str value)
+day_in = word_in refused.BadShift day_of
 
 abbrev pub has_day : ℕ → List ℕ → Bool
 has_day day days = list_any (λ d. day == d) days
@@ -83,7 +77,7 @@ unfoldable pub days_in : Data → Result ℕ RefusalKind
 days_in value = judged days_of (list_in day_in value)
 
 abbrev pub places_of : ℕ → Result ℕ RefusalKind
-places_of count = if nat_le count 64 then Ok count else Err refused.OutOfRange
+places_of count = if nat_lt 64 count then Err refused.OutOfRange else Ok count
 
 -- how many places, which are 0 to 64
 abbrev pub places_in : Data → Result ℕ RefusalKind

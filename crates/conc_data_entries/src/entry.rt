@@ -1,12 +1,12 @@
-ghost use Rattle.std.specs.Prelude.{◌≡◌, List, ℕ};
+ghost use Rattle.std.specs.Prelude.{◌≡◌, List, Option, ℕ};
 ghost use Rattle.conc_data_fields.specs.Fields as fields_spec;
 ghost use Rattle.conc_data_fields.specs.Reads.{good_read};
 ghost use Rattle.conc_data_entries.specs.Entries as spec;
 ghost use Rattle.toml.specs.View.{table_view};
 
 use crate::RawEntry;
-use crate::table::{FromTable, FromWord, TableForm, WordForm};
-use conc_data_fields::{FieldFail, Judged, NameForm, beside, both, default, keys_kind, required};
+use crate::table::{FromTable, FromWord, TableForm, WordForm, one_of};
+use conc_data_fields::{FieldFail, NameForm, beside, both, default, keys_kind, required};
 use conc_types::{Name, Reach, RefusalKind, Scope};
 use std::alloc::Global;
 use toml::Table;
@@ -14,28 +14,19 @@ use toml::Table;
 impl FromWord for Scope {
     ghost of_word = { spec.scope_of };
 
-    fn from_word(word: &str) -> Judged<Self> {
-        if word == "program" {
-            Ok(Scope::Program)
-        } else if word == "set" {
-            Ok(Scope::Set)
-        } else {
-            Err(RefusalKind::OutOfRange)
-        }
+    fn from_word(word: &str) -> Option<Self> {
+        one_of(&[("program", Scope::Program), ("set", Scope::Set)], word)
     }
 }
 
 impl FromWord for Reach {
     ghost of_word = { spec.reach_of };
 
-    fn from_word(word: &str) -> Judged<Self> {
-        if word == "domain" {
-            Ok(Reach::Domain)
-        } else if word == "global" {
-            Ok(Reach::Global)
-        } else {
-            Err(RefusalKind::OutOfRange)
-        }
+    fn from_word(word: &str) -> Option<Self> {
+        one_of(
+            &[("domain", Reach::Domain), ("global", Reach::Global)],
+            word,
+        )
     }
 }
 
@@ -60,7 +51,6 @@ fn to_entry(parts: Result<(Name, (Name, (Scope, Reach))), FieldFail>) -> Result<
 impl FromTable for RawEntry {
     ghost fields = { spec.entry_of };
 
-    #[tactic(auto, unfolding(crate::specs::Entries::entry_of))]
     fn from_table(alloc: Global, table: &Table) -> Result<Self, FieldFail> {
         let owner = required::<NameForm>(alloc, table, "program");
         let other = required::<NameForm>(alloc, table, "with");

@@ -15,6 +15,6 @@ mod table;
 pub use entry::EntryForm;
 pub use manager::ManagerForm;
 pub use program::ProgramForm;
-pub use raw::{RawEntry, RawManager, RawRule, RawSet, RawStage};
+pub use raw::{RawEntry, RawLinks, RawManager, RawRule, RawSet, RawStage};
 pub use set::SetForm;
 pub use table::{FromTable, TableForm};

@@ -54,7 +54,6 @@ fn to_manager(parts: Result<ManagerParts, FieldFail>) -> Result<RawManager, Fiel
 impl FromTable for RawManager {
     ghost fields = { spec.manager_of };
 
-    #[tactic(auto, unfolding(crate::specs::Managers::manager_of))]
     fn from_table(alloc: Global, table: &Table) -> Result<Self, FieldFail> {
         let name = required::<NameForm>(alloc, table, "name");
         let include = default::<ListForm<RuleForm>>(

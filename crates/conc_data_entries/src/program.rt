@@ -1,13 +1,13 @@
-ghost use Rattle.std.specs.Prelude.{◌≡◌, List, ℕ};
+ghost use Rattle.std.specs.Prelude.{◌≡◌, List, Option, ℕ};
 ghost use Rattle.conc_data_fields.specs.Fields as fields_spec;
 ghost use Rattle.conc_data_fields.specs.Reads.{IfRead, good_read};
 ghost use Rattle.conc_data_entries.specs.Programs as spec;
 ghost use Rattle.toml.specs.View.{table_view};
 
-use crate::table::{FromTable, FromWord, TableForm, WordForm};
+use crate::table::{FromTable, FromWord, TableForm, WordForm, one_of};
 use conc_data_fields::{
-    ArrayForm, Counted, FieldFail, Judged, NameForm, ShortText, TextForm, TruthForm, WholeForm,
-    beside, both, default, keys_kind, no_text, no_values, optional, required,
+    ArrayForm, Counted, FieldFail, NameForm, ShortText, TextForm, TruthForm, WholeForm, beside,
+    both, default, keys_kind, no_text, no_values, optional, required,
 };
 use conc_types::{Filter, Job, Name, Program, RefusalKind, Test};
 use std::alloc::Global;
@@ -16,20 +16,17 @@ use toml::Table;
 impl FromWord for Test {
     ghost of_word = { spec.test_of };
 
-    fn from_word(word: &str) -> Judged<Self> {
-        if word == "is" {
-            Ok(Test::Is)
-        } else if word == "is_not" {
-            Ok(Test::IsNot)
-        } else if word == "starts_with" {
-            Ok(Test::StartsWith)
-        } else if word == "above" {
-            Ok(Test::Above)
-        } else if word == "below" {
-            Ok(Test::Below)
-        } else {
-            Err(RefusalKind::OutOfRange)
-        }
+    fn from_word(word: &str) -> Option<Self> {
+        one_of(
+            &[
+                ("is", Test::Is),
+                ("is_not", Test::IsNot),
+                ("starts_with", Test::StartsWith),
+                ("above", Test::Above),
+                ("below", Test::Below),
+            ],
+            word,
+        )
     }
 }
 
@@ -59,7 +56,6 @@ fn to_filter(parts: Result<(Name, (Test, ShortText<200>)), FieldFail>) -> Result
 impl FromTable for Filter {
     ghost fields = { spec.filter_of };
 
-    #[tactic(auto, unfolding(crate::specs::Programs::filter_of))]
     fn from_table(alloc: Global, table: &Table) -> Result<Self, FieldFail> {
         let column = required::<NameForm>(alloc, table, "column");
         let test = required::<WordForm<Test>>(alloc, table, "test");
@@ -178,7 +174,6 @@ fn to_program(parts: Result<ProgramParts, FieldFail>) -> Result<Program, FieldFa
 impl FromTable for Program {
     ghost fields = { spec.program_of };
 
-    #[tactic(auto, unfolding(crate::specs::Programs::program_of))]
     fn from_table(alloc: Global, table: &Table) -> Result<Self, FieldFail> {
         let name = required::<NameForm>(alloc, table, "name");
         let request_type = default::<TextForm<80>>(alloc, no_text(alloc), table, "type");

@@ -32,14 +32,20 @@ pub struct RawManager {
     ghost few_rules: { length include + length exclude ≤ 64 },
 }
 
-/// A stage of a set, with the names of the stages that it leads to and of its members.
+/// The names of the stages that a stage leads to, by its outcome.
+#[derive(Drop)]
+pub struct RawLinks {
+    pub success: Option<Name>,
+    pub warning: Option<Name>,
+    pub error: Option<Name>,
+}
+
+/// A stage of a set, with the names of its members.
 #[derive(Drop)]
 pub struct RawStage {
     pub name: Name,
     pub critical: bool,
-    pub on_success: Option<Name>,
-    pub on_warning: Option<Name>,
-    pub on_error: Option<Name>,
+    pub links: RawLinks,
     pub members: Counted<Name, 1, 64>,
 }
 

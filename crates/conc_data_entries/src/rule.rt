@@ -49,7 +49,6 @@ fn to_rule(parts: Result<RuleParts, FieldFail>) -> Result<RawRule, FieldFail>
 impl FromTable for RawRule {
     ghost fields = { spec.rule_of };
 
-    #[tactic(auto, unfolding(crate::specs::Rules::rule_of))]
     fn from_table(alloc: Global, table: &Table) -> Result<Self, FieldFail> {
         let program = optional::<NameForm>(alloc, table, "program");
         let request_type = optional::<TextForm<80>>(alloc, table, "type");

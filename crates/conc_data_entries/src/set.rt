@@ -5,7 +5,7 @@ ghost use Rattle.conc_data_entries.specs.Sets as spec;
 ghost use Rattle.toml.specs.View.{table_view};
 
 use crate::table::{FromTable, TableForm};
-use crate::{RawSet, RawStage};
+use crate::{RawLinks, RawSet, RawStage};
 use conc_data_fields::{
     ArrayForm, Counted, FieldFail, NameForm, TruthForm, beside, both, default, keys_kind, optional,
     required,
@@ -44,21 +44,26 @@ type StageParts = (
 fn to_stage(parts: Result<StageParts, FieldFail>) -> Result<RawStage, FieldFail>
     ensures { result ≡ good_read spec.to_stage parts }
 {
-    let (name, (critical, (on_success, (on_warning, (on_error, members))))) = parts?;
+    let (name, (critical, (success, (warning, (error, members))))) = parts?;
+    let links = RawLinks {
+        success,
+        warning,
+        error,
+    };
     Ok(RawStage {
         name,
         critical,
-        on_success,
-        on_warning,
-        on_error,
+        links,
         members,
     })
 }
 
+/// A stage of a set, with 1 to 64 members.
+type StageForm = TableForm<RawStage>;
+
 impl FromTable for RawStage {
     ghost fields = { spec.stage_of };
 
-    #[tactic(auto, unfolding(crate::specs::Sets::stage_of))]
     fn from_table(alloc: Global, table: &Table) -> Result<Self, FieldFail> {
         let name = required::<NameForm>(alloc, table, "name");
         let critical = default::<TruthForm>(alloc, false, table, "critical");
@@ -73,9 +78,6 @@ impl FromTable for RawStage {
         beside(stage_keys(table), to_stage(parts))
     }
 }
-
-/// A stage of a set, with 1 to 64 members.
-type StageForm = TableForm<RawStage>;
 
 fn set_keys(table: &Table) -> Option<RefusalKind>
     ensures { result ≡ fields_spec.keys_kind spec.set_keys (table_view table.now) }
@@ -93,7 +95,6 @@ fn to_set(parts: Result<(Name, Counted<RawStage, 1, 64>), FieldFail>) -> Result<
 impl FromTable for RawSet {
     ghost fields = { spec.set_of };
 
-    #[tactic(auto, unfolding(crate::specs::Sets::set_of))]
     fn from_table(alloc: Global, table: &Table) -> Result<Self, FieldFail> {
         let name = required::<NameForm>(alloc, table, "name");
         let stages = required::<ArrayForm<StageForm, 1, 64>>(alloc, table, "stage");

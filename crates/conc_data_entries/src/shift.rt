@@ -80,7 +80,6 @@ fn to_shift(parts: Result<ShiftParts, FieldFail>) -> Result<Shift, FieldFail>
 impl FromTable for Shift {
     ghost fields = { spec.shift_of };
 
-    #[tactic(auto, unfolding(crate::specs::Shifts::shift_of))]
     fn from_table(alloc: Global, table: &Table) -> Result<Self, FieldFail> {
         let date = optional::<DateForm>(alloc, table, "date");
         let days = default::<DaysForm>(alloc, 0, table, "days");

@@ -4,7 +4,8 @@ ghost use Rattle.conc_data_entries.specs.Shifts as spec;
 ghost use Rattle.conc_types.specs.Words as words_spec;
 ghost use Rattle.toml.specs.View.{view};
 
-use conc_data_fields::{FieldFail, Form, Judged, ListForm, WholeForm};
+use crate::table::one_of;
+use conc_data_fields::{FieldFail, Form, Judged, ListForm, WholeForm, string};
 use conc_time::read_moment;
 use conc_types::{NoMemory, RefusalKind};
 use std::alloc::Global;
@@ -42,10 +43,7 @@ impl Form for DateForm {
     ghost form = { spec.date_in };
 
     fn read(alloc: Global, value: &Value) -> Result<u32, FieldFail> {
-        match value.as_str() {
-            None => Err(FieldFail::Refused(RefusalKind::WrongKind)),
-            Some(text) => date_of(alloc, text.as_bytes()),
-        }
+        date_of(alloc, string(value)?.as_bytes())
     }
 }
 
@@ -76,10 +74,9 @@ fn clock_of(a: u8, b: u8, colon: u8, c: u8, d: u8) -> Judged<u32>
 fn time_of(bytes: &[u8]) -> Judged<u32>
     ensures { result ≡ spec.time_of bytes.now }
 {
-    if bytes.len() == 5 {
-        clock_of(bytes[0], bytes[1], bytes[2], bytes[3], bytes[4])
-    } else {
-        Err(RefusalKind::BadShift)
+    match bytes {
+        [a, b, colon, c, d] => clock_of(*a, *b, *colon, *c, *d),
+        _ => Err(RefusalKind::BadShift),
     }
 }
 
@@ -92,33 +89,25 @@ impl Form for TimeForm {
     ghost form = { spec.time_in };
 
     fn read(_alloc: Global, value: &Value) -> Result<u32, FieldFail> {
-        match value.as_str() {
-            None => Err(FieldFail::Refused(RefusalKind::WrongKind)),
-            Some(text) => Ok(time_of(text.as_bytes())?),
-        }
+        Ok(time_of(string(value)?.as_bytes())?)
     }
 }
 
-fn day_of(word: &str) -> Judged<u8>
+fn day_of(word: &str) -> Option<u8>
     ensures { result ≡ spec.day_of word.now }
 {
-    if word == "Mon" {
-        Ok(0)
-    } else if word == "Tue" {
-        Ok(1)
-    } else if word == "Wed" {
-        Ok(2)
-    } else if word == "Thu" {
-        Ok(3)
-    } else if word == "Fri" {
-        Ok(4)
-    } else if word == "Sat" {
-        Ok(5)
-    } else if word == "Sun" {
-        Ok(6)
-    } else {
-        Err(RefusalKind::BadShift)
-    }
+    one_of(
+        &[
+            ("Mon", 0),
+            ("Tue", 1),
+            ("Wed", 2),
+            ("Thu", 3),
+            ("Fri", 4),
+            ("Sat", 5),
+            ("Sun", 6),
+        ],
+        word,
+    )
 }
 
 /// A day of the week as `Mon`, counted from 0 for Monday.
@@ -130,9 +119,9 @@ impl Form for DayForm {
     ghost form = { spec.day_in };
 
     fn read(_alloc: Global, value: &Value) -> Result<u8, FieldFail> {
-        match value.as_str() {
-            None => Err(FieldFail::Refused(RefusalKind::WrongKind)),
-            Some(word) => Ok(day_of(word)?),
+        match day_of(string(value)?) {
+            None => Err(FieldFail::Refused(RefusalKind::BadShift)),
+            Some(day) => Ok(day),
         }
     }
 }
@@ -198,11 +187,10 @@ impl Form for DaysForm {
 fn places_of(count: u64) -> Judged<u32>
     ensures { result ≡ spec.places_of count }
 {
-    if count <= 64 {
-        Ok(count as u32)
-    } else {
-        Err(RefusalKind::OutOfRange)
+    if count > 64 {
+        return Err(RefusalKind::OutOfRange);
     }
+    Ok(count as u32)
 }
 
 /// How many places a shift has: 0 to 64.

@@ -1,9 +1,10 @@
-ghost use Rattle.std.specs.Prelude.{◌≡◌, List, Option, Result};
+ghost use Rattle.std.specs.Prelude.{◌≡◌, List, MatchResult, None, Option, Result, Some};
 ghost use Rattle.conc_types.specs.declared.kind.RefusalKind.{RefusalKind};
+ghost use Rattle.conc_types.specs.declared.kind.RefusalKind.TheVariants as refused;
 ghost use Rattle.conc_data_fields.specs.Forms as spec;
 ghost use Rattle.conc_data_fields.specs.Reads.{IfRead};
 ghost use Rattle.conc_data_fields.specs.Forms.{name_in, text_in, truth_in, whole_in};
-ghost use Rattle.toml.specs.Data.{Data};
+ghost use Rattle.toml.specs.Data.{Data, as_str};
 ghost use Rattle.toml.specs.View.{view};
 
 use crate::{FieldFail, Judged, ShortText};
@@ -22,6 +23,17 @@ pub trait Form {
     /// What the value is read as, or the least kind of the rules that it breaks, unless memory lacks.
     fn read(alloc: Global, value: &Value) -> Result<Self::Out, FieldFail>
         ensures { IfRead result (λ r. r ≡ form (view value.now)) };
+}
+
+/// The text of a string. A value of another type is `WrongKind`.
+pub fn string(value: &Value) -> Judged<&str>
+    ensures { MatchResult result (λ text. as_str (view value.now) ≡ Some text.now)
+        (λ kind. (kind ≡ refused.WrongKind) × (as_str (view value.now) ≡ None)) }
+{
+    match value.as_str() {
+        Some(text) => Ok(text),
+        None => Err(RefusalKind::WrongKind),
+    }
 }
 
 /// A name: a string of 1 to 80 bytes without control bytes, which are those below 32 and 127. Another
@@ -44,10 +56,7 @@ impl Form for NameForm {
     ghost form = { name_in };
 
     fn read(alloc: Global, value: &Value) -> Result<Name, FieldFail> {
-        match value.as_str() {
-            None => Err(FieldFail::Refused(RefusalKind::WrongKind)),
-            Some(text) => name_of(alloc, text.as_bytes()),
-        }
+        name_of(alloc, string(value)?.as_bytes())
     }
 }
 
@@ -80,24 +89,12 @@ impl<const MOST: usize> Form for TextForm<MOST> {
     ghost form = { text_in MOST };
 
     fn read(alloc: Global, value: &Value) -> Result<ShortText<MOST>, FieldFail> {
-        match value.as_str() {
-            None => Err(FieldFail::Refused(RefusalKind::WrongKind)),
-            Some(text) => text_of(alloc, text.as_bytes()),
-        }
+        text_of(alloc, string(value)?.as_bytes())
     }
 }
 
 /// A truth value.
 pub struct TruthForm;
-
-fn read_truth(value: &Value) -> Judged<bool>
-    ensures { result ≡ truth_in (view value.now) }
-{
-    match value.as_bool() {
-        None => Err(RefusalKind::WrongKind),
-        Some(truth) => Ok(truth),
-    }
-}
 
 impl Form for TruthForm {
     type Out = bool;
@@ -105,7 +102,10 @@ impl Form for TruthForm {
     ghost form = { truth_in };
 
     fn read(_alloc: Global, value: &Value) -> Result<bool, FieldFail> {
-        Ok(read_truth(value)?)
+        match value.as_bool() {
+            None => Err(FieldFail::Refused(RefusalKind::WrongKind)),
+            Some(truth) => Ok(truth),
+        }
     }
 }
 

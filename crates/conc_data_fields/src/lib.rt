@@ -12,7 +12,7 @@ mod values;
 
 pub use arrays::{ArrayForm, ListForm, all_good, counted, no_values, read_all};
 pub use fields::{default, field, optional, required};
-pub use forms::{Form, NameForm, TextForm, TruthForm, WholeForm, no_text};
+pub use forms::{Form, NameForm, TextForm, TruthForm, WholeForm, no_text, string};
 pub use keys::keys_kind;
 pub use kinds::{FieldFail, Judged, beside, both};
 pub use lines::{first_wrong, goods};

@@ -10,7 +10,7 @@ use conc_types::NoMemory;
 use std::alloc::Global;
 
 /// The files of a run: its setup, its script, its clock file, and the one table of the setup.
-#[derive(Drop)]
+#[derive(Debug, Drop)]
 pub struct Inputs {
     pub setup: Vec<u8>,
     pub script: Vec<u8>,

@@ -46,21 +46,7 @@ pub fn program_of<'a>(plan: &'a Plan, r: &Req) -> Option<&'a Program>
 pub fn is_enabled(plan: &Plan, r: &Req) -> bool
     ensures { result ≡ plans_spec.is_enabled plan.now r.now }
 {
-    match program_of(plan, r) {
-        Some(program) => program.enabled,
-        None => false,
-    }
-}
-
-/// Whether the request's program has the mark for restart.
-#[tactic(auto, unfolding(conc_base_law::specs::Plans::has_restart))]
-pub fn has_restart(plan: &Plan, r: &Req) -> bool
-    ensures { result ≡ plans_spec.has_restart plan.now r.now }
-{
-    match program_of(plan, r) {
-        Some(program) => program.restart,
-        None => false,
-    }
+    program_of(plan, r).is_some_and(|program| program.enabled)
 }
 
 /// Whether some manager admits the request.
@@ -81,6 +67,14 @@ pub fn can_run(plan: &Plan, r: &Req) -> bool
     ensures { result ≡ next_spec.can_run plan.now r.now }
 {
     is_set(r.item) || (is_enabled(plan, r) && is_admitted(plan, r))
+}
+
+/// Whether the request's program has the mark for restart. A set has none.
+#[tactic(auto, unfolding(conc_base_law::specs::Plans::has_restart))]
+pub fn has_restart(plan: &Plan, r: &Req) -> bool
+    ensures { result ≡ plans_spec.has_restart plan.now r.now }
+{
+    program_of(plan, r).is_some_and(|program| program.restart)
 }
 
 /// Whether two requests of the plan never run at the same time.

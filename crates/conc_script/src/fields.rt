@@ -23,6 +23,36 @@ pub(crate) struct Fields<'a> {
     pub argument: &'a [u8],
 }
 
+impl Fields<'_> {
+    // Whether each is UTF-8.
+    fn are_text(&self) -> bool
+        ensures { result ≡ list_all str_spec.is_utf8 (list_of self.now) }
+    {
+        is_utf8(self.at)
+            && is_utf8(self.word)
+            && is_utf8(self.what)
+            && is_utf8(self.user)
+            && is_utf8(self.priority)
+            && is_utf8(self.start)
+            && is_utf8(self.domain)
+            && is_utf8(self.argument)
+    }
+
+    /// Whether these are the fields of the header.
+    pub(crate) fn are_header(&self) -> bool
+        ensures { result ≡ same_fields (list_of self.now) header }
+    {
+        self.at == b"at".as_slice()
+            && self.word == b"do".as_slice()
+            && self.what == b"what".as_slice()
+            && self.user == b"user".as_slice()
+            && self.priority == b"priority".as_slice()
+            && self.start == b"start".as_slice()
+            && self.domain == b"domain".as_slice()
+            && self.argument == b"argument".as_slice()
+    }
+}
+
 // The field at a place, from 0, and nothing where there is none.
 fn field(row: &ByteRecord, place: usize) -> &[u8]
     ensures { result.now ≡ script_spec.field place (fields_of row.now) }
@@ -50,20 +80,6 @@ fn eight(row: &ByteRecord) -> Option<Fields<'_>>
     })
 }
 
-// Whether each field is UTF-8.
-fn are_text(fields: &Fields) -> bool
-    ensures { result ≡ list_all str_spec.is_utf8 (list_of fields.now) }
-{
-    is_utf8(fields.at)
-        && is_utf8(fields.word)
-        && is_utf8(fields.what)
-        && is_utf8(fields.user)
-        && is_utf8(fields.priority)
-        && is_utf8(fields.start)
-        && is_utf8(fields.domain)
-        && is_utf8(fields.argument)
-}
-
 /// The fields of a record, if it has eight and each is UTF-8.
 #[tactic(auto, unfolding(crate::specs::Script::is_record))]
 pub(crate) fn fields_in(row: &ByteRecord) -> Option<Fields<'_>>
@@ -71,23 +87,9 @@ pub(crate) fn fields_in(row: &ByteRecord) -> Option<Fields<'_>>
         (λ fields. (is_record (fields_of row.now) ≡ true) × (fields_of row.now ≡ list_of fields)) }
 {
     let fields = eight(row)?;
-    if are_text(&fields) {
+    if fields.are_text() {
         Some(fields)
     } else {
         None
     }
-}
-
-/// Whether these are the fields of the header.
-pub(crate) fn are_header(fields: &Fields) -> bool
-    ensures { result ≡ same_fields (list_of fields.now) header }
-{
-    fields.at == b"at".as_slice()
-        && fields.word == b"do".as_slice()
-        && fields.what == b"what".as_slice()
-        && fields.user == b"user".as_slice()
-        && fields.priority == b"priority".as_slice()
-        && fields.start == b"start".as_slice()
-        && fields.domain == b"domain".as_slice()
-        && fields.argument == b"argument".as_slice()
 }

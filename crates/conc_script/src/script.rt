@@ -6,7 +6,7 @@ ghost use Rattle.conc_types.specs.Scripts.{are_commands};
 ghost use Rattle.conc_script.specs.Orders.{begins_with_header, fault_behind, ReadsRecords};
 ghost use Rattle.conc_script.specs.Script.{header, same_fields, script_fault, SpellsScript};
 
-use crate::fields::{are_header, fields_in};
+use crate::fields::fields_in;
 use crate::judging::judge;
 use crate::owning::{entered_with, own};
 use conc_data_records::{ByteRecord, Records};
@@ -20,7 +20,7 @@ fn is_header(row: &ByteRecord) -> bool
     ensures { result ≡ same_fields (fields_of row.now) header }
 {
     match fields_in(row) {
-        Some(fields) => are_header(&fields),
+        Some(fields) => fields.are_header(),
         None => false,
     }
 }

@@ -190,7 +190,7 @@ parts-ok success warning error members parts e =
 -- what is looked up of a stage
 abbrev pub looked : (programs : List Program) (stages : List RawStage) (at : ℕ) (raw : RawStage) → Result StageParts RefusalKind
 looked programs stages at raw =
-    both (if_named (link_of stages at) raw.on_success) (both (if_named (link_of stages at) raw.on_warning) (both (if_named (link_of stages at) raw.on_error) (all_good (map (program_of programs) raw.members.list))))
+    both (if_named (link_of stages at) raw.links.success) (both (if_named (link_of stages at) raw.links.warning) (both (if_named (link_of stages at) raw.links.error) (all_good (map (program_of programs) raw.members.list))))
 
 pub stage-resolved : (programs : List Program) (stages : List RawStage) (at : ℕ) (raw : RawStage) (parts : StageParts) (stage : Stage)
     → Ok parts ≡ looked programs stages at raw → to_stage raw parts ≡ Ok stage → Ok stage ≡ resolved_stage programs stages (at, raw)
@@ -204,9 +204,9 @@ module _ (programs : List Program) (stages : List RawStage) (at : ℕ) (raw : Ra
   abbrev members : Result (List ℕ) RefusalKind
   members = all_good (map (program_of programs) raw.members.list)
 
-  stage-parts : (parts : StageParts) × (both (look raw.on_success) (both (look raw.on_warning) (both (look raw.on_error) members)) ≡ Ok parts) × (to_stage raw parts ≡ Ok stage)
+  stage-parts : (parts : StageParts) × (both (look raw.links.success) (both (look raw.links.warning) (both (look raw.links.error) members)) ≡ Ok parts) × (to_stage raw parts ≡ Ok stage)
   unfolding resolved_stage
-  stage-parts = judged-ok (to_stage raw) (both (look raw.on_success) (both (look raw.on_warning) (both (look raw.on_error) members))) stage e
+  stage-parts = judged-ok (to_stage raw) (both (look raw.links.success) (both (look raw.links.warning) (both (look raw.links.error) members))) stage e
 
   stage-same : (stage.name ≡ raw.name) × (stage.links ≡ stage-parts.0.0 ∷ stage-parts.0.1.0 ∷ stage-parts.0.1.1.0 ∷ []) × (stage.members ≡ stage-parts.0.1.1.1)
   stage-same = stage_with-same raw _ _ stage stage-parts.2
@@ -214,8 +214,8 @@ module _ (programs : List Program) (stages : List RawStage) (at : ℕ) (raw : Ra
   pub stage-name : stage.name ≡ raw.name
   stage-name = stage-same.0
 
-  stage-each : (look raw.on_success ≡ Ok stage-parts.0.0) × (look raw.on_warning ≡ Ok stage-parts.0.1.0) × (look raw.on_error ≡ Ok stage-parts.0.1.1.0) × (members ≡ Ok stage-parts.0.1.1.1)
-  stage-each = parts-ok (look raw.on_success) (look raw.on_warning) (look raw.on_error) members stage-parts.0 stage-parts.1
+  stage-each : (look raw.links.success ≡ Ok stage-parts.0.0) × (look raw.links.warning ≡ Ok stage-parts.0.1.0) × (look raw.links.error ≡ Ok stage-parts.0.1.1.0) × (members ≡ Ok stage-parts.0.1.1.1)
+  stage-each = parts-ok (look raw.links.success) (look raw.links.warning) (look raw.links.error) members stage-parts.0 stage-parts.1
 
   pub stage-members : IsTrue (has_members programs stage)
   stage-members =
@@ -226,9 +226,9 @@ module _ (programs : List Program) (stages : List RawStage) (at : ℕ) (raw : Ra
 
   pub stage-leads : IsTrue (leads_on (length stages) (at, stage))
   stage-leads =
-      let success = if_named-ok (link_of stages at) leads (link-kept stages at) raw.on_success stage-parts.0.0 stage-each.0 in
-      let warning = if_named-ok (link_of stages at) leads (link-kept stages at) raw.on_warning stage-parts.0.1.0 stage-each.1 in
-      let error = if_named-ok (link_of stages at) leads (link-kept stages at) raw.on_error stage-parts.0.1.1.0 stage-each.2 in
+      let success = if_named-ok (link_of stages at) leads (link-kept stages at) raw.links.success stage-parts.0.0 stage-each.0 in
+      let warning = if_named-ok (link_of stages at) leads (link-kept stages at) raw.links.warning stage-parts.0.1.0 stage-each.1 in
+      let error = if_named-ok (link_of stages at) leads (link-kept stages at) raw.links.error stage-parts.0.1.1.0 stage-each.2 in
       rw stage-same.1 (and_from _ _ success (and_from _ _ warning (and_from _ _ error refl)))
 
 -- the parts of a stage are read each by itself
@@ -241,7 +241,7 @@ parts-read success warning error members parts e =
     (first.0, second.0, third.0, third.1)
 
 pub looked-read : (programs : List Program) (stages : List RawStage) (at : ℕ) (raw : RawStage) (success warning error : Result (Option ℕ) FieldFail) (members : Result (List ℕ) FieldFail)
-    → success ≡ read_as (if_named (link_of stages at) raw.on_success) → warning ≡ read_as (if_named (link_of stages at) raw.on_warning) → error ≡ read_as (if_named (link_of stages at) raw.on_error)
+    → success ≡ read_as (if_named (link_of stages at) raw.links.success) → warning ≡ read_as (if_named (link_of stages at) raw.links.warning) → error ≡ read_as (if_named (link_of stages at) raw.links.error)
     → IsRead members (all_good (map (program_of programs) raw.members.list))
     → IsRead (both_read success (both_read warning (both_read error members))) (looked programs stages at raw)
 looked-read programs stages at raw success warning error members s w e m =

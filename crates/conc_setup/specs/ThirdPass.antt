@@ -130,9 +130,9 @@ to_stage raw parts = stage_with raw (parts.0 ∷ parts.1.0 ∷ parts.1.1.0 ∷ [
 unfoldable pub resolved_stage : List Program → List RawStage → ℕ × RawStage → Result Stage RefusalKind
 resolved_stage programs stages stage =
     judged (to_stage stage.1) (
-    both (if_named (link_of stages stage.0) stage.1.on_success) (
-    both (if_named (link_of stages stage.0) stage.1.on_warning) (
-    both (if_named (link_of stages stage.0) stage.1.on_error)
+    both (if_named (link_of stages stage.0) stage.1.links.success) (
+    both (if_named (link_of stages stage.0) stage.1.links.warning) (
+    both (if_named (link_of stages stage.0) stage.1.links.error)
     (all_good (map (program_of programs) stage.1.members.list)))))
 
 -- there are as many stages as before, of distinct names, and each link leads on

@@ -5,6 +5,7 @@ ghost use Rattle.conc_data_fields.specs.Reads.{IfRead};
 ghost use Rattle.conc_setup.specs.ThirdPass as spec;
 
 use crate::copies::{copy_of_name, copy_of_text};
+use crate::names::Named;
 use crate::resolve::{Items, Resolve, program_of, resolve_good};
 use conc_data_entries::{RawManager, RawRule};
 use conc_data_fields::{FieldFail, Judged, both};
@@ -25,12 +26,10 @@ fn rule_for(alloc: Global, program: Option<u32>, raw: &RawRule) -> Result<Rule, 
         raw.now.user) }
     ensures { IfOk result (λ rule. spec.to_rule raw.now program ≡ Ok rule) }
 {
-    let request_type = copy_of_text(alloc, &raw.request_type)?;
-    let user = copy_of_name(alloc, &raw.user)?;
     Ok(Rule {
         program,
-        request_type,
-        user,
+        request_type: copy_of_text(alloc, &raw.request_type)?,
+        user: copy_of_name(alloc, &raw.user)?,
     })
 }
 
@@ -63,6 +62,14 @@ fn manager_with(
         exclude,
         shifts,
     })
+}
+
+impl Named for RawManager {
+    ghost name_of = { λ manager. manager.name };
+
+    fn name(&self) -> &Name {
+        &self.name
+    }
 }
 
 impl Resolve for RawManager {

@@ -4,7 +4,6 @@ ghost use Rattle.std.specs.Str.{bytes_eq};
 ghost use Rattle.conc_types.specs.Words as words_spec;
 ghost use Rattle.conc_setup.specs.SecondPass as second_pass_spec;
 
-use conc_data_entries::{RawManager, RawSet, RawStage};
 use conc_types::{Name, Program};
 
 /// What has a name.
@@ -26,30 +25,6 @@ impl Named for Name {
 
 impl Named for Program {
     ghost name_of = { λ program. program.name };
-
-    fn name(&self) -> &Name {
-        &self.name
-    }
-}
-
-impl Named for RawManager {
-    ghost name_of = { λ manager. manager.name };
-
-    fn name(&self) -> &Name {
-        &self.name
-    }
-}
-
-impl Named for RawSet {
-    ghost name_of = { λ set. set.name };
-
-    fn name(&self) -> &Name {
-        &self.name
-    }
-}
-
-impl Named for RawStage {
-    ghost name_of = { λ stage. stage.name };
 
     fn name(&self) -> &Name {
         &self.name

@@ -8,12 +8,28 @@ ghost use Rattle.conc_setup.specs.SecondPass.{has_distinct_stages};
 ghost use Rattle.conc_setup.specs.ThirdPass as spec;
 
 use crate::copies::copy_of_name;
-use crate::names::place_of;
+use crate::names::{Named, place_of};
 use crate::resolve::{Items, resolve_good};
 use conc_data_entries::{RawSet, RawStage};
 use conc_data_fields::{FieldFail, Judged, all_good, both};
 use conc_types::{Name, NoMemory, RefusalKind, Seq, SetDef, Stage};
 use std::alloc::Global;
+
+impl Named for RawSet {
+    ghost name_of = { λ set. set.name };
+
+    fn name(&self) -> &Name {
+        &self.name
+    }
+}
+
+impl Named for RawStage {
+    ghost name_of = { λ stage. stage.name };
+
+    fn name(&self) -> &Name {
+        &self.name
+    }
+}
 
 // The place of the stage with this name, to which the stage at the place given leads.
 fn link_of(stages: &[RawStage], at: usize, name: &Name) -> Judged<u32>
@@ -80,9 +96,9 @@ fn resolve_stage(
     ensures { IfRead result (λ r. r ≡ spec.resolved_stage items.now.programs.now stages.now
         (at, stage.now)) }
 {
-    let success = link_if_named(stages, at, &stage.on_success);
-    let warning = link_if_named(stages, at, &stage.on_warning);
-    let error = link_if_named(stages, at, &stage.on_error);
+    let success = link_if_named(stages, at, &stage.links.success);
+    let warning = link_if_named(stages, at, &stage.links.warning);
+    let error = link_if_named(stages, at, &stage.links.error);
     let members = resolve_good(alloc, items, stage.members.list.as_slice());
     let parts = both(success, both(warning, both(error, members)));
     let (success, (warning, (error, members))) = parts?;

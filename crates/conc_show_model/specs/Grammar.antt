@@ -37,6 +37,11 @@ with_plan m word = if is_some m.plan then None else Some (record m { waits = Non
 abbrev pub with_script : Meant → List ℕ → Option Meant
 with_script m word = if is_some m.script then None else Some (record m { waits = None; script = Some word })
 
+-- the value of an option
+abbrev pub with_value : Meant → Waits → List ℕ → Option Meant
+with_value m waits.Plan word = with_plan m word
+with_value m waits.Script word = with_script m word
+
 abbrev pub with_waits : Meant → Waits → Option Meant
 with_waits m w = Some (record m { waits = Some w })
 
@@ -49,15 +54,14 @@ unfoldable pub with_word : Meant → List ℕ → Option Meant
 with_word m word =
     if bytes_eq word (codes "--plan") then with_waits m waits.Plan
     else if bytes_eq word (codes "--script") then with_waits m waits.Script
-    else if starts_with nat_eq word (codes "--plan=") then with_plan m (drop 7 word)
-    else if starts_with nat_eq word (codes "--script=") then with_script m (drop 9 word)
+    else if starts_with nat_eq word (codes "--plan=") then with_value m waits.Plan (drop 7 word)
+    else if starts_with nat_eq word (codes "--script=") then with_value m waits.Script (drop 9 word)
     else if is_history word then with_history m word
     else None
 
 abbrev pub after_waiting : Meant → List ℕ → Option Waits → Option Meant
 after_waiting m word None = with_word m word
-after_waiting m word (Some waits.Plan) = with_plan m word
-after_waiting m word (Some waits.Script) = with_script m word
+after_waiting m word (Some w) = with_value m w word
 
 abbrev pub after_word : Meant → List ℕ → Option Meant
 after_word m word = after_waiting m word m.waits

@@ -48,37 +48,29 @@ fn with_history<'a>(said: Said<'a>, word: &'a [u8]) -> Option<Said<'a>>
     Some(Said {
         waits: None,
         history: Some(word),
-        plan: said.plan,
-        script: said.script,
+        ..said
     })
 }
 
-fn with_plan<'a>(said: Said<'a>, word: &'a [u8]) -> Option<Said<'a>>
-    ensures { option_map shown result ≡ spec.with_plan (shown said.entry) word.now }
+// The value of an option.
+fn with_value<'a>(said: Said<'a>, option: Waits, word: &'a [u8]) -> Option<Said<'a>>
+    ensures { option_map shown result ≡ spec.with_value (shown said.entry) option word.now }
 {
-    if said.plan.is_some() {
-        return None;
-    }
-    Some(Said {
+    let said = Said {
         waits: None,
-        history: said.history,
-        plan: Some(word),
-        script: said.script,
-    })
-}
-
-fn with_script<'a>(said: Said<'a>, word: &'a [u8]) -> Option<Said<'a>>
-    ensures { option_map shown result ≡ spec.with_script (shown said.entry) word.now }
-{
-    if said.script.is_some() {
-        return None;
+        ..said
+    };
+    match option {
+        Waits::Plan if said.plan.is_none() => Some(Said {
+            plan: Some(word),
+            ..said
+        }),
+        Waits::Script if said.script.is_none() => Some(Said {
+            script: Some(word),
+            ..said
+        }),
+        _ => None,
     }
-    Some(Said {
-        waits: None,
-        history: said.history,
-        plan: said.plan,
-        script: Some(word),
-    })
 }
 
 fn with_waits<'a>(said: Said<'a>, waits: Waits) -> Option<Said<'a>>
@@ -86,9 +78,7 @@ fn with_waits<'a>(said: Said<'a>, waits: Waits) -> Option<Said<'a>>
 {
     Some(Said {
         waits: Some(waits),
-        history: said.history,
-        plan: said.plan,
-        script: said.script,
+        ..said
     })
 }
 
@@ -108,9 +98,9 @@ fn with_word<'a>(said: Said<'a>, word: &'a [u8]) -> Option<Said<'a>>
     } else if word == b"--script".as_slice() {
         with_waits(said, Waits::Script)
     } else if let Some(plan) = word.strip_prefix(b"--plan=") {
-        with_plan(said, plan)
+        with_value(said, Waits::Plan, plan)
     } else if let Some(script) = word.strip_prefix(b"--script=") {
-        with_script(said, script)
+        with_value(said, Waits::Script, script)
     } else if is_history(word) {
         with_history(said, word)
     } else {
@@ -123,8 +113,7 @@ fn after_word<'a>(said: Said<'a>, word: &'a [u8]) -> Option<Said<'a>>
 {
     match said.waits {
         None => with_word(said, word),
-        Some(Waits::Plan) => with_plan(said, word),
-        Some(Waits::Script) => with_script(said, word),
+        Some(option) => with_value(said, option, word),
     }
 }
 
@@ -151,19 +140,15 @@ fn read_said<'a>(words: &'a [String]) -> Option<Said<'a>>
 }
 
 #[tactic(auto, unfolding(crate::specs::Grammar::form_of))]
-fn form_of(word: &[u8]) -> Option<Form>
+fn form_of(word: &str) -> Option<Form>
     ensures { result ≡ spec.form_of word.now }
 {
-    if word == b"timeline".as_slice() {
-        Some(Form::Timeline)
-    } else if word == b"svg".as_slice() {
-        Some(Form::Svg)
-    } else if word == b"csv".as_slice() {
-        Some(Form::Csv)
-    } else if word == b"json".as_slice() {
-        Some(Form::Json)
-    } else {
-        None
+    match word {
+        "timeline" => Some(Form::Timeline),
+        "svg" => Some(Form::Svg),
+        "csv" => Some(Form::Csv),
+        "json" => Some(Form::Json),
+        _ => None,
     }
 }
 
@@ -173,7 +158,7 @@ pub fn read_words<'a>(words: &'a [String]) -> Option<Words<'a>>
     ensures { option_map asked result ≡ words_of (map string_bytes words.now) }
 {
     let (word, behind) = words.split_first()?;
-    let form = form_of(word.as_bytes())?;
+    let form = form_of(word.as_str())?;
     let said = read_said(behind)?;
     Some(Words {
         form,

@@ -5,14 +5,20 @@ ghost use Rattle.conc_show_plan.specs.Lines.{fields_of};
 
 use conc_history_lines::split_once;
 
+/// The numbers of a member's set and of its stage there.
+#[derive(Clone, Copy)]
+pub(crate) struct Member<'a> {
+    pub set: &'a [u8],
+    pub stage: &'a [u8],
+}
+
 /// The eight fields of a line of the listing of a plan.
 #[derive(Clone, Copy)]
 pub(crate) struct Fields<'a> {
     pub number: &'a [u8],
     pub priority: &'a [u8],
     pub start: &'a [u8],
-    pub set: &'a [u8],
-    pub stage: &'a [u8],
+    pub member: Member<'a>,
     pub domain: &'a [u8],
     pub user: &'a [u8],
     pub name: &'a [u8],
@@ -48,8 +54,7 @@ pub(crate) fn eight(line: &[u8]) -> Option<Fields<'_>>
             number,
             priority,
             start,
-            set,
-            stage,
+            member: Member { set, stage },
             domain,
             user,
             name,

@@ -62,7 +62,7 @@ pub(crate) fn plan_line(number: u64, line: &[u8]) -> Option<Option<RequestId>>
 {
     let fields = eight(line)?;
     if are_formed(number, &fields) {
-        set_of(fields.set, fields.stage)
+        set_of(fields.member.set, fields.member.stage)
     } else {
         None
     }

@@ -11,7 +11,7 @@ use Rattle.conc_show_svg.specs.Frame.{bottom_of, head_text}
 use Rattle.conc_show_svg.specs.Parts.{HasPart}
 use Rattle.conc_show_svg.specs.Picture.{HasFrames, bands_text, each_from, lane_frames, picture, row_frames, view}
 use Rattle.conc_show_svg.specs.Readings.{readings_from}
-use Rattle.conc_show_svg.specs.Rows.{row_frame, set_text, wait_text}
+use Rattle.conc_show_svg.specs.Rows.{row_frame, span_text}
 use Rattle.conc_show_svg.specs.Spans.{sets_of, waits_of}
 
 around : (a u p w b : List ℕ) → a ++ (((u ++ p) ++ w) ++ b) ≡ ((a ++ u) ++ p) ++ (w ++ b)
@@ -67,7 +67,7 @@ lane_bars_in chart old text is =
     All-weaker (λ r. HasPart (flat_map f chart.runs) (f r)) (λ r. HasPart text (f r))
     (λ r has. part_in text _ (flat_map f chart.runs) _ (f r)
     (is ∙ last_of_bands old (head_text v (length chart.runs)) (lane_frames v.places) (row_frames chart.planned (length v.places) v.rows)
-    (readings_from (length v.events) (bottom_of v) 0 0 v.events) (flat_map (wait_text v) (waits_of v.events)) (flat_map (set_text v) (sets_of v.events))
+    (readings_from (length v.events) (bottom_of v) 0 0 v.events) (flat_map (span_text v) (waits_of v.events)) (flat_map (span_text v) (sets_of v.events))
     (flat_map (row_bar v) chart.runs) (flat_map f chart.runs) (codes "</svg>\n")) has) chart.runs (part_of_each f chart.runs)
 
 -- each run has its bar in the row of its request
@@ -79,7 +79,7 @@ row_bars_in chart old text is =
     All-weaker (λ r. HasPart (flat_map f chart.runs) (f r)) (λ r. HasPart text (f r))
     (λ r has. part_in text _ (flat_map f chart.runs) _ (f r)
     (is ∙ next_to_last old (head_text v (length chart.runs)) (lane_frames v.places) (row_frames chart.planned (length v.places) v.rows)
-    (readings_from (length v.events) (bottom_of v) 0 0 v.events) (flat_map (wait_text v) (waits_of v.events)) (flat_map (set_text v) (sets_of v.events))
+    (readings_from (length v.events) (bottom_of v) 0 0 v.events) (flat_map (span_text v) (waits_of v.events)) (flat_map (span_text v) (sets_of v.events))
     (flat_map f chart.runs) (flat_map (lane_bar v) chart.runs) (codes "</svg>\n")) has) chart.runs (part_of_each f chart.runs)
 
 -- each request of the table has its row
@@ -90,6 +90,6 @@ frames_in chart old text is = λ i d inside.
     let f : ℕ → Row → List ℕ = row_frame chart.planned (length v.places) in
     part_in text _ (each_from f 0 chart.rows) _ (f i (get_or chart.rows i d))
     (is ∙ second_of_bands old (head_text v (length chart.runs)) (lane_frames v.places) (each_from f 0 chart.rows)
-    (readings_from (length v.events) (bottom_of v) 0 0 v.events) (flat_map (wait_text v) (waits_of v.events)) (flat_map (set_text v) (sets_of v.events))
+    (readings_from (length v.events) (bottom_of v) 0 0 v.events) (flat_map (span_text v) (waits_of v.events)) (flat_map (span_text v) (sets_of v.events))
     (flat_map (row_bar v) chart.runs) (flat_map (lane_bar v) chart.runs) (codes "</svg>\n"))
     (subst (λ (k : ℕ). HasPart (each_from f 0 chart.rows) (f k (get_or chart.rows i d))) (zero-add i) (part_at f 0 chart.rows i d inside))

@@ -16,6 +16,8 @@ use Rattle.conc_show_svg.specs.Geometry.{bar_of, lane_of, lane_top, row_top}
 use Rattle.conc_show_svg.specs.Labels.{name_of, row_of}
 use Rattle.conc_show_svg.specs.Marks.{heights_text, label_text, sides_text}
 use Rattle.conc_show_svg.specs.Moments.{moment_word}
+use Rattle.conc_show_svg.specs.declared.bars.Band.{Band}
+use Rattle.conc_show_svg.specs.declared.bars.Band.TheVariants as band
 use Rattle.conc_show_svg.specs.declared.geometry.Bar.{Bar}
 use Rattle.conc_show_svg.specs.declared.scene.Scene.{Scene}
 
@@ -99,3 +101,8 @@ unfoldable pub row_bar : View → Run → List ℕ
 row_bar v r =
     let bar = bar_in_row v r in
     row_bar_head v r ++ titled_text v r bar (row_top (length v.places) bar.lane + 4) 10
+
+-- the bar of a run in a band
+abbrev pub bar_text : View → Band → Run → List ℕ
+bar_text v band.Lanes = lane_bar v
+bar_text v band.Rows = row_bar v

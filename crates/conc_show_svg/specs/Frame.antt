@@ -12,7 +12,7 @@ use Rattle.conc_show_svg.specs.Marks.{box_text, label_text}
 use Rattle.conc_show_svg.specs.declared.geometry.Bar.{Bar}
 use Rattle.conc_show_svg.specs.declared.frame.TheConstants.{LEGEND, PLACES, STYLE, SVG}
 
-unfoldable pub span_text : Moment → Moment → List ℕ
+abbrev pub span_text : Moment → Moment → List ℕ
 span_text first last = codes " from " ++ moment_text first ++ codes " to " ++ moment_text last
 
 -- the first moment

@@ -2,6 +2,8 @@
 use Rattle.std.specs.Prelude.{ℕ, ◌+◌, ◌/◌, ◌%◌, List, [], ◌∷◌, ◌++◌, codes}
 use Rattle.std.specs.Fmt.{decimal}
 use Rattle.conc_show_svg.specs.declared.geometry.Bar.{Bar}
+use Rattle.conc_show_svg.specs.declared.marks.Path.{Path}
+use Rattle.conc_show_svg.specs.declared.marks.Path.TheVariants as path
 
 -- a length that is told in hundredths: 260.05
 unfoldable pub hundredths : ℕ → List ℕ
@@ -29,6 +31,11 @@ across_text class left right y = start_text class left y ++ codes "H" ++ hundred
 -- a line from top to bottom
 unfoldable pub down_text : List ℕ → ℕ → ℕ → ℕ → List ℕ
 down_text class x top bottom = start_text class x top ++ codes "V" ++ decimal bottom ++ codes "\""
+
+-- a line of either kind
+abbrev pub path_text : List ℕ → Path → List ℕ
+path_text class (path.Across left right y) = across_text class left right y
+path_text class (path.Down x top bottom) = down_text class x top bottom
 
 -- a text
 unfoldable pub label_text : List ℕ → ℕ → ℕ → List ℕ

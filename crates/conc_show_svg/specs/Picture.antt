@@ -11,7 +11,7 @@ use Rattle.conc_show_svg.specs.Frame.{bottom_of, head_text, lane_frame}
 use Rattle.conc_show_svg.specs.Moments.{moments_from}
 use Rattle.conc_show_svg.specs.Parts.{HasPart}
 use Rattle.conc_show_svg.specs.Readings.{readings_from}
-use Rattle.conc_show_svg.specs.Rows.{row_frame, set_text, wait_text}
+use Rattle.conc_show_svg.specs.Rows.{row_frame, span_text}
 use Rattle.conc_show_svg.specs.Spans.{sets_of, waits_of}
 use Rattle.conc_show_svg.specs.declared.geometry.Bar.{Bar}
 
@@ -37,7 +37,7 @@ unfoldable pub bands_text : View → Chart → List ℕ
 bands_text v chart =
     lane_frames v.places ++ row_frames chart.planned (length v.places) v.rows
     ++ readings_from (length v.events) (bottom_of v) 0 0 v.events
-    ++ flat_map (wait_text v) (waits_of v.events) ++ flat_map (set_text v) (sets_of v.events)
+    ++ flat_map (span_text v) (waits_of v.events) ++ flat_map (span_text v) (sets_of v.events)
     ++ flat_map (row_bar v) chart.runs ++ flat_map (lane_bar v) chart.runs
 
 -- the picture

@@ -10,6 +10,8 @@ use Rattle.conc_show_svg.specs.Geometry.{end_of, row_top, x_of}
 use Rattle.conc_show_svg.specs.Labels.{is_member, row_of}
 use Rattle.conc_show_svg.specs.Marks.{across_text, box_text, down_text, label_text}
 use Rattle.conc_show_svg.specs.declared.geometry.Bar.{Bar}
+use Rattle.conc_show_svg.specs.declared.spans.Kind.{Kind}
+use Rattle.conc_show_svg.specs.declared.spans.Kind.TheVariants as kind
 use Rattle.conc_show_svg.specs.declared.spans.Span.{Span}
 
 -- a band behind a row, of one of two classes in turn
@@ -67,3 +69,11 @@ set_text v s =
     let right = end_of (length v.events) s.to in
     let top = row_top (length v.places) (row_of v.rows s.request) in
     across_text (codes "set") left right (top + 9) ++ codes "/>\n" ++ hook_text left (top + 5) (top + 13) ++ hook_text right (top + 5) (top + 13)
+
+-- the line of a wait, or the bracket of an open set
+abbrev pub kind_text : Kind → View → Span → List ℕ
+kind_text kind.Waits v s = wait_text v s
+kind_text kind.Sets v s = set_text v s
+
+abbrev pub span_text : View → Span → List ℕ
+span_text v s = kind_text s.kind v s

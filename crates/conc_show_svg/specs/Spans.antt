@@ -27,7 +27,7 @@ first_end k r i (e ∷ later) = if ends k r e then Some i else first_end k r (i 
 -- the spans before those of later events: one more, if an event begins one
 abbrev pub with_span : Kind → ℕ → Option RequestId → List Event → List Span → List Span
 with_span k i None later rest = rest
-with_span k i (Some r) later rest = record { request = r; from = i; to = first_end k r (i + 1) later } ∷ rest
+with_span k i (Some r) later rest = record { kind = k; request = r; from = i; to = first_end k r (i + 1) later } ∷ rest
 
 -- the spans that these events begin, where the first of them has index i
 abbrev pub spans_from : Kind → ℕ → List Event → List Span

@@ -1,7 +1,7 @@
 //! The bars of runs.
 ghost use Rattle.std.specs.Prelude.{◌≡◌, ◌≤◌, ◌+◌, ◌++◌, OnOk};
 ghost use Rattle.conc_show_svg.specs.Bars as spec;
-ghost use Rattle.conc_show_svg.specs.Bars.{lane_bar, lane_bar_head, number_text, row_bar, row_bar_head, run_title, title_end, titled_text, view_of};
+ghost use Rattle.conc_show_svg.specs.Bars.{bar_text, lane_bar, lane_bar_head, number_text, row_bar, row_bar_head, run_title, title_end, titled_text, view_of};
 
 use crate::escaped::put_escaped;
 use crate::geometry::{Bar, bar_of, lane_of, lane_top, row_top};
@@ -12,6 +12,15 @@ use crate::scene::Scene;
 use conc_show_model::{Run, put_bytes, put_place};
 use conc_types::{Event, NoMemory, Outcome, RequestId, put_decimal};
 use itoa::Buffer;
+
+/// Where the bars of the runs lie.
+#[derive(Clone, Copy)]
+pub(crate) enum Band {
+    /// In the lanes of their places.
+    Lanes,
+    /// In the rows of their requests.
+    Rows,
+}
 
 fn result_word(outcome: Outcome) -> &'static [u8]
     ensures { result.now ≡ spec.result_word outcome }
@@ -144,9 +153,9 @@ fn put_number(out: &mut Vec<u8>, request: RequestId, bar: Bar, y: u128) -> Resul
     put_bytes(out, b"</text>\n")
 }
 
-/// The bar of a run in the lane of its place.
+// The bar of a run in the lane of its place.
 #[tactic(auto, unfolding(crate::specs::Bars::lane_bar))]
-pub(crate) fn put_lane_bar(out: &mut Vec<u8>, scene: &Scene<'_>, run: &Run) -> Result<(), NoMemory>
+fn put_lane_bar(out: &mut Vec<u8>, scene: &Scene<'_>, run: &Run) -> Result<(), NoMemory>
     ensures { OnOk result (out.new.items ≡ out.old.items ++ lane_bar (view_of scene.now) run.now) }
 {
     let bar = bar_of(
@@ -160,13 +169,29 @@ pub(crate) fn put_lane_bar(out: &mut Vec<u8>, scene: &Scene<'_>, run: &Run) -> R
     put_number(out, run.request, bar, top + 14)
 }
 
-/// The bar of a run in the row of its request.
+// The bar of a run in the row of its request.
 #[tactic(auto, unfolding(crate::specs::Bars::row_bar))]
-pub(crate) fn put_row_bar(out: &mut Vec<u8>, scene: &Scene<'_>, run: &Run) -> Result<(), NoMemory>
+fn put_row_bar(out: &mut Vec<u8>, scene: &Scene<'_>, run: &Run) -> Result<(), NoMemory>
     ensures { OnOk result (out.new.items ≡ out.old.items ++ row_bar (view_of scene.now) run.now) }
 {
     let bar = bar_of(scene.events.len(), row_of(scene.rows, run.request), run);
     let top = row_top(scene.places.len(), bar.lane);
     put_row_bar_head(out, scene, run)?;
     put_titled(out, scene, run, bar, top + 4, 10)
+}
+
+/// The bar of a run in a band.
+pub(crate) fn put_bar(
+    out: &mut Vec<u8>,
+    scene: &Scene<'_>,
+    band: Band,
+    run: &Run,
+) -> Result<(), NoMemory>
+    ensures { OnOk result (out.new.items
+        ≡ out.old.items ++ bar_text (view_of scene.now) band run.now) }
+{
+    match band {
+        Band::Lanes => put_lane_bar(out, scene, run),
+        Band::Rows => put_row_bar(out, scene, run),
+    }
 }

@@ -76,7 +76,6 @@ pub(crate) const LEGEND: &[u8] =
 <path class=\"reading\" d=\"M990 52V64\"/><text x=\"998\" y=\"62\">reading of the clock</text>
 ";
 
-#[tactic(auto, unfolding(crate::specs::Frame::span_text))]
 fn put_span(out: &mut Vec<u8>, first: Moment, last: Moment) -> Result<(), NoMemory>
     ensures { OnOk result (out.new.items ≡ out.old.items ++ span_text first last) }
 {

@@ -1,6 +1,6 @@
 //! Numbers, and the elements of the picture.
 ghost use Rattle.std.specs.Prelude.{◌≡◌, ◌++◌, OnOk, decimal};
-ghost use Rattle.conc_show_svg.specs.Marks.{across_text, box_text, down_text, heights_text, hundredths, label_text, sides_text, start_text};
+ghost use Rattle.conc_show_svg.specs.Marks.{box_text, heights_text, hundredths, label_text, path_text, sides_text, start_text};
 
 use crate::geometry::Bar;
 use conc_show_model::put_bytes;
@@ -75,36 +75,32 @@ fn put_start(out: &mut Vec<u8>, class: &[u8], x: u128, y: u128) -> Result<(), No
     put_number(out, b" ", y)
 }
 
-/// Appends the head of a line from left to right, up to the end of its last value.
-#[tactic(auto, unfolding(crate::specs::Marks::across_text))]
-pub(crate) fn put_across(
-    out: &mut Vec<u8>,
-    class: &[u8],
-    left: u128,
-    right: u128,
-    y: u128,
-) -> Result<(), NoMemory>
-    ensures { OnOk result (out.new.items ≡ out.old.items ++ across_text class.now left right y) }
-{
-    put_start(out, class, left, y)?;
-    put_length(out, b"H", right)?;
-    put_bytes(out, b"\"")
+/// A line.
+#[derive(Clone, Copy)]
+pub(crate) enum Path {
+    /// From left to right: from an x to another, at a y.
+    Across(u128, u128, u128),
+    /// From top to bottom: at an x, from a y to another.
+    Down(u128, u128, u128),
 }
 
-/// Appends the head of a line from top to bottom, up to the end of its last value.
-#[tactic(auto, unfolding(crate::specs::Marks::down_text))]
-pub(crate) fn put_down(
-    out: &mut Vec<u8>,
-    class: &[u8],
-    x: u128,
-    top: u128,
-    bottom: u128,
-) -> Result<(), NoMemory>
-    ensures { OnOk result (out.new.items ≡ out.old.items ++ down_text class.now x top bottom) }
+/// Appends the head of a line of a class, up to the end of its last value.
+#[tactic(auto, unfolding(crate::specs::Marks::across_text, crate::specs::Marks::down_text))]
+pub(crate) fn put_path(out: &mut Vec<u8>, class: &[u8], path: Path) -> Result<(), NoMemory>
+    ensures { OnOk result (out.new.items ≡ out.old.items ++ path_text class.now path) }
 {
-    put_start(out, class, x, top)?;
-    put_number(out, b"V", bottom)?;
-    put_bytes(out, b"\"")
+    match path {
+        Path::Across(left, right, y) => {
+            put_start(out, class, left, y)?;
+            put_length(out, b"H", right)?;
+            put_bytes(out, b"\"")
+        }
+        Path::Down(x, top, bottom) => {
+            put_start(out, class, x, top)?;
+            put_number(out, b"V", bottom)?;
+            put_bytes(out, b"\"")
+        }
+    }
 }
 
 /// Appends the head of a text of a class.

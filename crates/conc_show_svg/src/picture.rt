@@ -1,16 +1,16 @@
 //! The whole picture.
 ghost use Rattle.std.specs.Prelude.{◌≡◌, ◌++◌, All, OnOk, flat_map, length};
-ghost use Rattle.conc_show_svg.specs.Bars.{bar_in_lane, bar_in_row, lane_bar, row_bar, view_of};
+ghost use Rattle.conc_show_svg.specs.Bars.{bar_in_lane, bar_in_row, bar_text, lane_bar, row_bar, view_of};
 ghost use Rattle.conc_show_svg.specs.Parts.{HasPart};
 ghost use Rattle.conc_show_svg.specs.Picture.{AreClear, AreClearEach, HasFrames, IsInside, bands_text, lane_frames, picture, row_frames, view};
-ghost use Rattle.conc_show_svg.specs.Rows.{set_text, wait_text};
-ghost use Rattle.conc_show_svg.specs.Spans.{sets_of, waits_of};
+ghost use Rattle.conc_show_svg.specs.Rows.{span_text};
+ghost use Rattle.conc_show_svg.specs.Spans.{spans_from};
 
-use crate::bars::{put_lane_bar, put_row_bar};
+use crate::bars::{Band, put_bar};
 use crate::frame::{bottom_of, put_head, put_lane};
 use crate::moments::moments_of;
 use crate::readings::put_readings;
-use crate::rows::{put_row, put_set, put_wait};
+use crate::rows::{put_row, put_span};
 use crate::scene::Scene;
 use crate::spans::{Kind, spans_of};
 use conc_show_model::{Chart, Place, Planned, Row, Run, places, put_bytes};
@@ -44,48 +44,31 @@ fn put_rows(
     Ok(())
 }
 
-// The lines of the waits.
-fn put_waits(alloc: Global, out: &mut Vec<u8>, scene: &Scene<'_>) -> Result<(), NoMemory>
+// The lines of the waits, or the brackets of the sets.
+fn put_spans(
+    alloc: Global,
+    out: &mut Vec<u8>,
+    scene: &Scene<'_>,
+    kind: Kind,
+) -> Result<(), NoMemory>
     ensures { OnOk result (out.new.items
-        ≡ out.old.items ++ flat_map (wait_text (view_of scene.now)) (waits_of scene.now.events.now)) }
+        ≡ out.old.items ++ flat_map (span_text (view_of scene.now))
+        (spans_from kind 0 scene.now.events.now)) }
 {
-    let waits = spans_of(alloc, Kind::Waits, scene.events)?;
-    for wait in &waits {
-        put_wait(out, scene, wait)?;
+    let spans = spans_of(alloc, kind, scene.events)?;
+    for span in &spans {
+        put_span(out, scene, span)?;
     }
     Ok(())
 }
 
-// The brackets of the sets.
-fn put_sets(alloc: Global, out: &mut Vec<u8>, scene: &Scene<'_>) -> Result<(), NoMemory>
+// The bars of the runs in a band.
+fn put_bars(out: &mut Vec<u8>, scene: &Scene<'_>, band: Band, runs: &[Run]) -> Result<(), NoMemory>
     ensures { OnOk result (out.new.items
-        ≡ out.old.items ++ flat_map (set_text (view_of scene.now)) (sets_of scene.now.events.now)) }
-{
-    let sets = spans_of(alloc, Kind::Sets, scene.events)?;
-    for set in &sets {
-        put_set(out, scene, set)?;
-    }
-    Ok(())
-}
-
-// The bars of the runs in the lanes.
-fn put_lane_bars(out: &mut Vec<u8>, scene: &Scene<'_>, runs: &[Run]) -> Result<(), NoMemory>
-    ensures { OnOk result (out.new.items
-        ≡ out.old.items ++ flat_map (lane_bar (view_of scene.now)) runs.now) }
+        ≡ out.old.items ++ flat_map (bar_text (view_of scene.now) band) runs.now) }
 {
     for run in runs {
-        put_lane_bar(out, scene, run)?;
-    }
-    Ok(())
-}
-
-// The bars of the runs in the rows.
-fn put_row_bars(out: &mut Vec<u8>, scene: &Scene<'_>, runs: &[Run]) -> Result<(), NoMemory>
-    ensures { OnOk result (out.new.items
-        ≡ out.old.items ++ flat_map (row_bar (view_of scene.now)) runs.now) }
-{
-    for run in runs {
-        put_row_bar(out, scene, run)?;
+        put_bar(out, scene, band, run)?;
     }
     Ok(())
 }
@@ -110,10 +93,10 @@ fn put_bands(
         scene.rows,
     )?;
     put_readings(out, scene.events, bottom_of(scene))?;
-    put_waits(alloc, out, scene)?;
-    put_sets(alloc, out, scene)?;
-    put_row_bars(out, scene, runs)?;
-    put_lane_bars(out, scene, runs)
+    put_spans(alloc, out, scene, Kind::Waits)?;
+    put_spans(alloc, out, scene, Kind::Sets)?;
+    put_bars(out, scene, Band::Rows, runs)?;
+    put_bars(out, scene, Band::Lanes, runs)
 }
 
 #[tactic(auto, unfolding(crate::specs::Picture::picture))]

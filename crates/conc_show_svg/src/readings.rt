@@ -3,7 +3,7 @@ ghost use Rattle.std.specs.Prelude.{◌≡◌, ◌≤◌, ◌++◌, OnOk, length
 ghost use Rattle.conc_show_svg.specs.Readings.{free_after, line_text, reading_text, readings_from, words_text};
 
 use crate::geometry::x_of;
-use crate::marks::{put_down, put_label};
+use crate::marks::{Path, put_label, put_path};
 use conc_show_model::put_bytes;
 use conc_time::put_moment;
 use conc_types::{Event, Moment, NoMemory};
@@ -21,7 +21,7 @@ const ROOM: u128 = 12_400;
 fn put_line(out: &mut Vec<u8>, x: u128, bottom: u128, moment: Moment) -> Result<(), NoMemory>
     ensures { OnOk result (out.new.items ≡ out.old.items ++ line_text x bottom moment) }
 {
-    put_down(out, b"reading", x, TOP, bottom)?;
+    put_path(out, b"reading", Path::Down(x, TOP, bottom))?;
     put_bytes(out, b"><title>")?;
     put_moment(out, moment)?;
     put_bytes(out, b"</title></path>\n")

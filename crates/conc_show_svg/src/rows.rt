@@ -1,14 +1,14 @@
 //! The rows of the requests, without their bars.
 ghost use Rattle.std.specs.Prelude.{◌≡◌, ◌++◌, OnOk};
 ghost use Rattle.conc_show_svg.specs.Bars.{view_of};
-ghost use Rattle.conc_show_svg.specs.Rows.{band_text, group_text, hook_text, labels_text, member_part, member_text, name_text, number_text, row_frame, set_text, status_text, wait_text};
+ghost use Rattle.conc_show_svg.specs.Rows.{band_text, group_text, hook_text, labels_text, member_part, member_text, name_text, number_text, row_frame, set_text, span_text, status_text, wait_text};
 
 use crate::escaped::put_escaped;
 use crate::geometry::{Bar, end_of, row_top, x_of};
 use crate::labels::{is_member, row_of};
-use crate::marks::{put_across, put_box, put_down, put_label};
+use crate::marks::{Path, put_box, put_label, put_path};
 use crate::scene::Scene;
-use crate::spans::Span;
+use crate::spans::{Kind, Span};
 use conc_show_model::{Planned, Row, put_bytes, put_state};
 use conc_types::{NoMemory, put_decimal};
 
@@ -37,7 +37,7 @@ fn put_member(out: &mut Vec<u8>, lanes: usize, index: usize) -> Result<(), NoMem
     ensures { OnOk result (out.new.items ≡ out.old.items ++ member_text lanes index) }
 {
     let top = row_top(lanes, index);
-    put_down(out, b"member", 300, top, top + 18)?;
+    put_path(out, b"member", Path::Down(300, top, top + 18))?;
     put_bytes(out, b"/>\n")
 }
 
@@ -126,20 +126,16 @@ pub(crate) fn put_row(
     put_bytes(out, b"</g>\n")
 }
 
-/// The thin line of a wait.
+// The thin line of a wait.
 #[tactic(auto, unfolding(crate::specs::Rows::wait_text))]
-pub(crate) fn put_wait(out: &mut Vec<u8>, scene: &Scene<'_>, wait: &Span) -> Result<(), NoMemory>
+fn put_wait(out: &mut Vec<u8>, scene: &Scene<'_>, wait: &Span) -> Result<(), NoMemory>
     ensures { OnOk result (out.new.items ≡ out.old.items ++ wait_text (view_of scene.now) wait.now) }
 {
     let count = scene.events.len();
     let y = row_top(scene.places.len(), row_of(scene.rows, wait.request)) + 9;
-    put_across(
-        out,
-        b"wait",
-        x_of(count, wait.from),
-        end_of(count, wait.to),
-        y,
-    )?;
+    let left = x_of(count, wait.from);
+    let right = end_of(count, wait.to);
+    put_path(out, b"wait", Path::Across(left, right, y))?;
     put_bytes(out, b"/>\n")
 }
 
@@ -148,21 +144,31 @@ pub(crate) fn put_wait(out: &mut Vec<u8>, scene: &Scene<'_>, wait: &Span) -> Res
 fn put_hook(out: &mut Vec<u8>, x: u128, top: u128, bottom: u128) -> Result<(), NoMemory>
     ensures { OnOk result (out.new.items ≡ out.old.items ++ hook_text x top bottom) }
 {
-    put_down(out, b"set", x, top, bottom)?;
+    put_path(out, b"set", Path::Down(x, top, bottom))?;
     put_bytes(out, b"/>\n")
 }
 
-/// The bracket of an open set.
+// The bracket of an open set.
 #[tactic(auto, unfolding(crate::specs::Rows::set_text))]
-pub(crate) fn put_set(out: &mut Vec<u8>, scene: &Scene<'_>, set: &Span) -> Result<(), NoMemory>
+fn put_set(out: &mut Vec<u8>, scene: &Scene<'_>, set: &Span) -> Result<(), NoMemory>
     ensures { OnOk result (out.new.items ≡ out.old.items ++ set_text (view_of scene.now) set.now) }
 {
     let count = scene.events.len();
     let left = x_of(count, set.from);
     let right = end_of(count, set.to);
     let top = row_top(scene.places.len(), row_of(scene.rows, set.request));
-    put_across(out, b"set", left, right, top + 9)?;
+    put_path(out, b"set", Path::Across(left, right, top + 9))?;
     put_bytes(out, b"/>\n")?;
     put_hook(out, left, top + 5, top + 13)?;
     put_hook(out, right, top + 5, top + 13)
+}
+
+/// The line of a wait, or the bracket of an open set.
+pub(crate) fn put_span(out: &mut Vec<u8>, scene: &Scene<'_>, span: &Span) -> Result<(), NoMemory>
+    ensures { OnOk result (out.new.items ≡ out.old.items ++ span_text (view_of scene.now) span.now) }
+{
+    match span.kind {
+        Kind::Waits => put_wait(out, scene, span),
+        Kind::Sets => put_set(out, scene, span),
+    }
 }

@@ -16,6 +16,7 @@ pub(crate) enum Kind {
 /// A span of a request, from an event to the first later one that ends it, where there is one.
 #[derive(Clone, Copy)]
 pub(crate) struct Span {
+    pub kind: Kind,
     pub request: RequestId,
     pub from: usize,
     pub to: Option<usize>,
@@ -63,7 +64,12 @@ pub(crate) fn spans_of(alloc: Global, kind: Kind, events: &[Event]) -> Result<Ve
     for from in 0..events.len() {
         if let Some(request) = begun_by(kind, &events[from]) {
             let to = end_from(kind, request, events, from + 1);
-            spans.push(Span { request, from, to })?;
+            spans.push(Span {
+                kind,
+                request,
+                from,
+                to,
+            })?;
         }
     }
     Ok(spans)

@@ -12,7 +12,7 @@ use Rattle.conc_show_model.specs.declared.model.Chart.{Chart}
 use Rattle.conc_show_model.specs.declared.model.Place.{Place}
 use Rattle.conc_show_model.specs.declared.model.Row.{Row}
 use Rattle.conc_show_tables.specs.declared.facts.Facts.{Facts}
-use Rattle.conc_show_tables.specs.Facts.{facts_of, seconds_between}
+use Rattle.conc_show_tables.specs.Facts.{rows_text, seconds_between}
 use Rattle.conc_show_model.specs.Words.{place_text}
 
 -- ---- fields
@@ -26,18 +26,21 @@ unfoldable pub csv_field : List ℕ → List ℕ
 csv_field text =
     if list_any (λ byte. byte == 44 || byte == 34) text then codes "\"" ++ flat_map doubled text ++ codes "\"" else text
 
--- a number behind a comma; what is not known is empty
+-- a value behind a comma; what is not known is empty
+abbrev pub csv_value : {A : Type 0} → (A → List ℕ) → Option A → List ℕ
+csv_value text value = codes "," ++ option_map_or text value []
+
 abbrev pub csv_number : Option ℕ → List ℕ
-csv_number n = codes "," ++ option_map_or decimal n []
+csv_number n = csv_value decimal n
 
 abbrev pub csv_moment : Option Moment → List ℕ
-csv_moment t = codes "," ++ option_map_or moment_text t []
+csv_moment t = csv_value moment_text t
 
 abbrev pub csv_place : Option Place → List ℕ
-csv_place p = codes "," ++ option_map_or place_text p []
+csv_place p = csv_value place_text p
 
 abbrev pub csv_request : Option RequestId → List ℕ
-csv_request r = codes "," ++ option_map_or (λ x. decimal x.number) r []
+csv_request r = csv_value (λ x. decimal x.number) r
 
 abbrev pub csv_extent : Option Extent → List ℕ
 csv_extent x = codes "," ++ option_map_or (λ e. decimal e.offset ++ codes "," ++ decimal e.length) x (codes ",")
@@ -62,9 +65,6 @@ csv_facts f =
 abbrev pub csv_with : Row → Facts → List ℕ
 csv_with row f = csv_names row f ++ csv_facts f ++ codes "\n"
 
-unfoldable pub csv_line : Chart → Row → List ℕ
-csv_line chart row = csv_with row (facts_of chart row)
-
 -- the head, and a line for each row
 unfoldable pub csv_text : Chart → List ℕ
-csv_text chart = csv_head ++ flat_map (csv_line chart) chart.rows
+csv_text chart = csv_head ++ rows_text csv_with chart

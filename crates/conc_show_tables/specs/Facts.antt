@@ -1,5 +1,5 @@
 -- What a chart tells of a row.
-use Rattle.std.specs.Prelude.{ℕ, ◌+◌, ◌-◌, if◌then◌else◌, List, [], ◌∷◌, Option, None, Some, slice_get, unwrap_or}
+use Rattle.std.specs.Prelude.{ℕ, ◌+◌, ◌-◌, if◌then◌else◌, List, [], ◌∷◌, Option, None, Some, slice_get, unwrap_or, flat_map}
 use Rattle.std.specs.Option.{option_and_then}
 use Rattle.conc_types.specs.declared.event.Event.{Event}
 use Rattle.conc_types.specs.declared.event.Event.TheVariants as event
@@ -76,3 +76,7 @@ facts_with events moments turn planned = record {
 unfoldable pub facts_of : Chart → Row → Facts
 facts_of chart row =
     facts_with chart.events (moments_of chart.events) (turn_of row.request chart.events) (numbered chart.planned row.request.number)
+
+-- the line of each row, by its facts
+abbrev pub rows_text : (Row → Facts → List ℕ) → Chart → List ℕ
+rows_text line chart = flat_map (λ row. line row (facts_of chart row)) chart.rows

@@ -15,7 +15,7 @@ use Rattle.conc_show_model.specs.declared.model.Place.{Place}
 use Rattle.conc_show_model.specs.declared.model.Row.{Row}
 use Rattle.conc_show_model.specs.Runs.{place_of}
 use Rattle.conc_show_tables.specs.declared.facts.Facts.{Facts}
-use Rattle.conc_show_tables.specs.Facts.{facts_of, seconds_between}
+use Rattle.conc_show_tables.specs.Facts.{rows_text, seconds_between}
 use Rattle.conc_show_model.specs.Words.{place_text}
 
 -- ---- members: a comma, the key, and the value
@@ -103,7 +103,7 @@ word_member key word = member key (quoted word)
 -- request,program,set,phase,status
 abbrev pub json_names : Row → Facts → List ℕ
 json_names row f =
-    codes "{\"request\":" ++ decimal row.request.number ++ name_member row.name ++ json_set f.set ++ word_member (codes "phase") (phase_word row.phase)
+    codes "\"request\":" ++ decimal row.request.number ++ name_member row.name ++ json_set f.set ++ word_member (codes "phase") (phase_word row.phase)
     ++ word_member (codes "status") (status_word row.status)
 
 -- place,do,let,start,end,waited,ran,offset,length
@@ -115,11 +115,8 @@ json_facts f =
     ++ json_number (codes "ran") (seconds_between f.start_at f.end_at) ++ json_extent f.extent
 
 abbrev pub json_with : Row → Facts → List ℕ
-json_with row f = json_names row f ++ json_facts f ++ codes "}\n"
-
-unfoldable pub json_row : Chart → Row → List ℕ
-json_row chart row = json_with row (facts_of chart row)
+json_with row f = codes "{" ++ json_names row f ++ json_facts f ++ codes "}\n"
 
 -- a line for each event, then a line for each row
 unfoldable pub json_text : Chart → List ℕ
-json_text chart = json_events 1 chart.events ++ flat_map (json_row chart) chart.rows
+json_text chart = json_events 1 chart.events ++ rows_text json_with chart

@@ -1,18 +1,22 @@
-ghost use Rattle.std.specs.Prelude.{◌≡◌, ◌==◌, ◌||◌, ◌++◌, OnOk, flat_map};
+ghost use Rattle.std.specs.Prelude.{◌≡◌, ◌==◌, ◌||◌, ◌++◌, List, OnOk, decimal, flat_map, ℕ};
 ghost use Rattle.std.specs.List.{list_any};
-ghost use Rattle.conc_show_model.specs.Turns.{moments_of};
-ghost use Rattle.conc_show_tables.specs.Csv as spec;
-ghost use Rattle.conc_show_tables.specs.Csv.{csv_extent, csv_facts, csv_field, csv_line, csv_moment, csv_names, csv_number, csv_place, csv_request, csv_text, csv_with, doubled};
+ghost use Rattle.conc_base_law.specs.Moments.{moment_text};
+ghost use Rattle.conc_show_model.specs.Words.{place_text};
+ghost use Rattle.conc_show_tables.specs.Csv.{csv_extent, csv_facts, csv_field, csv_names, csv_text, csv_value, csv_with, doubled};
 
-use crate::facts::{Facts, facts_of, seconds_between};
+use crate::facts::{Facts, seconds_between};
+use crate::rows::{RowFormat, put_rows};
 use conc_history_lines::{phase_bytes, status_bytes};
-use conc_show_model::{Chart, Place, Row, moments, put_bytes, put_place};
+use conc_show_model::{Chart, Place, Row, put_bytes, put_place};
 use conc_time::put_moment;
 use conc_types::{Extent, Moment, NoMemory, RequestId, put_decimal};
 use std::alloc::Global;
 
 const HEAD: &[u8] =
     b"request,program,set,phase,status,place,do,let,start,end,waited,ran,offset,length\n";
+
+// The format of the table.
+struct Csv;
 
 // Whether a field has to stand in quotes.
 fn needs_quotes(text: &[u8]) -> bool
@@ -27,8 +31,7 @@ fn put_byte(out: &mut Vec<u8>, byte: u8) -> Result<(), NoMemory>
     if byte == b'"' {
         put_bytes(out, b"\"\"")
     } else {
-        out.push(byte)?;
-        Ok(())
+        put_bytes(out, &[byte])
     }
 }
 
@@ -54,42 +57,54 @@ fn put_field(out: &mut Vec<u8>, text: &[u8]) -> Result<(), NoMemory>
     put_bytes(out, b"\"")
 }
 
-fn put_number(out: &mut Vec<u8>, number: Option<u64>) -> Result<(), NoMemory>
-    ensures { OnOk result (out.new.items ≡ out.old.items ++ csv_number number) }
-{
-    put_bytes(out, b",")?;
-    match number {
-        Some(number) => put_decimal(out, number),
-        None => Ok(()),
+// What may stand in a field without quotes.
+trait Plain: Copy {
+    ghost text: { Self → List ℕ };
+
+    // Appends its text.
+    fn put(self, out: &mut Vec<u8>) -> Result<(), NoMemory>
+        ensures { OnOk result (out.new.items ≡ out.old.items ++ text self) };
+}
+
+impl Plain for u64 {
+    ghost text = { decimal };
+
+    fn put(self, out: &mut Vec<u8>) -> Result<(), NoMemory> {
+        put_decimal(out, self)
     }
 }
 
-fn put_time(out: &mut Vec<u8>, moment: Option<Moment>) -> Result<(), NoMemory>
-    ensures { OnOk result (out.new.items ≡ out.old.items ++ csv_moment moment) }
-{
-    put_bytes(out, b",")?;
-    match moment {
-        Some(moment) => put_moment(out, moment),
-        None => Ok(()),
+impl Plain for RequestId {
+    ghost text = { λ request. decimal request.number };
+
+    fn put(self, out: &mut Vec<u8>) -> Result<(), NoMemory> {
+        put_decimal(out, u64::from(self.number))
     }
 }
 
-fn put_place_field(out: &mut Vec<u8>, place: Option<Place>) -> Result<(), NoMemory>
-    ensures { OnOk result (out.new.items ≡ out.old.items ++ csv_place place) }
-{
-    put_bytes(out, b",")?;
-    match place {
-        Some(place) => put_place(out, place),
-        None => Ok(()),
+impl Plain for Moment {
+    ghost text = { moment_text };
+
+    fn put(self, out: &mut Vec<u8>) -> Result<(), NoMemory> {
+        put_moment(out, self)
     }
 }
 
-fn put_request(out: &mut Vec<u8>, request: Option<RequestId>) -> Result<(), NoMemory>
-    ensures { OnOk result (out.new.items ≡ out.old.items ++ csv_request request) }
+impl Plain for Place {
+    ghost text = { place_text };
+
+    fn put(self, out: &mut Vec<u8>) -> Result<(), NoMemory> {
+        put_place(out, self)
+    }
+}
+
+// A comma, and the value if it is known.
+fn put_value<T: Plain>(out: &mut Vec<u8>, value: Option<T>) -> Result<(), NoMemory>
+    ensures { OnOk result (out.new.items ≡ out.old.items ++ csv_value T.text value) }
 {
     put_bytes(out, b",")?;
-    match request {
-        Some(request) => put_decimal(out, u64::from(request.number)),
+    match value {
+        Some(value) => value.put(out),
         None => Ok(()),
     }
 }
@@ -115,7 +130,7 @@ fn put_names(out: &mut Vec<u8>, row: &Row, facts: Facts) -> Result<(), NoMemory>
     put_decimal(out, u64::from(row.request.number))?;
     put_bytes(out, b",")?;
     put_field(out, row.name.as_bytes())?;
-    put_request(out, facts.set)?;
+    put_value(out, facts.set)?;
     put_bytes(out, b",")?;
     put_bytes(out, phase_bytes(row.phase))?;
     put_bytes(out, b",")?;
@@ -126,42 +141,30 @@ fn put_names(out: &mut Vec<u8>, row: &Row, facts: Facts) -> Result<(), NoMemory>
 fn put_facts(out: &mut Vec<u8>, facts: Facts) -> Result<(), NoMemory>
     ensures { OnOk result (out.new.items ≡ out.old.items ++ csv_facts facts) }
 {
-    put_place_field(out, facts.place)?;
-    put_time(out, facts.done_at)?;
-    put_time(out, facts.let_at)?;
-    put_time(out, facts.start_at)?;
-    put_time(out, facts.end_at)?;
-    put_number(out, seconds_between(facts.let_at, facts.start_at))?;
-    put_number(out, seconds_between(facts.start_at, facts.end_at))?;
+    put_value(out, facts.place)?;
+    put_value(out, facts.done_at)?;
+    put_value(out, facts.let_at)?;
+    put_value(out, facts.start_at)?;
+    put_value(out, facts.end_at)?;
+    put_value(out, seconds_between(facts.let_at, facts.start_at))?;
+    put_value(out, seconds_between(facts.start_at, facts.end_at))?;
     put_extent(out, facts.extent)
 }
 
-fn put_line(out: &mut Vec<u8>, row: &Row, facts: Facts) -> Result<(), NoMemory>
-    ensures { OnOk result (out.new.items ≡ out.old.items ++ csv_with row.now facts) }
-{
-    put_names(out, row, facts)?;
-    put_facts(out, facts)?;
-    put_bytes(out, b"\n")
-}
+impl RowFormat for Csv {
+    ghost line = { csv_with };
 
-// A line for each row, where these are the moments of the events.
-fn put_rows(out: &mut Vec<u8>, chart: &Chart, moments: &[Option<Moment>]) -> Result<(), NoMemory>
-    requires { moments.now ≡ moments_of chart.now.events }
-    ensures { OnOk result (out.new.items
-        ≡ out.old.items ++ flat_map (csv_line chart.now) chart.now.rows) }
-{
-    for row in chart.rows.as_slice() {
-        put_line(out, row, facts_of(chart, moments, row))?;
+    fn put_line(out: &mut Vec<u8>, row: &Row, facts: Facts) -> Result<(), NoMemory> {
+        put_names(out, row, facts)?;
+        put_facts(out, facts)?;
+        put_bytes(out, b"\n")
     }
-    Ok(())
 }
 
 /// Appends the table of a chart as comma-separated fields: a head, and a line for each row.
-#[tactic(auto, unfolding(crate::specs::Csv::csv_text))]
 pub fn put_csv(alloc: Global, out: &mut Vec<u8>, chart: &Chart) -> Result<(), NoMemory>
     ensures { OnOk result (out.new.items ≡ out.old.items ++ csv_text chart.now) }
 {
-    let moments = moments(alloc, chart.events.as_slice())?;
     put_bytes(out, HEAD)?;
-    put_rows(out, chart, moments.as_slice())
+    put_rows::<Csv>(alloc, out, chart)
 }

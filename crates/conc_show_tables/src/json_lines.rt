@@ -1,15 +1,18 @@
 ghost use Rattle.std.specs.Prelude.{◌≡◌, ◌++◌, OnOk, codes, flat_map};
 ghost use Rattle.conc_show_model.specs.Runs.{place_of as place_from};
-ghost use Rattle.conc_show_model.specs.Turns.{moments_of};
 ghost use Rattle.conc_show_tables.specs.Json as spec;
-ghost use Rattle.conc_show_tables.specs.Json.{escaped, json_event, json_events, json_outcome, json_request, json_row, json_text, json_what, quoted};
+ghost use Rattle.conc_show_tables.specs.Json.{escaped, json_event, json_events, json_outcome, json_request, json_text, json_what, json_with, quoted};
 
-use crate::facts::{Facts, facts_of, seconds_between};
+use crate::facts::{Facts, seconds_between};
+use crate::rows::{RowFormat, put_rows};
 use conc_history_lines::{outcome_bytes, phase_bytes, status_bytes};
-use conc_show_model::{Chart, Place, Row, moments, place_of, put_bytes, put_place};
+use conc_show_model::{Chart, Place, Row, place_of, put_bytes, put_place};
 use conc_time::put_moment;
 use conc_types::{Event, Extent, Moment, NoMemory, Outcome, PlaceId, RequestId, put_decimal};
 use std::alloc::Global;
+
+// The format of the lines.
+struct Json;
 
 fn put_byte(out: &mut Vec<u8>, byte: u8) -> Result<(), NoMemory>
     ensures { OnOk result (out.new.items ≡ out.old.items ++ escaped byte) }
@@ -64,9 +67,10 @@ fn put_null(out: &mut Vec<u8>, key: &[u8]) -> Result<(), NoMemory>
 fn put_number(out: &mut Vec<u8>, key: &[u8], number: Option<u64>) -> Result<(), NoMemory>
     ensures { OnOk result (out.new.items ≡ out.old.items ++ spec.json_number key.now number) }
 {
+    put_key(out, key)?;
     match number {
-        Some(number) => put_member_number(out, key, number),
-        None => put_null(out, key),
+        Some(number) => put_decimal(out, number),
+        None => put_bytes(out, b"null"),
     }
 }
 
@@ -170,11 +174,17 @@ fn put_stage(out: &mut Vec<u8>, set: RequestId, stage: u32) -> Result<(), NoMemo
     put_member_number(out, b"stage", u64::from(stage))
 }
 
-fn put_close(out: &mut Vec<u8>, set: RequestId, outcome: Outcome) -> Result<(), NoMemory>
+// The word of an event with an outcome, and the outcome.
+fn put_outcome(
+    out: &mut Vec<u8>,
+    word: &[u8],
+    request: RequestId,
+    outcome: Outcome,
+) -> Result<(), NoMemory>
     ensures { OnOk result (out.new.items ≡ out.old.items
-        ++ (quoted (codes "close") ++ json_request set ++ json_outcome outcome)) }
+        ++ (quoted word.now ++ json_request request ++ json_outcome outcome)) }
 {
-    put_about(out, b"close", set)?;
+    put_about(out, word, request)?;
     put_word(out, b"outcome", outcome_bytes(outcome))
 }
 
@@ -186,21 +196,6 @@ fn put_start(out: &mut Vec<u8>, request: RequestId, place: PlaceId) -> Result<()
     put_member_place(out, place_of(place))
 }
 
-fn put_end(
-    out: &mut Vec<u8>,
-    request: RequestId,
-    outcome: Outcome,
-    extent: Option<Extent>,
-) -> Result<(), NoMemory>
-    ensures { OnOk result (out.new.items ≡ out.old.items
-        ++ (quoted (codes "end") ++ json_request request ++ json_outcome outcome
-        ++ spec.json_extent extent)) }
-{
-    put_about(out, b"end", request)?;
-    put_word(out, b"outcome", outcome_bytes(outcome))?;
-    put_extent(out, extent)
-}
-
 // What an event is.
 fn put_what(out: &mut Vec<u8>, event: Event) -> Result<(), NoMemory>
     ensures { OnOk result (out.new.items ≡ out.old.items ++ json_what event) }
@@ -210,14 +205,17 @@ fn put_what(out: &mut Vec<u8>, event: Event) -> Result<(), NoMemory>
         Event::Command { number } => put_do(out, number),
         Event::OpenSet { set } => put_about(out, b"open", set),
         Event::Stage { set, stage } => put_stage(out, set, stage),
-        Event::CloseSet { set, outcome } => put_close(out, set, outcome),
+        Event::CloseSet { set, outcome } => put_outcome(out, b"close", set, outcome),
         Event::LetOut { request } => put_about(out, b"let", request),
         Event::Started { request, place } => put_start(out, request, place),
         Event::Ended {
             request,
             outcome,
             extent,
-        } => put_end(out, request, outcome, extent),
+        } => {
+            put_outcome(out, b"end", request, outcome)?;
+            put_extent(out, extent)
+        }
         Event::Resume => put_quoted(out, b"resume"),
         Event::Interrupt { request } => put_about(out, b"interrupt", request),
     }
@@ -257,7 +255,7 @@ fn put_name(out: &mut Vec<u8>, name: &[u8]) -> Result<(), NoMemory>
 fn put_names(out: &mut Vec<u8>, row: &Row, facts: Facts) -> Result<(), NoMemory>
     ensures { OnOk result (out.new.items ≡ out.old.items ++ spec.json_names row.now facts) }
 {
-    put_bytes(out, b"{\"request\":")?;
+    put_bytes(out, b"\"request\":")?;
     put_decimal(out, u64::from(row.request.number))?;
     put_name(out, row.name.as_bytes())?;
     put_set(out, facts.set)?;
@@ -283,24 +281,15 @@ fn put_facts(out: &mut Vec<u8>, facts: Facts) -> Result<(), NoMemory>
     put_extent(out, facts.extent)
 }
 
-fn put_line(out: &mut Vec<u8>, row: &Row, facts: Facts) -> Result<(), NoMemory>
-    ensures { OnOk result (out.new.items ≡ out.old.items ++ spec.json_with row.now facts) }
-{
-    put_names(out, row, facts)?;
-    put_facts(out, facts)?;
-    put_bytes(out, b"}\n")
-}
+impl RowFormat for Json {
+    ghost line = { json_with };
 
-// A line for each row, where these are the moments of the events.
-fn put_rows(out: &mut Vec<u8>, chart: &Chart, moments: &[Option<Moment>]) -> Result<(), NoMemory>
-    requires { moments.now ≡ moments_of chart.now.events }
-    ensures { OnOk result (out.new.items
-        ≡ out.old.items ++ flat_map (json_row chart.now) chart.now.rows) }
-{
-    for row in chart.rows.as_slice() {
-        put_line(out, row, facts_of(chart, moments, row))?;
+    fn put_line(out: &mut Vec<u8>, row: &Row, facts: Facts) -> Result<(), NoMemory> {
+        put_bytes(out, b"{")?;
+        put_names(out, row, facts)?;
+        put_facts(out, facts)?;
+        put_bytes(out, b"}\n")
     }
-    Ok(())
 }
 
 /// Appends a line of JSON for each event of a chart, and then one for each row.
@@ -308,7 +297,6 @@ fn put_rows(out: &mut Vec<u8>, chart: &Chart, moments: &[Option<Moment>]) -> Res
 pub fn put_json(alloc: Global, out: &mut Vec<u8>, chart: &Chart) -> Result<(), NoMemory>
     ensures { OnOk result (out.new.items ≡ out.old.items ++ json_text chart.now) }
 {
-    let moments = moments(alloc, chart.events.as_slice())?;
     put_events(out, chart.events.as_slice())?;
-    put_rows(out, chart, moments.as_slice())
+    put_rows::<Json>(alloc, out, chart)
 }

@@ -4,6 +4,7 @@
 mod csv_table;
 mod facts;
 mod json_lines;
+mod rows;
 
 pub use csv_table::put_csv;
 pub use json_lines::put_json;

@@ -7,4 +7,4 @@ pub returns : goal.returns
 unfolding line_text
 returns c =
     on_ok_weaker c.put_bytes-2.result
-    (four_ones c.args.out.now.items _ _ _ _ _ _ _ _ c.in_ok-put_down.ensures c.in_ok-put_bytes.ensures c.in_ok-put_moment.ensures.ok) c.put_bytes-2.ensures
+    (four_ones c.args.out.now.items _ _ _ _ _ _ _ _ c.in_ok-put_path.ensures c.in_ok-put_bytes.ensures c.in_ok-put_moment.ensures.ok) c.put_bytes-2.ensures

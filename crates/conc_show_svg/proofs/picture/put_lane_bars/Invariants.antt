@@ -1,7 +1,0 @@
-use Rattle.std.proofs.Common.{◌≡◌, ◌++◌, take}
-use Rattle.std.specs.List.{flat_map}
-use Rattle.conc_show_svg.specs.Bars.{lane_bar, view_of}
-use Rattle.conc_show_svg.proofs.picture.put_lane_bars.Given as goal
-
-abbrev pub invariant-loop-run : goal.invariant-loop-run
-invariant-loop-run l = l.out.items ≡ l.fn.out.items ++ flat_map (lane_bar (view_of l.scene)) (take l.run-index l.runs)
