@@ -11,13 +11,14 @@ use Rattle.conc_types.specs.Words.{some_and}
 use Rattle.conc_base_law.specs.Exclusion.{is_global, is_set_scope, runs_alone}
 use Rattle.conc_base_law.specs.Words.{Has, item_eq}
 use Rattle.conc_base_law.proofs.Options.{some_and-some}
-use Rattle.conc_event_classes.specs.Candidates.{AddsNear, covered, has_reach, joined, owning}
+use Rattle.conc_event_classes.specs.Candidates.{AddsNear, has_reach, joined, reached}
 use Rattle.conc_event_classes.specs.Keys.{bytes_key, domain_key, item_key, parent_key}
 use Rattle.conc_event_classes.specs.Kinds.{covers_item, kind_at, one_domain, owns, reaches}
 use Rattle.conc_event_classes.specs.Rivals.{claimed_by, claims, either_claims, heads_clash, IsClaim}
 use Rattle.conc_event_classes.specs.Shelf.{bucket, IsPut}
 use Rattle.conc_event_classes.specs.Shelves.{AreShelves, members}
 use Rattle.conc_event_classes.specs.declared.kinds.Head.{Head}
+use Rattle.conc_event_classes.specs.declared.candidates.Side.TheVariants as side
 use Rattle.conc_event_classes.specs.declared.rivals.Claim.{Claim}
 use Rattle.conc_event_classes.specs.declared.shelf.Shelf.{Shelf}
 use Rattle.conc_event_classes.specs.declared.shelves.Shelves.{Shelves}
@@ -69,8 +70,8 @@ put-kept old new key c k d put h = rw (put.buckets k) (elim (cases_Bool (k % 102
 
 -- a class of the entry's other item, or of a member that the entry covers, stands where they are looked for
 covered-there : (plan : Plan) (heads : List Head) (s : Shelves) (far : Bool) (entry : Entry) (c : ℕ) (other : Head) → AreShelves plan heads s
-    → c < length heads → slice_get heads c ≡ Some other → has_reach far entry ≡ true → covers_item other.item other.parent entry ≡ true → Has (covered s far entry) c
-unfolding covered covers_item members parent_key
+    → c < length heads → slice_get heads c ≡ Some other → has_reach far entry ≡ true → covers_item other.item other.parent entry ≡ true → Has (reached side.Owner s far entry) c
+unfolding reached covers_item members parent_key
 covered-there plan heads s far entry c other are within here reach covers = rw reach (elim (or_cases (item_eq entry.other other.item) _ covers) [
   | inl item ↦
       has-left (bucket s.by_item (item_key entry.other)) _ c
@@ -84,8 +85,8 @@ covered-there plan heads s far entry c other are within here reach covers = rw r
 ])
 
 owning-there : (plan : Plan) (heads : List Head) (s : Shelves) (far : Bool) (entry : Entry) (c : ℕ) (other : Head) → AreShelves plan heads s
-    → c < length heads → slice_get heads c ≡ Some other → has_reach far entry ≡ true → owns other.item entry ≡ true → Has (owning s far entry) c
-unfolding owning owns
+    → c < length heads → slice_get heads c ≡ Some other → has_reach far entry ≡ true → owns other.item entry ≡ true → Has (reached side.Covered s far entry) c
+unfolding reached owns
 owning-there plan heads s far entry c other are within here reach own =
     rw reach (subst (λ i. Has (bucket s.by_item (item_key i)) c) (sym (item_eq-true entry.owner other.item own)) (are.item c other within here))
 
@@ -96,16 +97,16 @@ joined-covered : (plan : Plan) (heads : List Head) (s : Shelves) (far : Bool) (c
     → covers_item other.item other.parent entry ≡ true → Has (joined s far claim) c
 unfolding joined
 joined-covered plan heads s far claim entry c other are within here has reach covers =
-    has-left (flat_map (covered s far) claim.owned.items) _ c
-    (has-flat (covered s far) claim.owned.items entry c has (covered-there plan heads s far entry c other are within here reach covers))
+    has-left (flat_map (reached side.Owner s far) claim.owned.items) _ c
+    (has-flat (reached side.Owner s far) claim.owned.items entry c has (covered-there plan heads s far entry c other are within here reach covers))
 
 joined-owning : (plan : Plan) (heads : List Head) (s : Shelves) (far : Bool) (claim : Claim) (entry : Entry) (c : ℕ) (other : Head) → AreShelves plan heads s
     → c < length heads → slice_get heads c ≡ Some other → Has claim.covering.items entry → has_reach far entry ≡ true
     → owns other.item entry ≡ true → Has (joined s far claim) c
 unfolding joined
 joined-owning plan heads s far claim entry c other are within here has reach own =
-    has-right (flat_map (covered s far) claim.owned.items) _ c
-    (has-flat (owning s far) claim.covering.items entry c has (owning-there plan heads s far entry c other are within here reach own))
+    has-right (flat_map (reached side.Owner s far) claim.owned.items) _ c
+    (has-flat (reached side.Covered s far) claim.covering.items entry c has (owning-there plan heads s far entry c other are within here reach own))
 
 -- what was found stays found
 near-kept : (plan : Plan) (s : Shelves) (claim : Claim) (old new : List ℕ) (c : ℕ) → AddsNear plan s claim old new → Has old c → Has new c

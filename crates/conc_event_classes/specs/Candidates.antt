@@ -8,6 +8,8 @@ use Rattle.conc_event_classes.specs.Keys.{domain_key, item_key}
 use Rattle.conc_event_classes.specs.Kinds.{kind_at}
 use Rattle.conc_event_classes.specs.Shelf.{bucket}
 use Rattle.conc_event_classes.specs.Shelves.{members}
+use Rattle.conc_event_classes.specs.declared.candidates.Side.{Side}
+use Rattle.conc_event_classes.specs.declared.candidates.Side.TheVariants as side
 use Rattle.conc_event_classes.specs.declared.rivals.Claim.{Claim}
 use Rattle.conc_event_classes.specs.declared.shelves.Shelves.{Shelves}
 
@@ -15,17 +17,18 @@ use Rattle.conc_event_classes.specs.declared.shelves.Shelves.{Shelves}
 unfoldable pub has_reach : Bool → Entry → Bool
 has_reach far entry = if far then is_global entry.reach else not (is_global entry.reach)
 
--- where the classes stand that the entry covers
-unfoldable pub covered : Shelves → Bool → Entry → List ℕ
-covered s far entry = if has_reach far entry then bucket s.by_item (item_key entry.other) ++ members s entry else []
+-- where the classes stand to which the entry leads: from its owner those that it covers, and from what it covers those of its owner
+abbrev pub led : Side → Shelves → Entry → List ℕ
+led side.Owner s entry = bucket s.by_item (item_key entry.other) ++ members s entry
+led side.Covered s entry = bucket s.by_item (item_key entry.owner)
 
--- where those of its owner stand
-unfoldable pub owning : Shelves → Bool → Entry → List ℕ
-owning s far entry = if has_reach far entry then bucket s.by_item (item_key entry.owner) else []
+-- so if the entry has the reach
+unfoldable pub reached : Side → Shelves → Bool → Entry → List ℕ
+reached from s far entry = if has_reach far entry then led from s entry else []
 
 -- where those stand to which entries of this reach join the class of the claim
 unfoldable pub joined : Shelves → Bool → Claim → List ℕ
-joined s far claim = flat_map (covered s far) claim.owned.items ++ flat_map (owning s far) claim.covering.items
+joined s far claim = flat_map (reached side.Owner s far) claim.owned.items ++ flat_map (reached side.Covered s far) claim.covering.items
 
 -- what was added is where the classes in the domain of the claim's class stand; or, where that does not run alone, where those stand to
 -- which entries join it that count in one domain, and those that run alone

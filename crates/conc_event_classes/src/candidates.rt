@@ -21,71 +21,53 @@ fn has_reach(far: bool, entry: Entry) -> bool
     matches!(entry.reach, Reach::Global) == far
 }
 
-// ---- the classes of one entry
+/// The side from which an entry is followed.
+#[derive(Clone, Copy)]
+pub(crate) enum Side {
+    /// From its owner, to the classes that it covers.
+    Owner,
+    /// From what it covers, to the classes of its owner.
+    Covered,
+}
 
-// Adds the classes that an entry with this reach covers.
-#[tactic(auto, unfolding(crate::specs::Candidates::covered))]
-fn add_covered(
+// Adds the classes to which an entry leads from a side.
+fn add_led(
     found: &mut Vec<u32>,
     shelves: &Shelves,
-    far: bool,
+    side: Side,
     entry: Entry,
 ) -> Result<(), NoMemory>
-    ensures { OnOk result (found.new.items
-        ≡ found.old.items ++ spec.covered shelves.now far entry) }
+    ensures { OnOk result (found.new.items ≡ found.old.items ++ spec.led side shelves.now entry) }
 {
-    if has_reach(far, entry) {
-        found.extend_from_slice(shelves.others(entry))?;
-        found.extend_from_slice(shelves.members(entry))?;
+    match side {
+        Side::Owner => {
+            found.extend_from_slice(shelves.others(entry))?;
+            found.extend_from_slice(shelves.members(entry))?;
+            Ok(())
+        }
+        Side::Covered => {
+            found.extend_from_slice(shelves.owners(entry))?;
+            Ok(())
+        }
     }
-    Ok(())
 }
 
-// Adds the classes of the owner of an entry with this reach.
-#[tactic(auto, unfolding(crate::specs::Candidates::owning))]
-fn add_owning(
+// Adds those to which the entries of this reach lead.
+#[tactic(auto, unfolding(crate::specs::Candidates::reached))]
+fn add_reached(
     found: &mut Vec<u32>,
     shelves: &Shelves,
     far: bool,
-    entry: Entry,
+    side: Side,
+    entries: &[Entry],
 ) -> Result<(), NoMemory>
     ensures { OnOk result (found.new.items
-        ≡ found.old.items ++ spec.owning shelves.now far entry) }
+        ≡ found.old.items ++ flat_map (spec.reached side shelves.now far) entries.now) }
 {
-    if has_reach(far, entry) {
-        found.extend_from_slice(shelves.owners(entry))?;
-    }
-    Ok(())
-}
-
-// ---- the classes of all entries
-
-fn add_all_covered(
-    found: &mut Vec<u32>,
-    shelves: &Shelves,
-    far: bool,
-    owned: &[Entry],
-) -> Result<(), NoMemory>
-    ensures { OnOk result (found.new.items
-        ≡ found.old.items ++ flat_map (spec.covered shelves.now far) owned.now) }
-{
-    for entry in owned {
-        add_covered(found, shelves, far, *entry)?;
-    }
-    Ok(())
-}
-
-fn add_all_owning(
-    found: &mut Vec<u32>,
-    shelves: &Shelves,
-    far: bool,
-    covering: &[Entry],
-) -> Result<(), NoMemory>
-    ensures { OnOk result (found.new.items
-        ≡ found.old.items ++ flat_map (spec.owning shelves.now far) covering.now) }
-{
-    for entry in covering {
-        add_owning(found, shelves, far, *entry)?;
+    for entry in entries {
+        if has_reach(far, *entry) {
+            add_led(found, shelves, side, *entry)?;
+        }
     }
     Ok(())
 }
@@ -101,8 +83,14 @@ fn add_joined(
     ensures { OnOk result (found.new.items
         ≡ found.old.items ++ spec.joined shelves.now far claim.now) }
 {
-    add_all_covered(found, shelves, far, claim.owned.as_slice())?;
-    add_all_owning(found, shelves, far, claim.covering.as_slice())?;
+    add_reached(found, shelves, far, Side::Owner, claim.owned.as_slice())?;
+    add_reached(
+        found,
+        shelves,
+        far,
+        Side::Covered,
+        claim.covering.as_slice(),
+    )?;
     Ok(())
 }
 

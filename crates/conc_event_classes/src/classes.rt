@@ -1,5 +1,6 @@
-ghost use Rattle.std.specs.Prelude.{◌≡◌, ◌<◌, IfOk, length, slice_index};
+ghost use Rattle.std.specs.Prelude.{◌≡◌, ◌<◌, IfOk, length, slice_index, unwrap_or};
 ghost use Rattle.std.specs.Option.{option_copied};
+ghost use Rattle.conc_types.specs.Words as words_spec;
 ghost use Rattle.conc_event_classes.specs.Classes.{AreClasses, class_at, rivals_at, slot_at, excludes_kin_at};
 
 use crate::excludes_kin::all_excluding_kin;
@@ -22,6 +23,15 @@ pub struct Classes {
     rivals: Seq<Seq<u32>>,
     // For each class, whether a request of it would exclude kin of its own, were they not kin.
     excludes_kin: Seq<bool>,
+}
+
+// What a list has for a request.
+fn at_request(list: &Seq<u32>, r: &Req) -> u32
+    ensures { result ≡ unwrap_or (words_spec.numbered list.now r.now.number.number) 0 }
+{
+    numbered(list.as_slice(), r.number.number)
+        .copied()
+        .unwrap_or(0)
 }
 
 impl Classes {
@@ -66,9 +76,7 @@ impl Classes {
     pub fn class(&self, r: &Req) -> u32
         ensures { result ≡ class_at self.now r.now }
     {
-        numbered(self.classes.as_slice(), r.number.number)
-            .copied()
-            .unwrap_or(0)
+        at_request(&self.classes, r)
     }
 
     /// The slot of a request among those of its class, from 0.
@@ -76,9 +84,7 @@ impl Classes {
     pub fn slot(&self, r: &Req) -> u32
         ensures { result ≡ slot_at self.now r.now }
     {
-        numbered(self.slots.as_slice(), r.number.number)
-            .copied()
-            .unwrap_or(0)
+        at_request(&self.slots, r)
     }
 
     /// The classes whose requests exclude those of a class, in rising order.

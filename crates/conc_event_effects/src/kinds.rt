@@ -2,7 +2,8 @@ ghost use Rattle.std.specs.Prelude.{◌≡◌, ◌<◌, ◌^◌};
 ghost use Rattle.std.specs.Option.{option_copied};
 ghost use Rattle.conc_types.specs.Words.{some_and};
 ghost use Rattle.conc_base_law.specs.Kinds as spec;
-ghost use Rattle.conc_base_law.specs.Kinds.{act_of, is_cancel, is_hold, is_terminate, is_unhold};
+ghost use Rattle.conc_base_law.specs.Kinds.{act_of};
+ghost use Rattle.conc_event_effects.specs.Deeds as deeds_spec;
 
 use conc_types::{Act, Event, PlaceId, Plan, RequestId, numbered};
 
@@ -106,38 +107,34 @@ pub fn act(plan: &Plan, e: Event) -> Option<&Act>
     }
 }
 
-pub(crate) fn is_hold_of(plan: &Plan, r: RequestId, e: Event) -> bool
-    ensures { result ≡ some_and (is_hold r) (act_of plan.now e) }
+/// What a command does to a request.
+#[derive(Clone, Copy)]
+pub(crate) enum Deed {
+    Hold,
+    Unhold,
+    Cancel,
+    Terminate,
+}
+
+// Whether what a command does is this, to this request.
+fn is_deed(deed: Deed, r: RequestId, act: &Act) -> bool
+    ensures { result ≡ deeds_spec.is_deed deed r act.now }
 {
-    match act(plan, e) {
-        Some(Act::Hold { request }) => request.number == r.number,
+    match (deed, act) {
+        (Deed::Hold, Act::Hold { request }) => request.number == r.number,
+        (Deed::Unhold, Act::Unhold { request }) => request.number == r.number,
+        (Deed::Cancel, Act::Cancel { request }) => request.number == r.number,
+        (Deed::Terminate, Act::Terminate { request }) => request.number == r.number,
         _ => false,
     }
 }
 
-pub(crate) fn is_unhold_of(plan: &Plan, r: RequestId, e: Event) -> bool
-    ensures { result ≡ some_and (is_unhold r) (act_of plan.now e) }
+/// Whether an event is a command that does this to a request.
+pub(crate) fn does(plan: &Plan, deed: Deed, r: RequestId, e: Event) -> bool
+    ensures { result ≡ some_and (deeds_spec.is_deed deed r) (act_of plan.now e) }
 {
     match act(plan, e) {
-        Some(Act::Unhold { request }) => request.number == r.number,
-        _ => false,
-    }
-}
-
-pub(crate) fn is_cancel_of(plan: &Plan, r: RequestId, e: Event) -> bool
-    ensures { result ≡ some_and (is_cancel r) (act_of plan.now e) }
-{
-    match act(plan, e) {
-        Some(Act::Cancel { request }) => request.number == r.number,
-        _ => false,
-    }
-}
-
-pub(crate) fn is_terminate_of(plan: &Plan, r: RequestId, e: Event) -> bool
-    ensures { result ≡ some_and (is_terminate r) (act_of plan.now e) }
-{
-    match act(plan, e) {
-        Some(Act::Terminate { request }) => request.number == r.number,
-        _ => false,
+        Some(act) => is_deed(deed, r, act),
+        None => false,
     }
 }

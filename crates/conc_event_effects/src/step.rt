@@ -4,8 +4,7 @@ ghost use Rattle.conc_base_law.specs.Words.{id_eq};
 ghost use Rattle.conc_event_effects.specs.Step as spec;
 
 use crate::kinds::{
-    closes, ends_run, is_cancel_of, is_command, is_hold_of, is_terminate_of, is_unhold_of, lets,
-    opens, stage_begun_by, start_place, starts,
+    Deed, closes, does, ends_run, is_command, lets, opens, stage_begun_by, start_place, starts,
 };
 use conc_rules::{has_restart, is_resume, is_set, parent};
 use conc_types::{Event, Facts, Outcome, PlaceId, Plan, Req, RequestId, StageSet};
@@ -22,21 +21,21 @@ fn is_idle(own: Facts) -> bool
 fn is_cancelled_by(plan: &Plan, r: &Req, e: Event, own: Facts) -> bool
     ensures { result ≡ spec.cancelled_by plan.now r.now e own }
 {
-    is_cancel_of(plan, r.number, e) && is_idle(own)
+    does(plan, Deed::Cancel, r.number, e) && is_idle(own)
 }
 
 #[tactic(auto, unfolding(crate::specs::Step::held_by))]
 fn is_held_by(plan: &Plan, r: &Req, e: Event, own: Facts) -> bool
     ensures { result ≡ spec.held_by plan.now r.now e own }
 {
-    is_hold_of(plan, r.number, e) && is_idle(own)
+    does(plan, Deed::Hold, r.number, e) && is_idle(own)
 }
 
 #[tactic(auto, unfolding(crate::specs::Step::unheld_by))]
 fn is_unheld_by(plan: &Plan, r: &Req, e: Event, own: Facts) -> bool
     ensures { result ≡ spec.unheld_by plan.now r.now e own }
 {
-    is_unhold_of(plan, r.number, e) && own.outcome.is_none()
+    does(plan, Deed::Unhold, r.number, e) && own.outcome.is_none()
 }
 
 #[tactic(auto, unfolding(crate::specs::Step::cancels_set))]
@@ -44,7 +43,7 @@ fn cancels_set(plan: &Plan, r: &Req, e: Event) -> bool
     ensures { result ≡ spec.cancels_set plan.now r.now e }
 {
     match parent(plan, r) {
-        Some(set) => is_cancel_of(plan, set.number, e),
+        Some(set) => does(plan, Deed::Cancel, set.number, e),
         None => false,
     }
 }
@@ -172,7 +171,7 @@ fn started_after(r: &Req, e: Event, own: Facts) -> bool
 fn terminated_after(plan: &Plan, r: &Req, e: Event, own: Facts) -> bool
     ensures { result ≡ spec.terminated_after plan.now r.now e own }
 {
-    (is_terminate_of(plan, r.number, e) && own.place.is_some())
+    (does(plan, Deed::Terminate, r.number, e) && own.place.is_some())
         || (!starts(r.number, e) && own.terminated)
 }
 

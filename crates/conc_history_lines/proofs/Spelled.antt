@@ -12,12 +12,13 @@ use Rattle.conc_types.specs.declared.event.Event.TheVariants as event
 use Rattle.conc_types.specs.declared.event.Extent.{Extent}
 use Rattle.conc_types.specs.declared.event.Outcome.{Outcome}
 use Rattle.conc_types.specs.declared.event.Outcome.TheVariants as outcome
+use Rattle.conc_types.specs.declared.event.RequestId.{RequestId}
 use Rattle.conc_types.specs.declared.plan.Plan.{Plan}
 use Rattle.conc_types.specs.Decimals.{decimal_value}
 use Rattle.conc_base_law.specs.Calendar.{moment_of}
 use Rattle.conc_base_law.specs.Text.{event_words, extent_words, id_word, outcome_word, spaced}
 use Rattle.conc_base_law.proofs.Options.{and_then-some, map-some, then_some-some}
-use Rattle.conc_history_lines.specs.EventLines.{bare_event, event_of_line, event_of_words, long_event, report_event, short_event, words_of}
+use Rattle.conc_history_lines.specs.EventLines.{bare_event, event_about, event_of_line, event_of_words, long_event, report_event, short_event, words_of}
 use Rattle.conc_history_lines.specs.Numbers.{extent_of, id_of, number_of, outcome_of, stage_of}
 use Rattle.conc_history_lines.specs.Places.{place_of, starts_of}
 use Rattle.conc_history_lines.proofs.Decimals.{decimal_spelled, id_spelled, number_spelled, stage_spelled}
@@ -68,6 +69,14 @@ bare_spelled plan word e h =
     let p = then_some-some (bytes_eq word (codes "resume")) event.Resume e h in
     ap (λ (w : List ℕ). w ∷ []) ((bytes_eq-Decides word (codes "resume")).0 p.0) ∙ ap (event_words plan) p.1
 
+about_spelled : (plan : Plan) (word what : List ℕ) (r : RequestId) (e : Event) → what ≡ id_word r → event_about word r ≡ Some e → word ∷ what ∷ [] ≡ event_words plan e
+unfolding event_words
+about_spelled plan word what r e same h =
+    either word (codes "open") (Some (event.OpenSet r)) _ e h (λ w k. let is : event.OpenSet r ≡ e = cc in two_words plan (event.OpenSet r) e word what _ _ w same is refl) (λ h.
+    either word (codes "let") (Some (event.LetOut r)) _ e h (λ w k. let is : event.LetOut r ≡ e = cc in two_words plan (event.LetOut r) e word what _ _ w same is refl) (λ h.
+    either word (codes "interrupt") (Some (event.Interrupt r)) None e h (λ w k. let is : event.Interrupt r ≡ e = cc in two_words plan (event.Interrupt r) e word what _ _ w same is refl)
+    (λ h. none_some e h)))
+
 short_spelled : (plan : Plan) (word what : List ℕ) (e : Event) → short_event word what ≡ Some e → word ∷ what ∷ [] ≡ event_words plan e
 unfolding short_event event_words
 short_spelled plan word what e h =
@@ -75,13 +84,8 @@ short_spelled plan word what e h =
     (λ w k. let p = map-some (λ t. event.Tick t) (moment_of what) e k in two_words plan (event.Tick p.0) e word what _ _ w (moment_spelled what p.0 p.1) p.2 refl) (λ h.
     either word (codes "do") (option_map (λ n. event.Command n) (number_of what)) _ e h
     (λ w k. let p = map-some (λ n. event.Command n) (number_of what) e k in two_words plan (event.Command p.0) e word what _ _ w (number_spelled what p.0 p.1) p.2 refl) (λ h.
-    either word (codes "open") (option_map (λ s. event.OpenSet s) (id_of what)) _ e h
-    (λ w k. let p = map-some (λ s. event.OpenSet s) (id_of what) e k in two_words plan (event.OpenSet p.0) e word what _ _ w (id_spelled what p.0 p.1) p.2 refl) (λ h.
-    either word (codes "let") (option_map (λ r. event.LetOut r) (id_of what)) _ e h
-    (λ w k. let p = map-some (λ r. event.LetOut r) (id_of what) e k in two_words plan (event.LetOut p.0) e word what _ _ w (id_spelled what p.0 p.1) p.2 refl) (λ h.
-    either word (codes "interrupt") (option_map (λ r. event.Interrupt r) (id_of what)) None e h
-    (λ w k. let p = map-some (λ r. event.Interrupt r) (id_of what) e k in two_words plan (event.Interrupt p.0) e word what _ _ w (id_spelled what p.0 p.1) p.2 refl)
-    (λ h. none_some e h)))))
+    let p = and_then-some (event_about word) (id_of what) e h in
+    about_spelled plan word what p.0 e (id_spelled what p.0 p.1) p.2))
 
 long_spelled : (plan : Plan) (word what how : List ℕ) (e : Event) → long_event (starts_of plan) word what how ≡ Some e → word ∷ what ∷ how ∷ [] ≡ event_words plan e
 unfolding long_event event_words

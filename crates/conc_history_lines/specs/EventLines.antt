@@ -7,6 +7,7 @@ use Rattle.std.specs.Str.{bytes_eq}
 use Rattle.conc_types.specs.declared.event.Event.{Event}
 use Rattle.conc_types.specs.declared.event.Event.TheVariants as event
 use Rattle.conc_types.specs.declared.event.Outcome.TheVariants as outcome
+use Rattle.conc_types.specs.declared.event.RequestId.{RequestId}
 use Rattle.conc_base_law.specs.Calendar.{moment_of}
 use Rattle.conc_history_lines.specs.Numbers.{extent_of, id_of, number_of, outcome_of, stage_of}
 use Rattle.conc_history_lines.specs.Places.{place_of}
@@ -15,15 +16,20 @@ use Rattle.conc_history_lines.specs.Places.{place_of}
 unfoldable pub bare_event : List ℕ → Option Event
 bare_event word = then_some (bytes_eq word (codes "resume")) event.Resume
 
+-- a word and the request or set that it is about
+abbrev pub event_about : List ℕ → RequestId → Option Event
+event_about word r =
+    if bytes_eq word (codes "open") then Some (event.OpenSet r)
+    else if bytes_eq word (codes "let") then Some (event.LetOut r)
+    else if bytes_eq word (codes "interrupt") then Some (event.Interrupt r)
+    else None
+
 -- a word and what it is about
 unfoldable pub short_event : List ℕ → List ℕ → Option Event
 short_event word what =
     if bytes_eq word (codes "tick") then option_map (λ t. event.Tick t) (moment_of what)
     else if bytes_eq word (codes "do") then option_map (λ n. event.Command n) (number_of what)
-    else if bytes_eq word (codes "open") then option_map (λ s. event.OpenSet s) (id_of what)
-    else if bytes_eq word (codes "let") then option_map (λ r. event.LetOut r) (id_of what)
-    else if bytes_eq word (codes "interrupt") then option_map (λ r. event.Interrupt r) (id_of what)
-    else None
+    else option_and_then (event_about word) (id_of what)
 
 -- a word, a request or a set, and how it goes on; where the places are those of the table
 unfoldable pub long_event : List ℕ → List ℕ → List ℕ → List ℕ → Option Event

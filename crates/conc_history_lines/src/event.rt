@@ -4,7 +4,7 @@ ghost use Rattle.conc_history_lines.specs.EventLines.{event_of_line};
 
 use crate::words::{extent_of, id_of, number_of, outcome_of, place_of, split_word, stage_of};
 use conc_time::read_moment;
-use conc_types::{Event, Outcome};
+use conc_types::{Event, Outcome, RequestId};
 
 // The event of a word alone.
 #[tactic(auto, unfolding(crate::specs::EventLines::bare_event))]
@@ -13,6 +13,21 @@ fn bare_event(word: &[u8]) -> Option<Event>
 {
     if word == b"resume".as_slice() {
         Some(Event::Resume)
+    } else {
+        None
+    }
+}
+
+// The event of a word and the request or set that it is about.
+fn event_about(word: &[u8], id: RequestId) -> Option<Event>
+    ensures { result ≡ spec.event_about word.now id }
+{
+    if word == b"open".as_slice() {
+        Some(Event::OpenSet { set: id })
+    } else if word == b"let".as_slice() {
+        Some(Event::LetOut { request: id })
+    } else if word == b"interrupt".as_slice() {
+        Some(Event::Interrupt { request: id })
     } else {
         None
     }
@@ -29,17 +44,8 @@ fn short_event(word: &[u8], what: &[u8]) -> Option<Event>
     } else if word == b"do".as_slice() {
         let number = number_of(what)?;
         Some(Event::Command { number })
-    } else if word == b"open".as_slice() {
-        let set = id_of(what)?;
-        Some(Event::OpenSet { set })
-    } else if word == b"let".as_slice() {
-        let request = id_of(what)?;
-        Some(Event::LetOut { request })
-    } else if word == b"interrupt".as_slice() {
-        let request = id_of(what)?;
-        Some(Event::Interrupt { request })
     } else {
-        None
+        event_about(word, id_of(what)?)
     }
 }
 

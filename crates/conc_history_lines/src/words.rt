@@ -4,8 +4,12 @@ ghost use Rattle.conc_history_lines.specs.EventLines.{words_of};
 ghost use Rattle.conc_history_lines.specs.Numbers as numbers_spec;
 ghost use Rattle.conc_history_lines.specs.Places as places_spec;
 
+use crate::names::outcome_bytes;
 use crate::split::split_once;
 use conc_types::{Extent, Outcome, PlaceId, RequestId, read_decimal};
+
+/// The outcomes that a set may have, and a request that was not terminated.
+const REPORTED: [Outcome; 3] = [Outcome::Normal, Outcome::Warning, Outcome::Error];
 
 /// The first word of a line, and the words behind it, if there are any.
 pub(crate) fn split_word(line: &[u8]) -> (&[u8], Option<&[u8]>)
@@ -47,15 +51,10 @@ pub(crate) fn stage_of(word: &[u8]) -> Option<u32>
 pub(crate) fn outcome_of(word: &[u8]) -> Option<Outcome>
     ensures { result ≡ numbers_spec.outcome_of word.now }
 {
-    if word == b"Normal".as_slice() {
-        Some(Outcome::Normal)
-    } else if word == b"Warning".as_slice() {
-        Some(Outcome::Warning)
-    } else if word == b"Error".as_slice() {
-        Some(Outcome::Error)
-    } else {
-        None
-    }
+    REPORTED
+        .iter()
+        .copied()
+        .find(|outcome| word == outcome_bytes(*outcome))
 }
 
 #[tactic(auto, unfolding(crate::specs::Numbers::extent_of))]

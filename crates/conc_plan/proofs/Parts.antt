@@ -3,7 +3,7 @@ use Rattle.std.proofs.Common.{◌≡◌, refl, sym, ap, ◌∙◌, ℕ, ◌+◌,
 use Rattle.std.specs.List.{enumerate_from, flat_map}
 use Rattle.std.specs.Prelude.{None, nat_lt, slice_get}
 use Rattle.std.proofs.lemmas.Bool.Decides.{nat_tests}
-use Rattle.std.proofs.lemmas.List.{append-nil, drop_more, length-map}
+use Rattle.std.proofs.lemmas.List.{drop_more, length-map}
 use Rattle.std.proofs.lemmas.Option.{slice_get_past}
 use Rattle.conc_types.specs.declared.set.SetDef.{SetDef}
 use Rattle.conc_types.specs.declared.plan.Req.{Req}
@@ -11,7 +11,7 @@ use Rattle.conc_types.specs.declared.script.Act.{Act}
 use Rattle.conc_types.specs.declared.setup.Setup.{Setup}
 use Rattle.conc_types.specs.declared.stage.Stage.{Stage}
 use Rattle.conc_types.specs.Expansion.{Part, members_of}
-use Rattle.conc_plan.specs.Entering.{entered_for, set_parts}
+use Rattle.conc_plan.specs.Entering.{entered_for, members_in, set_parts}
 
 -- the rest of a list, with each element numbered
 pub enumerate_from-drop : {X : Type 0} → (k : ℕ) (xs : List X) (i : ℕ) (x : X) → i < length xs → x ≡ get_or xs i x → enumerate_from k (drop i xs) ≡ (k, x) ∷ enumerate_from (k + 1) (drop (i + 1) xs)
@@ -39,7 +39,7 @@ past_end : (n most : ℕ) → false ≡ nat_lt n most → most ≤ n
 past_end n most e = grind (arith, nat_tests)
 
 -- a set that is not there has no members
-pub no_set : (setup : Setup) (command first : ℕ) (act : Act) (next place : ℕ) (items : List SetDef) (out : List Req) → items ≡ setup.sets → false ≡ nat_lt place (length items) → out ≡ out ++ entered_for setup command first act next (set_parts setup place)
-no_set setup command first act next place items out same none =
+pub no_set : (setup : Setup) (place : ℕ) (items : List SetDef) → items ≡ setup.sets → false ≡ nat_lt place (length items) → members_in [] ≡ set_parts setup place
+no_set setup place items same none =
     let past : slice_get setup.sets place ≡ None = slice_get_past setup.sets place (omega (arith, past_end place (length items) none, ap length same)) in
-    rw past (sym (append-nil out))
+    rw past refl

@@ -1,10 +1,9 @@
 ghost use Rattle.std.specs.Prelude.{◌≡◌, ◌≤◌, ◌<◌, ◌+◌, ◌^◌, ◌++◌, ◌==◌, if◌then◌else◌, None, Some, length, OnOk};
-ghost use Rattle.std.specs.List.{enumerate_from, flat_map};
 ghost use Rattle.conc_types.specs.Expansion.{entered, members_of, parts, parts_by, request_by};
-ghost use Rattle.conc_plan.specs.Entering.{entered_by, set_parts};
+ghost use Rattle.conc_plan.specs.Entering.{entered_by, members_in, set_parts};
 
 use crate::copies::{copy_text, copy_type};
-use conc_types::{Act, Item, NoMemory, Order, Req, RequestId, SetDef, Setup, Stage};
+use conc_types::{Act, Item, NoMemory, Order, Req, RequestId, Setup, Stage};
 use std::alloc::Global;
 
 /// A command of a setup's script, with its number and the number of the first request that it enters.
@@ -88,44 +87,37 @@ fn enter_stage(
     Ok(())
 }
 
+// The stages of the set at a place in the setup's list, if there is one.
+fn stages_at(setup: &Setup, place: u32) -> &[Stage]
+    ensures parts { members_in result.now ≡ set_parts setup.now place }
+    ensures few { length result.now ≤ 64 }
+{
+    match setup.sets.as_slice().get(place as usize) {
+        Some(set) => set.stages.as_slice(),
+        None => &[],
+    }
+}
+
 // Enters the members of a set, stage by stage.
 fn enter_members(
     alloc: Global,
     command: Command<'_>,
     mut next: u32,
-    set: &SetDef,
+    stages: &[Stage],
     out: &mut Vec<Req>,
 ) -> Result<(), NoMemory>
-    requires { next + length (flat_map members_of (enumerate_from 1 set.now.stages)) < 2 ^
-        32 }
+    requires few { length stages.now ≤ 64 }
+    requires fits { next + length (members_in stages.now) < 2 ^ 32 }
     ensures { OnOk result (out.new.items ≡ out.old.items
-        ++ entered_by command.entry next (flat_map members_of (enumerate_from 1 set.now.stages))) }
+        ++ entered_by command.entry next (members_in stages.now)) }
 {
     let mut number = 1;
-    for stage in set.stages.as_slice() {
+    for stage in stages {
         enter_stage(alloc, command, next, number, stage, out)?;
         next += stage.members.len() as u32;
         number += 1;
     }
     Ok(())
-}
-
-// Enters the members of the set at a place in the setup's list, if there is one.
-fn enter_set(
-    alloc: Global,
-    command: Command<'_>,
-    next: u32,
-    place: u32,
-    out: &mut Vec<Req>,
-) -> Result<(), NoMemory>
-    requires { next + length (set_parts command.setup.now place) < 2 ^ 32 }
-    ensures { OnOk result (out.new.items ≡ out.old.items
-        ++ entered_by command.entry next (set_parts command.entry.setup.now place)) }
-{
-    match command.setup.sets.as_slice().get(place as usize) {
-        Some(set) => enter_members(alloc, command, next, set, out),
-        None => Ok(()),
-    }
 }
 
 // Enters a program; or a set, and then its members.
@@ -143,7 +135,10 @@ fn enter_item(
     enter_part(alloc, command, next, 0, item, out)?;
     match item {
         Item::Program(_) => Ok(()),
-        Item::Set(place) => enter_set(alloc, command, next + 1, place, out),
+        Item::Set(place) => {
+            let stages = stages_at(command.setup, place);
+            enter_members(alloc, command, next + 1, stages, out)
+        }
     }
 }
 

@@ -6,7 +6,7 @@ use native.Mathlib.Decide.{ℕ_discrete}
 use lib.ListN.{get_elem?}
 use Rattle.atomic_table.specs.Table.{Allows, Joins, keeps, Me, opening, Splits, State, step, stepped}
 use Rattle.conc_view.specs.declared.marks.Known.{Known}
-use Rattle.conc_view.specs.Bounds.{bounded, Compared, IsBounded, IsSo, known_at, nothing, Raised, raiser, Read}
+use Rattle.conc_view.specs.Bounds.{bounded, IsBounded, IsSo, known_at, nothing, Raised, raiser, Read}
 
 -- the view of a seat
 at_known : (views : List Known) (j : ℕ) (v : Known) → get_elem? views j ≡ some v → (j < length views) × (known_at views j ≡ v)
@@ -55,48 +55,36 @@ module _ (S : Type 0) where
       let here = mine.1 own_raises in
       let least = mine.0 in
       let number : me.0.number ≡ get_or s.words 0 0 = here.1 in (
-        record me.0 { number = n },
+        raiser n,
         keeps,
         tt,
-        after_step s k id n me.1 me.0 (record me.0 { number = n }) at (omega arith, λ _. (here.0, refl))
+        after_step s k id n me.1 me.0 (raiser n) at (omega arith, λ _. (here.0, refl))
             (λ j other. let so = k.each j in let low = so.0 in (omega arith, λ r. absurd (other ((so.1 r).0 ∙ sym here.0)))),
         (refl, refl),
       )
 
-  -- a seat that does not may read it
-  pub reads : (slots id : ℕ) (me : Me S Known) → me.0.raises ≡ false → Allows IsBounded slots id me 0 (λ n. n) (Read (step slots 0 0 0 none) me)
-  reads slots id me never s k _ at _ =
+  -- any seat may read it
+  pub reads : (slots id : ℕ) (me : Me S Known) → Allows IsBounded slots id me 0 (λ n. n) (Read (step slots 0 0 0 none) me)
+  reads slots id me s k _ at _ =
       let n : ℕ = get_or s.words 0 0 in
       let mine = own s k id me.0 at in (
         record me.0 { least = n },
         keeps,
         tt,
-        after_step s k id n me.1 me.0 (record me.0 { least = n }) at (omega arith, λ (r : me.0.raises ≡ true). absurd (cc (never, r))) (λ j _. k.each j),
-        (refl, refl, mine.0),
+        after_step s k id n me.1 me.0 (record me.0 { least = n }) at (omega arith, mine.1) (λ j _. k.each j),
+        (refl, refl, mine.0, λ r. (mine.1 r).1),
       )
 
-  -- any seat may compare
-  pub compares : (slots id : ℕ) (me : Me S Known) → Allows IsBounded slots id me 0 (λ n. n) (Compared (step slots 0 0 0 none) me)
-  compares slots id me s k _ at _ =
-      let n : ℕ = get_or s.words 0 0 in
-      let mine = own s k id me.0 at in (
-        me.0,
-        keeps,
-        tt,
-        after_step s k id n me.1 me.0 me.0 at mine (λ j _. k.each j),
-        (refl, mine.0, λ r. (mine.1 r).1),
-      )
-
-  -- the seat that raises the number may be cut in two, where the new one has the number as its bound
-  pub seats : (id : ℕ) (v : Known) → v.raises ≡ true → Splits (IsBounded {S = S}) id v v (bounded v.number)
-  seats id v own_raises s k at =
+  -- any seat may be cut in two, where the new one has the same bound
+  pub seats : (id : ℕ) (v : Known) → Splits (IsBounded {S = S}) id v v (bounded v.least)
+  seats id v s k at =
       let n : ℕ = get_or s.words 0 0 in
       let mine = own s k id v at in
-      let number = (mine.1 own_raises).1 in
+      let least = mine.0 in
       record {
         one = k.one;
         word = k.word;
-        each = one_more (λ j u. IsSo n k.one j u) (set s.views id v) (bounded v.number)
+        each = one_more (λ j u. IsSo n k.one j u) (set s.views id v) (bounded v.least)
             (λ j. (omega arith, λ (r : false ≡ true). absurd (cc r)))
             (with_view (λ j u. IsSo n k.one j u) s.views id v (at_known s.views id v at).0 mine (λ j _. k.each j));
       }

@@ -9,7 +9,7 @@ nothing = record { raises = false; number = 0; least = 0 }
 
 -- it raises the number, which is this one
 abbrev pub raiser : ℕ → Known
-raiser n = record { raises = true; number = n; least = 0 }
+raiser n = record { raises = true; number = n; least = n }
 
 -- the number has reached this one
 abbrev pub bounded : ℕ → Known
@@ -32,12 +32,9 @@ pub record IsBounded {S : Type 0} (s : State S Known) : Type 0 where
 module _ {S : Type 0} where
   -- the number is now this one
   abbrev pub Raised : Step S → Me S Known → ℕ → Me S Known → Type 0
-  Raised step before n after = (after.0 ≡ record before.0 { number = n }) × (after.1 ≡ before.1)
+  Raised step before n after = (after.0 ≡ raiser n) × (after.1 ≡ before.1)
 
-  -- the number found is the bound from now on, and no less than the one before
+  -- the number found is the bound from now on, and no less than the one before; and it is the number of the seat that raises it
   abbrev pub Read : Step S → Me S Known → ℕ → Me S Known → Type 0
   Read step before n after = (after.0 ≡ record before.0 { least = n }) × (after.1 ≡ before.1) × (before.0.least ≤ n)
-
-  -- the number found is the one that the seat raised, and no less than its bound
-  abbrev pub Compared : Step S → Me S Known → ℕ → Me S Known → Type 0
-  Compared step before n after = (after ≡ before) × (before.0.least ≤ n) × (before.0.raises ≡ true → before.0.number ≡ n)
+      × (before.0.raises ≡ true → before.0.number ≡ n)

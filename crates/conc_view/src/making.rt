@@ -6,7 +6,7 @@ ghost use Rattle.conc_base_law.specs.Law.{LawfulSoFar};
 ghost use Rattle.conc_view.specs.Line.{shown};
 ghost use Rattle.conc_view.specs.Opened.{name_of};
 ghost use Rattle.conc_view.specs.Publisher.{list_of, told_plan};
-ghost use Rattle.conc_view.specs.Views.{HasSeen};
+ghost use Rattle.conc_view.specs.Views.{Counts, HasSeen};
 
 use crate::book::{Book, Reached};
 use crate::bounds::Counter;
@@ -34,29 +34,7 @@ fn told<J: Naming>(book: &Book<J>, none: Reached<J>, events: &[Event]) -> Option
     Some(reached)
 }
 
-// A watcher that has seen what a line shows.
-fn seat<'p, J: Naming>(
-    alloc: Global,
-    plan: &'p Plan,
-    events: &[Event],
-    line: &Line<Store<J>, Entry<J>>,
-    counter: &mut Counter<J>,
-) -> Result<Watcher<'p, J>, NoMemory>
-    requires shown { (shown line.now).reached ≡ events.now }
-    requires counted { counter.old ≡ length events.now }
-    ensures counter { counter.new ≡ counter.old }
-    ensures seen { IfOk result (HasSeen plan.now events.now) }
-{
-    let Ok(machine) = resume(alloc, plan, events) else {
-        return Err(NoMemory);
-    };
-    let reader = line.reader()?;
-    let bound = counter.bound()?;
-    let reached = line.shown().reached.again();
-    Ok(Watcher::over(machine, reached, bound, reader))
-}
-
-// As many watchers.
+// So many watchers, each of which has seen what a line shows.
 fn seats<'p, J: Naming>(
     alloc: Global,
     plan: &'p Plan,
@@ -66,14 +44,20 @@ fn seats<'p, J: Naming>(
     watchers: u32,
 ) -> Result<Vec<Watcher<'p, J>>, NoMemory>
     requires shown { (shown line.now).reached ≡ events.now }
-    requires counted { counter.old ≡ length events.now }
+    requires counted { Counts counter.old events.now }
     ensures counter { counter.new ≡ counter.old }
     ensures count { IfOk result (λ seated. length seated.items ≡ watchers) }
     ensures seen { IfOk result (λ seated. All (HasSeen plan.now events.now) seated.items) }
 {
     let mut seated = Vec::with_capacity(alloc, watchers as usize)?;
     for _place in 0..watchers {
-        seated.push(seat(alloc, plan, events, line, counter)?)?;
+        let Ok(machine) = resume(alloc, plan, events) else {
+            return Err(NoMemory);
+        };
+        let reader = line.reader()?;
+        let bound = counter.bound()?;
+        let reached = line.shown().reached.again();
+        seated.push(Watcher::over(machine, reached, bound, reader))?;
     }
     Ok(seated)
 }

@@ -40,15 +40,7 @@ impl Play<u64, Known> for Reads {
     ghost then = { Read };
 }
 
-pub(crate) struct Compares;
-
-impl Play<u64, Known> for Compares {
-    ghost use Rattle.conc_view.specs.Bounds.{Compared};
-
-    ghost then = { Compared };
-}
-
-/// A new seat, whose bound is the number.
+/// A new seat, which has the same bound.
 pub(crate) struct Seats;
 
 impl Split<Known> for Seats {
@@ -56,7 +48,7 @@ impl Split<Known> for Seats {
 
     ghost left = { λ known. known };
 
-    ghost right = { λ known. bounded known.number };
+    ghost right = { λ known. bounded known.least };
 }
 
 /// One seat takes over the bound of another.

@@ -46,7 +46,7 @@ impl Opened {
     pub(crate) fn named<J: Naming>(self) -> (Book<J>, Reached<J>, Counter<J>)
         requires { name_of self ≡ J.name }
         ensures reached { result.1 ≡ [] }
-        ensures counter { result.2 ≡ 0 }
+        ensures counter { result.2 ≡ raiser 0 }
     {
         let Opened {
             head,

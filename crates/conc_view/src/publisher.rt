@@ -1,4 +1,5 @@
 ghost use Rattle.std.specs.Prelude.{◌≡◌, [], length};
+ghost use Rattle.conc_view.specs.Bounds.{raiser};
 ghost use Rattle.conc_view.specs.Line.{pending, shown};
 
 use crate::book::Book;
@@ -20,7 +21,7 @@ pub struct Publishing<'p, J: Naming, T: Absorb<O> + Listing + Drop, O: Drop> {
     line: Line<T, O>,
     counter: Counter<J>,
     ghost idle: { pending line ≡ [] },
-    ghost counted: { counter ≡ length (T.list (shown line)) },
+    ghost counted: { counter ≡ raiser (length (T.list (shown line))) },
 }
 
 /// Publishes a list of events. It takes in each event that it is told, and what it has taken in is what
@@ -39,7 +40,7 @@ impl<'p, J: Naming> Publisher<'p, J> {
         counter: Counter<J>,
     ) -> Publisher<'p, J>
         requires idle { pending line ≡ [] }
-        requires counted { counter ≡ length (shown line).reached }
+        requires counted { counter ≡ raiser (length (shown line).reached) }
         ensures list { list_of result ≡ (shown line).reached }
         ensures plan { told_plan result ≡ plan.now }
     {

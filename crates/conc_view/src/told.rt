@@ -1,4 +1,5 @@
 ghost use Rattle.std.specs.Prelude.{◌≡◌, length};
+ghost use Rattle.conc_view.specs.Bounds.{raiser};
 
 use crate::bounds::Counter;
 use crate::naming::Naming;
@@ -10,7 +11,7 @@ use conc_types::Event;
 pub struct Told<J: Naming> {
     pub(crate) store: Box<Store<J>>,
     pub(crate) counter: Counter<J>,
-    ghost counted: { counter ≡ length store.value.reached },
+    ghost counted: { counter ≡ raiser (length store.value.reached) },
 }
 
 impl<J: Naming> Told<J> {
@@ -18,7 +19,7 @@ impl<J: Naming> Told<J> {
 
     /// What was published last is all that was told.
     pub(crate) fn of(store: Box<Store<J>>, counter: Counter<J>) -> Told<J>
-        requires { counter ≡ length store.value.reached }
+        requires { counter ≡ raiser (length store.value.reached) }
         ensures { whole_of result ≡ store.value.reached }
     {
         Told { store, counter }

@@ -4,7 +4,7 @@ ghost use Rattle.conc_restart.specs.Machines.{plan_of};
 ghost use Rattle.conc_view.specs.Stands.{Stands};
 
 use crate::book::Reached;
-use crate::bounds::Bound;
+use crate::bounds::Counter;
 use crate::counting::counts;
 use crate::naming::Naming;
 use crate::store::Store;
@@ -28,11 +28,11 @@ pub struct Snapshot {
 pub struct Watcher<'p, J: Naming> {
     machine: Machine<'p>,
     reached: Reached<J>,
-    bound: Bound<J>,
+    bound: Counter<J>,
     // It is away while the watcher looks.
     reader: Option<Reader<Store<J>, (), Unruled>>,
     ghost stands: { Stands machine reached },
-    ghost told: { length reached ≤ bound },
+    ghost told: { length reached ≤ bound.least },
 }
 
 // Takes in the events from a place on.
@@ -65,13 +65,13 @@ fn go_on<J: Naming>(machine: &mut Machine, reached: &mut Reached<J>, store: &Sto
 fn look_at<J: Naming>(
     machine: &mut Machine,
     reached: &mut Reached<J>,
-    bound: &mut Bound<J>,
+    bound: &mut Counter<J>,
     store: &Store<J>,
 )
     requires stands { Stands machine.old reached.old }
-    requires told { length reached.old ≤ bound.old }
+    requires told { length reached.old ≤ bound.old.least }
     ensures stands { Stands machine.new reached.new }
-    ensures told { length reached.new ≤ bound.new }
+    ensures told { length reached.new ≤ bound.new.least }
     ensures begins { IsPrefix reached.old reached.new }
     ensures plan { plan_of machine.new ≡ plan_of machine.old }
 {
@@ -90,11 +90,11 @@ impl<'p, J: Naming> Watcher<'p, J> {
     pub(crate) fn over(
         machine: Machine<'p>,
         reached: Reached<J>,
-        bound: Bound<J>,
+        bound: Counter<J>,
         reader: Reader<Store<J>, (), Unruled>,
     ) -> Watcher<'p, J>
         requires stands { Stands machine reached }
-        requires told { length reached ≤ bound }
+        requires told { length reached ≤ bound.least }
         ensures seen { seen_by result ≡ reached }
         ensures plan { watched_plan result ≡ plan_of machine.entry }
     {

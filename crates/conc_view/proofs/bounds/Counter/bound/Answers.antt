@@ -3,4 +3,4 @@ use Rattle.conc_view.proofs.Seated.{seats}
 use Rattle.conc_view.proofs.bounds.Counter.bound.Goals as goal
 
 pub split_seat-seat-requires : goal.split_seat-seat-requires
-split_seat-seat-requires g c = (search rules, search rules, seats ℕ _ _ c.self.invariant.3)
+split_seat-seat-requires g c = (search rules, search rules, seats ℕ _ _)

@@ -1,7 +1,0 @@
-use Rattle.std.proofs.Common.{◌≡◌, ◌++◌, take}
-use Rattle.std.specs.List.{flat_map}
-use Rattle.conc_event_classes.specs.Candidates.{covered}
-use Rattle.conc_event_classes.proofs.candidates.add_all_covered.Given as goal
-
-abbrev pub invariant-loop-entry : goal.invariant-loop-entry
-invariant-loop-entry l = l.found.items ≡ l.fn.found.items ++ flat_map (covered l.shelves l.far) (take l.entry-index l.owned)

@@ -1,6 +1,0 @@
-use Rattle.std.proofs.Common.{ℕ, rules}
-use Rattle.conc_view.proofs.Seated.{reads}
-use Rattle.conc_view.proofs.bounds.Bound.read.Goals as goal
-
-pub load-requires : goal.load-requires
-load-requires g c = (search rules, search rules, reads ℕ _ _ _ c.self.invariant.3)
