@@ -14,9 +14,7 @@ ghost use Rattle.conc_run_steps.specs.Going.{WentOn};
 ghost use Rattle.conc_run_steps.specs.Steps.{IsReady, plan_in, readings_in};
 ghost use Rattle.conc_pool_lanes.specs.Lanes.{IsLeadPassOf, puts_of};
 ghost use Rattle.conc_run_workers.specs.Crews.{Covers, HasOnePlan, HaveServed, MayServe};
-ghost use Rattle.conc_run_workers.specs.Filling.{AreFilled, Fills, HasPuts};
-ghost use Rattle.conc_run_workers.specs.Resolvers.{standing};
-ghost use Rattle.conc_run_workers.specs.Resolving.{Concludes, IsAtWork};
+ghost use Rattle.conc_run_workers.specs.Filling.{HasPuts};
 ghost use Rattle.conc_run_steps.specs.Told.{IsTold, IsUntold};
 ghost use Rattle.conc_run_workers.specs.Runs.{AwaitsReport};
 
@@ -107,46 +105,6 @@ fn direct_crew<R: Threads + Wait + Sync, G: Gate + Sync, L: Director>(
         },
     );
     answer
-}
-
-// Runs the crew, and beside it a resolver that works on these.
-fn resolve_beside<
-    'a,
-    R: Threads + Wait + Sync,
-    D: Disk + Send,
-    E: Disk + Send,
-    T: Teller + Send,
-    G: Gate + Sync,
->(
-    rt: &R,
-    shared: &'a Shared<'_>,
-    crew: &mut [CrewMember],
-    gate: &G,
-    desk: &'a mut Desk<'_>,
-    journal: &'a mut D,
-    spool: &'a mut E,
-    teller: &'a mut T,
-    hints: &'a mut Hints,
-) -> Result<(), RunFail>
-    requires crew { MayServe shared.now crew.old }
-    requires at_work { IsAtWork shared.now.board (standing D.Disk E.Disk T.Teller desk.old
-        journal.old spool.old teller.old) }
-    requires filled { AreFilled shared.now.lanes desk.old hints.old.pass }
-    ensures crew { HaveServed shared.now crew.old crew.new }
-    ensures concludes { Concludes shared.now.board result
-        (standing D.Disk E.Disk T.Teller desk.old journal.old spool.old teller.old)
-        (standing D.Disk E.Disk T.Teller desk.new journal.new spool.new teller.new) }
-    ensures fills { Fills shared.now.lanes result desk.old desk.new hints.new.pass }
-{
-    let mut resolver = Resolver {
-        shared,
-        desk,
-        journal,
-        spool,
-        teller,
-        hints,
-    };
-    direct_crew(rt, shared, crew, gate, &mut resolver)
 }
 
 // What a run with workers needs beside its work: what the threads share, the board's lead, the workers, and what the resolver keeps
@@ -275,17 +233,15 @@ pub fn run_with_workers<
     } = means;
     let mut desk = Desk::new(plan, lead, work);
     put_waiting(rt, &shared.lanes, &desk, &mut hints.pass);
-    let answer = resolve_beside(
-        rt,
-        &shared,
-        crew.as_mut_slice(),
-        gate,
-        &mut desk,
+    let mut resolver = Resolver {
+        shared: &shared,
+        desk: &mut desk,
         journal,
         spool,
         teller,
-        &mut hints,
-    );
+        hints: &mut hints,
+    };
+    let answer = direct_crew(rt, &shared, crew.as_mut_slice(), gate, &mut resolver);
     let (mut lead, work) = desk.into_parts();
     take_in(&shared.board, &mut lead, crew);
     shared.board.close(lead);
