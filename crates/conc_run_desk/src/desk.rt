@@ -47,7 +47,7 @@ impl<'a> Model for Desk<'a> {
 impl<'a> Desk<'a> {
     ghost use Rattle.conc_board.specs.Looks.{HasProgress, LooksOn, SeesLeadState, Shows};
     ghost use Rattle.conc_board.specs.Seats.{FindsFitting, LeadFinds, plan_of};
-    ghost use Rattle.conc_pool_seats.specs.LeadStates.{IsLet, IsLetOrGone};
+    ghost use Rattle.conc_pool_seats.specs.LeadStates.{IsGone, IsLet, IsLetOrGone};
     ghost use Rattle.conc_pool_seats.specs.Words.{end_word, IsPlace, IsRequest, place_word, request_word};
     ghost use Rattle.std.specs.Prelude.{◌⊎◌, ◌<◌, ◌∷◌, ◌++◌, [], IfOk, IsFalse, IsTrue, OnErr, OnOk, reverse, Some};
     ghost use Rattle.conc_journal.specs.JournalStates.{has_faulted};
