@@ -17,11 +17,9 @@ use Rattle.conc_base_law.specs.Words.{Has}
 use Rattle.conc_outside.specs.Counts.{Rose}
 use Rattle.conc_disk.specs.Disk.{DiskState}
 use Rattle.conc_board.specs.declared.board.Board.{Board}
-use Rattle.conc_board.specs.Seats.{IsLeftFor, plan_of}
+use Rattle.conc_board.specs.Seats.{IsLeftFor}
 use Rattle.conc_board.specs.Stops.{Collects, FindsRunning, TakesPost}
-use Rattle.conc_pool_seats.specs.LeadStates.{IsGone}
 use Rattle.conc_pool_seats.specs.Reports.{MayLeave}
-use Rattle.conc_pool_seats.specs.Words.{IsRequest}
 use Rattle.conc_pool_seats.specs.declared.posted.Posted.{Posted}
 use Rattle.conc_pool_seats.specs.declared.posted.Posted.TheVariants.{Text, Stopped, NoMemory}
 use Rattle.conc_run_choice.specs.declared.choosing.Next.{Next}
@@ -34,13 +32,9 @@ use Rattle.conc_run_desk.specs.declared.keeping.KeepFail.{KeepFail}
 use Rattle.conc_run_desk.specs.declared.keeping.KeepFail.TheVariants as fails
 use Rattle.conc_run_desk.specs.declared.keeping.Kept.{Kept}
 use Rattle.conc_run_desk.specs.declared.keeping.Kept.TheVariants as keeps
-use Rattle.conc_run_desk.specs.Desks.{IsAt, lead_state_at, list_at, plan_at}
+use Rattle.conc_run_desk.specs.Desks.{list_at, plan_at}
 use Rattle.conc_run_desk.specs.State.{DeskState as Desk}
 use Rattle.conc_run_desk.specs.Ties.{RunsAt}
-
--- the request has the go, and the desk is at this board
-abbrev pub HasGo : Board → Desk → RequestId → Type 0
-HasGo board desk r = IsAt board desk × IsRequest (plan_of board) r × IsGone (lead_state_at desk r)
 
 -- ---- what the list says of a request, by the events with the latest first
 

@@ -58,7 +58,7 @@ impl<'a> Desk<'a> {
     ghost use Rattle.conc_base_law.specs.Kinds.{is_resume};
     ghost use Rattle.conc_base_law.specs.Law.{Lawful};
     ghost use Rattle.conc_outside.specs.Counts.{Rose};
-    ghost use Rattle.conc_run_desk.specs.Keeping.{forced_at, HasGo, Keeps, LeavesDisk, must_stop_at, SameList, Takes};
+    ghost use Rattle.conc_run_desk.specs.Keeping.{forced_at, Keeps, LeavesDisk, must_stop_at, SameList, Takes};
     ghost use Rattle.conc_run_desk.specs.Following.{SameBut};
     ghost use Rattle.conc_journal_spool.specs.Spools.{IsOn as SpoolIsOn};
     ghost use Rattle.conc_run_desk.specs.Logging.{IsItsTurn, IsLogged, IsUnlogged, WasSeen};
@@ -227,8 +227,10 @@ impl<'a> Desk<'a> {
         spool: &mut E,
         r: RequestId,
     ) -> Result<Kept, KeepFail>
-        requires go { HasGo board.now self.old r }
+        requires at { IsAt board.now self.old }
         requires on { SpoolIsOn self.old.work.spool (E.state spool.old) }
+        requires request { IsRequest (plan_of board.now) r }
+        requires lead_state { IsGone (lead_state_at self.old r) }
         requires nothing_forced { forced_at self.old ≡ None }
         requires nothing_kept { self.old.kept ≡ None }
 

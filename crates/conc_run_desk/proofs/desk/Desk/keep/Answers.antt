@@ -15,26 +15,26 @@ use Rattle.conc_run_desk.proofs.desk.Desk.keep.Goals as goal
 
 pub end_left-requires-clause-left : goal.end_left-requires-clause-left
 end_left-requires-clause-left g c =
-    let is = c.requires.go.0.plan ∙ ap plan_at (sym c.self.view_is) in
+    let is = c.requires.at.plan ∙ ap plan_at (sym c.self.view_is) in
     let none = ap (λ (d : DeskState). d.kept) c.self.view_is ∙ c.requires.nothing_kept in
     is_left c.args.board.now c.self.inside.plan.now c.self.inside.work c.self.inside.kept c.self.inside.lead c.collect.new.lead c.args.r c.in-Ok.posted is c.self.invariant none
-    c.requires.go.1.0 c.collect.ensures.lead c.in-Ok.ensures.collected c.in-Ok.ensures.posted
+    c.requires.request c.collect.ensures.lead c.in-Ok.ensures.collected c.in-Ok.ensures.posted
 
 pub store_text-requires-clause-lawful : goal.store_text-requires-clause-lawful
 store_text-requires-clause-lawful g c =
-    let is = c.requires.go.0.plan ∙ ap plan_at (sym c.self.view_is) in
+    let is = c.requires.at.plan ∙ ap plan_at (sym c.self.view_is) in
     let none = ap (λ (d : DeskState). d.kept) c.self.view_is ∙ c.requires.nothing_kept in
     let calm = subst (λ (d : DeskState). forced_at d ≡ None) (sym c.self.view_is) c.requires.nothing_forced in
     lawful_with c.args.board.now c.self.inside.plan.now c.self.inside.work c.self.inside.kept c.self.inside.lead c.collect.new.lead c.args.r c.in-Ok.posted is c.self.invariant none
-    c.requires.go.1.0 c.collect.ensures.lead c.in-Ok.ensures.collected c.in-Ok.ensures.posted c.in-Some.next.event calm c.in-Some.ensures.event
+    c.requires.request c.collect.ensures.lead c.in-Ok.ensures.collected c.in-Ok.ensures.posted c.in-Some.next.event calm c.in-Some.ensures.event
 
 pub invariant_of-self-in-Ok-store_text : goal.invariant_of-self-in-Ok-store_text
 invariant_of-self-in-Ok-store_text g c =
-    let is = c.requires.go.0.plan ∙ ap plan_at (sym c.self.view_is) in
+    let is = c.requires.at.plan ∙ ap plan_at (sym c.self.view_is) in
     let none = ap (λ (d : DeskState). d.kept) c.self.view_is ∙ c.requires.nothing_kept in
     let calm = subst (λ (d : DeskState). forced_at d ≡ None) (sym c.self.view_is) c.requires.nothing_forced in
     desk_with c.args.board.now c.self.inside.plan.now c.self.inside.work c.self.inside.kept c.self.inside.lead c.collect.new.lead c.args.r c.in-Ok.posted is c.self.invariant none
-    c.requires.go.1.0 c.collect.ensures.lead c.in-Ok.ensures.collected c.in-Ok.ensures.posted c.in-Some.next.event calm c.in-Some.ensures.event
+    c.requires.request c.collect.ensures.lead c.in-Ok.ensures.collected c.in-Ok.ensures.posted c.in-Some.next.event calm c.in-Some.ensures.event
     c.store_text.new.work (g.E.Disk.state c.store_text.new.spool) c.store_text.ensures.machine c.store_text.ensures.journal c.in-Ok-store_text.ensures.pending
 
 pub returns-in-Ok-store_text-clause-takes : goal.returns-in-Ok-store_text-clause-takes
@@ -53,7 +53,7 @@ returns-in-Ok-store_text-clause-takes g c =
 
 pub returns-in-Ok-store_text-clause-keeps : goal.returns-in-Ok-store_text-clause-keeps
 returns-in-Ok-store_text-clause-keeps g c =
-    let is = c.requires.go.0.plan ∙ ap plan_at (sym c.self.view_is) in
+    let is = c.requires.at.plan ∙ ap plan_at (sym c.self.view_is) in
     let none = ap (λ (d : DeskState). d.kept) c.self.view_is ∙ c.requires.nothing_kept in
     let calm = subst (λ (d : DeskState). forced_at d ≡ None) (sym c.self.view_is) c.requires.nothing_forced in
     let e = c.in-Some.next.event in
@@ -64,9 +64,9 @@ returns-in-Ok-store_text-clause-keeps g c =
     (record {
       kept = refl;
       is_end = its_end c.args.board.now c.self.inside.plan.now c.self.inside.work c.self.inside.kept c.self.inside.lead c.collect.new.lead c.args.r c.in-Ok.posted is c.self.invariant none
-          c.requires.go.1.0 c.collect.ensures.lead c.in-Ok.ensures.collected c.in-Ok.ensures.posted e calm c.in-Some.ensures.event;
+          c.requires.request c.collect.ensures.lead c.in-Ok.ensures.collected c.in-Ok.ensures.posted e calm c.in-Some.ensures.event;
       lawful = lawful_with c.args.board.now c.self.inside.plan.now c.self.inside.work c.self.inside.kept c.self.inside.lead c.collect.new.lead c.args.r c.in-Ok.posted is c.self.invariant none
-          c.requires.go.1.0 c.collect.ensures.lead c.in-Ok.ensures.collected c.in-Ok.ensures.posted e calm c.in-Some.ensures.event;
+          c.requires.request c.collect.ensures.lead c.in-Ok.ensures.collected c.in-Ok.ensures.posted e calm c.in-Some.ensures.event;
       text = subst (λ (z : Machine × Journal). HasPendingText (plan_of z.0) (list_of z.1) spool (Some e)) (λ i. (c.store_text.ensures.machine i, c.store_text.ensures.journal i)) c.in-Ok-store_text.ensures.pending.pending_text;
       stores = c.in-Ok-store_text.ensures.stored;
     })
