@@ -14,7 +14,9 @@ ghost use Rattle.conc_run_steps.specs.Going.{WentOn};
 ghost use Rattle.conc_run_steps.specs.Steps.{IsReady, plan_in, readings_in};
 ghost use Rattle.conc_pool_lanes.specs.Lanes.{IsLeadPassOf, puts_of};
 ghost use Rattle.conc_run_workers.specs.Crews.{Covers, HasOnePlan, HaveServed, MayServe};
-ghost use Rattle.conc_run_workers.specs.Filling.{HasPuts};
+ghost use Rattle.conc_run_workers.specs.Filling.{AreFilled, Fills, HasPuts};
+ghost use Rattle.conc_run_workers.specs.Resolvers.{standing};
+ghost use Rattle.conc_run_workers.specs.Resolving.{Concludes, IsAtWork};
 ghost use Rattle.conc_run_steps.specs.Told.{IsTold, IsUntold};
 ghost use Rattle.conc_run_workers.specs.Runs.{AwaitsReport};
 
@@ -105,6 +107,48 @@ fn direct_crew<R: Threads + Wait + Sync, G: Gate + Sync, L: Director>(
         },
     );
     answer
+}
+
+impl Shared<'_> {
+    // Runs the crew, and beside it a resolver that works on these.
+    fn resolve_beside<
+        'a,
+        R: Threads + Wait + Sync,
+        D: Disk + Send,
+        E: Disk + Send,
+        T: Teller + Send,
+        G: Gate + Sync,
+    >(
+        &'a self,
+        rt: &R,
+        crew: &mut [CrewMember],
+        gate: &G,
+        desk: &'a mut Desk<'_>,
+        journal: &'a mut D,
+        spool: &'a mut E,
+        teller: &'a mut T,
+        hints: &'a mut Hints,
+    ) -> Result<(), RunFail>
+        requires crew { MayServe self.now crew.old }
+        requires at_work { IsAtWork self.now.board (standing D.Disk E.Disk T.Teller desk.old
+            journal.old spool.old teller.old) }
+        requires filled { AreFilled self.now.lanes desk.old hints.old.pass }
+        ensures crew { HaveServed self.now crew.old crew.new }
+        ensures concludes { Concludes self.now.board result
+            (standing D.Disk E.Disk T.Teller desk.old journal.old spool.old teller.old)
+            (standing D.Disk E.Disk T.Teller desk.new journal.new spool.new teller.new) }
+        ensures fills { Fills self.now.lanes result desk.old desk.new hints.new.pass }
+    {
+        let mut resolver = Resolver {
+            shared: self,
+            desk,
+            journal,
+            spool,
+            teller,
+            hints,
+        };
+        direct_crew(rt, self, crew, gate, &mut resolver)
+    }
 }
 
 // What a run with workers needs beside its work: what the threads share, the board's lead, the workers, and what the resolver keeps
@@ -233,15 +277,16 @@ pub fn run_with_workers<
     } = means;
     let mut desk = Desk::new(plan, lead, work);
     put_waiting(rt, &shared.lanes, &desk, &mut hints.pass);
-    let mut resolver = Resolver {
-        shared: &shared,
-        desk: &mut desk,
+    let answer = shared.resolve_beside(
+        rt,
+        crew.as_mut_slice(),
+        gate,
+        &mut desk,
         journal,
         spool,
         teller,
-        hints: &mut hints,
-    };
-    let answer = direct_crew(rt, &shared, crew.as_mut_slice(), gate, &mut resolver);
+        &mut hints,
+    );
     let (mut lead, work) = desk.into_parts();
     take_in(&shared.board, &mut lead, crew);
     shared.board.close(lead);
