@@ -9,7 +9,7 @@ use conc_disk::Disk;
 use conc_edge_gate::Gate;
 use conc_journal::Silent;
 use conc_run_alone::run_alone;
-use conc_run_open::{Examined, open};
+use conc_run_open::{examine, open};
 use conc_run_state::{HistoryFail, Input, Stores, Work};
 use std::alloc::Global;
 use std::sync::Wait;
@@ -54,6 +54,6 @@ pub fn run_on_threads<'p, R: Threads + Wait + Sync, D: Disk + Send, E: Disk + Se
     ensures cut_short { IfErr result (IsCutShort workers.now.threads (LacksToTell 0)
         (ran_over D.Disk E.Disk input.now stores.old stores.new)) }
 {
-    let examined = Examined::examine(alloc, input, stores)?;
+    let examined = examine(alloc, input, stores)?;
     workers.go_on(rt, alloc, examined, stores, &mut Silent)
 }

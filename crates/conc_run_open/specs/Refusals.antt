@@ -52,11 +52,7 @@ pub record IsGoodButLacksRoom (plan : Plan) (readings : List Reading) (events : 
   pub whole : broken ≡ None
   pub lacks_room : LacksRoom plan readings events e
 
--- where the spool has all extents, a record is bad, or there is no memory
-abbrev pub IsRefusedWhole : Plan → List Event → Option ℕ → HistoryFail → Type 0
-IsRefusedWhole plan events broken e = (len : ℕ) → counted events ≤ len → IsRefused plan len events broken e
-
--- or there is no room
+-- where the spool has all extents, a record is bad, or there is no room, or no memory
 abbrev pub CannotBegin : Plan → List Reading → List Event → Option ℕ → HistoryFail → Type 0
 CannotBegin plan readings events broken e =
-    IsRefusedWhole plan events broken e ⊎ IsGoodButLacksRoom plan readings events broken e
+    ((len : ℕ) → counted events ≤ len → IsRefused plan len events broken e) ⊎ IsGoodButLacksRoom plan readings events broken e

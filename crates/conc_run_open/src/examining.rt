@@ -36,28 +36,6 @@ pub struct Examined<'p> {
 }
 
 impl<'p> Examined<'p> {
-    /// Opens and judges what stands on the disks of a run, and takes all memory that its life needs. It
-    /// writes nothing.
-    pub fn examine<D: Disk, E: Disk>(
-        alloc: Global,
-        input: &Input<'p>,
-        stores: &mut Stores<'_, D, E>,
-    ) -> Result<Examined<'p>, HistoryFail>
-        ensures same { SameStores stores.old stores.new }
-        ensures input { IfOk result (λ examined. examined.input ≡ input.now) }
-        ensures examined { IfOk result
-            (IsExamined (ran_over D.Disk E.Disk input.now stores.old stores.new)) }
-        ensures in_hand { IfOk result (λ examined. IsInHand examined
-            (D.state stores.new.journal.now) (E.state stores.new.spool.now)) }
-        ensures cause { IfErr result
-            (HasCause (ran_over D.Disk E.Disk input.now stores.old stores.new)) }
-        ensures untouched { IsUntouched (ran_over D.Disk E.Disk input.now stores.old stores.new) }
-    {
-        let opened = open_own(alloc, input.plan, input.digests, stores.journal)?;
-        let texts = open_texts(alloc, input.plan, opened.journal.events(), stores.spool)?;
-        prepare(alloc, input, opened, texts)
-    }
-
     /// The plan of the run.
     pub fn plan(&self) -> &'p Plan
         ensures { result.now ≡ plan_held self.now }
@@ -144,4 +122,26 @@ fn prepare<'p>(
         spool,
         due,
     })
+}
+
+/// Opens and judges what stands on the disks of a run, and takes all memory that its life needs. It
+/// writes nothing.
+pub fn examine<'p, D: Disk, E: Disk>(
+    alloc: Global,
+    input: &Input<'p>,
+    stores: &mut Stores<'_, D, E>,
+) -> Result<Examined<'p>, HistoryFail>
+    ensures same { SameStores stores.old stores.new }
+    ensures input { IfOk result (λ examined. examined.input ≡ input.now) }
+    ensures examined { IfOk result
+        (IsExamined (ran_over D.Disk E.Disk input.now stores.old stores.new)) }
+    ensures in_hand { IfOk result (λ examined. IsInHand examined
+        (D.state stores.new.journal.now) (E.state stores.new.spool.now)) }
+    ensures cause { IfErr result
+        (HasCause (ran_over D.Disk E.Disk input.now stores.old stores.new)) }
+    ensures untouched { IsUntouched (ran_over D.Disk E.Disk input.now stores.old stores.new) }
+{
+    let opened = open_own(alloc, input.plan, input.digests, stores.journal)?;
+    let texts = open_texts(alloc, input.plan, opened.journal.events(), stores.spool)?;
+    prepare(alloc, input, opened, texts)
 }

@@ -1,8 +1,9 @@
-ghost use Rattle.std.specs.Prelude.{◌≡◌, ℕ, ◌<◌, IfErr, IfOk, None, OnOk, Option, reverse};
+ghost use Rattle.std.specs.Prelude.{◌≡◌, ℕ, ◌<◌, ◌≤◌, IfErr, IfOk, None, OnOk, Option, reverse};
 ghost use Rattle.conc_base_law.specs.Law.{LawfulSoFar};
 ghost use Rattle.conc_base_law.specs.State.{used};
 ghost use Rattle.conc_restart.specs.Machines.{plan_of, StandsFor};
-ghost use Rattle.conc_run_open.specs.Refusals.{IsRefused, IsRefusedWhole};
+ghost use Rattle.conc_run_open.specs.Extents.{counted};
+ghost use Rattle.conc_run_open.specs.Refusals.{IsRefused};
 ghost use Rattle.conc_run_open.specs.Listing.{IsUnlisted};
 
 use crate::extents::first_beyond;
@@ -40,7 +41,8 @@ pub(crate) fn resume_whole<'p>(
     ensures lawful_so_far { OnOk result (LawfulSoFar plan.now events.now) }
     ensures whole { OnOk result (broken ≡ None) }
     ensures unlisted { IfErr result (IsUnlisted plan.now events.now broken) }
-    ensures refused { IfErr result (IsRefusedWhole plan.now events.now broken) }
+    ensures refused { (len : ℕ) → counted events.now ≤ len
+        → IfErr result (IsRefused plan.now len events.now broken) }
 {
     let machine = resume(alloc, plan, events)?;
     match broken {

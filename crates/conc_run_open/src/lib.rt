@@ -14,7 +14,7 @@ mod starting;
 mod text;
 
 pub use error::TextFail;
-pub use examining::Examined;
+pub use examining::{Examined, examine};
 pub use listing::read_list;
 pub use opening::{Begun, begin, open};
 pub use text::read_text;

@@ -13,7 +13,7 @@ ghost use Rattle.conc_run_state.specs.declared.error.DiskName.TheVariants as dis
 ghost use Rattle.conc_run_open.specs.Examined.{digests_held, IsInHand, MayStartWith, list_found, plan_held, readings_held};
 ghost use Rattle.conc_run_open.specs.Opening.{BeginsOn, IsBegun, IsGivenUp};
 
-use crate::examining::Examined;
+use crate::examining::{Examined, examine};
 use crate::starting::start;
 use conc_disk::{Disk, DiskFault};
 use conc_journal::Receipt;
@@ -89,6 +89,7 @@ pub fn open<'p, D: Disk, E: Disk>(
     input: &Input<'p>,
     stores: &mut Stores<'_, D, E>,
 ) -> Result<Work<'p>, HistoryFail>
+    ensures same { SameStores stores.old stores.new }
     ensures begun { IfOk result (IsBegun (ran_over D.Disk E.Disk input.now stores.old stores.new)) }
 
     // Each cause, and what is written then.
@@ -101,14 +102,11 @@ pub fn open<'p, D: Disk, E: Disk>(
     ensures given_up { OnErr result
         (IsUntouched (ran_over D.Disk E.Disk input.now stores.old stores.new)
         ⊎ IsGivenUp (ran_over D.Disk E.Disk input.now stores.old stores.new)) }
-
-    // What stays: it works on the same two disks, and only reads the spool's.
-    ensures same { SameStores stores.old stores.new }
     ensures spool { Stays (E.state stores.old.spool.now) (E.state stores.new.spool.now) }
     ensures spool_survives { LeavesOnly (E.state stores.old.spool.now).may_leave
         (E.state stores.old.spool.now) (E.state stores.new.spool.now) }
 {
-    let examined = Examined::examine(alloc, input, stores)?;
+    let examined = examine(alloc, input, stores)?;
     let Begun { work, .. } = begin(examined, stores.journal, stores.spool)?;
     Ok(work)
 }

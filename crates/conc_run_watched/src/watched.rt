@@ -13,7 +13,7 @@ use conc_disk::Disk;
 use conc_edge_gate::Gate;
 use conc_journal::Teller;
 use conc_run::Workers;
-use conc_run_open::Examined;
+use conc_run_open::{Examined, examine};
 use conc_run_state::{HistoryFail, Input, Stores, Work};
 use conc_run_watch::{Ending, Watchers};
 use conc_view::{Naming, Opened, Snapshot, new_view};
@@ -203,7 +203,7 @@ pub fn run_watched<'p, R: Threads + Wait + Sync, D: Disk + Send, E: Disk + Send,
     ensures cut_short { IfErr result (IsCutShort workers.now.threads (LacksToTell watchers)
         (ran_over D.Disk E.Disk input.now stores.old stores.new)) }
 {
-    let examined = Examined::examine(alloc, input, stores)?;
+    let examined = examine(alloc, input, stores)?;
     let opened = Opened::new(alloc)?;
     let ending = Ending::new();
     let scene = Scene {

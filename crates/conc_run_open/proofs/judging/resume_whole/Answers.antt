@@ -11,9 +11,9 @@ returns-in_err-machine-clause-unlisted c =
     rw (p.1, p.2) (check-unlisted c.args.plan.now c.args.events.now c.args.broken _ c.in_err-machine.ensures.unlawful)
 
 pub returns-in_err-machine-clause-refused : goal.returns-in_err-machine-clause-refused
-returns-in_err-machine-clause-refused c =
+returns-in_err-machine-clause-refused c = λ len far.
     let p = err_from_is_err_and c.from_residual.result c.from_residual.ensures.1 in
-    rw (p.1, p.2) (λ len far. check-refused c.args.plan.now c.args.events.now c.args.broken _ c.in_err-machine.ensures.unlawful len far)
+    rw (p.1, p.2) (check-refused c.args.plan.now c.args.events.now c.args.broken _ c.in_err-machine.ensures.unlawful len far)
 
 pub returns-in-Some-clause-unlisted : goal.returns-in-Some-clause-unlisted
 returns-in-Some-clause-unlisted c = event-broken c.args.plan.now c.args.events.now c.args.broken c.in-Some.number c.in-Some.is c.in_ok-machine.ensures.lawful_so_far

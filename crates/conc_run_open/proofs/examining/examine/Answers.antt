@@ -6,7 +6,7 @@ use Rattle.conc_run_state.specs.Stores.{handed_with}
 use Rattle.conc_run_open.specs.Extents.{counted}
 use Rattle.conc_run_open.proofs.Finding.{found-unreadable}
 use Rattle.conc_run_open.proofs.Preparing.{prepared, prepared-cause, prepared-in_hand}
-use Rattle.conc_run_open.proofs.examining.Examined.examine.Goals as goal
+use Rattle.conc_run_open.proofs.examining.examine.Goals as goal
 
 pub returns-in_err-texts-clause-cause : goal.returns-in_err-texts-clause-cause
 returns-in_err-texts-clause-cause g c =
