@@ -3,7 +3,7 @@ use Rattle.conc_run_open.specs.Examined.{plan_held}
 use Rattle.conc_run_state.specs.Works.{list_in}
 use Rattle.conc_run_steps.specs.Told.{IsTold}
 use Rattle.conc_run_watched.proofs.Ending.{ends-at, if-some, ok-then}
-use Rattle.conc_run_watched.proofs.watched.Scene.run_out.Goals as goal
+use Rattle.conc_run_watched.proofs.watched.run_out.Goals as goal
 
 pub returns-clause-ended : goal.returns-clause-ended
 returns-clause-ended g c =
