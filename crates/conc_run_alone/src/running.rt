@@ -1,16 +1,14 @@
 ghost use Rattle.std.specs.Prelude.{◌≡◌, ◌<◌, IfErr, IfOk, IfSome, IsErrOf, IsNone, IsSome, None, OnErr, OnOk, Some};
 ghost use Rattle.std.specs.Option.{ForSome, option_map};
-ghost use Rattle.conc_base_law.specs.Law.{Finished};
 ghost use Rattle.conc_run_choice.specs.Choices.{event_of, HasItsText};
 ghost use Rattle.conc_outside.specs.Counts.{Rose};
 ghost use Rattle.conc_journal.specs.Journals.{state_of};
 ghost use Rattle.conc_journal.specs.Receipts.{IsNextOf};
 ghost use Rattle.conc_run_state.specs.Disks.{disks};
-ghost use Rattle.conc_run_alone.specs.Runs.{LacksMemory, StepFits};
+ghost use Rattle.conc_run_alone.specs.Runs.{GoesAlone, HasFinished, LacksMemoryAfter, LacksMemoryAt, StepFits};
 ghost use Rattle.conc_run_steps.specs.Going.{WentOn};
 ghost use Rattle.conc_run_steps.specs.Steps.{any_disk, IsFinished, IsReady, IsTied, left_in, next_in, plan_in, readings_in};
-ghost use Rattle.conc_run_state.specs.Lists.{GoesOnAlone};
-ghost use Rattle.conc_run_state.specs.Works.{list_in, longest_in};
+ghost use Rattle.conc_run_state.specs.Works.{list_in};
 ghost use Rattle.conc_run_state.specs.declared.error.RunFail.TheVariants as RunFail;
 
 use conc_disk::Disk;
@@ -27,8 +25,7 @@ fn next(alloc: Global, work: &Work<'_>) -> Result<Option<Next>, RunFail>
     ensures text { IfOk result (λ next. ForSome next
         (λ n. HasItsText (plan_in work.now) n.event n.text)) }
     ensures cause { IfErr result (λ e. e ≡ RunFail.NoMemory) }
-    ensures memory { OnErr result (LacksMemory (plan_in work.now) (readings_in work.now)
-        (list_in work.now)) }
+    ensures memory { OnErr result (LacksMemoryAt work.now) }
 {
     Ok(next_event(alloc, &work.machine)?)
 }
@@ -46,8 +43,7 @@ pub(crate) fn step<D: Disk, E: Disk>(
     ensures went_on { WentOn (plan_in work.old) (readings_in work.old)
         (disks (D.state journal.old) (D.state journal.new) (E.state spool.old) (E.state spool.new))
         work.old work.new }
-    ensures alone { GoesOnAlone (plan_in work.old) (readings_in work.old) (list_in work.old)
-        (longest_in work.new) }
+    ensures alone { GoesAlone work.old work.new }
     ensures ready { OnOk result (IsReady work.new (D.state journal.new) (E.state spool.new)) }
     ensures receipt { IfOk result (λ logged. IfSome logged
         (IsNextOf (Some (list_in work.old)) (λ list. list ≡ list_in work.new))) }
@@ -63,8 +59,7 @@ pub(crate) fn step<D: Disk, E: Disk>(
         → Rose (D.state journal.old).faults (D.state journal.new).faults }
     ensures spool_fault { IsErrOf result RunFail.SpoolFault
         → Rose (E.state spool.old).faults (E.state spool.new).faults }
-    ensures memory { IsErrOf result RunFail.NoMemory → LacksMemory (plan_in work.new)
-        (readings_in work.new) (list_in work.new) }
+    ensures memory { IsErrOf result RunFail.NoMemory → LacksMemoryAt work.new }
     ensures sound { (IsErrOf result RunFail.JournalFault → ⊥)
         → state_of work.new.journal ≡ state_of work.old.journal }
 {
@@ -95,18 +90,15 @@ pub fn run_alone<D: Disk, E: Disk>(
     ensures went_on { WentOn (plan_in work.old) (readings_in work.old)
         (disks (D.state journal.old) (D.state journal.new) (E.state spool.old) (E.state spool.new))
         work.old work.new }
-    ensures alone { GoesOnAlone (plan_in work.old) (readings_in work.old) (list_in work.old)
-        (longest_in work.new) }
-    ensures finished { OnOk result (Finished (plan_in work.old) (readings_in work.old)
-        (list_in work.new)) }
+    ensures alone { GoesAlone work.old work.new }
+    ensures finished { OnOk result (HasFinished work.old work.new) }
 
     // Why it ends before.
     ensures journal_fault { IsErrOf result RunFail.JournalFault
         → Rose (D.state journal.old).faults (D.state journal.new).faults }
     ensures spool_fault { IsErrOf result RunFail.SpoolFault
         → Rose (E.state spool.old).faults (E.state spool.new).faults }
-    ensures memory { IsErrOf result RunFail.NoMemory → LacksMemory (plan_in work.old)
-        (readings_in work.old) (list_in work.new) }
+    ensures memory { IsErrOf result RunFail.NoMemory → LacksMemoryAfter work.old work.new }
     ensures sound { (IsErrOf result RunFail.JournalFault → ⊥)
         → state_of work.new.journal ≡ state_of work.old.journal }
 {

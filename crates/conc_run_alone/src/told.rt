@@ -1,15 +1,13 @@
 ghost use Rattle.std.specs.Prelude.{◌≡◌, ◌⊎◌, IsErrOf, IsTrue, OnOk};
 ghost use Rattle.conc_journal.specs.Journals.{state_of};
-ghost use Rattle.conc_base_law.specs.Law.{Finished};
 ghost use Rattle.conc_outside.specs.Counts.{Rose};
 ghost use Rattle.conc_run_state.specs.Disks.{disks};
-ghost use Rattle.conc_run_state.specs.Lists.{GoesOnAlone};
-ghost use Rattle.conc_run_state.specs.Works.{list_in, longest_in};
+ghost use Rattle.conc_run_state.specs.Works.{list_in};
 ghost use Rattle.conc_run_state.specs.declared.error.RunFail.TheVariants as RunFail;
 ghost use Rattle.conc_run_steps.specs.Going.{WentOn};
 ghost use Rattle.conc_run_steps.specs.Steps.{IsReady, plan_in, readings_in};
 ghost use Rattle.conc_run_steps.specs.Told.{IsTold, IsUntold};
-ghost use Rattle.conc_run_alone.specs.Runs.{LacksMemory};
+ghost use Rattle.conc_run_alone.specs.Runs.{GoesAlone, HasFinished, LacksMemoryAfter};
 
 use crate::running::step;
 use conc_disk::Disk;
@@ -37,10 +35,8 @@ pub fn run_told<R: Wait, D: Disk, E: Disk, T: Teller>(
     ensures went_on { WentOn (plan_in work.old) (readings_in work.old)
         (disks (D.state journal.old) (D.state journal.new) (E.state spool.old) (E.state spool.new))
         work.old work.new }
-    ensures alone { GoesOnAlone (plan_in work.old) (readings_in work.old) (list_in work.old)
-        (longest_in work.new) }
-    ensures finished { OnOk result (Finished (plan_in work.old) (readings_in work.old)
-        (list_in work.new)) }
+    ensures alone { GoesAlone work.old work.new }
+    ensures finished { OnOk result (HasFinished work.old work.new) }
     ensures told { OnOk result (IsTold (T.list teller.new) (T.takes teller.new) (plan_in work.old)
         (list_in work.new)) }
 
@@ -49,8 +45,7 @@ pub fn run_told<R: Wait, D: Disk, E: Disk, T: Teller>(
         → Rose (D.state journal.old).faults (D.state journal.new).faults }
     ensures spool_fault { IsErrOf result RunFail.SpoolFault
         → Rose (E.state spool.old).faults (E.state spool.new).faults }
-    ensures memory { IsErrOf result RunFail.NoMemory → LacksMemory (plan_in work.old)
-        (readings_in work.old) (list_in work.new)
+    ensures memory { IsErrOf result RunFail.NoMemory → LacksMemoryAfter work.old work.new
         ⊎ (IsTrue (T.may_lack teller.new) × IsUntold (T.list teller.new) (list_in work.new)) }
     ensures sound { (IsErrOf result RunFail.JournalFault → ⊥)
         → state_of work.new.journal ≡ state_of work.old.journal }

@@ -1,8 +1,13 @@
 -- A resolver between two events, and what a step of it comes to.
 use Rattle.std.specs.Prelude.{◌≡◌, Result, Ok}
 use Rattle.conc_types.specs.declared.event.Event.{Event}
+use Rattle.conc_types.specs.declared.event.RequestId.{RequestId}
+use Rattle.conc_pool_seats.specs.LeadStates.{IsGone, IsLet}
+use Rattle.conc_pool_seats.specs.Words.{IsRequest}
+use Rattle.conc_board.specs.Seats.{plan_of}
 use Rattle.conc_disk.specs.declared.disk.Disk.{Ghosts as DiskGhosts}
 use Rattle.conc_journal.specs.declared.teller.Teller.{Ghosts as TellerGhosts}
+use Rattle.conc_run_desk.specs.Desks.{lead_state_at}
 use Rattle.conc_run_desk.specs.State.{DeskState}
 use Rattle.conc_run_state.specs.declared.error.RunFail.{RunFail}
 use Rattle.conc_run_workers.specs.declared.resolving.Resolver.{Resolver}
@@ -28,6 +33,17 @@ situation d e t r = standing d e t r.desk.now r.journal.now r.spool.now r.teller
 pub record MayStep {D E T : Type 0} (d : DiskGhosts D) (e : DiskGhosts E) (t : TellerGhosts T) (r : Resolver D E T) : Type 0 where
   pub at_work : IsAtWork r.shared.now.board (situation d e t r)
   pub filled : AreFilled r.shared.now.lanes r.desk.now r.hints.now.pass
+
+-- the request is one of the plan of its board
+abbrev pub IsOfPlan : {D E T : Type 0} → Resolver D E T → RequestId → Type 0
+IsOfPlan r request = IsRequest (plan_of r.shared.now.board) request
+
+-- its lead has let the request out, or given it the go
+abbrev pub HasLetOut : {D E T : Type 0} → Resolver D E T → RequestId → Type 0
+HasLetOut r request = IsLet (lead_state_at r.desk.now request)
+
+abbrev pub HasGivenGo : {D E T : Type 0} → Resolver D E T → RequestId → Type 0
+HasGivenGo r request = IsGone (lead_state_at r.desk.now request)
 
 -- It has the same board and lanes, and works on the same desk, disks, teller and hints.
 pub record SameLoans {D E T : Type 0} (old new : Resolver D E T) : Type 0 where

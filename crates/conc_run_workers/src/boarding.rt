@@ -80,8 +80,7 @@ pub(crate) fn release_all(board: &Board, desk: &mut Desk<'_>)
     requires at { IsAt board.now desk.old }
     ensures { StaysAt board.now desk.old desk.new }
 {
-    let plan = desk.machine().plan();
-    for request in plan.requests.as_slice() {
+    for request in desk.machine().plan().requests.as_slice() {
         release(board, desk, request.number);
     }
 }
@@ -102,8 +101,7 @@ pub(crate) fn withdraw_all(board: &Board, desk: &mut Desk<'_>)
     requires at { IsAt board.now desk.old }
     ensures { StaysAt board.now desk.old desk.new }
 {
-    let plan = desk.machine().plan();
-    for request in plan.requests.as_slice() {
+    for request in desk.machine().plan().requests.as_slice() {
         withdraw(board, desk, request.number);
     }
 }

@@ -2,10 +2,7 @@
 ghost use Rattle.std.specs.Prelude.{◌∷◌, ◌++◌, [], IsFalse, None};
 ghost use Rattle.conc_base_law.specs.Kinds.{is_resume};
 ghost use Rattle.conc_base_law.specs.Law.{Lawful};
-ghost use Rattle.conc_board.specs.Seats.{plan_of};
-ghost use Rattle.conc_pool_seats.specs.LeadStates.{IsGone};
-ghost use Rattle.conc_pool_seats.specs.Words.{IsRequest};
-ghost use Rattle.conc_run_desk.specs.Desks.{lead_state_at, list_at, plan_at};
+ghost use Rattle.conc_run_desk.specs.Desks.{list_at, plan_at};
 ghost use Rattle.conc_run_desk.specs.Logging.{IsItsTurn, WasSeen};
 ghost use Rattle.conc_run_steps.specs.Steps.{readings_in};
 
@@ -19,7 +16,7 @@ use conc_types::{Event, RequestId};
 use std::sync::Wait;
 
 impl<D: Disk, E: Disk, T: Teller> Resolver<'_, '_, '_, D, E, T> {
-    ghost use Rattle.conc_run_workers.specs.Resolvers.{Logs, MayStep, Steps};
+    ghost use Rattle.conc_run_workers.specs.Resolvers.{HasGivenGo, IsOfPlan, Logs, MayStep, Steps};
 
     /// Journals an event that is no end, takes it into the machine, does what it means for the board, and tells it.
     pub(crate) fn log<R: Wait>(&mut self, rt: &R, event: Event) -> Result<(), RunFail>
@@ -41,8 +38,8 @@ impl<D: Disk, E: Disk, T: Teller> Resolver<'_, '_, '_, D, E, T> {
     /// journaled, and told. True where it did.
     pub(crate) fn end<R: Wait>(&mut self, rt: &R, r: RequestId) -> Result<bool, RunFail>
         requires may_step { MayStep D.Disk E.Disk T.Teller self.old }
-        requires request { IsRequest (plan_of self.old.shared.now.board) r }
-        requires gone { IsGone (lead_state_at self.old.desk.now r) }
+        requires request { IsOfPlan self.old r }
+        requires gone { HasGivenGo self.old r }
         ensures { Steps D.Disk E.Disk T.Teller result self.old self.new }
     {
         if self.desk.machine().forced().is_some() {

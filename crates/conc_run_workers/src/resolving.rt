@@ -1,10 +1,6 @@
 // The resolver's way through a history: what is forced; the ends that hands left and the starts that they wait for; the next
 // reading. It works by the desk's calls alone.
 ghost use Rattle.std.specs.Prelude.{IfOk, IsTrue, OnOk};
-ghost use Rattle.conc_board.specs.Seats.{plan_of};
-ghost use Rattle.conc_pool_seats.specs.LeadStates.{IsLet};
-ghost use Rattle.conc_pool_seats.specs.Words.{IsRequest};
-ghost use Rattle.conc_run_desk.specs.Desks.{lead_state_at};
 ghost use Rattle.conc_run_steps.specs.Steps.{IsFinished};
 
 use crate::boarding::{let_out, release, release_all, set_places, withdraw};
@@ -52,7 +48,7 @@ fn note(started: &mut [Option<RequestId>], place: PlaceId, r: RequestId) {
 }
 
 impl<D: Disk, E: Disk, T: Teller> Resolver<'_, '_, '_, D, E, T> {
-    ghost use Rattle.conc_run_workers.specs.Resolvers.{MayStep, Steps};
+    ghost use Rattle.conc_run_workers.specs.Resolvers.{HasLetOut, IsOfPlan, MayStep, Steps};
 
     // ---- single events
 
@@ -117,8 +113,8 @@ impl<D: Disk, E: Disk, T: Teller> Resolver<'_, '_, '_, D, E, T> {
     // and the request is let out again. True where something was done.
     fn start<R: Wait>(&mut self, rt: &R, r: RequestId) -> Result<bool, RunFail>
         requires may_step { MayStep D.Disk E.Disk T.Teller self.old }
-        requires request { IsRequest (plan_of self.old.shared.now.board) r }
-        requires let_out { IsLet (lead_state_at self.old.desk.now r) }
+        requires request { IsOfPlan self.old r }
+        requires let_out { HasLetOut self.old r }
         ensures { Steps D.Disk E.Disk T.Teller result self.old self.new }
     {
         let Looked::Claimed(place) = self.desk.look(&self.shared.board, r) else {

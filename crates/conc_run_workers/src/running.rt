@@ -109,44 +109,46 @@ fn direct_crew<R: Threads + Wait + Sync, G: Gate + Sync, L: Director>(
     answer
 }
 
-// Runs the crew, and beside it a resolver that works on these.
-fn resolve_beside<
-    'a,
-    R: Threads + Wait + Sync,
-    D: Disk + Send,
-    E: Disk + Send,
-    T: Teller + Send,
-    G: Gate + Sync,
->(
-    rt: &R,
-    shared: &'a Shared<'_>,
-    crew: &mut [CrewMember],
-    gate: &G,
-    desk: &'a mut Desk<'_>,
-    journal: &'a mut D,
-    spool: &'a mut E,
-    teller: &'a mut T,
-    hints: &'a mut Hints,
-) -> Result<(), RunFail>
-    requires crew { MayServe shared.now crew.old }
-    requires at_work { IsAtWork shared.now.board (standing D.Disk E.Disk T.Teller desk.old
-        journal.old spool.old teller.old) }
-    requires filled { AreFilled shared.now.lanes desk.old hints.old.pass }
-    ensures crew { HaveServed shared.now crew.old crew.new }
-    ensures concludes { Concludes shared.now.board result
-        (standing D.Disk E.Disk T.Teller desk.old journal.old spool.old teller.old)
-        (standing D.Disk E.Disk T.Teller desk.new journal.new spool.new teller.new) }
-    ensures fills { Fills shared.now.lanes result desk.old desk.new hints.new.pass }
-{
-    let mut resolver = Resolver {
-        shared,
-        desk,
-        journal,
-        spool,
-        teller,
-        hints,
-    };
-    direct_crew(rt, shared, crew, gate, &mut resolver)
+impl Shared<'_> {
+    // Runs the crew, and beside it a resolver that works on these.
+    fn resolve_beside<
+        'a,
+        R: Threads + Wait + Sync,
+        D: Disk + Send,
+        E: Disk + Send,
+        T: Teller + Send,
+        G: Gate + Sync,
+    >(
+        &'a self,
+        rt: &R,
+        crew: &mut [CrewMember],
+        gate: &G,
+        desk: &'a mut Desk<'_>,
+        journal: &'a mut D,
+        spool: &'a mut E,
+        teller: &'a mut T,
+        hints: &'a mut Hints,
+    ) -> Result<(), RunFail>
+        requires crew { MayServe self.now crew.old }
+        requires at_work { IsAtWork self.now.board (standing D.Disk E.Disk T.Teller desk.old
+            journal.old spool.old teller.old) }
+        requires filled { AreFilled self.now.lanes desk.old hints.old.pass }
+        ensures crew { HaveServed self.now crew.old crew.new }
+        ensures concludes { Concludes self.now.board result
+            (standing D.Disk E.Disk T.Teller desk.old journal.old spool.old teller.old)
+            (standing D.Disk E.Disk T.Teller desk.new journal.new spool.new teller.new) }
+        ensures fills { Fills self.now.lanes result desk.old desk.new hints.new.pass }
+    {
+        let mut resolver = Resolver {
+            shared: self,
+            desk,
+            journal,
+            spool,
+            teller,
+            hints,
+        };
+        direct_crew(rt, self, crew, gate, &mut resolver)
+    }
 }
 
 // What a run with workers needs beside its work: what the threads share, the board's lead, the workers, and what the resolver keeps
@@ -275,9 +277,8 @@ pub fn run_with_workers<
     } = means;
     let mut desk = Desk::new(plan, lead, work);
     put_waiting(rt, &shared.lanes, &desk, &mut hints.pass);
-    let answer = resolve_beside(
+    let answer = shared.resolve_beside(
         rt,
-        &shared,
         crew.as_mut_slice(),
         gate,
         &mut desk,

@@ -10,7 +10,7 @@ ghost use Rattle.conc_top_inputs.specs.FileFails.{Ends, EndsUnread};
 ghost use Rattle.conc_top_inputs.specs.Reading.{TakesTable};
 
 use crate::error::FileFail;
-use crate::pace::Pace;
+use crate::pace::{Pace, TableFile};
 use conc_data_digests::InputDigest;
 use conc_outside::Shelf;
 use conc_script::{read_clock, read_script};
@@ -120,7 +120,12 @@ pub(crate) fn judge_table<F: Shelf, P: Pace>(
             kind: RefusalKind::TooLarge,
         }));
     }
-    let (table, digest) = pace.read_and_digest(alloc, &bytes, number, name.as_bytes(), digest);
+    let file = TableFile {
+        number,
+        name: name.as_bytes(),
+        bytes: &bytes,
+    };
+    let (table, digest) = pace.read_and_digest(alloc, file, digest);
     let progress = Progress {
         bytes: total,
         digest,

@@ -8,7 +8,7 @@ use Rattle.conc_run_workers.proofs.boarding.withdraw_all.Goals as goal
 pub loop-request-init : goal.loop-request-init
 loop-request-init c = record {
   stays = record { at = c.requires.at; same = record { work = refl; kept = refl; begun_with = refl }; places = refl };
-  items = c.as_slice-request-items.ensures ∙ ap (λ (p : Plan). p.requests) (c.plan-plan.ensures ∙ ap (λ (m : Machine). plan_of m) c.machine.ensures.machine ∙ sym c.requires.at.plan);
+  items = c.as_slice-request-items.ensures ∙ ap (λ (p : Plan). p.requests) (c.plan.ensures ∙ ap (λ (m : Machine). plan_of m) c.machine.ensures.machine ∙ sym c.requires.at.plan);
 }
 
 pub withdraw-requires-clause-request : goal.withdraw-requires-clause-request
