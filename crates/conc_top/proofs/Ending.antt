@@ -1,6 +1,6 @@
 -- How a run ends, from what its parts say.
-use Rattle.std.proofs.Common.{◌≡◌, ◌∙◌, arith, inl, inr, ℕ, ◌++◌, List, [], None, Option, Some, refl, subst}
-use Rattle.std.specs.Prelude.{IfSome}
+use Rattle.std.proofs.Common.{◌≡◌, ◌∙◌, arith, inl, inr, ℕ, ◌++◌, List, [], map, None, Ok, Option, Result, Some, refl, subst, sym}
+use Rattle.std.specs.Prelude.{IfOk, IfSome}
 use Rattle.conc_types.specs.declared.event.Event.{Event}
 use Rattle.conc_base_law.specs.Law.{Lawful, LawfulSoFar}
 use Rattle.conc_base_law.specs.Overlap.{NoOverlap}
@@ -19,7 +19,9 @@ use Rattle.conc_run_state.specs.Handed.{Handed}
 use Rattle.conc_run_state.specs.Survival.{HoldsList}
 use Rattle.conc_run_state.specs.declared.error.HistoryFail.{HistoryFail}
 use Rattle.conc_run_state.specs.declared.error.HistoryFail.TheVariants as history_fail
-use Rattle.conc_run_watched.specs.Ends.{IsCutShort, IsFinished, LacksToTell}
+use Rattle.conc_run_state.specs.Works.{list_in}
+use Rattle.conc_run_watched.specs.Ends.{HasWatched, IsCutShort, IsFinished, LacksToTell}
+use Rattle.conc_run_watched.specs.declared.watched.Watched.{Watched}
 use Rattle.conc_top.specs.declared.exit.Exit.{Exit}
 use Rattle.conc_top.specs.declared.exit.Exit.TheVariants as exit
 use Rattle.conc_top.specs.Printing.{Prints, Sunk, TookNothing}
@@ -86,6 +88,19 @@ history-ends threads watchers h sink history printed lines end same is watched p
     ends (exit.NotLawful line) wrote = absurd wrote
     ends (exit.NotEnded number) wrote = absurd wrote
     ends (exit.OtherScript command found given) wrote = absurd wrote
+
+-- what a run ended with that is finished, and whose text was printed with the lines of what its watchers kept
+pub ended-prints : (threads watchers : ℕ) (h : Handed) (sink : Sunk) (ended : Result Watched HistoryFail) (w : Watched) (printed : List Event) (lines : List ℕ) (end : Exit) → ended ≡ Ok w
+    → printed ≡ list_in w.work → lines ≡ watch_text 1 (map (λ k. k.items) w.kept.items) → HasWatched threads watchers h ended → (Lawful h.plan h.readings (list_in w.work) → LawfulSoFar h.plan (list_in w.work))
+    → (LawfulSoFar h.plan (list_in w.work) → NoOverlap h.plan (list_in w.work)) → IfSome h.disks.journal_after.seen h.disks.journal_after.may_leave
+    → Prints (λ text. text ≡ text_of h.plan printed ++ lines) sink end → RunEnds threads watchers h sink end
+ended-prints threads watchers h sink ended w printed lines end is same lines_are has so_far apart left prints =
+    let history = list_in w.work in
+    let finished : IsFinished threads h history = subst (λ (r : Result Watched HistoryFail). IfOk r (λ watched. IsFinished threads h (list_in watched.work))) is has.finished in
+    let watched : AreWatchLines h.plan history watchers (watch_text 1 (map (λ k. k.items) w.kept.items)) =
+        subst (λ (r : Result Watched HistoryFail). IfOk r (λ watched. AreWatchLines h.plan (list_in watched.work) watchers (watch_text 1 (map (λ k. k.items) watched.kept.items)))) is has.watched in
+    history-ends threads watchers h sink history printed lines end same (history-of threads h history finished so_far apart left)
+    (subst (λ (l : List ℕ). AreWatchLines h.plan history watchers l) (sym lines_are) watched) prints
 
 -- ---- a run of files that give a plan
 

@@ -1,5 +1,5 @@
 -- How a run ends whose files are accepted.
-use Rattle.std.specs.Prelude.{◌≡◌, ◌⊎◌, ℕ, ◌++◌, List, length, IfSome}
+use Rattle.std.specs.Prelude.{◌≡◌, ◌⊎◌, ℕ, ◌++◌, List, length, IfSome, Result}
 use Rattle.conc_types.specs.declared.event.Event.{Event}
 use Rattle.conc_types.specs.declared.plan.Plan.{Plan}
 use Rattle.conc_base_law.specs.Alone.{opening}
@@ -7,13 +7,18 @@ use Rattle.conc_base_law.specs.Ends.{AreReported}
 use Rattle.conc_base_law.specs.Law.{Finished, Lawful}
 use Rattle.conc_base_law.specs.Overlap.{NoOverlap}
 use Rattle.conc_base_law.specs.Text.{text_of}
+use Rattle.conc_disk.specs.declared.disk.Disk.{Ghosts as DiskGhosts}
 use Rattle.conc_outside.specs.Counts.{Rose}
 use Rattle.conc_outside.specs.Taken.{Took, TookPrefix}
 use Rattle.conc_run_state.specs.Handed.{Handed}
+use Rattle.conc_run_state.specs.Stores.{ran_over}
 use Rattle.conc_run_state.specs.Survival.{HoldsList}
 use Rattle.conc_run_state.specs.declared.error.HistoryFail.{HistoryFail}
 use Rattle.conc_run_state.specs.declared.error.HistoryFail.TheVariants as history_fail
-use Rattle.conc_run_watched.specs.Ends.{IsCutShort, IsFinished, LacksToTell}
+use Rattle.conc_run_state.specs.declared.input.Input.{Input}
+use Rattle.conc_run_state.specs.declared.stores.Stores.{Stores}
+use Rattle.conc_run_watched.specs.Ends.{HasWatched, IsCutShort, IsFinished, LacksToTell}
+use Rattle.conc_run_watched.specs.declared.watched.Watched.{Watched}
 use Rattle.conc_top.specs.declared.exit.Exit.{Exit}
 use Rattle.conc_top.specs.declared.exit.Exit.TheVariants as exit
 use Rattle.conc_run_watch.specs.Lines.{AreWatchLines}
@@ -58,3 +63,9 @@ RunEnds threads watchers h sink (exit.OtherScript command found given) = EndsEar
 RunEnds threads watchers h sink (exit.JournalFull len needed) = EndsEarly threads watchers h sink (history_fail.JournalFull len needed)
 RunEnds threads watchers h sink (exit.Unlawful number) = EndsEarly threads watchers h sink (history_fail.Unlawful number)
 RunEnds threads watchers h sink _ = ⊥
+
+-- what the exit says of whatever run of the input ended so, and left these stores
+abbrev pub PrintsEnded : {D E : Type 0} → DiskGhosts D → DiskGhosts E → Input → Stores D E → Result Watched HistoryFail → Sunk → Exit → Type 0
+PrintsEnded {D} {E} d e input new ended sink end =
+    (threads watchers : ℕ) (old : Stores D E) → HasWatched threads watchers (ran_over d e input old new) ended
+    → RunEnds threads watchers (ran_over d e input old new) sink end

@@ -1,7 +1,10 @@
-ghost use Rattle.std.specs.Prelude.{◌≡◌, ◌++◌, IfOk, map};
+ghost use Rattle.std.specs.Prelude.{◌≡◌, ◌≤◌, ◌++◌, IfOk, map};
 ghost use Rattle.conc_base_law.specs.Text.{text_of};
+ghost use Rattle.conc_run_state.specs.Stores.{SameStores, ran_over};
 ghost use Rattle.conc_run_watch.specs.Lines.{watch_text};
+ghost use Rattle.conc_run_watched.specs.Ends.{HasWatched};
 ghost use Rattle.conc_top.specs.Printing.{Prints, sunk};
+ghost use Rattle.conc_top.specs.Runs.{PrintsEnded};
 ghost use Rattle.conc_top.specs.Ways.{exit_of};
 
 use crate::Exit;
@@ -13,7 +16,7 @@ use conc_edge_clock::Clock;
 use conc_edge_gate::Gate;
 use conc_history::put_history;
 use conc_outside::{Shelf, Sink};
-use conc_run_state::{Input, Stores};
+use conc_run_state::{HistoryFail, Input, Stores};
 use conc_run_watch::put_watch_lines;
 use conc_run_watched::{Watched, Workers, run_on_threads, run_plan, run_watched};
 use conc_top_inputs::{Accepted, FileNames, InTurn, OnThreads, accept_timed};
@@ -67,6 +70,71 @@ fn print_history<O: Sink>(
     write_text(&text, out)
 }
 
+// Prints what a run over these stores ended with: its whole history and what watchers saw of it, if it is
+// finished.
+fn print_ended<D: Disk, E: Disk, O: Sink>(
+    alloc: Global,
+    input: &Input<'_>,
+    stores: &Stores<'_, D, E>,
+    ended: Result<Watched<'_>, HistoryFail>,
+    out: &mut O,
+) -> Result<(), Exit>
+    ensures { PrintsEnded D.Disk E.Disk input.now stores.now ended.entry
+        (sunk (O.state out.old) (O.state out.new)) (exit_of result) }
+{
+    lawful_is_lawful_so_far();
+    no_overlap();
+    let Watched { work, kept } = ended?;
+    print_history(
+        alloc,
+        input.plan,
+        work.journal.events(),
+        kept.as_slice(),
+        out,
+    )
+}
+
+// Runs the input without workers, and beside no watchers.
+fn run_plainly<'p, D: Disk, E: Disk>(
+    alloc: Global,
+    input: &Input<'p>,
+    stores: &mut Stores<'_, D, E>,
+) -> Result<Watched<'p>, HistoryFail>
+    ensures stores { SameStores stores.old stores.new }
+    ensures ended { HasWatched 0 0 (ran_over D.Disk E.Disk input.now stores.old stores.new) result }
+{
+    Ok(Watched {
+        work: run_plan(alloc, input, stores)?,
+        kept: Vec::new(alloc),
+    })
+}
+
+// Runs the input with these workers, or without where they have no thread, beside so many watchers.
+fn run_input<'p, Rt: Threads + Wait + Sync, D: Disk + Send, E: Disk + Send, G: Gate + Sync>(
+    rt: &Rt,
+    alloc: Global,
+    input: &Input<'p>,
+    stores: &mut Stores<'_, D, E>,
+    workers: &Workers<'_, G>,
+    watchers: u32,
+) -> Result<Watched<'p>, HistoryFail>
+    requires few { watchers ≤ 8 }
+    ensures stores { SameStores stores.old stores.new }
+    ensures ended { HasWatched workers.now.threads watchers
+        (ran_over D.Disk E.Disk input.now stores.old stores.new) result }
+{
+    if watchers > 0 {
+        return run_watched(rt, alloc, input, stores, workers, watchers);
+    }
+    if workers.threads == 0 {
+        return run_plainly(alloc, input, stores);
+    }
+    Ok(Watched {
+        work: run_on_threads(rt, alloc, input, stores, workers)?,
+        kept: Vec::new(alloc),
+    })
+}
+
 impl<F: Shelf, O: Sink> Context<'_, F, O> {
     ghost use Rattle.std.specs.Prelude.{◌≤◌};
     ghost use Rattle.conc_run_state.specs.Stores.{SameStores, disks_of};
@@ -89,13 +157,11 @@ impl<F: Shelf, O: Sink> Context<'_, F, O> {
             (around_by F.Shelf O.Sink self.old self.new (C.state clock.old) (C.state clock.new))
             (disks_of D.Disk E.Disk stores.old stores.new) (exit_of result) }
     {
-        lawful_is_lawful_so_far();
-        no_overlap();
         let (accepted, readings) = accept_timed(self.alloc, self.shelf, clock, &InTurn, files)?;
         let accepted = accepted.with_columns(self.alloc, &InTurn);
         let input = input_of(&accepted, &readings);
-        let work = run_plan(self.alloc, &input, stores)?;
-        print_history(self.alloc, input.plan, work.journal.events(), &[], self.out)
+        let ended = run_plainly(self.alloc, &input, stores);
+        print_ended(self.alloc, &input, stores, ended, self.out)
     }
 
     /// Runs the plan of these files with these workers, beside so many watchers, over its journal and its
@@ -126,20 +192,11 @@ impl<F: Shelf, O: Sink> Context<'_, F, O> {
         if workers.threads == 0 && watchers == 0 {
             return self.run_files_plain(clock, stores, files);
         }
-        lawful_is_lawful_so_far();
-        no_overlap();
         let pace = OnThreads { rt };
         let (accepted, readings) = accept_timed(self.alloc, self.shelf, clock, &pace, files)?;
         let accepted = accepted.with_columns(self.alloc, &pace);
         let input = input_of(&accepted, &readings);
-        if watchers == 0 {
-            let work = run_on_threads(rt, self.alloc, &input, stores, workers)?;
-            return print_history(self.alloc, input.plan, work.journal.events(), &[], self.out);
-        }
-        let Watched { work, kept } = run_watched(
-            rt, self.alloc, &input, stores, workers, watchers,
-        )?;
-        let events = work.journal.events();
-        print_history(self.alloc, input.plan, events, kept.as_slice(), self.out)
+        let ended = run_input(rt, self.alloc, &input, stores, workers, watchers);
+        print_ended(self.alloc, &input, stores, ended, self.out)
     }
 }
