@@ -2,6 +2,8 @@
 use Rattle.std.proofs.Common.{◌≡◌, ◌≢◌, ◌⊎◌, inl, inr, ⊎_elim, ℕ, List, Result, Ok, Err, IfSome, refl, sym, ◌∙◌, ap, subst}
 use Rattle.std.specs.Prelude.{IsErrOf, OnOk}
 use Rattle.conc_types.specs.declared.event.Event.{Event}
+use Rattle.conc_types.specs.declared.plan.Plan.{Plan}
+use Rattle.conc_types.specs.declared.script.Reading.{Reading}
 use Rattle.conc_outside.specs.Counts.{Rose}
 use Rattle.conc_disk.specs.declared.disk.Disk.{Ghosts as DiskGhosts}
 use Rattle.conc_disk.specs.Disk.{DiskState, Stays}
@@ -20,7 +22,7 @@ use Rattle.conc_run_state.specs.Fails.{of_run}
 use Rattle.conc_run_state.specs.Handed.{Handed, IsUntouched}
 use Rattle.conc_run_state.specs.Lists.{GoesOnAlone}
 use Rattle.conc_run_state.specs.Stores.{handed_with}
-use Rattle.conc_run_state.specs.Works.{list_in, longest_in}
+use Rattle.conc_run_state.specs.Works.{AreReady, list_in, longest_in}
 use Rattle.conc_run_state.specs.declared.error.HistoryFail.{HistoryFail}
 use Rattle.conc_run_state.specs.declared.error.RunFail.{RunFail}
 use Rattle.conc_run_state.specs.declared.error.RunFail.TheVariants as run_fail
@@ -29,7 +31,7 @@ use Rattle.conc_run_state.specs.declared.work.Work.{Work}
 use Rattle.conc_run_steps.specs.Going.{WentOn}
 use Rattle.conc_run_steps.specs.Steps.{IsReady, plan_in, readings_in}
 use Rattle.conc_run_steps.proofs.Going.{sound-longest}
-use Rattle.conc_run_steps.proofs.Underway.{by-same, went-still}
+use Rattle.conc_run_steps.proofs.Underway.{by-own, by-same, went-still}
 use Rattle.conc_run.specs.Whole.{EndsOn, HasEnded, IsCutShort, IsFinished}
 use Rattle.conc_run.proofs.Failing.{failure-cause, failure-late, failure-memory, failure-quiet, rose-since}
 use Rattle.conc_run.proofs.Ran.{cut-run, finished-run, until}
@@ -44,6 +46,38 @@ pub record Ran {A : Type 0} (threads : ℕ) (untold : List Event → Type 0) (d 
   pub memory_alone : threads ≡ 0 → IsErrOf answer run_fail.NoMemory → LacksMemory (plan_in old) (readings_in old) (list_in new) ⊎ untold (list_in new)
   pub memory_beside : threads ≢ 0 → IsErrOf answer run_fail.NoMemory → (list_in new ≡ list_in old) ⊎ (AwaitsReport (plan_in old) (list_in new) ⊎ untold (list_in new))
   pub sound : (IsErrOf answer run_fail.JournalFault → ⊥) → state_of new.journal ≡ state_of old.journal
+
+-- what is ready by a plan and readings that are a work's is ready by its own
+pub own-ready : (plan : Plan) (readings : List Reading) (work : Work) (journal spool : DiskState) → AreReady plan readings work journal spool → IsReady work journal spool
+own-ready plan readings work journal spool ready = by-own plan readings work ready.tied.plan_is ready.tied.readings_are (λ p l. AreReady p l work journal spool) ready
+
+-- what a run without workers made
+pub ran-alone : {A : Type 0} {threads : ℕ} {untold : List Event → Type 0} {d : Disks} {answer : Result A RunFail} {old new : Work} → threads ≡ 0 → WentOn (plan_in old) (readings_in old) d old new
+    → GoesOnAlone (plan_in old) (readings_in old) (list_in old) (longest_in new) → (IsErrOf answer run_fail.JournalFault → Rose d.journal_before.faults d.journal_after.faults) → (IsErrOf answer run_fail.SpoolFault → Rose d.spool_before.faults d.spool_after.faults)
+    → (IsErrOf answer run_fail.NoMemory → LacksMemory (plan_in old) (readings_in old) (list_in new) ⊎ untold (list_in new)) → ((IsErrOf answer run_fail.JournalFault → ⊥) → state_of new.journal ≡ state_of old.journal) → Ran threads untold d answer old new
+ran-alone none went_on alone journal_fault spool_fault memory sound = record {
+  went_on = went_on;
+  alone = λ _. alone;
+  journal_fault = journal_fault;
+  spool_fault = spool_fault;
+  memory_alone = λ _ is. memory is;
+  memory_beside = λ some is. absurd (some none);
+  sound = sound;
+}
+
+-- and one with workers
+pub ran-beside : {A : Type 0} {threads : ℕ} {untold : List Event → Type 0} {d : Disks} {answer : Result A RunFail} {old new : Work} → threads ≢ 0 → WentOn (plan_in old) (readings_in old) d old new
+    → (IsErrOf answer run_fail.JournalFault → Rose d.journal_before.faults d.journal_after.faults) → (IsErrOf answer run_fail.SpoolFault → Rose d.spool_before.faults d.spool_after.faults)
+    → (IsErrOf answer run_fail.NoMemory → (list_in new ≡ list_in old) ⊎ (AwaitsReport (plan_in old) (list_in new) ⊎ untold (list_in new))) → ((IsErrOf answer run_fail.JournalFault → ⊥) → state_of new.journal ≡ state_of old.journal) → Ran threads untold d answer old new
+ran-beside some went_on journal_fault spool_fault memory sound = record {
+  went_on = went_on;
+  alone = λ none. absurd (some none);
+  journal_fault = journal_fault;
+  spool_fault = spool_fault;
+  memory_alone = λ none is. absurd (some none);
+  memory_beside = λ _ is. memory is;
+  sound = sound;
+}
 
 -- the resume was not told
 pub ran-none : {A : Type 0} (threads : ℕ) (untold : List Event → Type 0) (journal spool : DiskState) (work : Work) → IsReady work journal spool → IfSome spool.seen spool.may_leave → untold (list_in work)
@@ -83,6 +117,11 @@ beside acknowledged list first A U begun (inl same) = inr (inl (same ∙ begun))
 beside acknowledged list first A U begun (inr (inl awaits)) = inr (inr awaits)
 beside acknowledged list first A U begun (inr (inr untold)) = inl untold
 
+-- the answer of a run that was cut short
+pub ended-err : (threads : ℕ) (untold : List Event → List Event → Type 0) (h : Handed) (answer : Result Work HistoryFail) (e fail : HistoryFail) → answer ≡ Err e → e ≡ fail → IsCutShort threads untold h fail → HasEnded threads untold h answer
+ended-err threads untold h answer e fail is same cut =
+    subst (λ (a : Result Work HistoryFail). HasEnded threads untold h a) (sym (is ∙ ap (λ (f : HistoryFail). Err f) same)) (record { finished = tt; cut_short = cut })
+
 module _ {A : Type 0} (threads : ℕ) (h : Handed) (journal spool : DiskState) (old new : Work) (begun : IsBegun (until h journal spool) old) (to_so_far : (list : List Event) → Lawful h.plan h.readings list → LawfulSoFar h.plan list)
     (stays : Stays h.disks.spool_before spool) (survives : LeavesOnly h.disks.spool_before.may_leave h.disks.spool_before spool) where
   went : {untold : List Event → Type 0} {answer : Result A RunFail} → Ran threads untold (disks journal h.disks.journal_after spool h.disks.spool_after) answer old new
@@ -114,6 +153,15 @@ module _ {A : Type 0} (threads : ℕ) (h : Handed) (journal spool : DiskState) (
       (λ lacks none. swapped not_told (LacksMemory h.plan h.readings (list_in new)) (same (λ p l. LacksMemory p l (list_in new) ⊎ not_told) (ran.memory_alone none (is-err fail run_fail.NoMemory (failure-memory fail lacks)))))
       (λ lacks some. beside (list_in new) (list_in old) (opening begun.found) (AwaitsReport h.plan (list_in new)) not_told begun.list
       (same (λ p _. (list_in new ≡ list_in old) ⊎ (AwaitsReport p (list_in new) ⊎ not_told)) (ran.memory_beside some (is-err fail run_fail.NoMemory (failure-memory fail lacks)))))
+
+  -- so the answer says
+  pub ends-ok : (untold : List Event → List Event → Type 0) (x : A) → Ran threads (untold begun.found) (disks journal h.disks.journal_after spool h.disks.spool_after) (Ok x) old new → HasLaw h → Finished (plan_in old) (readings_in old) (list_in new)
+      → HasEnded threads untold h (Ok new)
+  ends-ok untold x ran law finished = record { finished = ran-ok {untold = untold begun.found} {x = x} ran law finished; cut_short = tt }
+
+  pub ends-err : (untold : List Event → List Event → Type 0) (fail : RunFail) (answer : Result Work HistoryFail) (e : HistoryFail) → answer ≡ Err e → e ≡ of_run fail
+      → Ran {A = A} threads (untold begun.found) (disks journal h.disks.journal_after spool h.disks.spool_after) (Err fail) old new → HasEnded threads untold h answer
+  ends-err untold fail answer e is same ran = ended-err threads untold h answer e (of_run fail) is same (ran-err untold fail ran)
 
 -- what was examined for an input, with nothing written, ended for it
 pub ended-input : {D E : Type 0} (d : DiskGhosts D) (e : DiskGhosts E) (threads : ℕ) (untold : List Event → List Event → Type 0) (input : Input) (examined : Examined) (journal mid new : D) (spool spool' spool'' : E) (answer : Result Work HistoryFail)

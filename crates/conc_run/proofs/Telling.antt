@@ -3,11 +3,17 @@ use Rattle.std.proofs.Common.{◌≡◌, List, Option, None, Some, IfSome, refl,
 use Rattle.std.specs.Prelude.{◌↔◌, IsNone, IsSome}
 use Rattle.conc_types.specs.declared.event.Event.{Event}
 use Rattle.conc_types.specs.declared.plan.Plan.{Plan}
+use Rattle.conc_types.specs.declared.script.Reading.{Reading}
 use Rattle.conc_journal.specs.Receipts.{event_of, IsNextOf, list_with}
 use Rattle.conc_journal.specs.declared.receipt.Receipt.{Receipt}
 use Rattle.conc_base_law.specs.Law.{LawfulSoFar}
+use Rattle.conc_run_state.specs.Machines.{readings_of}
+use Rattle.conc_run_state.specs.Works.{list_in}
+use Rattle.conc_run_state.specs.declared.work.Work.{Work}
+use Rattle.conc_run_steps.specs.Steps.{plan_in}
 use Rattle.conc_run_steps.specs.Told.{IsTold, IsUntold}
 use Rattle.conc_run_steps.proofs.Telling.{next-of, told-more}
+use Rattle.conc_run_steps.proofs.Underway.{by-own}
 use Rattle.conc_run.specs.Telling.{list_resumed}
 
 -- what a teller that stands at the events found may be told
@@ -37,3 +43,11 @@ told-as told told' takes takes' plan list same both is = record {
   at = subst (λ (t : Option (List Event)). IfSome t (λ l. l ≡ list)) (sym same) is.at;
   takes_all = λ events past. (both events).1 (is.takes_all events past);
 }
+
+-- a teller that stands at the events found was told the list of the work that was begun, the resume too
+pub own-told : (plan : Plan) (readings : List Reading) (work : Work) → plan_in work ≡ plan → readings_of work.machine ≡ Some readings → (resumed : Option Receipt) (told told' : Option (List Event)) (takes takes' : List Event → Type 0) (found : List Event)
+    → told' ≡ list_resumed resumed told → ((events : List Event) → takes' events ↔ takes events) → IsTold told takes plan found → IfSome resumed (IsNextOf (Some found) (λ l. l ≡ list_in work)) → (IsNone resumed → list_in work ≡ found)
+    → IsTold told' takes' (plan_in work) (list_in work)
+own-told plan readings work same known resumed told told' takes takes' found all both stood next still =
+    by-own plan readings work same known (λ p _. IsTold told' takes' p (list_in work))
+    (told-as (list_resumed resumed told) told' takes takes' plan (list_in work) all both (resume-told resumed told takes plan found (list_in work) stood next still))

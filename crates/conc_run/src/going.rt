@@ -2,7 +2,6 @@ ghost use Rattle.std.specs.Prelude.{◌≡◌, ◌↔◌, IfErr, IfOk, IfSome, I
 ghost use Rattle.conc_types.specs.declared.event.Event.{Event};
 ghost use Rattle.conc_journal.specs.Receipts.{IsNextOf};
 ghost use Rattle.conc_run_open.specs.Examined.{IsInHand, list_found, plan_held};
-ghost use Rattle.conc_run_state.specs.Stores.{SameStores};
 ghost use Rattle.conc_run_state.specs.Works.{list_in};
 ghost use Rattle.conc_run_state.specs.declared.error.RunFail.TheVariants as run_fail;
 ghost use Rattle.conc_run_steps.specs.Told.{IsTold};
@@ -16,7 +15,7 @@ use conc_edge_gate::Gate;
 use conc_journal::{Receipt, Teller};
 use conc_run_alone::run_told;
 use conc_run_open::{Begun, Examined, begin};
-use conc_run_state::{HistoryFail, RunFail, Stores, Work};
+use conc_run_state::{HistoryFail, RunFail, Work};
 use conc_run_steps::tell;
 use conc_run_workers::{Ran, run_with_workers};
 use std::alloc::Global;
@@ -44,56 +43,49 @@ fn tell_resume<R: Wait, T: Teller>(
     }
 }
 
-/// Begins the life of what was examined, and runs to the end of the history, with workers in threads of
-/// their own, or without workers where it is no thread. The teller stands at the events that were found, and
-/// is told each event once that is on the disk, the resume too. What it says holds of what was examined over
-/// disks that stand now as they stood then, whatever they were before. Want of memory comes where the run
-/// finds none, or where the teller does: the last event is then in the journal, and it was not told.
-pub fn go_on<
-    'p,
-    R: Threads + Wait + Sync,
-    D: Disk + Send,
-    E: Disk + Send,
-    T: Teller + Send,
-    G: Gate + Sync,
->(
-    rt: &R,
-    alloc: Global,
-    examined: Examined<'p>,
-    stores: &mut Stores<'_, D, E>,
-    teller: &mut T,
-    workers: &Workers<'_, G>,
-) -> Result<Work<'p>, HistoryFail>
-    requires in_hand { IsInHand examined (D.state stores.old.journal.now)
-        (E.state stores.old.spool.now) }
-    requires told { IsTold (T.list teller.old) (T.takes teller.old) (plan_held examined)
-        (list_found examined) }
-    ensures same { SameStores stores.old stores.new }
-    ensures ends { EndsOn D.Disk E.Disk workers.now.threads
-        (LacksTelling (T.may_lack teller.new) (T.list teller.new)) examined.entry
-        stores.old.journal.now stores.new.journal.now stores.old.spool.now stores.new.spool.now
-        result }
-    ensures told { IfOk result (λ work. IsTold (T.list teller.new) (T.takes teller.new)
-        (plan_held examined.entry) (list_in work)) }
-{
-    lawful_is_lawful_so_far();
-    table_of_alone();
-    let Begun { mut work, resumed } = begin(examined, stores.journal, stores.spool)?;
-    tell_resume(rt, teller, resumed)?;
-    if workers.threads == 0 {
-        run_told(rt, alloc, &mut work, stores.journal, stores.spool, teller)?;
-        return Ok(work);
+impl<G: Gate + Sync> Workers<'_, G> {
+    /// Begins the life of what was examined, and runs to the end of the history, with these workers, or
+    /// without where they have no thread. The teller stands at the events that were found, and is told each
+    /// event once that is on the disk, the resume too. What it says holds of what was examined over disks
+    /// that stand now as they stood then, whatever they were before. Want of memory comes where the run
+    /// finds none, or where the teller does: the last event is then in the journal, and it was not told.
+    pub fn go_on<'p, R: Threads + Wait + Sync, D: Disk + Send, E: Disk + Send, T: Teller + Send>(
+        &self,
+        rt: &R,
+        alloc: Global,
+        examined: Examined<'p>,
+        journal: &mut D,
+        spool: &mut E,
+        teller: &mut T,
+    ) -> Result<Work<'p>, HistoryFail>
+        requires in_hand { IsInHand examined (D.state journal.old) (E.state spool.old) }
+        requires told { IsTold (T.list teller.old) (T.takes teller.old) (plan_held examined)
+            (list_found examined) }
+        ensures ends { EndsOn D.Disk E.Disk self.now.threads
+            (LacksTelling (T.may_lack teller.new) (T.list teller.new)) examined.entry
+            journal.old journal.new spool.old spool.new result }
+        ensures told { IfOk result (λ work. IsTold (T.list teller.new) (T.takes teller.new)
+            (plan_held examined.entry) (list_in work)) }
+    {
+        lawful_is_lawful_so_far();
+        table_of_alone();
+        let Begun { mut work, resumed } = begin(examined, journal, spool)?;
+        tell_resume(rt, teller, resumed)?;
+        if self.threads == 0 {
+            run_told(rt, alloc, &mut work, journal, spool, teller)?;
+            return Ok(work);
+        }
+        let Ran { work, answer, .. } = run_with_workers(
+            rt,
+            alloc,
+            work,
+            journal,
+            spool,
+            teller,
+            self.gate,
+            self.threads,
+        );
+        answer?;
+        Ok(work)
     }
-    let Ran { work, answer, .. } = run_with_workers(
-        rt,
-        alloc,
-        work,
-        stores.journal,
-        stores.spool,
-        teller,
-        workers.gate,
-        workers.threads,
-    );
-    answer?;
-    Ok(work)
 }

@@ -7,7 +7,6 @@ mod laws;
 mod whole;
 mod workers;
 
-pub use going::go_on;
 pub use laws::{what_a_crash_leaves_is_good, what_is_good_is_not_refused};
 pub use whole::{run_on_threads, run_plan};
 pub use workers::Workers;

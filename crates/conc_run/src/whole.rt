@@ -3,7 +3,6 @@ ghost use Rattle.conc_run_state.specs.Stores.{ran_over, SameStores};
 ghost use Rattle.conc_run_state.specs.Works.{list_in};
 ghost use Rattle.conc_run.specs.Whole.{IsCutShort, IsFinished, LacksToTell};
 
-use crate::going::go_on;
 use crate::workers::Workers;
 use conc_base_law::{lawful_is_lawful_so_far, table_of_alone};
 use conc_disk::Disk;
@@ -56,5 +55,12 @@ pub fn run_on_threads<'p, R: Threads + Wait + Sync, D: Disk + Send, E: Disk + Se
         (ran_over D.Disk E.Disk input.now stores.old stores.new)) }
 {
     let examined = examine(alloc, input, stores)?;
-    go_on(rt, alloc, examined, stores, &mut Silent, workers)
+    workers.go_on(
+        rt,
+        alloc,
+        examined,
+        stores.journal,
+        stores.spool,
+        &mut Silent,
+    )
 }

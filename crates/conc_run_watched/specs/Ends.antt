@@ -1,6 +1,7 @@
 -- What a run beside watchers begins with, and how it ends.
 use Rattle.std.specs.Prelude.{◌≡◌, ℕ, List, map, Option, Result, Bool, IfErr, IfOk, IfSome, IsSomeAnd}
 use Rattle.conc_types.specs.declared.event.Event.{Event}
+use Rattle.conc_types.specs.declared.plan.Plan.{Plan}
 use Rattle.conc_disk.specs.Disk.{DiskState}
 use Rattle.conc_disk.specs.declared.disk.Disk.{Ghosts as DiskGhosts}
 use Rattle.conc_run.specs.Telling.{LacksTelling}
@@ -32,10 +33,14 @@ abbrev pub EndsAnswered : {D E : Type 0} → DiskGhosts D → DiskGhosts E → �
 EndsAnswered d e threads told may_lack journal journal' spool spool' answer examined =
     IfSome examined (λ x. IsSomeAnd answer (λ a. EndsTold d e threads told may_lack journal journal' spool spool' a x))
 
+-- the lines of what so many watchers kept are those of the run's list
+abbrev pub HasWatchLines : Plan → ℕ → Watched → Type 0
+HasWatchLines plan watchers watched = AreWatchLines plan (list_in watched.work) watchers (watch_text 1 (map (λ k. k.items) watched.kept.items))
+
 -- with so many threads the run beside so many watchers is finished, with the lines of what they kept; or it was cut short
 pub record HasWatched (threads watchers : ℕ) (h : Handed) (answer : Result Watched HistoryFail) : Type 0 where
   pub finished : IfOk answer (λ watched. IsFinished threads h (list_in watched.work))
-  pub watched : IfOk answer (λ watched. AreWatchLines h.plan (list_in watched.work) watchers (watch_text 1 (map (λ k. k.items) watched.kept.items)))
+  pub watched : IfOk answer (HasWatchLines h.plan watchers)
   pub cut_short : IfErr answer (IsCutShort threads (LacksToTell watchers) h)
 
 -- such is the end of a run of what was examined over disks that stood as they did when it went on, whatever they were before

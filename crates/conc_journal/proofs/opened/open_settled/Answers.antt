@@ -8,11 +8,6 @@ use Rattle.conc_journal.proofs.Opening.{begun-there, foreign-there, front-read, 
 use Rattle.conc_journal.proofs.opened.open_settled.Goals as goal
 use Rattle.std.specs.Prelude.{IsTrue}
 
-begun-found-there : (seen : Option (List ℕ)) (front : List ℕ) (label : Label) (r : Result Opened JournalFail) → IfSome seen (λ image. front ≡ take 65 image) → IsTrue (has_header front) → label_in front ≡ label
-    → IfOk r (λ opened. opened.label ≡ Some label) → IfOk r (λ opened. IfSome seen (λ image. HasRecordsOf image opened)) → IfOk r (λ opened. IfSome seen (λ image. IsFoundIn image opened))
-begun-found-there seen front label (Ok opened) is header labelled label_is records = begun-there seen front label opened is header labelled label_is records
-begun-found-there seen front label (Err e) is header labelled label_is records = tt
-
 pub returns-in-NotBegun-clause-found : goal.returns-in-NotBegun-clause-found
 returns-in-NotBegun-clause-found g c =
     let seen = (g.D.Disk.state c.args.disk.now).seen in
@@ -30,9 +25,9 @@ returns-in-Begun-clause-found g c =
     let seen = (g.D.Disk.state c.args.disk.now).seen in
     let front = c.in_ok-front.front.items in
     let is = front-read seen c.args.end 65 front c.requires c.in_ok-front.ensures.bytes (omega (arith, c.in_ok-front.ensures.size, c.min.ensures)) in
-    begun-found-there seen c.deref.result.now c.in-Begun.label c.open_begun.result (subst (λ (l : List ℕ). IfSome seen (λ image. l ≡ take 65 image)) (sym c.deref.ensures.value) is)
-    c.in-Begun.ensures.0 c.in-Begun.ensures.1 c.open_begun.ensures.label
-    (subst (λ (s : Option (List ℕ)). IfOk c.open_begun.result (λ opened. IfSome s (λ image. HasRecordsOf image opened))) c.read_at.ensures.read.stays.seen c.open_begun.ensures.found)
+    begun-there seen c.deref.result.now c.in-Begun.label c.in_ok-open_begun-in-Begun.field-0 (subst (λ (l : List ℕ). IfSome seen (λ image. l ≡ take 65 image)) (sym c.deref.ensures.value) is)
+    c.in-Begun.ensures.0 c.in-Begun.ensures.1 c.in_ok-open_begun-in-Begun.ensures.label
+    (subst (λ (s : Option (List ℕ)). IfSome s (λ image. HasRecordsOf image c.in_ok-open_begun-in-Begun.field-0)) c.read_at.ensures.read.stays.seen c.in_ok-open_begun-in-Begun.ensures.found)
 
 pub returns-clause-not_journal : goal.returns-clause-not_journal
 returns-clause-not_journal g c = λ refused.

@@ -26,14 +26,14 @@ returns-in_err-examined-clause-cut_short g c =
 
 pub returns-clause-finished : goal.returns-clause-finished
 returns-clause-finished g c =
-    (ended-input g.D.Disk g.E.Disk c.args.workers.now.threads (LacksTelling false None) c.args.input.now c.in_ok-examined.examined c.args.stores.now.journal.now c.examine.new.stores.journal.now c.go_on.new.stores.journal.now
-    c.args.stores.now.spool.now c.examine.new.stores.spool.now c.go_on.new.stores.spool.now c.go_on.result
+    (ended-input g.D.Disk g.E.Disk c.args.workers.now.threads (LacksTelling false None) c.args.input.now c.in_ok-examined.examined c.args.stores.now.journal.now c.examine.new.stores.journal.now c.go_on.new.journal
+    c.args.stores.now.spool.now c.examine.new.stores.spool.now c.go_on.new.spool c.go_on.result
     c.in_ok-examined.ensures.input c.in_ok-examined.ensures.examined c.examine.ensures.untouched c.go_on.ensures.ends).finished
 
 pub returns-clause-cut_short : goal.returns-clause-cut_short
 returns-clause-cut_short g c =
-    let h : Handed = handed_with g.D.Disk g.E.Disk c.args.input.now c.args.stores.now.journal.now c.go_on.new.stores.journal.now c.args.stores.now.spool.now c.go_on.new.stores.spool.now in
+    let h : Handed = handed_with g.D.Disk g.E.Disk c.args.input.now c.args.stores.now.journal.now c.go_on.new.journal c.args.stores.now.spool.now c.go_on.new.spool in
     cut-silent c.go_on.result c.args.workers.now.threads h
-    (ended-input g.D.Disk g.E.Disk c.args.workers.now.threads (LacksTelling false None) c.args.input.now c.in_ok-examined.examined c.args.stores.now.journal.now c.examine.new.stores.journal.now c.go_on.new.stores.journal.now
-    c.args.stores.now.spool.now c.examine.new.stores.spool.now c.go_on.new.stores.spool.now c.go_on.result
+    (ended-input g.D.Disk g.E.Disk c.args.workers.now.threads (LacksTelling false None) c.args.input.now c.in_ok-examined.examined c.args.stores.now.journal.now c.examine.new.stores.journal.now c.go_on.new.journal
+    c.args.stores.now.spool.now c.examine.new.stores.spool.now c.go_on.new.spool c.go_on.result
     c.in_ok-examined.ensures.input c.in_ok-examined.ensures.examined c.examine.ensures.untouched c.go_on.ensures.ends).cut_short

@@ -1,5 +1,5 @@
 use Rattle.conc_run_watched.proofs.Ending.{of-some-and}
-use Rattle.conc_run_watched.proofs.watched.run_told_beside.Goals as goal
+use Rattle.conc_run_watched.proofs.watched.Scene.run_told_beside.Goals as goal
 
 pub returns-clause-ended : goal.returns-clause-ended
 returns-clause-ended g c =

@@ -13,24 +13,24 @@ use Rattle.conc_run_watch.specs.Crews.{AreWatching}
 use Rattle.conc_run_watch.specs.Lines.{AreWatchLines, watch_text}
 use Rattle.conc_run_watch.proofs.Going.{still_watching}
 use Rattle.conc_run_watched.proofs.Ending.{no-memory, watched-err, watched-ok}
-use Rattle.conc_run_watched.proofs.watched.run_viewed.Goals as goal
+use Rattle.conc_run_watched.proofs.watched.Scene.run_viewed.Goals as goal
 
 pub returns-in_err-publisher-clause-ended : goal.returns-in_err-publisher-clause-ended
 returns-in_err-publisher-clause-ended g c = λ before texts was.
     let p = err_from_is_err_and c.from_residual.result c.from_residual.ensures.1 in
-    rw (p.1, p.2) (no-memory c.args.scene.now.workers.now.threads c.args.watchers
+    rw (p.1, p.2) (no-memory c.args.self.now.workers.now.threads c.args.watchers
     (handed_with g.D.Disk g.E.Disk c.args.examined.input before c.args.stores.now.journal.now texts c.args.stores.now.spool.now) c.args.examined was)
 
 pub returns-in_default-clause-ended : goal.returns-in_default-clause-ended
 returns-in_default-clause-ended g c = λ before texts was.
-    no-memory c.args.scene.now.workers.now.threads c.args.watchers
+    no-memory c.args.self.now.workers.now.threads c.args.watchers
     (handed_with g.D.Disk g.E.Disk c.args.examined.input before c.args.stores.now.journal.now texts c.args.stores.now.spool.now) c.args.examined was
 
 pub returns-in_err-answer-clause-ended : goal.returns-in_err-answer-clause-ended
 returns-in_err-answer-clause-ended g c = λ before texts was.
     let p = err_from_is_err_and c.from_residual-in_err-answer.result c.from_residual-in_err-answer.ensures.1 in
     let ran = c.run_told_beside-answer in
-    let threads = c.args.scene.now.workers.now.threads in
+    let threads = c.args.self.now.workers.now.threads in
     let h : Handed = handed_with g.D.Disk g.E.Disk c.args.examined.input before ran.new.stores.journal.now texts ran.new.stores.spool.now in
     let some : c.args.watchers ≢ 0 = search (rules) in
     let is : ran.result ≡ Err c.in_err-answer.field-0.0 = c.branch-answer.ensures ∙ ap (λ f. result_from_control_flow f) c.in_err-answer.is in
@@ -40,7 +40,7 @@ returns-in_err-answer-clause-ended g c = λ before texts was.
 pub returns-clause-ended : goal.returns-clause-ended
 returns-clause-ended g c = λ before texts was.
     let ran = c.run_told_beside-answer in
-    let threads = c.args.scene.now.workers.now.threads in
+    let threads = c.args.self.now.workers.now.threads in
     let plan = c.plan.result.now in
     let is : ran.result ≡ Ok c.in_ok-answer.field-0 = c.branch-answer.ensures ∙ ap (λ f. result_from_control_flow f) c.in_ok-answer.is in
     let told = list_of ran.new.teller in
