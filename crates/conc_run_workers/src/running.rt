@@ -109,6 +109,14 @@ fn direct_crew<R: Threads + Wait + Sync, G: Gate + Sync, L: Director>(
     answer
 }
 
+// The workers, the host that has their threads, and the gate that they come through.
+#[derive(Drop)]
+struct Crew<'h, 'g, R: Threads + Wait + Sync, G: Gate + Sync> {
+    rt: &'h R,
+    members: Vec<CrewMember>,
+    gate: &'g G,
+}
+
 impl Shared<'_> {
     // Runs the crew, and beside it a resolver that works on these.
     fn resolve_beside<
@@ -120,20 +128,18 @@ impl Shared<'_> {
         G: Gate + Sync,
     >(
         &'a self,
-        rt: &R,
-        crew: &mut [CrewMember],
-        gate: &G,
+        crew: &mut Crew<'_, '_, R, G>,
         desk: &'a mut Desk<'_>,
         journal: &'a mut D,
         spool: &'a mut E,
         teller: &'a mut T,
         hints: &'a mut Hints,
     ) -> Result<(), RunFail>
-        requires crew { MayServe self.now crew.old }
+        requires crew { MayServe self.now crew.old.members.items }
         requires at_work { IsAtWork self.now.board (standing D.Disk E.Disk T.Teller desk.old
             journal.old spool.old teller.old) }
         requires filled { AreFilled self.now.lanes desk.old hints.old.pass }
-        ensures crew { HaveServed self.now crew.old crew.new }
+        ensures crew { HaveServed self.now crew.old.members.items crew.new.members.items }
         ensures concludes { Concludes self.now.board result
             (standing D.Disk E.Disk T.Teller desk.old journal.old spool.old teller.old)
             (standing D.Disk E.Disk T.Teller desk.new journal.new spool.new teller.new) }
@@ -147,7 +153,13 @@ impl Shared<'_> {
             teller,
             hints,
         };
-        direct_crew(rt, self, crew, gate, &mut resolver)
+        direct_crew(
+            crew.rt,
+            self,
+            crew.members.as_mut_slice(),
+            crew.gate,
+            &mut resolver,
+        )
     }
 }
 
@@ -272,23 +284,15 @@ pub fn run_with_workers<
     let Means {
         shared,
         lead,
-        mut crew,
+        crew: members,
         mut hints,
     } = means;
     let mut desk = Desk::new(plan, lead, work);
     put_waiting(rt, &shared.lanes, &desk, &mut hints.pass);
-    let answer = shared.resolve_beside(
-        rt,
-        crew.as_mut_slice(),
-        gate,
-        &mut desk,
-        journal,
-        spool,
-        teller,
-        &mut hints,
-    );
+    let mut crew = Crew { rt, members, gate };
+    let answer = shared.resolve_beside(&mut crew, &mut desk, journal, spool, teller, &mut hints);
     let (mut lead, work) = desk.into_parts();
-    take_in(&shared.board, &mut lead, crew);
+    take_in(&shared.board, &mut lead, crew.members);
     shared.board.close(lead);
     let Hints { pass, .. } = hints;
     Ran {

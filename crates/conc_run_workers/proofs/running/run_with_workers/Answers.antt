@@ -35,23 +35,14 @@ put_waiting-requires-clause-empty g c =
 -- ---- the workers
 
 pub take_in-requires-clause-free : goal.take_in-requires-clause-free
-take_in-requires-clause-free g c =
-    let us = c.resolve_beside-answer.new.crew in let ws = c.in-Ok.means.crew.items in
-    let same : SamePlaces ws us = search (rules, c.resolve_beside-answer.ensures.crew.1) in
-    let count : length us ≡ c.in-Ok.means.crew.len = omega (arith, same.long, c.in-Ok.means.crew.ok) in
-    let front : us ≡ take c.in-Ok.means.crew.len (us ++ drop (length us) ws) = sym (take-front us (drop (length us) ws)) ∙ ap (λ (n : ℕ). take n (us ++ drop (length us) ws)) count in
-    subst (λ (l : List CrewMember). (k : ℕ) (d : CrewMember) → k < length l → IsFreeMember c.in-Ok.means.shared.board (get_or l k d)) front c.resolve_beside-answer.ensures.crew.0
+take_in-requires-clause-free g c = c.resolve_beside-answer.ensures.crew.0
 
 pub take_in-requires-clause-covers : goal.take_in-requires-clause-covers
 take_in-requires-clause-covers g c =
-    let us = c.resolve_beside-answer.new.crew in let ws = c.in-Ok.means.crew.items in let lead' = c.into_parts-lead.result.0 in
-    let same : SamePlaces ws us = search (rules, c.resolve_beside-answer.ensures.crew.1) in
-    let count : length us ≡ c.in-Ok.means.crew.len = omega (arith, same.long, c.in-Ok.means.crew.ok) in
-    let front : us ≡ take c.in-Ok.means.crew.len (us ++ drop (length us) ws) = sym (take-front us (drop (length us) ws)) ∙ ap (λ (n : ℕ). take n (us ++ drop (length us) ws)) count in
+    let us = c.resolve_beside-answer.new.crew.members.items in let ws = c.in-Ok.means.crew.items in let lead' = c.into_parts-lead.result.0 in
     let places = ap (λ z. places_of_lead z.0) c.into_parts-lead.ensures.parts ∙ c.resolve_beside-answer.ensures.concludes.places ∙ ap (λ (l : Lead). places_of_lead l) c.new-desk.ensures.lead in
     let covers = subst (λ (p : Plan). Covers p c.in-Ok.means.lead ws) (sym c.in-Ok.ensures.plan ∙ c.in-Ok.ensures.one_plan.0) c.in-Ok.ensures.covers in
-    subst (λ (l : List CrewMember). Covers (plan_of c.in-Ok.means.shared.board) lead' l) front
-    (covers-same (plan_of c.in-Ok.means.shared.board) c.in-Ok.means.lead lead' ws us places same covers)
+    covers-same (plan_of c.in-Ok.means.shared.board) c.in-Ok.means.lead lead' ws us places c.resolve_beside-answer.ensures.crew.1 covers
 
 -- ---- what the run made
 
