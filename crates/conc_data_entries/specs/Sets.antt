@@ -2,7 +2,6 @@
 use Rattle.std.specs.Prelude.{ℕ, codes, Bool, false, List, [], ◌∷◌, Option, Result}
 use Rattle.toml.specs.Data.{Data, Members, get_member}
 use Rattle.conc_types.specs.declared.kind.RefusalKind.{RefusalKind}
-use Rattle.conc_types.specs.declared.kind.RefusalKind.TheVariants as refused
 use Rattle.conc_data_fields.specs.Arrays.{array_in}
 use Rattle.conc_data_fields.specs.Fields.{default, keys_kind, optional, required}
 use Rattle.conc_data_fields.specs.Forms.{name_in, truth_in}

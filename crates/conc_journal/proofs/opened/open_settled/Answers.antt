@@ -1,9 +1,6 @@
-use Rattle.std.proofs.Common.{◌≡◌, IfSome, List, Option, Result, Ok, Err, IfOk, Some, arith, subst, sym, take, ℕ}
-use Rattle.conc_journal_image.specs.declared.label.Label.{Label}
-use Rattle.conc_journal.specs.Opens.{HasRecordsOf, IsFoundIn}
-use Rattle.conc_journal.specs.declared.error.JournalFail.{JournalFail}
-use Rattle.conc_journal.specs.declared.opened.Opened.{Opened}
-use Rattle.conc_journal_image.specs.Image.{has_header, label_in}
+use Rattle.std.proofs.Common.{◌≡◌, IfSome, List, Option, arith, subst, sym, take, ℕ}
+use Rattle.conc_journal.specs.Opens.{HasRecordsOf}
+use Rattle.conc_journal_image.specs.Image.{has_header}
 use Rattle.conc_journal.proofs.Opening.{begun-there, foreign-there, front-read, header-far, not-begun-there}
 use Rattle.conc_journal.proofs.opened.open_settled.Goals as goal
 use Rattle.std.specs.Prelude.{IsTrue}

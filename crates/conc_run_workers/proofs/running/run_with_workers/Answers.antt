@@ -1,4 +1,4 @@
-use Rattle.std.proofs.Common.{rules, ◌≡◌, ◌⊎◌, ◌<◌, ◌++◌, [], true, ℕ, List, length, get_or, take, drop, sym, ◌∙◌, ap, subst, arith}
+use Rattle.std.proofs.Common.{◌≡◌, ◌⊎◌, [], true, sym, ◌∙◌, ap, subst}
 use Rattle.std.specs.Prelude.{OnOk}
 use Rattle.conc_types.specs.declared.plan.Plan.{Plan}
 use Rattle.conc_board.specs.declared.lead.Lead.{Lead}
@@ -12,10 +12,9 @@ use Rattle.conc_run_steps.specs.Going.{WentOn}
 use Rattle.conc_run_steps.specs.Steps.{plan_in, readings_in}
 use Rattle.conc_run_steps.specs.Told.{IsTold, IsUntold}
 use Rattle.conc_run_steps.proofs.Underway.{went-still}
-use Rattle.conc_run_workers.specs.Crews.{Covers, IsFreeMember, SamePlaces}
+use Rattle.conc_run_workers.specs.Crews.{Covers}
 use Rattle.conc_run_workers.specs.Runs.{AwaitsReport}
-use Rattle.conc_run_workers.specs.declared.crew.CrewMember.{CrewMember}
-use Rattle.conc_run_workers.proofs.Crews.{covers-same, take-front}
+use Rattle.conc_run_workers.proofs.Crews.{covers-same}
 use Rattle.conc_pool_lanes.specs.Puts.{lists_for}
 use Rattle.conc_pool_lanes.proofs.Lists.{lists_for-none}
 use Rattle.conc_run_workers.proofs.Filled.{puts-by}
