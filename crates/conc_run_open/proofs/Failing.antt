@@ -11,8 +11,8 @@ use Rattle.conc_disk.specs.Disk.{DiskState}
 use Rattle.conc_journal.specs.Opens.{may_open}
 use Rattle.conc_journal.specs.declared.error.JournalFail.{JournalFail}
 use Rattle.conc_journal.specs.declared.error.JournalFail.TheVariants as journal_fail
-use Rattle.conc_journal_spool.specs.declared.error.ReadBack.{ReadBack}
-use Rattle.conc_journal_spool.specs.declared.error.ReadBack.TheVariants as read_back
+use Rattle.conc_disk.specs.declared.error.ReadBack.{ReadBack}
+use Rattle.conc_disk.specs.declared.error.ReadBack.TheVariants as read_back
 use Rattle.conc_restart.specs.FirstBad.{IsListRefused}
 use Rattle.conc_run_state.specs.Disks.{Disks}
 use Rattle.conc_run_state.specs.Fails.{of_check, of_journal, of_read}
