@@ -4,7 +4,7 @@ use Rattle.conc_show_model.proofs.judging.judge.Goals as goal
 
 pub returns-in-Some-clause-err : goal.returns-in-Some-clause-err
 returns-in-Some-clause-err c =
-    rw c.at.ensures (judged_fault c.args.rows.now c.args.events.now c.loop-i.going.items c.loop-i.i _ c.in-Some.why (omega arith) c.index-events-i.is c.loop-i.invariant (cc))
+    rw c.refused.ensures (judged_fault c.args.rows.now c.args.events.now c.loop-i.going.items c.loop-i.i _ c.in-Some.why (omega arith) c.index-events-i.is c.loop-i.invariant (cc))
 
 pub loop-i-preserved : goal.loop-i-preserved
 loop-i-preserved c =

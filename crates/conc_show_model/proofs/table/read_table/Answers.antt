@@ -24,7 +24,7 @@ returns-in-Some-watch_fault-clause-err c =
       | in_default w ↦ stopped_end c.loop-line.last c.loop-line.rest.now w.in_default.ensures.lines
     ] in
     let fault = read_fault c.args.text.now c.loop-line.rest.now c.args.first c.loop-line.last (c.args.first + c.len.result) c.loop-line.rows.items c.watch_fault.result c.loop-line.invariant stop (omega arith) c.watch_fault.ensures in
-    rw c.at.ensures (ap (λ (o : Option ℕ). option_map (in_history why.NoTableLine) o) (fault ∙ c.in-Some-watch_fault.is))
+    rw c.refused.ensures (ap (λ (o : Option ℕ). option_map (in_history why.NoTableLine) o) (fault ∙ c.in-Some-watch_fault.is))
 
 pub returns-in-None-clause-rows : goal.returns-in-None-clause-rows
 returns-in-None-clause-rows c =

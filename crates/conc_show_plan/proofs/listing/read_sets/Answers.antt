@@ -15,7 +15,7 @@ returns-in_default-plan_line-clause-err c =
     let bad = sym c.in_default-plan_line.ensures in
     let fault = read_bad c.args.listing.now c.loop-line.rest.now c.in-Some.line.now (whole_lines c.in-Some.after.now) c.loop-line.sets.items (c.len.result + 1)
     c.loop-line.invariant c.in-Some.ensures.lines (omega arith) bad in
-    rw c.at.ensures (ap (λ (o : Option ℕ). option_map in_plan o) fault)
+    rw c.refused.ensures (ap (λ (o : Option ℕ). option_map in_plan o) fault)
 
 pub loop-line-preserved : goal.loop-line-preserved
 loop-line-preserved c =

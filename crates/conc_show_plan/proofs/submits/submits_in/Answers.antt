@@ -8,7 +8,7 @@ use Rattle.conc_show_plan.proofs.submits.submits_in.Goals as goal
 pub returns-then-len-lt2-clause-err : goal.returns-then-len-lt2-clause-err
 returns-then-len-lt2-clause-err c =
     let fault = read_short _ _ _ _ _ _ c.from-place.result c.loop-row.invariant (c.in_ok-read.ensures.some c.if-branch.true) (omega arith) (omega (arith, c.from-place.ensures, c.in_ok-next.ensures)) in
-    rw c.at.ensures (ap (λ (o : Option ℕ). option_map in_script o) fault)
+    rw c.refused.ensures (ap (λ (o : Option ℕ). option_map in_script o) fault)
 
 pub loop-row-preserved : goal.loop-row-preserved
 loop-row-preserved c = read_more _ _ _ _ _ _ _ _ c.loop-row.invariant (c.in_ok-read.ensures.some c.if-branch.true) (omega arith) c.in_ok-note.ensures c.in_ok-next.ensures
