@@ -27,7 +27,7 @@ returns-then-not-is_empty-clause-err c =
     let some = eqb-false _ _ (sym c.is_empty.ensures ∙ c.if-not-is_empty.true) in
     let fault = read_open c.args.listing.now c.loop-line.rest.now c.loop-line.sets.items (c.len-then-not-is_empty.result + 1)
     c.loop-line.invariant c.in_default.ensures.lines some (omega arith) in
-    rw c.at-then-not-is_empty.ensures (ap (λ (o : Option ℕ). option_map in_plan o) fault)
+    rw c.refused-then-not-is_empty.ensures (ap (λ (o : Option ℕ). option_map in_plan o) fault)
 
 pub returns-clause-sets : goal.returns-clause-sets
 returns-clause-sets c = read_all c.args.listing.now c.loop-line.rest.now c.loop-line.sets.items c.loop-line.invariant c.in_default.ensures.lines
