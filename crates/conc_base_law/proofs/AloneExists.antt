@@ -74,7 +74,7 @@ cases_Option : {T : Type 0} (o : Option T) → (o ≡ None) ⊎ ((x : T) × (o �
 cases_Option None = inl refl
 cases_Option (Some x) = inr (x, refl)
 
--- with so many events left at most it comes to an end
+-- it ends after at most this many more events
 goes-on : (plan : Plan) (readings : List Reading) (found : List Event) → are_in_order readings ≡ true → (left : ℕ) (history : List Event) → SoFar plan readings found history
     → remaining plan readings (reverse history) < left → (whole : List Event) × Alone plan readings found whole
 goes-on plan readings found order zero history h few = absurd (omega (arith, few))

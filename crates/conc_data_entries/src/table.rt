@@ -17,7 +17,7 @@ use toml::{Table, Value};
 pub trait FromTable: Drop {
     ghost fields: { Members → Result Self RefusalKind };
 
-    /// What the table gives, or the least kind of the rules that it breaks, unless memory lacks.
+    /// The value that the table gives, or the least kind of the rules that it breaks, unless memory runs out.
     fn from_table(alloc: Global, table: &Table) -> Result<Self, FieldFail>
         ensures { IfRead result (λ r. r ≡ fields (table_view table.now)) };
 }

@@ -116,7 +116,7 @@ StampingKeeps =
     → length new ≡ length old → ChangesOnly (offset_behind k + 12) (offset_behind k + 20) old new
     → IsJournal label stamps events new
 
--- the image with a stamp in the record behind so many others
+-- the image with this stamp in the record at this index
 abbrev pub with_stamp : ℕ → ℕ → List ℕ → List ℕ
 with_stamp k stamp image = take (offset_behind k + 12) image ++ to_be_bytes w64 stamp ++ drop (offset_behind k + 20) image
 

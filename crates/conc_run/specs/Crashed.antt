@@ -10,7 +10,7 @@ use Rattle.conc_run_state.specs.Handed.{IsOwnJournal}
 use Rattle.conc_run_state.specs.Judging.{AreGood, EndWithin, IsBadRecord}
 use Rattle.conc_run_state.specs.Survival.{Survives}
 
--- the image is good for a spool of so many bytes, and a journal of this input
+-- the image is a good journal of this input, for a spool of this many bytes
 abbrev pub IsGoodJournal : Plan → Digests → ℕ → List ℕ → Type 0
 IsGoodJournal plan digests len image = IsOwnJournal plan digests image × AreGood plan len (events_of image) (broken_of image)
 

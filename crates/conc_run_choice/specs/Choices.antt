@@ -29,7 +29,7 @@ abbrev pub IsEndWithReport : Event → Type 0
 IsEndWithReport (event.Ended id o (Some x)) = ⊤
 IsEndWithReport e = ⊥
 
--- the end of a running request, which has to stop or not, where the extents take so many bytes
+-- the end of a running request, whether or not it must stop, when the extents take up this many bytes
 abbrev pub end_by : Plan → Req → Bool → Option ℕ → Option Event
 end_by plan r stopping used =
     if stopping

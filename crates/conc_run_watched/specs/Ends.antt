@@ -37,7 +37,7 @@ EndsAnswered d e threads told may_lack journal journal' spool spool' answer exam
 abbrev pub HasWatchLines : Plan → ℕ → Watched → Type 0
 HasWatchLines plan watchers watched = AreWatchLines plan (list_in watched.work) watchers (watch_text 1 (map (λ k. k.items) watched.kept.items))
 
--- with so many threads the run beside so many watchers is finished, with the lines of what they kept; or it was cut short
+-- a run with this many threads and watchers is finished, with the lines of what the watchers kept; or it was cut short
 pub record HasWatched (threads watchers : ℕ) (h : Handed) (answer : Result Watched HistoryFail) : Type 0 where
   pub finished : IfOk answer (λ watched. IsFinished threads h (list_in watched.work))
   pub watched : IfOk answer (HasWatchLines h.plan watchers)

@@ -19,7 +19,7 @@ use Rattle.conc_worker.specs.Places.{AreServed}
 
 -- ---- which places a worker serves
 
--- the places of the plan whose index leaves this rest, by so many threads
+-- the places of the plan whose index leaves this remainder when divided by the number of threads
 abbrev pub AreDealt : Plan → ℕ → ℕ → List PlaceId → Type 0
 AreDealt plan threads rest places = (p : PlaceId) → IsTrue (has places p) ↔ ((p.index < count_of_places plan) × (p.index % threads ≡ rest))
 

@@ -18,7 +18,7 @@ pub(crate) struct Arrivals {
 }
 
 impl Arrivals {
-    /// Expects so many workers, of which none is here. It takes no memory.
+    /// Expects this many workers, none of which has arrived. It takes no memory.
     pub(crate) fn new(expected: u32) -> Arrivals {
         Arrivals {
             count: AtomicU64::new(0),
