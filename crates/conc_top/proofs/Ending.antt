@@ -98,7 +98,7 @@ ended-prints threads watchers h sink ended w printed lines end is same lines_are
     let history = list_in w.work in
     let finished : IsFinished threads h history = subst (λ (r : Result Watched HistoryFail). IfOk r (λ watched. IsFinished threads h (list_in watched.work))) is has.finished in
     let watched : AreWatchLines h.plan history watchers (watch_text 1 (map (λ k. k.items) w.kept.items)) =
-        subst (λ (r : Result Watched HistoryFail). IfOk r (λ watched. AreWatchLines h.plan (list_in watched.work) watchers (watch_text 1 (map (λ k. k.items) watched.kept.items)))) is has.watched in
+    subst (λ (r : Result Watched HistoryFail). IfOk r (λ watched. AreWatchLines h.plan (list_in watched.work) watchers (watch_text 1 (map (λ k. k.items) watched.kept.items)))) is has.watched in
     history-ends threads watchers h sink history printed lines end same (history-of threads h history finished so_far apart left)
     (subst (λ (l : List ℕ). AreWatchLines h.plan history watchers l) (sym lines_are) watched) prints
 
