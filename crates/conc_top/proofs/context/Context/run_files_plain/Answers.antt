@@ -23,10 +23,10 @@ pub returns-clause-answers : goal.returns-clause-answers
 returns-clause-answers g c =
     let names = names_of c.args.files in
     let before = c.args.self.now in
-    let new = c.run_plainly.new.stores in
+    let new = c.run_plainly-ended.new.stores in
     let a = around (g.F.Shelf.state before.shelf.now) (g.F.Shelf.state c.accept_timed.new.shelf) (g.C.Clock.state c.args.clock.now) (g.C.Clock.state c.accept_timed.new.clock)
     (sunk (g.O.Sink.state before.out.now) (g.O.Sink.state c.print_ended.new.out)) in
     ran g.D.Disk g.E.Disk 0 0 names a c.in_ok-accepted.accepted c.in_ok-accepted.readings c.in_ok-accepted.ensures.answer.ok c.input_of-input.result
     (c.input_of-input.ensures.plan ∙ ap (λ (y : Accepted). y.plan) c.with_columns-accepted.ensures) c.input_of-input.ensures.readings
     (c.input_of-input.ensures.digests ∙ ap (λ (y : Accepted). y.digests) c.with_columns-accepted.ensures) c.args.stores.now new (exit_of c.print_ended.result)
-    (c.print_ended.ensures 0 0 c.args.stores.now c.run_plainly.ensures.ended)
+    (c.print_ended.ensures 0 0 c.args.stores.now c.run_plainly-ended.ensures.ended)
