@@ -46,5 +46,5 @@ ends board lead ws xs all t =
           (end_fits plan (doing_at s.views k.owner) (request_of i)
           (λ p near. ap (λ (j : ℕ). (view_at s.views j).doing) (k.one_owner id p (ap (λ (u : View). has u.places p) here.1 ∙ all.each p near)) ∙ (ap (λ (u : View). u.doing) here.1 ∙ lead.idle))
           (lead_state_at v.lead_states i) (word s i) (home s i) (l.fits i (omega (arith, of_plan.from_one, of_plan.within)))));
-      switches = λ i far. subst (λ (us : List ℕ). get_or us i 0 ≤ 1) t.2 (k.switches i far);
+      switches = λ i far. subst (λ (us : List ℕ). (get_or us i 0 ≡ get_or v.switches i 0) × (get_or us i 0 ≤ 1)) t.2 (l.each_switch i far, k.switches i far);
     }

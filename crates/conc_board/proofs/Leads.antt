@@ -1,5 +1,5 @@
 -- What a step of the lead's changes of what contracts see.
-use Rattle.std.proofs.Common.{◌≡◌, ℕ, ◌≤◌, ◌≢◌, if◌then◌else◌, List, [], ◌∷◌, ◌++◌, length, set, sym, ap, ◌∙◌, subst, inl, inr, arith, length-set, get_or-set_other, get_or-set_same, eq-eqb, ne_eqb, append_assoc}
+use Rattle.std.proofs.Common.{◌≡◌, ℕ, ◌<◌, ◌≤◌, ◌≢◌, if◌then◌else◌, List, [], ◌∷◌, ◌++◌, length, get_or, set, sym, refl, ap, ◌∙◌, subst, inl, inr, arith, length-set, get_or-set_other, get_or-set_same, eq-eqb, ne_eqb, append_assoc}
 use mathlib.Core.Logic.{dite}
 use native.Mathlib.Decide.{ℕ_discrete}
 use Rattle.conc_types.specs.declared.event.RequestId.{RequestId}
@@ -10,12 +10,12 @@ use Rattle.conc_pool_seats.specs.declared.views.LeadState.TheVariants.{NotLet, L
 use Rattle.conc_pool_seats.specs.declared.views.View.{View}
 use Rattle.conc_pool_seats.specs.Courses.{GoesOn}
 use Rattle.conc_pool_seats.specs.LeadStates.{IsLetOrGone, IsLive, IsSettled, lead_state_at, lead_state_in}
-use Rattle.conc_pool_seats.specs.Steps.{noted, with_lead_state, with_post}
-use Rattle.conc_pool_seats.specs.Words.{IsRequest, count_of_requests, request_of, request_word}
+use Rattle.conc_pool_seats.specs.Steps.{noted, with_lead_state, with_post, with_switch}
+use Rattle.conc_pool_seats.specs.Words.{IsRequest, count_of_requests, count_of_words, request_of, request_word}
 use Rattle.conc_pool_seats.proofs.Facts.{request_eq}
 use Rattle.conc_board.specs.declared.board.Board.{Board}
 use Rattle.conc_board.specs.declared.lead.Lead.{Lead}
-use Rattle.conc_board.specs.Seats.{AddsOne, Changes, IsLeadOf, LeavesLeadStates, lead_state_of, plan_of}
+use Rattle.conc_board.specs.Seats.{AddsOne, Changes, IsAsWritten, IsLeadOf, LeavesLeadStates, SetsFlag, lead_state_of, plan_of, switch_of}
 
 -- ---- lead states of requests
 
@@ -82,35 +82,55 @@ changes board r old new i st n lead of_plan word seat is goes_on calm = record {
     settled = settled_by board r old new st lead (new_lead_state (plan_of board) r old.seat.me.0 new.seat.me.0 i st n lead.lead_states of_plan word is)
         (λ q other. ap (λ (v : View). lead_state_in v.lead_states q) is
         ∙ (ap (λ (z : ℕ). lead_state_in (set old.seat.me.0.lead_states z st) q) word ∙ lead_state_in-set_other old.seat.me.0.lead_states r q st of_plan.from_one other)) calm;
+    switches = ap (λ (v : View). length v.switches) is ∙ lead.switches;
   };
   goes_on = subst (GoesOn (lead_state_of old r)) (sym (new_lead_state (plan_of board) r old.seat.me.0 new.seat.me.0 i st n lead.lead_states of_plan word is)) goes_on;
   others = λ q other. ap (λ (v : View). lead_state_in v.lead_states q) is
       ∙ (ap (λ (z : ℕ). lead_state_in (set old.seat.me.0.lead_states z st) q) word ∙ lead_state_in-set_other old.seat.me.0.lead_states r q st of_plan.from_one other);
   places = ap (λ (v : View). v.places) is;
+  switches = record { each = λ word. ap (λ (v : View). get_or v.switches word 0) is };
 }
+
+-- its view changed at no lead state and at no place
+leaves_by : (board : Board) (old new : Lead) (w : View) → IsLeadOf board old → new.seat.table_id ≡ old.seat.table_id → new.seat.me.0 ≡ w →
+    w.plan ≡ old.seat.me.0.plan → w.lead_states ≡ old.seat.me.0.lead_states → w.places ≡ old.seat.me.0.places → length w.switches ≡ length old.seat.me.0.switches →
+    LeavesLeadStates board old new
+leaves_by board old new w lead seat is plan lead_states places switches =
+    let same = ap (λ (v : View). v.lead_states) is ∙ lead_states in record {
+      lead = record {
+        seat = seat ∙ lead.seat;
+        plan = ap (λ (v : View). v.plan) is ∙ (plan ∙ lead.plan);
+        lead_states = ap (λ (ss : List LeadState). length ss) same ∙ lead.lead_states;
+        settled = λ r. subst IsSettled (sym (ap (λ (ss : List LeadState). lead_state_in ss r) same)) (lead.settled r);
+        switches = ap (λ (v : View). length v.switches) is ∙ (switches ∙ lead.switches);
+      };
+      lead_states = record { each = λ r. ap (λ (ss : List LeadState). lead_state_in ss r) same };
+      places = ap (λ (v : View). v.places) is ∙ places;
+    }
 
 -- its view only notes a step
-pub leaves_lead_states : (board : Board) (old new : Lead) (i n : ℕ) → IsLeadOf board old → new.seat.table_id ≡ old.seat.table_id →
-    new.seat.me.0 ≡ noted old.seat.me.0 i n → LeavesLeadStates board old new
-leaves_lead_states board old new i n lead seat is = record {
-  lead = record {
-    seat = seat ∙ lead.seat;
-    plan = ap (λ (v : View). v.plan) is ∙ lead.plan;
-    lead_states = ap (λ (v : View). length v.lead_states) is ∙ lead.lead_states;
-    settled = λ r. subst IsSettled (sym (ap (λ (v : View). lead_state_in v.lead_states r) is)) (lead.settled r);
-  };
-  lead_states = record { each = λ r. ap (λ (v : View). lead_state_in v.lead_states r) is };
-  places = ap (λ (v : View). v.places) is;
-}
+pub no_change : (board : Board) (r : RequestId) (old new : Lead) (i n : ℕ) → IsLeadOf board old → new.seat.table_id ≡ old.seat.table_id →
+    new.seat.me.0 ≡ noted old.seat.me.0 i n → Changes board r old new
+no_change board r old new i n lead seat is =
+    let leaves = leaves_by board old new (noted old.seat.me.0 i n) lead seat is refl refl refl refl in record {
+      lead = leaves.lead;
+      goes_on = inl (leaves.lead_states.each r);
+      others = λ q _. leaves.lead_states.each q;
+      places = leaves.places;
+      switches = record { each = λ word. ap (λ (v : View). get_or v.switches word 0) is };
+    }
 
--- a request that keeps its lead state
-pub no_change : (board : Board) (r : RequestId) (old new : Lead) → LeavesLeadStates board old new → Changes board r old new
-no_change board r old new leaves = record {
-  lead = leaves.lead;
-  goes_on = inl (leaves.lead_states.each r);
-  others = λ q _. leaves.lead_states.each q;
-  places = leaves.places;
-}
+-- it writes x to a word that is no request's
+pub sets_flag : (board : Board) (old new : Lead) (i word x n : ℕ) → IsLeadOf board old → i ≡ word → word < count_of_words (plan_of board) → new.seat.table_id ≡ old.seat.table_id →
+    new.seat.me.0 ≡ with_switch old.seat.me.0 i x n → n ≡ get_or old.seat.me.0.switches i 0 → n ≤ 1 → SetsFlag board word x old new
+sets_flag board old new i word x n lead there inside seat is was small =
+    let v = old.seat.me.0 in
+    let now : (j : ℕ) → switch_of new j ≡ get_or (set v.switches word x) j 0 = λ j. ap (λ (u : View). get_or u.switches j 0) is ∙ ap (λ (z : ℕ). get_or (set v.switches z x) j 0) there in record {
+      lead = leaves_by board old new (with_switch v i x n) lead seat is refl refl refl (length-set v.switches i x);
+      found = adds_one (IsAsWritten old word) word i n v.found new.seat.me.0.found there (was ∙ ap (λ (z : ℕ). get_or v.switches z 0) there, small) (ap (λ (u : View). u.found) is);
+      set = now word ∙ get_or-set_same v.switches word x 0 (let wide = lead.switches in omega arith);
+      others = λ j other. now j ∙ get_or-set_other v.switches word j x 0 other;
+    }
 
 -- two calls on a request, of which the first keeps its lead state
 pub changes_after : (board : Board) (r : RequestId) (old mid new : Lead) → Changes board r old mid → lead_state_of mid r ≡ lead_state_of old r → Changes board r mid new → Changes board r old new
@@ -119,6 +139,7 @@ changes_after board r old mid new first same second = record {
   goes_on = subst (λ (z : LeadState). GoesOn z (lead_state_of new r)) same second.goes_on;
   others = λ q other. second.others q other ∙ first.others q other;
   places = second.places ∙ first.places;
+  switches = record { each = λ word. second.switches.each word ∙ first.switches.each word };
 }
 
 -- its view changed twice at one request, and it took this in between
@@ -134,12 +155,14 @@ changes_twice board r old new mid i one two n k x lead of_plan word seat is next
             (λ q other. ap (λ (v : View). lead_state_in v.lead_states q) next
             ∙ (ap (λ (z : ℕ). lead_state_in (set mid.lead_states z two) q) word ∙ (lead_state_in-set_other mid.lead_states r q two of_plan.from_one other
             ∙ (ap (λ (v : View). lead_state_in v.lead_states q) is ∙ (ap (λ (z : ℕ). lead_state_in (set old.seat.me.0.lead_states z one) q) word ∙ lead_state_in-set_other old.seat.me.0.lead_states r q one of_plan.from_one other))))) calm;
+        switches = ap (λ (v : View). length v.switches) next ∙ (ap (λ (v : View). length v.switches) is ∙ lead.switches);
       };
       goes_on = subst (GoesOn (lead_state_of old r)) (sym (new_lead_state (plan_of board) r mid new.seat.me.0 i two k all of_plan word next)) goes_on;
       others = λ q other. ap (λ (v : View). lead_state_in v.lead_states q) next
           ∙ (ap (λ (z : ℕ). lead_state_in (set mid.lead_states z two) q) word ∙ (lead_state_in-set_other mid.lead_states r q two of_plan.from_one other
           ∙ (ap (λ (v : View). lead_state_in v.lead_states q) is ∙ (ap (λ (z : ℕ). lead_state_in (set old.seat.me.0.lead_states z one) q) word ∙ lead_state_in-set_other old.seat.me.0.lead_states r q one of_plan.from_one other))));
       places = ap (λ (v : View). v.places) next ∙ ap (λ (v : View). v.places) is;
+      switches = record { each = λ word. ap (λ (v : View). get_or v.switches word 0) next ∙ ap (λ (v : View). get_or v.switches word 0) is };
     }
 
 -- a settled lead state that is live is let out or has the go

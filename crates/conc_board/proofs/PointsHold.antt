@@ -1,5 +1,5 @@
 -- The rule has its points, and does not read what was found.
-use Rattle.std.proofs.Common.{◌≡◌, ◌≢◌, ◌⊎◌, ℕ, ◌<◌, ◌≤◌, Bool, true, false, List, length, sym, refl, ap, ◌∙◌, subst, inl, inr, ⊎_elim, arith, None}
+use Rattle.std.proofs.Common.{◌≡◌, ◌≢◌, ◌⊎◌, ℕ, ◌<◌, ◌≤◌, Bool, true, false, List, length, get_or, sym, refl, ap, ◌∙◌, subst, inl, inr, ⊎_elim, arith, None}
 use mathlib.Core.Option.{none, some}
 use Rattle.conc_types.specs.declared.event.PlaceId.{PlaceId}
 use Rattle.conc_types.specs.declared.event.RequestId.{RequestId}
@@ -119,6 +119,7 @@ module _ (plan : Plan) (s : BoardState) (k : Keep plan s) where
           (λ p m e. not_ended p m (by_lead (λ st. st ≡ Gone p m) lead i leads e)) (fits i near);
     };
     flags = record { each = k.switches };
+    known = record { each = λ lead i leads far. k.each_switch i far ∙ ap (λ (j : ℕ). get_or (view_at s.views j).switches i 0) (sym (k.one_lead lead leads)) };
     marks = record {
       running = λ lead i p leads near small is. by_lead (λ st. is_marked st ≡ false) lead i leads
           (let t = gone_at plan (doing_at s.views k.owner) (request_of i) p (lead_state_by s k.lead i) (word s i) (home s i) k.few_places small (inl is) (fits i near) in
@@ -148,6 +149,7 @@ no_finds plan s others k differ =
     let doings : (j : ℕ) → (view_at s.views j).doing ≡ (view_at others j).doing = λ j. sym (ap (λ (u : View). u.doing) (differ j)) in
     let places : (j : ℕ) → (view_at s.views j).places ≡ (view_at others j).places = λ j. sym (ap (λ (u : View). u.places) (differ j)) in
     let lead_states : (view_at s.views k.lead).lead_states ≡ (view_at others k.lead).lead_states = sym (ap (λ (u : View). u.lead_states) (differ k.lead)) in
+    let switches : (view_at others k.lead).switches ≡ (view_at s.views k.lead).switches = ap (λ (u : View). u.switches) (differ k.lead) in
     record {
       lead = k.lead;
       owner = k.owner;
@@ -164,5 +166,7 @@ no_finds plan s others k differ =
       each_request = λ i near. subst (λ (z : (PlaceId → Doing) × LeadState). Fits plan z.0 (request_of i) z.1 (word s i) (home s i))
           (λ x. ((λ p. doings (k.owner p) x), ap (λ (ss : List LeadState). lead_state_at ss i) lead_states x)) (k.each_request i near);
       each_seat = λ j. subst (Works plan k.owner s.words j) (doings j) (k.each_seat j);
+      all_switches = ap (λ (xs : List ℕ). length xs) switches ∙ k.all_switches;
+      each_switch = λ i far. k.each_switch i far ∙ sym (ap (λ (xs : List ℕ). get_or xs i 0) switches);
       switches = k.switches;
     }

@@ -29,6 +29,7 @@ recorded = record {
   get = λ st m n m' t. dite (ℕ_discrete (n / 256) 4) (λ e. ap (λ (v : View). v.found) (t.0 e).1.1) (λ ne. ap (λ (v : View). v.found) (t.1 ne).0);
   clear = λ st m n m' t. ap (λ (v : View). v.found) t.0;
   switch = λ st m n m' t. ap (λ (v : View). v.found) t.0;
+  see_switch = λ st m n m' t. ap (λ (v : View). v.found) t.0;
   claim = λ st m n m' t. ap (λ (v : View). v.found) t.0;
   poll = λ st m n m' t. ap (λ (v : View). v.found) t.0;
   see_stop = λ st m n m' t. ap (λ (v : View). v.found) t.0;
@@ -57,6 +58,7 @@ posts_recorded = record {
   stop = λ st m n m' t. ap (λ (v : View). v.posts) t.0 ∙ either_posts m.0 st.word n (marked (lead_state_at m.0.lead_states st.word)) (n == st.first);
   clear = λ st m n m' t. ap (λ (v : View). v.posts) t.0;
   switch = λ st m n m' t. ap (λ (v : View). v.posts) t.0;
+  see_switch = λ st m n m' t. ap (λ (v : View). v.posts) t.0;
   claim = λ st m n m' t. ap (λ (v : View). v.posts) t.0;
   poll = λ st m n m' t. ap (λ (v : View). v.posts) t.0;
   see_stop = λ st m n m' t. ap (λ (v : View). v.posts) t.0;

@@ -15,7 +15,7 @@ use Rattle.conc_pool_seats.proofs.Facts.{place_eq}
 use Rattle.conc_board.specs.declared.board.Board.{Board}
 use Rattle.conc_board.specs.declared.lead.Lead.{Lead}
 use Rattle.conc_board.specs.Seats.{Changes, IsLeadOf, lead_state_of, plan_of}
-use Rattle.conc_board.proofs.Leads.{changes, leaves_lead_states, new_lead_state, no_change}
+use Rattle.conc_board.proofs.Leads.{changes, new_lead_state, no_change}
 
 -- a request that has the go has it at a place
 pub gone_place : (st : LeadState) → IsGone st → (p : PlaceId) × (m : Bool) × (st ≡ Gone p m)
@@ -57,4 +57,4 @@ stop_changes board r old new i p m n lead of_plan word seat was is = go (n == ru
   where
     go : (b : Bool) → new.seat.me.0 ≡ (if b then with_lead_state old.seat.me.0 i (Gone p true) n else noted old.seat.me.0 i n) → Changes board r old new
     go true is = changes board r old new i (Gone p true) n lead of_plan word seat is (subst (λ (z : LeadState). GoesOn z (Gone p true)) (sym was) (inr (inl refl))) tt
-    go false is = no_change board r old new (leaves_lead_states board old new i n lead seat is)
+    go false is = no_change board r old new i n lead seat is

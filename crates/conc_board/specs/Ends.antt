@@ -6,7 +6,7 @@ use Rattle.conc_pool_seats.specs.declared.views.LeadState.TheVariants.{NotLet, L
 use Rattle.conc_pool_seats.specs.Words.{IsRequest, count_of_requests, count_of_words, done, ended, idle, released, request_word}
 use Rattle.conc_board.specs.declared.board.Board.{Board}
 use Rattle.conc_board.specs.declared.lead.Lead.{Lead}
-use Rattle.conc_board.specs.Seats.{lead_state_of, plan_of}
+use Rattle.conc_board.specs.Seats.{IsAsWritten, lead_state_of, plan_of}
 
 -- the last word of a request, by its lead state: none is Claimed, Running or Stopping
 abbrev pub EndFits : LeadState → ℕ → Type 0
@@ -17,9 +17,9 @@ EndFits (Gone p marked) n = n ≡ ended p
 EndFits (Got p marked) n = n ≡ ended p
 EndFits (Done marked) n = n ≡ done
 
--- all words at the end: those of the requests by their lead states, and those of places and of the end 0 or 1
+-- all words at the end: those of the requests by their lead states, and those of places and of the end as the lead wrote them
 pub record Ends (board : Board) (lead : Lead) (words : List ℕ) : Type 0 where
   pub all : length words ≡ count_of_words (plan_of board)
   pub requests : (r : RequestId) → IsRequest (plan_of board) r →
       EndFits (lead_state_of lead r) (slice_index words (request_word r))
-  pub switches : (i : ℕ) → count_of_requests (plan_of board) ≤ i → slice_index words i ≤ 1
+  pub switches : (i : ℕ) → count_of_requests (plan_of board) ≤ i → IsAsWritten lead i (slice_index words i)

@@ -13,7 +13,7 @@ use Rattle.conc_pool_seats.specs.declared.views.View.{View}
 use Rattle.conc_pool_seats.specs.Places.{has}
 use Rattle.conc_pool_seats.specs.Rule.{AreApart, BoardState, HasLeft, IsAtOwn, Runs, home_at, nobody, first_view, view_at}
 use Rattle.conc_pool_seats.specs.LeadStates.{WordFits, is_marked, lead_state_at}
-use Rattle.conc_pool_seats.specs.Steps.{Slot, StepLeaves, back_leaves, claim_leaves, clear_leaves, given, go_leaves, got_leaves, joined, let_out_leaves, look_leaves, poll_leaves, post_leaves, stop_leaves, switch_leaves, warn_leaves, with_places_off}
+use Rattle.conc_pool_seats.specs.Steps.{Slot, StepLeaves, back_leaves, claim_leaves, clear_leaves, given, go_leaves, got_leaves, joined, let_out_leaves, look_leaves, poll_leaves, post_leaves, see_switch_leaves, stop_leaves, switch_leaves, warn_leaves, with_places_off}
 use Rattle.conc_pool_seats.specs.Words.{IsRequest, claimed, count_of_requests, ended, request_of, request_word, running, stopping}
 
 -- ---- states
@@ -79,6 +79,10 @@ pub record SlotsAreWhereTheyBelong (plan : Plan) (s : BoardState) : Type 0 where
 pub record FlagsAreBits (plan : Plan) (s : BoardState) : Type 0 where
   pub each : (i : ℕ) → count_of_requests plan ≤ i → slice_index s.words i ≤ 1
 
+-- the lead knows them: each is what it last wrote there
+pub record FlagsAreKnown (plan : Plan) (s : BoardState) : Type 0 where
+  pub each : (lead i : ℕ) → Leads s lead → count_of_requests plan ≤ i → slice_index s.words i ≡ slice_index (view_at s.views lead).switches i
+
 -- no request whose word is Running is marked, and each whose word is Stopping is
 pub record MarksStop (plan : Plan) (s : BoardState) : Type 0 where
   pub running : (lead i : ℕ) (p : PlaceId) → Leads s lead → i < count_of_requests plan → p.index < 64 →
@@ -94,6 +98,7 @@ pub record Points (plan : Plan) (s : BoardState) : Type 0 where
   pub permits : PermitsRun plan s
   pub slots : SlotsAreWhereTheyBelong plan s
   pub flags : FlagsAreBits plan s
+  pub known : FlagsAreKnown plan s
   pub marks : MarksStop plan s
 
 -- ---- steps
@@ -115,6 +120,7 @@ pub record StepsAreRecorded : Type 0 where
   pub get : Records got_leaves
   pub clear : Records clear_leaves
   pub switch : Records switch_leaves
+  pub see_switch : Records see_switch_leaves
   pub claim : Records claim_leaves
   pub poll : Records poll_leaves
   pub see_stop : Records warn_leaves
@@ -144,6 +150,7 @@ pub record PostsAreRecorded : Type 0 where
   pub stop : KeepsPosts stop_leaves
   pub clear : KeepsPosts clear_leaves
   pub switch : KeepsPosts switch_leaves
+  pub see_switch : KeepsPosts see_switch_leaves
   pub claim : KeepsPosts claim_leaves
   pub poll : KeepsPosts poll_leaves
   pub see_stop : KeepsPosts warn_leaves

@@ -1,5 +1,5 @@
 -- Boards, leads and hands as contracts speak of them.
-use Rattle.std.specs.Prelude.{◌≡◌, ◌≢◌, ℕ, ◌≤◌, ◌==◌, Bool, false, List, [], ◌∷◌, ◌++◌, length, Option, Some, IsFalse, IsTrue}
+use Rattle.std.specs.Prelude.{◌≡◌, ◌≢◌, ℕ, ◌≤◌, ◌==◌, Bool, false, List, [], ◌∷◌, ◌++◌, length, slice_index, Option, Some, IsFalse, IsTrue}
 use Rattle.conc_types.specs.declared.event.PlaceId.{PlaceId}
 use Rattle.conc_types.specs.declared.event.RequestId.{RequestId}
 use Rattle.conc_types.specs.declared.plan.Plan.{Plan}
@@ -13,7 +13,7 @@ use Rattle.conc_pool_seats.specs.Places.{has, without}
 use Rattle.conc_pool_seats.specs.Reports.{MayLeave}
 use Rattle.conc_pool_seats.specs.Rule.{Runs, exclude}
 use Rattle.conc_pool_seats.specs.LeadStates.{IsLetOrGone, IsSettled, WordFits, is_marked, lead_state_in}
-use Rattle.conc_pool_seats.specs.Words.{IsPlace, count_of_requests, place_word, request_word}
+use Rattle.conc_pool_seats.specs.Words.{IsPlace, count_of_requests, count_of_words, end_word, place_word, request_word}
 use Rattle.conc_board.specs.Admission.{IsAdmitted}
 use Rattle.conc_board.specs.declared.board.Board.{Board}
 use Rattle.conc_board.specs.declared.hand.Hand.{Hand}
@@ -53,6 +53,10 @@ found_by_lead lead = lead.seat.me.0.found
 abbrev pub posts_of_lead : Lead → List (ℕ × Posted)
 posts_of_lead lead = lead.seat.me.0.posts
 
+-- what it last wrote to a word that is no request's
+abbrev pub switch_of : Lead → ℕ → ℕ
+switch_of lead word = slice_index lead.seat.me.0.switches word
+
 -- one step of the lead's found this in the word
 abbrev pub LeadFinds : ℕ → (ℕ → Type 0) → Lead → Lead → Type 0
 LeadFinds word IsSo old new = AddsOne word IsSo (found_by_lead old) (found_by_lead new)
@@ -71,6 +75,7 @@ pub record IsLeadOf (board : Board) (lead : Lead) : Type 0 where
   pub plan : lead.seat.me.0.plan ≡ Some (plan_of board)
   pub lead_states : length lead.seat.me.0.lead_states ≡ count_of_requests (plan_of board)
   pub settled : (r : RequestId) → IsSettled (lead_state_of lead r)
+  pub switches : length lead.seat.me.0.switches ≡ count_of_words (plan_of board)
 
 -- the request excludes none that is let out or has the go
 abbrev pub IsApart : Board → RequestId → Lead → Type 0
@@ -85,13 +90,18 @@ pub record HasAllPlaces (board : Board) (lead : Lead) : Type 0 where
 pub record SameLeadStates (old new : Lead) : Type 0 where
   pub each : (r : RequestId) → lead_state_of new r ≡ lead_state_of old r
 
+-- each word that is no request's is as the lead wrote it before
+pub record SameSwitches (old new : Lead) : Type 0 where
+  pub each : (word : ℕ) → switch_of new word ≡ switch_of old word
+
 -- a call on a request: its lead state goes on, other requests are in the lead states that they were in, and
--- the lead has the places that it had
+-- the lead has the places that it had, and has them open or closed as before
 pub record Changes (board : Board) (r : RequestId) (old new : Lead) : Type 0 where
   pub lead : IsLeadOf board new
   pub goes_on : GoesOn (lead_state_of old r) (lead_state_of new r)
   pub others : (q : RequestId) → q ≢ r → lead_state_of new q ≡ lead_state_of old q
   pub places : places_of_lead new ≡ places_of_lead old
+  pub switches : SameSwitches old new
 
 -- a call that finds the word of a request as its lead state has it, and sets that lead state
 pub record SetsLeadState (board : Board) (r : RequestId) (state : LeadState) (old new : Lead) : Type 0 where
@@ -105,10 +115,30 @@ pub record LeavesLeadStates (board : Board) (old new : Lead) : Type 0 where
   pub lead_states : SameLeadStates old new
   pub places : places_of_lead new ≡ places_of_lead old
 
--- a call on a word that is no request's
-pub record SetsFlag (board : Board) (word : ℕ) (old new : Lead) : Type 0 where
+-- what the lead last wrote to a word that is no request's, which is 0 or 1
+abbrev pub IsAsWritten : Lead → ℕ → ℕ → Type 0
+IsAsWritten lead word n = (n ≡ switch_of lead word) × IsFlag n
+
+-- a call that writes this to a word that is no request's, in which it finds what was written last
+pub record SetsFlag (board : Board) (word value : ℕ) (old new : Lead) : Type 0 where
   pub lead : LeavesLeadStates board old new
-  pub found : LeadFinds word IsFlag old new
+  pub found : LeadFinds word (IsAsWritten old word) old new
+  pub set : switch_of new word ≡ value
+  pub others : (other : ℕ) → other ≢ word → switch_of new other ≡ switch_of old other
+
+-- ---- places and the end
+
+-- the lead has the place open
+abbrev pub HasOpen : Board → Lead → PlaceId → Type 0
+HasOpen board lead p = switch_of lead (place_word (plan_of board) p) ≡ 1
+
+-- it has told that there is no more to come
+abbrev pub HasTold : Board → Lead → Type 0
+HasTold board lead = switch_of lead (end_word (plan_of board)) ≡ 1
+
+-- it has opened no place, and has not told
+pub record HasSetNothing (lead : Lead) : Type 0 where
+  pub each : (word : ℕ) → switch_of lead word ≡ 0
 
 -- ---- hands
 
@@ -172,6 +202,7 @@ pub record IsSplitOff (board : Board) (places : List PlaceId) (old new : Lead) (
   pub lead_states : SameLeadStates old new
   pub left : places_of_lead new ≡ without (places_of_lead old) places
   pub found : found_by_lead new ≡ found_by_lead old
+  pub switches : SameSwitches old new
   pub hand : IsHandOf board made
   pub idle : doing_of made ≡ Idle
   pub passed : places_of_hand made ≡ places

@@ -4,7 +4,7 @@ ghost use Rattle.conc_board.specs.Answers.{PolledBy};
 
 use crate::Board;
 use crate::numbers::{claimed, ended, request_word, running, stopping};
-use crate::plays::{Polls, Posts, SeesStop, Switches};
+use crate::plays::{Polls, Posts, SeesStop, SeesSwitch};
 use atomic_table::Seat;
 use conc_pool_seats::{Posted, View};
 use conc_types::{PlaceId, RequestId};
@@ -145,7 +145,7 @@ impl Board {
             hand.new }
     {
         let word = self.requests + self.places;
-        self.table.shared.load::<Switches>(&mut hand.seat, word) == 1
+        self.table.shared.load::<SeesSwitch>(&mut hand.seat, word) == 1
     }
 
     /// Whether a place is open.
@@ -157,7 +157,7 @@ impl Board {
         ensures found { FindsOpen self.now place result hand.old hand.new }
     {
         let word = self.requests + place.index as usize;
-        self.table.shared.load::<Switches>(&mut hand.seat, word) == 1
+        self.table.shared.load::<SeesSwitch>(&mut hand.seat, word) == 1
     }
 }
 

@@ -203,7 +203,7 @@ impl Board {
     pub fn open_place(&self, lead: &mut Lead, place: PlaceId)
         requires lead { IsLeadOf self.now lead.old }
         requires place { IsPlace (plan_of self.now) place }
-        ensures { SetsFlag self.now (place_word (plan_of self.now) place) lead.old lead.new }
+        ensures { SetsFlag self.now (place_word (plan_of self.now) place) 1 lead.old lead.new }
     {
         self.set_place(lead, place, 1);
         self.bells.hands.notify_all();
@@ -213,7 +213,7 @@ impl Board {
     pub fn close_place(&self, lead: &mut Lead, place: PlaceId)
         requires lead { IsLeadOf self.now lead.old }
         requires place { IsPlace (plan_of self.now) place }
-        ensures { SetsFlag self.now (place_word (plan_of self.now) place) lead.old lead.new }
+        ensures { SetsFlag self.now (place_word (plan_of self.now) place) 0 lead.old lead.new }
     {
         self.set_place(lead, place, 0);
     }
@@ -222,7 +222,7 @@ impl Board {
         requires lead { IsLeadOf self.now lead.old }
         requires place { IsPlace (plan_of self.now) place }
         requires switch { switch ≤ 1 }
-        ensures { SetsFlag self.now (place_word (plan_of self.now) place) lead.old lead.new }
+        ensures { SetsFlag self.now (place_word (plan_of self.now) place) switch lead.old lead.new }
     {
         let word = self.requests + place.index as usize;
         let shared = &self.table.shared;
@@ -232,7 +232,7 @@ impl Board {
     /// Tells all hands that there is no more to come.
     pub fn finish_all(&self, lead: &mut Lead)
         requires lead { IsLeadOf self.now lead.old }
-        ensures { SetsFlag self.now (end_word (plan_of self.now)) lead.old lead.new }
+        ensures { SetsFlag self.now (end_word (plan_of self.now)) 1 lead.old lead.new }
     {
         let word = self.requests + self.places;
         self.table.shared.swap::<Switches>(&mut lead.seat, word, 1);

@@ -2,7 +2,7 @@
 ghost use Rattle.std.specs.Prelude.{List, []};
 ghost use Rattle.conc_types.specs.declared.event.PlaceId.{PlaceId};
 ghost use Rattle.conc_pool_seats.specs.Rule.{first_view, Keep, nobody};
-ghost use Rattle.conc_pool_seats.specs.Steps.{back_leaves, claim_leaves, clear_leaves, given, go_leaves, got_leaves, joined, let_out_leaves, look_leaves, poll_leaves, post_leaves, stop_leaves, switch_leaves, warn_leaves, with_places_off};
+ghost use Rattle.conc_pool_seats.specs.Steps.{back_leaves, claim_leaves, clear_leaves, given, go_leaves, got_leaves, joined, let_out_leaves, look_leaves, poll_leaves, post_leaves, see_switch_leaves, stop_leaves, switch_leaves, warn_leaves, with_places_off};
 
 use atomic_table::{Join, Play, Split, TableRule};
 use conc_pool_seats::{Posted, View};
@@ -62,6 +62,12 @@ impl Play<Option<Posted>, View> for Clears {
     ghost then = { clear_leaves };
 }
 
+pub(crate) struct Switches;
+
+impl Play<Option<Posted>, View> for Switches {
+    ghost then = { switch_leaves };
+}
+
 // ---- a hand's steps
 
 pub(crate) struct Claims;
@@ -88,12 +94,10 @@ impl Play<Option<Posted>, View> for Posts {
     ghost then = { post_leaves };
 }
 
-// ---- steps on the words of places and of the end
+pub(crate) struct SeesSwitch;
 
-pub(crate) struct Switches;
-
-impl Play<Option<Posted>, View> for Switches {
-    ghost then = { switch_leaves };
+impl Play<Option<Posted>, View> for SeesSwitch {
+    ghost then = { see_switch_leaves };
 }
 
 // ---- seats that are split off and taken in

@@ -60,7 +60,7 @@ module _ (plan : Plan) where
         keeps,
         tt,
         subst (λ b. Rule (stepped s i (either b (claimed q) n) id me.1 w keeps)) (sym (eq-eqb n 1 hit))
-            (hand_moves plan s k id i (claimed q) me.1 v w keeps (home s i) at inside refl refl refl refl on owns
+            (hand_moves plan s k id i (claimed q) me.1 v w keeps (home s i) at inside refl refl refl refl refl on owns
             (λ at' mine theirs st f. claim_fits (doing_at s.views k.owner) at' r q st n (home s i) few hit near (mine q owner_is) f)
             (owner_is, of_plan, near)
             (λ stop p there _. no_permit plan n (claimed q) few (inl (omega arith)) stop p there)
@@ -72,7 +72,7 @@ module _ (plan : Plan) where
         keeps,
         tt,
         subst (λ b. Rule (stepped s i (either b (claimed q) n) id me.1 w keeps)) (sym (ne_eqb n 1 miss))
-            (hand_moves plan s k id i n me.1 v w keeps (home s i) at inside refl refl refl refl on tt
+            (hand_moves plan s k id i n me.1 v w keeps (home s i) at inside refl refl refl refl refl on tt
             (λ at' mine theirs st f.
             let same : (p : PlaceId) → at' p ≡ doing_at s.views k.owner p = λ p. dite (ℕ_discrete (k.owner p) id) (λ o. mine p o ∙ sym (own_doing plan s k id v p at o ∙ idle)) (λ o. theirs p o) in
             fits_on plan (doing_at s.views k.owner) at' r (λ p e. same p ∙ e) (λ p stop e. (stop, same p ∙ e)) st n (home s i) f)
@@ -178,7 +178,7 @@ module _ (plan : Plan) where
         let t = runs (doing_at s.views k.owner) r p st n (home s i) k.few_places held.2 is (waits_there p held.0) (k.each_request i inside) in (
           takes i None,
           home_there s.homes i None t.3,
-          hand_moves plan s k id i n me.1 v (with_doing v (Serves r p stop) i n) (takes i None) none at inside refl refl refl refl on own
+          hand_moves plan s k id i n me.1 v (with_doing v (Serves r p stop) i n) (takes i None) none at inside refl refl refl refl refl on own
               (λ at' mine theirs st f. permit_fits (doing_at s.views k.owner) at' r p stop st n (home s i) k.few_places held.2 is (waits_there p held.0) (mine p held.0) f)
               (subst (λ (ws : List ℕ). Works plan k.owner ws id (Serves r p stop)) (sym (set-get_or s.words i 0)) (held.0, held.1, held.2, subst (λ (z : ℕ). Runs stop p (word s z)) (let z : i ≡ i + 1 - 1 = omega arith in z) fits))
               (λ stop q near _ h. h)
@@ -190,7 +190,7 @@ module _ (plan : Plan) where
     stays is = (
       keeps,
       tt,
-      hand_moves plan s k id i n me.1 v (with_doing v (Waits r p) i n) keeps (home s i) at inside refl refl refl refl on own
+      hand_moves plan s k id i n me.1 v (with_doing v (Waits r p) i n) keeps (home s i) at inside refl refl refl refl refl on own
           (λ at' mine theirs st f.
           let same : (q : PlaceId) → at' q ≡ doing_at s.views k.owner q = λ q. dite (ℕ_discrete (k.owner q) id) (λ o. mine q o ∙ sym (waits_there q o)) (λ o. theirs q o) in
           fits_on plan (doing_at s.views k.owner) at' r (λ q e. same q ∙ e) (λ q stop e. (stop, same q ∙ e)) st n (home s i) f)
@@ -204,7 +204,7 @@ module _ (plan : Plan) where
     withdrawn na nc nd = (
       keeps,
       tt,
-      hand_moves plan s k id i n me.1 v (with_doing v Idle i n) keeps (home s i) at inside refl refl refl refl on tt
+      hand_moves plan s k id i n me.1 v (with_doing v Idle i n) keeps (home s i) at inside refl refl refl refl refl on tt
           (λ at' mine theirs st f. idle_fits (doing_at s.views k.owner) at' r p st n (home s i) na nc nd (λ q. dite (ℕ_discrete (k.owner q) id) (λ o. inr (waits_there q o)) (λ o. inl (theirs q o))) f)
           tt
           (λ stop q near _ h. h)
@@ -287,7 +287,7 @@ module _ (plan : Plan) where
         w,
         gives,
         tt,
-        hand_moves plan s k id i (ended p) me.1 v w gives (some (Some x)) at inside refl refl refl refl on tt
+        hand_moves plan s k id i (ended p) me.1 v w gives (some (Some x)) at inside refl refl refl refl refl on tt
             (λ at' mine theirs st f. let t = has_permit (doing_at s.views k.owner) (request_of i) p stop st n (home s i) few held.2 held.3 f in
             subst (λ (z : LeadState). Fits plan at' (request_of i) z (ended p) (some (Some x))) (sym t.1) (held.2, inr (refl, (x, refl, may_leave_more (request_of i) stop t.0 x t.3 may))))
             tt
@@ -316,7 +316,7 @@ module _ (plan : Plan) where
         w,
         keeps,
         tt,
-        hand_moves plan s k id i n me.1 v w keeps (home s i) at inside refl refl refl refl on (subst (IsAtOwn v.places) (sym t.1) own)
+        hand_moves plan s k id i n me.1 v w keeps (home s i) at inside refl refl refl refl refl on (subst (IsAtOwn v.places) (sym t.1) own)
             (λ at' mine theirs st f. fits_on plan (doing_at s.views k.owner) at' r
             (λ q e. dite (ℕ_discrete (k.owner q) id) (λ o. absurd (let a : Serves r p stop ≡ Waits r q = sym (own_doing plan s k id v q at o ∙ serves) ∙ e in cc)) (λ o. theirs q o ∙ e))
             (λ q b e. dite (ℕ_discrete (k.owner q) id)

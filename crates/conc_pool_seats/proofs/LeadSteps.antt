@@ -17,10 +17,10 @@ use Rattle.conc_pool_seats.specs.declared.views.LeadState.TheVariants.{NotLet, L
 use Rattle.conc_pool_seats.specs.declared.views.View.{View}
 use Rattle.conc_pool_seats.specs.Rule.{Fits, HasLeft, Home, Keep, Runs, doing_at, exclude}
 use Rattle.conc_pool_seats.specs.LeadStates.{IsLet, IsLive, cleared, gone, got, is_marked, lead_state_at, looked, marked}
-use Rattle.conc_pool_seats.specs.Steps.{EndedFits, MayBeLeft, RunFits, Slot, back_leaves, clear_leaves, go_leaves, got_leaves, let_out_leaves, look_leaves, note_leaves, noted, stop_leaves, switch_leaves, with_lead_state, with_post}
+use Rattle.conc_pool_seats.specs.Steps.{EndedFits, MayBeLeft, RunFits, Slot, back_leaves, clear_leaves, go_leaves, got_leaves, let_out_leaves, look_leaves, note_leaves, noted, see_switch_leaves, stop_leaves, switch_leaves, with_lead_state, with_post, with_switch}
 use Rattle.conc_pool_seats.specs.Words.{IsPlace, claimed, count_of_requests, count_of_words, ended, request_of, run_word, running, stopping}
 use Rattle.conc_pool_seats.proofs.Facts.{apart_more, apart_same, home_there, let_free, has_place, look_fits, looked_fits, looked_live, no_permit, word_fits}
-use Rattle.conc_pool_seats.proofs.Moves.{St, home, led, lead_moves, plain_moves, word}
+use Rattle.conc_pool_seats.proofs.Moves.{St, home, led, lead_moves, plain_moves, switch_moves, word}
 
 module _ (plan : Plan) where
   abbrev Rule : St → Type 0
@@ -37,7 +37,7 @@ module _ (plan : Plan) where
         w,
         keeps,
         tt,
-        lead_moves plan s k id r 1 me.1 v w keeps (home s r) at leads inside refl refl refl refl (length-set v.lead_states r Let)
+        lead_moves plan s k id r 1 me.1 v w keeps (home s r) at leads inside refl refl refl refl refl (length-set v.lead_states r Let)
             (apart_more plan v.lead_states r Let l.apart alone)
             (subst (λ (z : LeadState). Fits plan (doing_at s.views k.owner) (request_of r) z 1 (home s r)) (sym (get_or-set_same v.lead_states r Let NotLet (omega arith))) (inl refl, fit.1))
             (λ q other. get_or-set_other v.lead_states r q Let NotLet other)
@@ -53,7 +53,7 @@ module _ (plan : Plan) where
         w,
         keeps,
         tt,
-        lead_moves plan s k id r n me.1 v w keeps (home s r) at leads inside refl refl refl refl (length-set v.lead_states r st)
+        lead_moves plan s k id r n me.1 v w keeps (home s r) at leads inside refl refl refl refl refl (length-set v.lead_states r st)
             (apart_same plan v.lead_states r st l.apart (looked_live (lead_state_at v.lead_states r) n) (omega arith))
             (subst (λ (z : LeadState). Fits plan (doing_at s.views k.owner) (request_of r) z n (home s r)) (sym (get_or-set_same v.lead_states r st NotLet (omega arith))) (looked_fits plan (doing_at s.views k.owner) (request_of r) k.few_places (lead_state_at v.lead_states r) n (home s r) (l.fits r inside)))
             (λ q other. get_or-set_other v.lead_states r q st NotLet other)
@@ -73,7 +73,7 @@ module _ (plan : Plan) where
         w,
         keeps,
         tt,
-        lead_moves plan s k id r (running p) me.1 v w keeps (home s r) at leads inside refl refl refl refl (length-set v.lead_states r st)
+        lead_moves plan s k id r (running p) me.1 v w keeps (home s r) at leads inside refl refl refl refl refl (length-set v.lead_states r st)
             (apart_same plan v.lead_states r st l.apart (λ _. subst IsLive (sym seen) tt) (omega arith))
             (subst (λ (z : LeadState). Fits plan (doing_at s.views k.owner) (request_of r) z (running p) (home s r)) (sym (get_or-set_same v.lead_states r st NotLet (omega arith) ∙ ap gone seen)) (small, inl (refl, inl (fit.2, fit.3))))
             (λ q other. get_or-set_other v.lead_states r q st NotLet other)
@@ -90,7 +90,7 @@ module _ (plan : Plan) where
         w,
         keeps,
         tt,
-        lead_moves plan s k id r 0 me.1 v w keeps (home s r) at leads inside refl refl refl refl (length-set v.lead_states r NotLet)
+        lead_moves plan s k id r 0 me.1 v w keeps (home s r) at leads inside refl refl refl refl refl (length-set v.lead_states r NotLet)
             (apart_same plan v.lead_states r NotLet l.apart (λ none_live. absurd none_live) (omega arith))
             (subst (λ (z : LeadState). Fits plan (doing_at s.views k.owner) (request_of r) z 0 (home s r)) (sym (get_or-set_same v.lead_states r NotLet NotLet (omega arith))) (refl, free.0))
             (λ q other. get_or-set_other v.lead_states r q NotLet NotLet other)
@@ -126,7 +126,7 @@ module _ (plan : Plan) where
         keeps,
         tt,
         subst (λ b. Rule (stepped s r (either b (stopping p) n) id me.1 w keeps)) (sym (eq-eqb n (running p) hit))
-            (lead_moves plan s k id r (stopping p) me.1 v w keeps (home s r) at leads inside refl refl refl refl (length-set v.lead_states r st)
+            (lead_moves plan s k id r (stopping p) me.1 v w keeps (home s r) at leads inside refl refl refl refl refl (length-set v.lead_states r st)
             (apart_same plan v.lead_states r st l.apart (λ _. subst IsLive (sym is) tt) (omega arith))
             (subst (λ (z : LeadState). Fits plan (doing_at s.views k.owner) (request_of r) z (stopping p) (home s r)) (sym (get_or-set_same v.lead_states r st NotLet (omega arith) ∙ ap marked is)) (stopped_fits (doing_at s.views k.owner) r p m n (home s r) few hit fit))
             (λ q other. get_or-set_other v.lead_states r q st NotLet other)
@@ -138,7 +138,7 @@ module _ (plan : Plan) where
         w,
         keeps,
         tt,
-        subst (λ b. Rule (stepped s r (either b (stopping p) n) id me.1 w keeps)) (sym (ne_eqb n (running p) miss)) (plain_moves plan s k id r n n me.1 v at (omega arith) (λ _. refl) (λ far. absurd (omega arith))),
+        subst (λ b. Rule (stepped s r (either b (stopping p) n) id me.1 w keeps)) (sym (ne_eqb n (running p) miss)) (plain_moves plan s k id r n n me.1 v at (omega arith) refl),
         (subst (λ b. w ≡ (if b then with_lead_state v r st n else w)) (sym (ne_eqb n (running p) miss)) refl, refl, word_fits plan (doing_at s.views k.owner) (request_of r) (lead_state_at v.lead_states r) n (home s r) (l.fits r inside)),
       ))
 
@@ -163,7 +163,7 @@ module _ (plan : Plan) where
         w,
         takes r (Some x),
         home_there s.homes r (Some x) e.1.1,
-        lead_moves plan s k id r n me.1 v w (takes r (Some x)) none at leads inside refl refl refl refl (length-set v.lead_states r st)
+        lead_moves plan s k id r n me.1 v w (takes r (Some x)) none at leads inside refl refl refl refl refl (length-set v.lead_states r st)
             (apart_same plan v.lead_states r st l.apart (λ _. subst IsLive (sym is) tt) (omega arith))
             (subst (λ (z : LeadState). Fits plan (doing_at s.views k.owner) (request_of r) z n none) (sym (get_or-set_same v.lead_states r st NotLet (omega arith) ∙ ap got is)) (fit.0, e.0, refl))
             (λ q other. get_or-set_other v.lead_states r q st NotLet other)
@@ -175,7 +175,7 @@ module _ (plan : Plan) where
         w,
         keeps,
         tt,
-        plain_moves plan s k id r n n me.1 v at (omega arith) (λ _. refl) (λ far. absurd (omega arith)),
+        plain_moves plan s k id r n n me.1 v at (omega arith) refl,
         ((λ four. absurd (not four)), (λ _. (refl, refl, subst (λ (z : LeadState). RunFits z n) (sym is) (not_ended (doing_at s.views k.owner) r p m n (home s r) few not fit)))),
       ))
 
@@ -189,7 +189,7 @@ module _ (plan : Plan) where
         w,
         gives,
         tt,
-        lead_moves plan s k id r 2 me.1 v w gives (some None) at leads inside refl refl refl refl (length-set v.lead_states r st)
+        lead_moves plan s k id r 2 me.1 v w gives (some None) at leads inside refl refl refl refl refl (length-set v.lead_states r st)
             (apart_same plan v.lead_states r st l.apart (λ _. subst IsLive (sym is) tt) (omega arith))
             (subst (λ (z : LeadState). Fits plan (doing_at s.views k.owner) (request_of r) z 2 (some None)) (sym (get_or-set_same v.lead_states r st NotLet (omega arith) ∙ ap cleared is)) (refl, refl))
             (λ q other. get_or-set_other v.lead_states r q st NotLet other)
@@ -198,22 +198,22 @@ module _ (plan : Plan) where
         (refl, refl, word_fits plan (doing_at s.views k.owner) (request_of r) (lead_state_at v.lead_states r) n (home s r) (l.fits r inside)),
       )
 
-  -- a write of the word of a place or of the end, and a load of one, by any seat
-  pub switches : (slots id : ℕ) (me : Me Slot View) (i x : ℕ) → count_of_requests plan ≤ i → i < count_of_words plan → x ≤ 1 →
+  -- the lead's write of the word of a place or of the end, and a load of one by any seat
+  pub switches : (slots id : ℕ) (me : Me Slot View) (i x : ℕ) → me.0.leads ≡ true → count_of_requests plan ≤ i → i < count_of_words plan → x ≤ 1 →
       Allows Rule slots id me i (λ _. x) (switch_leaves (step slots i x 0 none) me)
-  switches slots id me i x far inside small s k _ at _ = let n : ℕ = word s i in
-      (noted me.0 i n, keeps, tt, plain_moves plan s k id i x n me.1 me.0 at inside (λ near. absurd (omega arith)) (λ _. small), (refl, refl, k.switches i far))
+  switches slots id me i x leads far inside small s k _ at _ = let n : ℕ = word s i in let l = led plan s k id me.0 at leads in
+      (with_switch me.0 i x n, keeps, tt, switch_moves plan s k id i x n me.1 me.0 at leads far inside small, (refl, refl, l.each_switch i far, k.switches i far))
 
   pub sees : (slots id : ℕ) (me : Me Slot View) (i : ℕ) → count_of_requests plan ≤ i → i < count_of_words plan →
-      Allows Rule slots id me i (λ n. n) (switch_leaves (step slots i 0 0 none) me)
+      Allows Rule slots id me i (λ n. n) (see_switch_leaves (step slots i 0 0 none) me)
   sees slots id me i far inside s k _ at _ = let n : ℕ = word s i in
-      (noted me.0 i n, keeps, tt, plain_moves plan s k id i n n me.1 me.0 at inside (λ near. absurd (omega arith)) (λ _. k.switches i far), (refl, refl, k.switches i far))
+      (noted me.0 i n, keeps, tt, plain_moves plan s k id i n n me.1 me.0 at inside refl, (refl, refl, k.switches i far))
 
   -- a load of the word of a request by any seat, which learns nothing else
   pub notes : (slots id : ℕ) (me : Me Slot View) (i : ℕ) → i < count_of_requests plan →
       Allows Rule slots id me i (λ n. n) (note_leaves (step slots i 0 0 none) me)
   notes slots id me i inside s k _ at _ = let n : ℕ = word s i in
-      (noted me.0 i n, keeps, tt, plain_moves plan s k id i n n me.1 me.0 at (omega arith) (λ _. refl) (λ far. absurd (omega arith)), (refl, refl))
+      (noted me.0 i n, keeps, tt, plain_moves plan s k id i n n me.1 me.0 at (omega arith) refl, (refl, refl))
 
   -- ---- the same, where the numbers are called otherwise
 

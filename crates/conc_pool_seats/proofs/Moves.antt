@@ -14,7 +14,7 @@ use Rattle.conc_pool_seats.specs.declared.views.View.{View}
 use Rattle.conc_pool_seats.specs.Places.{has}
 use Rattle.conc_pool_seats.specs.Rule.{AreApart, Fits, Home, IsAtOwn, Keep, Runs, Works, doing_at, home_at, nobody, view_at}
 use Rattle.conc_pool_seats.specs.LeadStates.{lead_state_at}
-use Rattle.conc_pool_seats.specs.Steps.{Slot, noted}
+use Rattle.conc_pool_seats.specs.Steps.{Slot, noted, with_switch}
 use Rattle.conc_pool_seats.specs.Words.{IsPlace, count_of_requests, count_of_words, request_of, request_word}
 use Rattle.conc_pool_seats.proofs.Facts.{at_view, fits_on, request_of-ne, same_part}
 
@@ -56,6 +56,8 @@ module _ (plan : Plan) where
     pub fits : (i : ℕ) → i < count_of_requests plan →
         Fits plan (doing_at s.views k.owner) (request_of i) (lead_state_at v.lead_states i) (word s i) (home s i)
     pub apart : AreApart plan v.lead_states
+    pub all_switches : length v.switches ≡ count_of_words plan
+    pub each_switch : (i : ℕ) → count_of_requests plan ≤ i → word s i ≡ get_or v.switches i 0
     pub knows_plan : v.plan ≡ Some plan
     pub is : id ≡ k.lead
 
@@ -68,6 +70,8 @@ module _ (plan : Plan) where
         all_lead_states = ap (λ (u : View). length u.lead_states) (sym was) ∙ k.all_lead_states;
         fits = λ i l. subst (λ (u : View). Fits plan (doing_at s.views k.owner) (request_of i) (lead_state_at u.lead_states i) (word s i) (home s i)) was (k.each_request i l);
         apart = subst (λ (u : View). AreApart plan u.lead_states) was k.apart;
+        all_switches = ap (λ (u : View). length u.switches) (sym was) ∙ k.all_switches;
+        each_switch = λ i far. k.each_switch i far ∙ ap (λ (u : View). get_or u.switches i 0) was;
         knows_plan = ap (λ (u : View). u.plan) (sym was) ∙ k.knows_plan;
         is = is;
       }
@@ -75,14 +79,14 @@ module _ (plan : Plan) where
   -- a step of the lead on the word i, which becomes n
   pub lead_moves : (s : St) (k : Keep plan s) (id i n : ℕ) (cs : List (ℕ × Slot)) (v w : View) (a : Act Slot) (h : Home) →
       get_elem? s.views id ≡ some v → v.leads ≡ true → i < count_of_requests plan →
-      w.leads ≡ v.leads → w.plan ≡ v.plan → w.places ≡ v.places → w.doing ≡ v.doing → length w.lead_states ≡ length v.lead_states →
+      w.leads ≡ v.leads → w.plan ≡ v.plan → w.switches ≡ v.switches → w.places ≡ v.places → w.doing ≡ v.doing → length w.lead_states ≡ length v.lead_states →
       AreApart plan w.lead_states →
       Fits plan (doing_at s.views k.owner) (request_of i) (lead_state_at w.lead_states i) n h →
       ((j : ℕ) → j ≢ i → lead_state_at w.lead_states j ≡ lead_state_at v.lead_states j) →
       ((stop : Bool) (p : PlaceId) → IsPlace plan p → Runs stop p (word s i) → Runs stop p n) →
       homes_after s.homes cs a ≡ set s.homes i h →
       Keep plan (stepped s i n id cs w a)
-  lead_moves s k id i n cs v w a h at leads inside same_leads same_plan same_places same_doing same_length apart fits others stays homes =
+  lead_moves s k id i n cs v w a h at leads inside same_leads same_plan same_switches same_places same_doing same_length apart fits others stays homes =
       let here = at_view s.views id v at in
       let l = led s k id v at leads in
       let is = l.is in
@@ -125,6 +129,9 @@ module _ (plan : Plan) where
               sym (ap (λ (xs : List Home). home_at xs j) homes ∙ get_or-set_other s.homes i j h none other) x,
             )) (l.fits j near));
         each_seat = λ j. subst (Works plan k.owner ws j) (doings j) (works_on (view_at s.views j).doing s k i n j inside (λ stop p near _. stays stop p near) (k.each_seat j));
+        all_switches = ap (λ (xs : List ℕ). length xs) (same_part (λ u. u.switches) s.views id v w at same_switches k.lead) ∙ k.all_switches;
+        each_switch = λ j far. get_or-set_other s.words i j n 0 (λ e. omega arith)
+            ∙ (k.each_switch j far ∙ sym (ap (λ (xs : List ℕ). get_or xs j 0) (same_part (λ u. u.switches) s.views id v w at same_switches k.lead)));
         switches = λ j far. subst (λ (z : ℕ). z ≤ 1) (sym (get_or-set_other s.words i j n 0 (λ e. omega arith))) (k.switches j far);
       }
 
@@ -145,7 +152,7 @@ module _ (plan : Plan) where
   -- a step of a hand on the word i, which becomes n
   pub hand_moves : (s : St) (k : Keep plan s) (id i n : ℕ) (cs : List (ℕ × Slot)) (v w : View) (a : Act Slot) (h : Home) →
       get_elem? s.views id ≡ some v → i < count_of_requests plan →
-      w.leads ≡ v.leads → w.plan ≡ v.plan → w.places ≡ v.places → w.lead_states ≡ v.lead_states → OnlyOn i v.doing → IsAtOwn v.places w.doing →
+      w.leads ≡ v.leads → w.plan ≡ v.plan → w.switches ≡ v.switches → w.places ≡ v.places → w.lead_states ≡ v.lead_states → OnlyOn i v.doing → IsAtOwn v.places w.doing →
       ((at' : PlaceId → Doing) → ((p : PlaceId) → k.owner p ≡ id → at' p ≡ w.doing) →
       ((p : PlaceId) → k.owner p ≢ id → at' p ≡ doing_at s.views k.owner p) → (st : LeadState) →
       Fits plan (doing_at s.views k.owner) (request_of i) st (word s i) (home s i) → Fits plan at' (request_of i) st n h) →
@@ -153,7 +160,7 @@ module _ (plan : Plan) where
       ((stop : Bool) (p : PlaceId) → IsPlace plan p → k.owner p ≢ id → Runs stop p (word s i) → Runs stop p n) →
       homes_after s.homes cs a ≡ set s.homes i h →
       Keep plan (stepped s i n id cs w a)
-  hand_moves s k id i n cs v w a h at inside same_leads same_plan same_places same_lead_states on at_own fits own stays homes =
+  hand_moves s k id i n cs v w a h at inside same_leads same_plan same_switches same_places same_lead_states on at_own fits own stays homes =
       let here = at_view s.views id v at in
       let wide = k.all_words in let deep = k.all_slots in
       let ws : List ℕ = set s.words i n in
@@ -200,6 +207,9 @@ module _ (plan : Plan) where
             (λ e. subst (λ (z : ℕ × View). Works plan k.owner ws z.0 z.1.doing) (λ x. (sym e x, sym (ap (view_at vs) e ∙ now) x)) own)
             (λ other. subst (λ (u : View). Works plan k.owner ws j u.doing) (sym (get_or-set_other s.views id j w nobody other))
             (works_on (view_at s.views j).doing s k i n j inside (λ stop p near is. stays stop p near (λ e. other (sym is ∙ e))) (k.each_seat j)));
+        all_switches = ap (λ (xs : List ℕ). length xs) (same_part (λ u. u.switches) s.views id v w at same_switches k.lead) ∙ k.all_switches;
+        each_switch = λ j far. get_or-set_other s.words i j n 0 (λ e. omega arith)
+            ∙ (k.each_switch j far ∙ sym (ap (λ (xs : List ℕ). get_or xs j 0) (same_part (λ u. u.switches) s.views id v w at same_switches k.lead)));
         switches = λ j far. subst (λ (z : ℕ). z ≤ 1) (sym (get_or-set_other s.words i j n 0 (λ e. omega arith))) (k.switches j far);
       }
 
@@ -210,11 +220,10 @@ module _ (plan : Plan) where
   works_same (Serves r p stop) owner ws ws' j same h = let of_plan = h.1 in
       (h.0, h.1, h.2, subst (Runs stop p) (same (request_word r) (omega arith)) h.3)
 
-  -- a step that leaves the words of requests as they were, and of which the seat notes what it found
+  -- a step that leaves the words as they were, and of which the seat notes what it found
   pub plain_moves : (s : St) (k : Keep plan s) (id i n m : ℕ) (cs : List (ℕ × Slot)) (v : View) → get_elem? s.views id ≡ some v →
-      i < count_of_words plan → (i < count_of_requests plan → n ≡ word s i) → (count_of_requests plan ≤ i → n ≤ 1) →
-      Keep plan (stepped s i n id cs (noted v i m) keeps)
-  plain_moves s k id i n m cs v at inside same small =
+      i < count_of_words plan → n ≡ word s i → Keep plan (stepped s i n id cs (noted v i m) keeps)
+  plain_moves s k id i n m cs v at inside same =
       let wide = k.all_words in
       let w : View = noted v i m in
       let ws : List ℕ = set s.words i n in
@@ -222,8 +231,9 @@ module _ (plan : Plan) where
       let part : (A : Type 0) (f : View → A) → f w ≡ f v → (j : ℕ) → f (view_at s.views j) ≡ f (view_at vs j) = λ A f e j. sym (same_part f s.views id v w at e j) in
       let there : get_or ws i 0 ≡ n = get_or-set_same s.words i n 0 (omega arith) in
       let lead_states = part (List LeadState) (λ u. u.lead_states) refl k.lead in
-      let words : (j : ℕ) → j < count_of_requests plan → get_or s.words j 0 ≡ get_or ws j 0 = λ j near. dite (ℕ_discrete j i)
-      (λ e. sym (ap (λ (q : ℕ). get_or ws q 0) e ∙ (there ∙ (same (subst (λ (q : ℕ). q < count_of_requests plan) e near) ∙ ap (word s) (sym e)))))
+      let switches = part (List ℕ) (λ u. u.switches) refl k.lead in
+      let words : (j : ℕ) → get_or s.words j 0 ≡ get_or ws j 0 = λ j. dite (ℕ_discrete j i)
+      (λ e. sym (ap (λ (q : ℕ). get_or ws q 0) e ∙ (there ∙ (same ∙ ap (word s) (sym e)))))
       (λ other. sym (get_or-set_other s.words i j n 0 other)) in
       record {
         lead = k.lead;
@@ -239,9 +249,51 @@ module _ (plan : Plan) where
         at_own = λ j. subst (λ (z : List PlaceId × Doing). IsAtOwn z.0 z.1) (λ x. (part (List PlaceId) (λ u. u.places) refl j x, part Doing (λ u. u.doing) refl j x)) (k.at_own j);
         apart = subst (AreApart plan) lead_states k.apart;
         each_request = λ j near. subst (λ (z : (PlaceId → Doing) × LeadState × ℕ). Fits plan z.0 (request_of j) z.1 z.2 (home s j))
-            (λ x. ((λ p. part Doing (λ u. u.doing) refl (k.owner p) x), ap (λ (ss : List LeadState). lead_state_at ss j) lead_states x, words j near x)) (k.each_request j near);
+            (λ x. ((λ p. part Doing (λ u. u.doing) refl (k.owner p) x), ap (λ (ss : List LeadState). lead_state_at ss j) lead_states x, words j x)) (k.each_request j near);
+        each_seat = λ j. subst (Works plan k.owner ws j) (part Doing (λ u. u.doing) refl j) (works_same (view_at s.views j).doing k.owner s.words ws j (λ q _. words q) (k.each_seat j));
+        all_switches = ap (λ (xs : List ℕ). length xs) (sym switches) ∙ k.all_switches;
+        each_switch = λ j far. sym (words j) ∙ (k.each_switch j far ∙ ap (λ (xs : List ℕ). get_or xs j 0) switches);
+        switches = λ j far. subst (λ (z : ℕ). z ≤ 1) (words j) (k.switches j far);
+      }
+
+  -- the lead's write of the word i, which is no request's
+  pub switch_moves : (s : St) (k : Keep plan s) (id i x m : ℕ) (cs : List (ℕ × Slot)) (v : View) → get_elem? s.views id ≡ some v → v.leads ≡ true →
+      count_of_requests plan ≤ i → i < count_of_words plan → x ≤ 1 → Keep plan (stepped s i x id cs (with_switch v i x m) keeps)
+  switch_moves s k id i x m cs v at leads far inside small =
+      let here = at_view s.views id v at in
+      let l = led s k id v at leads in
+      let is = l.is in
+      let wide = k.all_words in
+      let long = l.all_switches in
+      let w : View = with_switch v i x m in
+      let ws : List ℕ = set s.words i x in
+      let vs : List View = set s.views id w in
+      let part : (A : Type 0) (f : View → A) → f w ≡ f v → (j : ℕ) → f (view_at s.views j) ≡ f (view_at vs j) = λ A f e j. sym (same_part f s.views id v w at e j) in
+      let there : get_or ws i 0 ≡ x = get_or-set_same s.words i x 0 (omega arith) in
+      let lead_states = part (List LeadState) (λ u. u.lead_states) refl k.lead in
+      let now : view_at vs k.lead ≡ w = ap (view_at vs) (sym is) ∙ get_or-set_same s.views id w nobody here.0 in
+      let words : (j : ℕ) → j < count_of_requests plan → get_or s.words j 0 ≡ get_or ws j 0 = λ j near. sym (get_or-set_other s.words i j x 0 (λ e. omega arith)) in
+      record {
+        lead = k.lead;
+        owner = k.owner;
+        few_places = k.few_places;
+        all_words = length-set s.words i x ∙ wide;
+        all_slots = k.all_slots;
+        all_lead_states = ap (λ (ss : List LeadState). length ss) (sym lead_states) ∙ k.all_lead_states;
+        leads = sym (part Bool (λ u. u.leads) refl k.lead) ∙ k.leads;
+        one_lead = λ j e. k.one_lead j (part Bool (λ u. u.leads) refl j ∙ e);
+        knows_plan = sym (part (Option Plan) (λ u. u.plan) refl k.lead) ∙ k.knows_plan;
+        one_owner = λ j p e. k.one_owner j p (ap (λ (ps : List PlaceId). has ps p) (part (List PlaceId) (λ u. u.places) refl j) ∙ e);
+        at_own = λ j. subst (λ (z : List PlaceId × Doing). IsAtOwn z.0 z.1) (λ y. (part (List PlaceId) (λ u. u.places) refl j y, part Doing (λ u. u.doing) refl j y)) (k.at_own j);
+        apart = subst (AreApart plan) lead_states k.apart;
+        each_request = λ j near. subst (λ (z : (PlaceId → Doing) × LeadState × ℕ). Fits plan z.0 (request_of j) z.1 z.2 (home s j))
+            (λ y. ((λ p. part Doing (λ u. u.doing) refl (k.owner p) y), ap (λ (ss : List LeadState). lead_state_at ss j) lead_states y, words j near y)) (k.each_request j near);
         each_seat = λ j. subst (Works plan k.owner ws j) (part Doing (λ u. u.doing) refl j) (works_same (view_at s.views j).doing k.owner s.words ws j words (k.each_seat j));
-        switches = λ j far. dite (ℕ_discrete j i)
-            (λ e. subst (λ (z : ℕ). z ≤ 1) (sym (ap (λ (q : ℕ). get_or ws q 0) e ∙ there)) (small (subst (λ (q : ℕ). count_of_requests plan ≤ q) e far)))
-            (λ other. subst (λ (z : ℕ). z ≤ 1) (sym (get_or-set_other s.words i j n 0 other)) (k.switches j far));
+        all_switches = ap (λ (u : View). length u.switches) now ∙ (length-set v.switches i x ∙ long);
+        each_switch = λ j beyond. dite (ℕ_discrete j i)
+            (λ e. ap (λ (q : ℕ). get_or ws q 0) e ∙ (there ∙ sym (ap (λ (u : View). get_or u.switches j 0) now ∙ (ap (λ (q : ℕ). get_or (set v.switches i x) q 0) e ∙ get_or-set_same v.switches i x 0 (omega arith)))))
+            (λ other. get_or-set_other s.words i j x 0 other ∙ (l.each_switch j beyond ∙ sym (ap (λ (u : View). get_or u.switches j 0) now ∙ get_or-set_other v.switches i j x 0 other)));
+        switches = λ j beyond. dite (ℕ_discrete j i)
+            (λ e. subst (λ (z : ℕ). z ≤ 1) (sym (ap (λ (q : ℕ). get_or ws q 0) e ∙ there)) small)
+            (λ other. subst (λ (z : ℕ). z ≤ 1) (sym (get_or-set_other s.words i j x 0 other)) (k.switches j beyond));
       }

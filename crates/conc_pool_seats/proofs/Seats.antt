@@ -102,6 +102,8 @@ module _ (plan : Plan) where
     apart = λ x y ne lx ly. absurd (subst IsLive (replicate_at (count_of_requests plan) x NotLet) lx);
     each_request = λ r l. subst (λ (z : LeadState). Fits plan (doing_at (first_view plan ∷ []) (λ _. 0)) (request_of r) z (get_or ws r 0) (home_at (map some (nones (count_of_requests plan))) r)) (sym (replicate_at (count_of_requests plan) r NotLet)) (zero_word r, homes_at (count_of_requests plan) r l);
     each_seat = λ j. subst (Works plan (λ _. 0) ws j) (sym (idle j)) tt;
+    all_switches = length-replicate (count_of_words plan) 0;
+    each_switch = λ i far. zero_word i ∙ sym (replicate_at (count_of_words plan) i 0);
     switches = λ i far. let z = zero_word i in omega arith;
   }
     where
@@ -141,6 +143,7 @@ module _ (plan : Plan) where
       (λ e. let o = owns p e in ap (λ (j : ℕ). (view_at s.views j).doing) o ∙ (ap (λ (u : View). u.doing) here.1 ∙ (idle ∙ sym (ap (λ (j : ℕ). (view_at vs j).doing) (moved_there ps new k.owner p e) ∙ ap (λ (u : View). u.doing) (last_view mid right)))))
       (λ e. sym (ap (λ (j : ℕ). (view_at vs j).doing) (moved_else ps new k.owner p e) ∙ doing_same (k.owner p))) (either_is (has ps p)) in
       let lead_states = part (List LeadState) (λ u. u.lead_states) refl refl k.lead in
+      let switches = part (List ℕ) (λ u. u.switches) refl refl k.lead in
       record {
         lead = k.lead;
         owner = owner';
@@ -168,6 +171,8 @@ module _ (plan : Plan) where
         each_request = λ r l. subst (λ (z : (PlaceId → Doing) × LeadState). Fits plan z.0 (request_of r) z.1 (word s r) (home s r)) (λ i. ((λ p. at_same p i), ap (λ (ss : List LeadState). lead_state_at ss r) (sym lead_states) i)) (k.each_request r l);
         each_seat = λ j. subst (Works plan owner' s.words j) (sym (doing_same j)) (works_moved (view_at s.views j).doing k.owner owner' s.words j
             (λ p busy o. ⊎_elim (λ e. absurd (busy (ap (λ (q : ℕ). (view_at s.views q).doing) (sym o ∙ owns p e) ∙ (ap (λ (u : View). u.doing) here.1 ∙ idle)))) (λ e. moved_else ps new k.owner p e ∙ o) (either_is (has ps p))) (k.each_seat j));
+        all_switches = ap (λ (xs : List ℕ). length xs) switches ∙ k.all_switches;
+        each_switch = λ i far. k.each_switch i far ∙ sym (ap (λ (xs : List ℕ). get_or xs i 0) switches);
         switches = k.switches;
       }
 
@@ -222,5 +227,7 @@ module _ (plan : Plan) where
         each_request = λ r near. subst (λ (z : (PlaceId → Doing) × LeadState). Fits plan z.0 (request_of r) z.1 (word s r) (home s r)) (λ i. ((λ p. at_same p i), ap (λ (ss : List LeadState). lead_state_at ss r) (sym lead_states) i)) (l.fits r near);
         each_seat = λ j. subst (Works plan owner' s.words j) (sym (doing_same j)) (works_moved (view_at s.views j).doing k.owner owner' s.words j
             (λ p busy o. ⊎_elim (λ e. absurd (busy (ap (λ (q : ℕ). (view_at s.views q).doing) (sym o ∙ owns p e) ∙ (ap (λ (u : View). u.doing) was ∙ idle_too)))) (λ e. moved_else w.places id k.owner p e ∙ o) (either_is (has w.places p))) (k.each_seat j));
+        all_switches = ap (λ (u : View). length u.switches) now ∙ l.all_switches;
+        each_switch = λ i far. l.each_switch i far ∙ sym (ap (λ (u : View). get_or u.switches i 0) now);
         switches = k.switches;
       }

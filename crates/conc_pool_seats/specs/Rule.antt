@@ -25,7 +25,7 @@ use Rattle.conc_pool_seats.specs.Words.{IsPlace, IsRequest, claimed, count_of_re
 
 -- the view that a seat leaves behind when it is taken in, and that of a number which no seat has
 abbrev pub nobody : View
-nobody = record { leads = false; plan = None; lead_states = []; places = []; doing = Idle; found = []; posts = [] }
+nobody = record { leads = false; plan = None; lead_states = []; switches = []; places = []; doing = Idle; found = []; posts = [] }
 
 -- the lead's view of a new board
 abbrev pub first_view : Plan → View
@@ -33,6 +33,7 @@ first_view plan = record {
   leads = true;
   plan = Some plan;
   lead_states = replicate (count_of_requests plan) NotLet;
+  switches = replicate (count_of_words plan) 0;
   places = below (count_of_places plan);
   doing = Idle;
   found = [];
@@ -143,4 +144,6 @@ pub record Keep (plan : Plan) (s : BoardState) : Type 0 where
       Fits plan (doing_at s.views owner) (request_of i)
       (lead_state_at (view_at s.views lead).lead_states i) (slice_index s.words i) (home_at s.homes i)
   pub each_seat : (j : ℕ) → Works plan owner s.words j (view_at s.views j).doing
+  pub all_switches : length (view_at s.views lead).switches ≡ count_of_words plan
+  pub each_switch : (i : ℕ) → count_of_requests plan ≤ i → slice_index s.words i ≡ slice_index (view_at s.views lead).switches i
   pub switches : (i : ℕ) → count_of_requests plan ≤ i → slice_index s.words i ≤ 1

@@ -1,5 +1,5 @@
 -- What each step leaves of the seat that makes it.
-use Rattle.std.specs.Prelude.{◌≡◌, ◌≢◌, ◌⊎◌, ℕ, ◌/◌, ◌≤◌, ◌==◌, Bool, false, List, [], ◌∷◌, ◌++◌, if◌then◌else◌, slice_set, Option, Some, None}
+use Rattle.std.specs.Prelude.{◌≡◌, ◌≢◌, ◌⊎◌, ℕ, ◌/◌, ◌≤◌, ◌==◌, Bool, false, List, [], ◌∷◌, ◌++◌, if◌then◌else◌, slice_index, slice_set, Option, Some, None}
 use Rattle.atomic_table.specs.Table.{Me, Step, rest}
 use Rattle.conc_types.specs.declared.event.PlaceId.{PlaceId}
 use Rattle.conc_types.specs.declared.event.RequestId.{RequestId}
@@ -28,6 +28,10 @@ abbrev pub with_lead_state : View → ℕ → LeadState → ℕ → View
 with_lead_state v i lead_state n =
     record v { lead_states = slice_set v.lead_states i lead_state; found = v.found ++ (i, n) ∷ [] }
 
+-- of the lead, which wrote x to the word i
+abbrev pub with_switch : View → ℕ → ℕ → ℕ → View
+with_switch v i x n = record v { switches = slice_set v.switches i x; found = v.found ++ (i, n) ∷ [] }
+
 -- of a hand, which then does this
 abbrev pub with_doing : View → Doing → ℕ → ℕ → View
 with_doing v doing i n = record v { doing = doing; found = v.found ++ (i, n) ∷ [] }
@@ -46,7 +50,7 @@ abbrev pub with_places_off : List PlaceId → View → View
 with_places_off ps v = record v { places = without v.places ps }
 
 abbrev pub given : List PlaceId → View → View
-given ps v = record { leads = false; plan = None; lead_states = []; places = ps; doing = Idle; found = []; posts = [] }
+given ps v = record { leads = false; plan = None; lead_states = []; switches = []; places = ps; doing = Idle; found = []; posts = [] }
 
 -- of the lead, which takes in a hand with the view w
 abbrev pub joined : View → View → View
@@ -132,9 +136,14 @@ clear_leaves st m n m' =
 abbrev pub note_leaves : StepLeaves
 note_leaves st m n m' = (m'.0 ≡ noted m.0 st.word n) × (m'.1 ≡ m.1)
 
--- the same on the word of a place or of the end
+-- a hand's load of the word of a place or of the end
+abbrev pub see_switch_leaves : StepLeaves
+see_switch_leaves st m n m' = (m'.0 ≡ noted m.0 st.word n) × (m'.1 ≡ m.1) × (n ≤ 1)
+
+-- the lead's write of one
 abbrev pub switch_leaves : StepLeaves
-switch_leaves st m n m' = (m'.0 ≡ noted m.0 st.word n) × (m'.1 ≡ m.1) × (n ≤ 1)
+switch_leaves st m n m' =
+    (m'.0 ≡ with_switch m.0 st.word st.first n) × (m'.1 ≡ m.1) × (n ≡ slice_index m.0.switches st.word) × (n ≤ 1)
 
 abbrev pub claim_leaves : StepLeaves
 claim_leaves st m n m' =

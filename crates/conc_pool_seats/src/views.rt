@@ -36,6 +36,8 @@ pub struct View {
     pub plan: Option<Plan>,
     /// The lead state of each request, which the lead knows.
     pub lead_states: LinkedList<LeadState>,
+    /// What it last wrote to each word that is no request's, which the lead knows. It begins at 0.
+    pub switches: LinkedList<u64>,
     /// The places of its own.
     pub places: LinkedList<PlaceId>,
     /// What it does, as a hand.

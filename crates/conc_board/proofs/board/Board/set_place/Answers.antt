@@ -1,16 +1,12 @@
 use Rattle.std.proofs.Common.{◌≤◌, ◌+◌, ap, arith}
-use Rattle.conc_pool_seats.specs.declared.views.View.{View}
 use Rattle.conc_pool_seats.proofs.LeadSteps.{switches}
-use Rattle.conc_board.proofs.Leads.{adds_one, leaves_lead_states}
+use Rattle.conc_board.proofs.Leads.{sets_flag}
 use Rattle.conc_board.proofs.board.Board.set_place.Goals as goal
 
 pub swap-requires : goal.swap-requires
 swap-requires c = let b = c.args.self.now in let near = c.requires.place.within in
-    (c.requires.lead.seat, omega (arith, b.words, b.request_count), switches b.table.shared.key _ _ _ _ _ (omega (arith, b.request_count)) (omega (arith, b.request_count)) c.requires.switch)
+    (c.requires.lead.seat, omega (arith, b.words, b.request_count), switches b.table.shared.key _ _ _ _ _ c.args.lead.now.leads (omega (arith, b.request_count)) (omega (arith, b.request_count)) c.requires.switch)
 
 pub returns : goal.returns
-returns c = record {
-  lead = leaves_lead_states _ _ _ _ c.swap.result c.requires.lead c.swap.ensures.0 c.swap.ensures.2.0;
-  found = let b = c.args.self.now in
-      adds_one (λ n. n ≤ 1) _ (b.requests + c.args.place.index) c.swap.result _ _ (ap (λ z. z + c.args.place.index) b.request_count) c.swap.ensures.2.2 (ap (λ (v : View). v.found) c.swap.ensures.2.0);
-}
+returns c = let b = c.args.self.now in let near = c.requires.place.within in
+    sets_flag _ _ _ (b.requests + c.args.place.index) _ _ c.swap.result c.requires.lead (ap (λ z. z + c.args.place.index) b.request_count) (omega arith) c.swap.ensures.0 c.swap.ensures.2.0 c.swap.ensures.2.2 c.swap.ensures.2.3
