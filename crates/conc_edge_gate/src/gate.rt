@@ -1,3 +1,6 @@
+ghost use Rattle.std.specs.Prelude.{⊤};
+ghost use Rattle.conc_types.specs.declared.event.RequestId.{RequestId};
+
 use conc_types::RequestId;
 use std::sync::atomic::AtomicBool;
 use std::sync::atomic::Ordering::SeqCst;
@@ -6,8 +9,12 @@ use std::thread;
 /// A gate through which each worker goes between the permit for a request and its report. It may
 /// hold the worker for a while.
 pub trait Gate {
+    /// That a request came through the gate. Whoever has a gate of any kind learns it from `before` alone.
+    ghost came: { Self → RequestId → Type 0 };
+
     /// Goes through the gate with a request.
-    fn before(&self, request: RequestId);
+    fn before(&self, request: RequestId)
+        ensures { came self.now request };
 }
 
 /// The gate that holds nobody.
@@ -15,6 +22,8 @@ pub trait Gate {
 pub struct FreeGate;
 
 impl Gate for FreeGate {
+    ghost came = { λ _ _. ⊤ };
+
     fn before(&self, _: RequestId) {}
 }
 
@@ -48,6 +57,11 @@ impl PairGate {
         self.gave_up.load(SeqCst)
     }
 
+    /// Whether both requests came, and each was still held when the other one came. It takes no memory.
+    pub fn held_both(&self) -> bool {
+        self.first_came.load(SeqCst) && self.second_came.load(SeqCst) && !self.gave_up()
+    }
+
     // Yields until the other request has come, as long as there are turns.
     fn hold(&self, other_came: &AtomicBool) {
         for _ in 0..self.turns {
@@ -63,6 +77,8 @@ impl PairGate {
 }
 
 impl Gate for PairGate {
+    ghost came = { λ _ _. ⊤ };
+
     fn before(&self, request: RequestId) {
         if request == self.first {
             self.first_came.store(true, SeqCst);

@@ -20,7 +20,7 @@ use Rattle.conc_board.specs.Seats.{Changes, IsLeadOf, lead_state_of, plan_of}
 use Rattle.conc_pool_seats.specs.declared.views.LeadState.{LeadState}
 use Rattle.conc_pool_seats.specs.declared.views.LeadState.TheVariants.{NotLet, Let, Seen, Gone, Got, Done}
 use Rattle.conc_pool_seats.specs.LeadStates.{IsGone, IsLet}
-use Rattle.conc_pool_seats.specs.Words.{count_of_requests}
+use Rattle.conc_pool_seats.specs.Words.{count_of_requests, count_of_words}
 use Rattle.conc_run_steps.specs.Steps.{plan_in}
 use Rattle.conc_run_state.specs.Works.{list_in}
 use Rattle.conc_run_state.specs.declared.work.Work.{Work}
@@ -39,6 +39,7 @@ seated board plan lead is at = record {
   knows = subst (λ (p : Plan). lead.seat.me.0.plan ≡ Some p) is at.plan;
   lead_states = subst (λ (p : Plan). length lead.seat.me.0.lead_states ≡ count_of_requests p) is at.lead_states;
   settled = at.settled;
+  switches = subst (λ (p : Plan). length lead.seat.me.0.switches ≡ count_of_words p) is at.switches;
 }
 
 -- a lead that is seated at the board is the board's
@@ -48,6 +49,7 @@ lead_of board plan lead seat is at = record {
   plan = subst (λ (p : Plan). lead.seat.me.0.plan ≡ Some p) (sym is) at.knows;
   lead_states = subst (λ (p : Plan). length lead.seat.me.0.lead_states ≡ count_of_requests p) (sym is) at.lead_states;
   settled = at.settled;
+  switches = subst (λ (p : Plan). length lead.seat.me.0.switches ≡ count_of_words p) (sym is) at.switches;
 }
 
 module _ (board : Board) (r : RequestId) (work : Work) (kept : Option Event) (old new : Lead) (changes : Changes board r old new) where

@@ -1,14 +1,19 @@
 -- Desks as contracts speak of them.
-use Rattle.std.specs.Prelude.{◌≡◌, ℕ, List, reverse}
+use Rattle.std.specs.Prelude.{◌≡◌, ℕ, Bool, true, false, List, reverse}
 use Rattle.conc_types.specs.declared.event.Event.{Event}
+use Rattle.conc_types.specs.declared.event.PlaceId.{PlaceId}
 use Rattle.conc_types.specs.declared.event.RequestId.{RequestId}
 use Rattle.conc_types.specs.declared.plan.Plan.{Plan}
 use Rattle.conc_types.specs.declared.plan.Req.{Req}
+use Rattle.conc_types.specs.Words.{some_and}
 use Rattle.conc_base_law.specs.Facts.{facts_of}
+use Rattle.conc_base_law.specs.Places.{is_usable}
+use Rattle.conc_base_law.specs.State.{now}
 use Rattle.conc_base_law.specs.Words.{Has}
 use Rattle.conc_board.specs.declared.board.Board.{Board}
-use Rattle.conc_board.specs.Seats.{IsFlag, LeadFinds, LeavesLeadStates, lead_state_of, plan_of}
+use Rattle.conc_board.specs.Seats.{SetsFlag, lead_state_of, plan_of, switch_of}
 use Rattle.conc_pool_seats.specs.declared.views.LeadState.{LeadState}
+use Rattle.conc_pool_seats.specs.Words.{IsPlace, place_word}
 use Rattle.conc_run_steps.specs.Steps.{plan_in}
 use Rattle.conc_run_state.specs.Works.{list_in}
 use Rattle.conc_run_desk.specs.Following.{SameBut}
@@ -47,13 +52,26 @@ pub record SameWork (old new : DeskState) : Type 0 where
   pub kept : new.kept ≡ old.kept
   pub begun_with : new.begun_with ≡ old.begun_with
 
--- A call on the word with this number, which is that of a place or of the end: one step found the word, and no request is in another lead
--- state than before
-pub record SwitchesFlag (board : Board) (word : ℕ) (old new : DeskState) : Type 0 where
+-- a call that writes this to the word with this number, which is that of a place or of the end, and does nothing else
+pub record SwitchesFlag (board : Board) (word value : ℕ) (old new : DeskState) : Type 0 where
   pub at : IsAt board new
   pub same : SameWork old new
-  pub lead : LeavesLeadStates board old.lead new.lead
-  pub found : LeadFinds word IsFlag old.lead new.lead
+  pub set : SetsFlag board word value old.lead new.lead
+
+-- ---- open places
+
+-- the place may be used at the last reading
+abbrev pub is_usable_at : DeskState → PlaceId → Bool
+is_usable_at desk p = some_and (λ t. is_usable (plan_at desk) t p) (now (reverse (list_at desk)))
+
+-- what the word of a place holds that is open, or closed
+abbrev pub place_value : Bool → ℕ
+place_value true = 1
+place_value false = 0
+
+-- each place of the plan is open exactly where it may be used at the last reading
+pub record OpensWhatIsUsable (board : Board) (desk : DeskState) : Type 0 where
+  pub each : (p : PlaceId) → IsPlace (plan_at desk) p → switch_of desk.lead (place_word (plan_of board) p) ≡ place_value (is_usable_at desk p)
 
 -- a call on one request of the board, and on nothing else
 pub record MovesOne (board : Board) (r : RequestId) (old new : DeskState) : Type 0 where

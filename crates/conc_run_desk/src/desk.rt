@@ -159,7 +159,7 @@ impl<'a> Desk<'a> {
     pub fn open_place(&mut self, board: &Board, place: PlaceId)
         requires at { IsAt board.now self.old }
         requires place { IsPlace (plan_of board.now) place }
-        ensures { SwitchesFlag board.now (place_word (plan_of board.now) place) self.old self.new }
+        ensures { SwitchesFlag board.now (place_word (plan_of board.now) place) 1 self.old self.new }
     {
         board.open_place(&mut self.lead, place);
     }
@@ -168,7 +168,7 @@ impl<'a> Desk<'a> {
     pub fn close_place(&mut self, board: &Board, place: PlaceId)
         requires at { IsAt board.now self.old }
         requires place { IsPlace (plan_of board.now) place }
-        ensures { SwitchesFlag board.now (place_word (plan_of board.now) place) self.old self.new }
+        ensures { SwitchesFlag board.now (place_word (plan_of board.now) place) 0 self.old self.new }
     {
         board.close_place(&mut self.lead, place);
     }
@@ -176,7 +176,7 @@ impl<'a> Desk<'a> {
     /// Tells all hands that there is no more to come.
     pub fn finish_all(&mut self, board: &Board)
         requires at { IsAt board.now self.old }
-        ensures { SwitchesFlag board.now (end_word (plan_of board.now)) self.old self.new }
+        ensures { SwitchesFlag board.now (end_word (plan_of board.now)) 1 self.old self.new }
     {
         board.finish_all(&mut self.lead);
     }

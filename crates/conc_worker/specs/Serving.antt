@@ -1,5 +1,5 @@
 -- What a look for the answer to a claim comes to.
-use Rattle.std.specs.Prelude.{◌≡◌, ℕ, ◌==◌, Bool, false, [], ◌∷◌, ◌++◌}
+use Rattle.std.specs.Prelude.{◌≡◌, ⊤, ℕ, ◌==◌, Bool, false, [], ◌∷◌, ◌++◌}
 use Rattle.conc_types.specs.declared.event.PlaceId.{PlaceId}
 use Rattle.conc_types.specs.declared.event.RequestId.{RequestId}
 use Rattle.conc_types.specs.declared.plan.Plan.{Plan}
@@ -32,6 +32,11 @@ pub record ServesAt (plan : Plan) (r : RequestId) (place : PlaceId) (old new : H
   pub found :
       found_by_hand new ≡ found_by_hand old
       ++ (request_word r, run_word stop place) ∷ (request_word r, looked) ∷ (request_word r, posted) ∷ []
+
+-- so it is with the request for which something was left, where something was
+abbrev pub IfPosted : Served → (RequestId → Type 0) → Type 0
+IfPosted (served.Posted r) IsSo = IsSo r
+IfPosted answer IsSo = ⊤
 
 -- what is answered to a claim, and what the hand does then
 abbrev pub Serves : Plan → Served → Claim → Hand → Hand → Type 0

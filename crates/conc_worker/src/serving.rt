@@ -1,7 +1,7 @@
 ghost use Rattle.std.specs.Prelude.{◌≡◌};
 ghost use Rattle.conc_board.specs.Claims.{HasClaim};
 ghost use Rattle.conc_board.specs.Seats.{IsHandOf, plan_of, Stays};
-ghost use Rattle.conc_worker.specs.Serving.{Serves};
+ghost use Rattle.conc_worker.specs.Serving.{IfPosted, Serves};
 
 use crate::leaving::{posted_as, report_for};
 use conc_board::{Board, Claim, Hand, Polled, Posted};
@@ -22,7 +22,7 @@ pub enum Served {
 
 /// Looks once for the answer to a claim. With the go it serves the request: it goes through the gate,
 /// looks once whether the request was told to stop, and leaves that it stopped, or its report, or that
-/// there was no memory for one. It waits for nobody but the gate. After `Posted` and `Withdrawn` the
+/// there was no memory for one. Nothing is left for a request that did not come through the gate. It waits for nobody but the gate. After `Posted` and `Withdrawn` the
 /// hand does nothing.
 pub fn serve_once<G: Gate>(
     alloc: Global,
@@ -37,6 +37,7 @@ pub fn serve_once<G: Gate>(
     requires claim { HasClaim hand.old claim }
     ensures hand { Stays board.now hand.old hand.new }
     ensures served { Serves plan.now result claim hand.old hand.new }
+    ensures came { IfPosted result (G.came gate.now) }
 {
     let permit = match board.poll(hand, claim) {
         Polled::Go(permit) => permit,

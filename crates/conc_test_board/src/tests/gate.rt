@@ -22,6 +22,8 @@ fn a_gate_gives_up_where_the_other_does_not_come(rt: HostRuntime) {
     assert!(rt; !gate.gave_up());
     gate.before(ONE);
     assert!(rt; gate.gave_up());
+    gate.before(TWO);
+    assert!(rt; !gate.held_both());
 }
 
 #[test]
@@ -30,6 +32,7 @@ fn a_gate_lets_go_once_the_other_came(rt: HostRuntime) {
     gate.before(TWO);
     assert!(rt; gate.gave_up());
     let gate = PairGate::new(ONE, TWO, 20_000_000);
+    assert!(rt; !gate.held_both());
     join(&rt, || gate.before(ONE), || gate.before(TWO));
-    assert!(rt; !gate.gave_up());
+    assert!(rt; gate.held_both());
 }

@@ -13,4 +13,5 @@ returns-in-Started-clause-follows c = record {
   lead_states = search rules;
   stops = λ r terminates. absurd (starts_no_terminate c.args.plan.now c.in-Started.request c.in-Started.place c.args.event c.in-Started.is r terminates);
   places = search rules;
+  switches = search rules;
 }
