@@ -43,7 +43,7 @@ module _ (plan : Plan) (readings : Option (List Reading)) (past : List Event) (e
   not_interrupted (event.Interrupt q) m was = runs_not_interrupted plan readings past r hr q m was
   not_interrupted _ m was = refl
 
-  gone_on : (p : PlaceId) (marked : Bool) → ends r.number e ≡ false → RunsAt p marked (facts_of plan past r) → RunsAt p marked (facts_of plan (e ∷ past) r)
+  pub gone_on : (p : PlaceId) (marked : Bool) → ends r.number e ≡ false → RunsAt p marked (facts_of plan past r) → RunsAt p marked (facts_of plan (e ∷ past) r)
   gone_on p marked no_end at =
       runs_on plan past e r p marked (runs_not_started plan readings past r hr e p marked may at)
       (or_from (ends r.number e) _ no_end (not_interrupted e may at.started)) no_resume at

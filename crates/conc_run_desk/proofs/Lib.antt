@@ -8,3 +8,4 @@ pub mod After
 pub mod Named
 pub mod Apart
 pub mod Stopping
+pub mod Permits

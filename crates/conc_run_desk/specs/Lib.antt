@@ -6,3 +6,4 @@ pub mod Logging
 pub mod Keeping
 pub mod Following
 pub mod Ties
+pub mod Permits

@@ -11,6 +11,6 @@ mod laws;
 pub use desk::Desk;
 pub use keeping::{KeepFail, Kept};
 pub use laws::{
-    lead_states_go_with_the_list, on_the_board_none_excludes_what_waits,
+    a_permit_is_a_run, lead_states_go_with_the_list, on_the_board_none_excludes_what_waits,
     what_is_on_the_board_is_live,
 };

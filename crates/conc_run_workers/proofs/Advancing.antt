@@ -20,7 +20,7 @@ use Rattle.conc_run_steps.specs.Told.{IsTold, IsUntold}
 use Rattle.conc_run_steps.proofs.Underway.{by-first, underway-more, underway-still, went-further, went-still}
 use Rattle.conc_run_desk.specs.Desks.{MovesOne}
 use Rattle.conc_run_desk.specs.State.{DeskState}
-use Rattle.conc_run_workers.specs.Resolving.{Advances, Concludes, disks_between, IsAtWork, Resolves, Situation, StaysAt}
+use Rattle.conc_run_workers.specs.Resolving.{Advances, Concludes, disks_between, IsAtWork, IsDismissed, MovesAt, Resolves, Situation, StaysAt}
 use Rattle.conc_run_workers.specs.Runs.{AwaitsReport}
 
 -- the same, but for the desk
@@ -29,7 +29,11 @@ with_desk s desk = record { desk = desk; journal = s.journal; spool = s.spool; t
 
 -- ---- a step that adds no event
 
-pub still : {board : Board} {before : Situation} {new : DeskState} → IsAtWork board before → IfSome before.spool.seen before.spool.may_leave → StaysAt board before.desk new → Advances board before (with_desk before new)
+-- one that opens and closes no place moves
+pub moves-at : {board : Board} {old new : DeskState} → StaysAt board old new → MovesAt board old new
+moves-at stays = record { at = stays.at; same = stays.same; places = stays.places }
+
+pub still : {board : Board} {before : Situation} {new : DeskState} → IsAtWork board before → IfSome before.spool.seen before.spool.may_leave → MovesAt board before.desk new → Advances board before (with_desk before new)
 still {board} {before} {new} at_work left stays = record {
   at = stays.at;
   places = stays.places;
@@ -77,7 +81,7 @@ after board old mid new (Err fail) first second = record {
 }
 
 -- one step, and another on the board alone
-pub then-still : {T : Type 0} (board : Board) (old mid : Situation) (new : DeskState) (answer : Result T RunFail) → Resolves board answer old mid → StaysAt board mid.desk new → Resolves board answer old (with_desk mid new)
+pub then-still : {T : Type 0} (board : Board) (old mid : Situation) (new : DeskState) (answer : Result T RunFail) → Resolves board answer old mid → MovesAt board mid.desk new → Resolves board answer old (with_desk mid new)
 then-still board old mid new (Ok x) first stays = record {
   at = stays.at;
   places = stays.places ∙ first.places;
@@ -95,7 +99,7 @@ then-still board old mid new (Err fail) first stays = record {
   sound = λ none. ap (λ (w : Work). state_of w.journal) stays.same.work ∙ first.sound none;
 }
 
-pub ok-still : {board : Board} {old mid : Situation} {new : DeskState} → Advances board old mid → StaysAt board mid.desk new → Advances board old (with_desk mid new)
+pub ok-still : {board : Board} {old mid : Situation} {new : DeskState} → Advances board old mid → MovesAt board mid.desk new → Advances board old (with_desk mid new)
 ok-still {board} {old} {mid} {new} first stays = then-still {T = Unit {0}} board old mid new (Ok tt) first stays
 
 -- two steps on the board alone
@@ -108,16 +112,28 @@ stays-twice first second = record {
     begun_with = second.same.begun_with ∙ first.same.begun_with;
   };
   places = second.places ∙ first.places;
+  switches = record { each = λ word. second.switches.each word ∙ first.switches.each word };
+}
+
+pub moves-twice : {board : Board} {old mid new : DeskState} → MovesAt board old mid → MovesAt board mid new → MovesAt board old new
+moves-twice first second = record {
+  at = second.at;
+  same = record {
+    work = second.same.work ∙ first.same.work;
+    kept = second.same.kept ∙ first.same.kept;
+    begun_with = second.same.begun_with ∙ first.same.begun_with;
+  };
+  places = second.places ∙ first.places;
 }
 
 pub stays-moves : {board : Board} {r : RequestId} {old new : DeskState} → MovesOne board r old new → StaysAt board old new
-stays-moves moves = record { at = moves.at; same = moves.same; places = moves.others.places }
+stays-moves moves = record { at = moves.at; same = moves.same; places = moves.others.places; switches = moves.others.switches }
 
 -- ---- what a whole run comes to
 
 -- one that goes on, by what its steps came to
-pub concludes-begun : (board : Board) (old new : Situation) (answer : Result Unit RunFail) → Resolves board answer old new → OnOk answer (IsFinished new.desk.work) → Concludes board answer old new
-concludes-begun board old new (Ok x) h is_finished =
+pub concludes-begun : (board : Board) (old new : Situation) (answer : Result Unit RunFail) → Resolves board answer old new → OnOk answer (IsFinished new.desk.work) → IsDismissed board new.desk → Concludes board answer old new
+concludes-begun board old new (Ok x) h is_finished dismissed =
     let went = h.under.went in record {
       at = h.at;
       places = h.places;
@@ -128,8 +144,9 @@ concludes-begun board old new (Ok x) h is_finished =
       spool_fault = λ is. cc;
       memory = λ is. cc;
       sound = λ none. h.under.state;
+      dismissed = dismissed;
     }
-concludes-begun board old new (Err fail) h is_finished = record {
+concludes-begun board old new (Err fail) h is_finished dismissed = record {
   at = h.at;
   places = h.places;
   went = h.went;
@@ -141,12 +158,13 @@ concludes-begun board old new (Err fail) h is_finished = record {
       inr (by-first old.desk.work new.desk.work (disks_between old new) h.went (λ plan readings. AwaitsReport plan (list_in new.desk.work) ⊎ ((new.may_lack ≡ true) × IsUntold new.told (list_in new.desk.work)))
       (h.memory (let e : fail ≡ run_fail.NoMemory = cc in e)));
   sound = λ none. h.sound (λ is. none (ap (λ e. Err e) is));
+  dismissed = dismissed;
 }
 
 -- one that does not begin
-pub concludes-unbegun : (board : Board) (old : Situation) (new : DeskState) → IsAtWork board old → IfSome old.spool.seen old.spool.may_leave → StaysAt board old.desk new
+pub concludes-unbegun : (board : Board) (old : Situation) (new : DeskState) → IsAtWork board old → IfSome old.spool.seen old.spool.may_leave → MovesAt board old.desk new → IsDismissed board new
     → Concludes board (Err run_fail.NoMemory) old (with_desk old new)
-concludes-unbegun board old new at_work left stays =
+concludes-unbegun board old new at_work left stays dismissed =
     let went : WentOn (plan_in old.desk.work) (readings_in old.desk.work) (disks_between old old) old.desk.work old.desk.work = went-still old.desk.work old.journal old.spool at_work.ready left in record {
       at = stays.at;
       places = stays.places;
@@ -157,10 +175,11 @@ concludes-unbegun board old new at_work left stays =
       spool_fault = λ is. cc;
       memory = λ is. inl (ap (λ (w : Work). list_in w) stays.same.work);
       sound = λ none. ap (λ (w : Work). state_of w.journal) stays.same.work;
+      dismissed = dismissed;
     }
 
 -- a history that is finished is so after a step on the board alone
-pub finished-still : {T : Type 0} {board : Board} {mid new : DeskState} (answer : Result T RunFail) → OnOk answer (IsFinished mid.work) → StaysAt board mid new → OnOk answer (IsFinished new.work)
+pub finished-still : {T : Type 0} {board : Board} {mid new : DeskState} (answer : Result T RunFail) → OnOk answer (IsFinished mid.work) → MovesAt board mid new → OnOk answer (IsFinished new.work)
 finished-still (Ok x) is stays = subst (λ (w : Work). IsFinished w) (sym stays.same.work) is
 finished-still (Err fail) is stays = tt
 

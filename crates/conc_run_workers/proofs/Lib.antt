@@ -5,6 +5,7 @@ pub mod Awaiting
 pub mod Ending
 pub mod Filled
 pub mod Kept
+pub mod Opening
 pub mod PutWaiting
 pub mod Quiet
 pub mod Stepping

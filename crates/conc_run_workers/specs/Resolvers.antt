@@ -1,13 +1,13 @@
 -- A resolver between two events, and what a step of it comes to.
-use Rattle.std.specs.Prelude.{◌≡◌, Result, Ok}
+use Rattle.std.specs.Prelude.{◌≡◌, Result, Ok, OnOk}
 use Rattle.conc_types.specs.declared.event.Event.{Event}
 use Rattle.conc_types.specs.declared.event.RequestId.{RequestId}
 use Rattle.conc_pool_seats.specs.LeadStates.{IsGone, IsLet}
 use Rattle.conc_pool_seats.specs.Words.{IsRequest}
-use Rattle.conc_board.specs.Seats.{plan_of}
+use Rattle.conc_board.specs.Seats.{SameSwitches, plan_of}
 use Rattle.conc_disk.specs.declared.disk.Disk.{Ghosts as DiskGhosts}
 use Rattle.conc_journal.specs.declared.teller.Teller.{Ghosts as TellerGhosts}
-use Rattle.conc_run_desk.specs.Desks.{lead_state_at}
+use Rattle.conc_run_desk.specs.Desks.{OpensWhatIsUsable, lead_state_at}
 use Rattle.conc_run_desk.specs.State.{DeskState}
 use Rattle.conc_run_state.specs.declared.error.RunFail.{RunFail}
 use Rattle.conc_run_workers.specs.declared.resolving.Resolver.{Resolver}
@@ -30,9 +30,15 @@ abbrev pub situation : {D E T : Type 0} → DiskGhosts D → DiskGhosts E → Te
 situation d e t r = standing d e t r.desk.now r.journal.now r.spool.now r.teller.now
 
 -- It is at work at its board, and all that has to be in its lanes is there.
+pub record MayBegin {D E T : Type 0} (d : DiskGhosts D) (e : DiskGhosts E) (t : TellerGhosts T) (r : Resolver D E T) : Type 0 where
+  pub at_work : IsAtWork r.shared.now.board (situation d e t r)
+  pub filled : AreFilled r.shared.now.lanes r.desk.now r.hints.now.pass
+
+-- So it is, and the places are open that may be used.
 pub record MayStep {D E T : Type 0} (d : DiskGhosts D) (e : DiskGhosts E) (t : TellerGhosts T) (r : Resolver D E T) : Type 0 where
   pub at_work : IsAtWork r.shared.now.board (situation d e t r)
   pub filled : AreFilled r.shared.now.lanes r.desk.now r.hints.now.pass
+  pub opens : OpensWhatIsUsable r.shared.now.board r.desk.now
 
 -- the request is one of the plan of its board
 abbrev pub IsOfPlan : {D E T : Type 0} → Resolver D E T → RequestId → Type 0
@@ -54,22 +60,24 @@ pub record SameLoans {D E T : Type 0} (old new : Resolver D E T) : Type 0 where
   pub teller : new.teller.ghost_name ≡ old.teller.ghost_name
   pub hints : new.hints.ghost_name ≡ old.hints.ghost_name
 
--- What a step comes to, by its answer.
+-- What a step comes to, by its answer. Where it succeeds the places are open that may be used.
 pub record Steps {A D E T : Type 0} (d : DiskGhosts D) (e : DiskGhosts E) (t : TellerGhosts T) (answer : Result A RunFail) (old new : Resolver D E T) : Type 0 where
   pub loans : SameLoans old new
   pub resolves : Resolves old.shared.now.board answer (situation d e t old) (situation d e t new)
   pub fills : Fills old.shared.now.lanes answer old.desk.now new.desk.now new.hints.now.pass
+  pub opens : OnOk answer (OpensWhatIsUsable old.shared.now.board new.desk.now)
 
 -- some steps that succeeded
 abbrev pub Went : {D E T : Type 0} → DiskGhosts D → DiskGhosts E → TellerGhosts T → Resolver D E T → Resolver D E T → Type 0
 Went d e t old new = Steps {A = Unit {0}} d e t (Ok tt) old new
 
--- What a step comes to that logs this event. Nothing is put into the lanes.
+-- What a step comes to that logs this event. Nothing is put into the lanes, and no place is opened or closed.
 pub record Logs {D E T : Type 0} (d : DiskGhosts D) (e : DiskGhosts E) (t : TellerGhosts T) (event : Event) (answer : Result Unit RunFail) (old new : Resolver D E T) : Type 0 where
   pub loans : SameLoans old new
   pub hints : new.hints.now ≡ old.hints.now
   pub resolves : Resolves old.shared.now.board answer (situation d e t old) (situation d e t new)
   pub adds : AddsEvent event answer old.desk.now new.desk.now
+  pub switches : SameSwitches old.desk.now.lead new.desk.now.lead
 
 -- What a whole run comes to, by its answer.
 pub record Directs {D E T : Type 0} (d : DiskGhosts D) (e : DiskGhosts E) (t : TellerGhosts T) (answer : Result Unit RunFail) (old new : Resolver D E T) : Type 0 where

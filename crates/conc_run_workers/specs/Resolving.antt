@@ -1,18 +1,21 @@
 -- What a step of the resolver takes and leaves.
 use Rattle.std.specs.Prelude.{◌≡◌, ◌⊎◌, Bool, List, Option, None, Result, Ok, Err, IsTrue, OnOk}
 use Rattle.conc_types.specs.declared.event.Event.{Event}
+use Rattle.conc_types.specs.declared.event.RequestId.{RequestId}
 use Rattle.conc_base_law.specs.Law.{Finished}
 use Rattle.conc_outside.specs.Counts.{Rose}
 use Rattle.conc_disk.specs.Disk.{DiskState}
 use Rattle.conc_journal.specs.Journals.{state_of}
 use Rattle.conc_board.specs.declared.board.Board.{Board}
-use Rattle.conc_board.specs.Seats.{places_of_lead}
+use Rattle.conc_board.specs.Seats.{HasTold, SameSwitches, places_of_lead, plan_of}
+use Rattle.conc_pool_seats.specs.LeadStates.{IsLet}
+use Rattle.conc_pool_seats.specs.Words.{IsRequest}
 use Rattle.conc_run_state.specs.Disks.{Disks, disks}
 use Rattle.conc_run_state.specs.declared.error.RunFail.{RunFail}
 use Rattle.conc_run_state.specs.declared.error.RunFail.TheVariants as run_fail
 use Rattle.conc_run_steps.specs.Going.{IsUnderway, WentOn}
 use Rattle.conc_run_steps.specs.Steps.{IsReady, readings_in}
-use Rattle.conc_run_desk.specs.Desks.{IsAt, list_at, plan_at, SameWork}
+use Rattle.conc_run_desk.specs.Desks.{IsAt, lead_state_at, list_at, OpensWhatIsUsable, plan_at, SameWork}
 use Rattle.conc_run_desk.specs.State.{DeskState}
 use Rattle.conc_run_workers.specs.Runs.{AwaitsReport}
 use Rattle.conc_run_steps.specs.Told.{IsTold, IsUntold}
@@ -40,10 +43,32 @@ pub record IsAtWork (board : Board) (s : Situation) : Type 0 where
   pub is_told : IsTold s.told s.takes (plan_at s.desk) (list_at s.desk)
 
 -- a step on the board alone: the work is as it was, and the lead has the places that it had
+pub record MovesAt (board : Board) (old new : DeskState) : Type 0 where
+  pub at : IsAt board new
+  pub same : SameWork old new
+  pub places : places_of_lead new.lead ≡ places_of_lead old.lead
+
+-- one that opens and closes no place
 pub record StaysAt (board : Board) (old new : DeskState) : Type 0 where
   pub at : IsAt board new
   pub same : SameWork old new
   pub places : places_of_lead new.lead ≡ places_of_lead old.lead
+  pub switches : SameSwitches old.lead new.lead
+
+-- one that opens each place that may be used at the last reading, and closes each other one
+pub record SetsPlaces (board : Board) (old new : DeskState) : Type 0 where
+  pub moves : MovesAt board old new
+  pub opens : OpensWhatIsUsable board new
+
+-- no request is let out on the board without the go, and the hands are told that there is no more to come
+pub record IsDismissed (board : Board) (desk : DeskState) : Type 0 where
+  pub none_let : (r : RequestId) → IsRequest (plan_of board) r → IsLet (lead_state_at desk r) → ⊥
+  pub told : HasTold board desk.lead
+
+-- a step on the board alone that comes to this
+pub record Dismisses (board : Board) (old new : DeskState) : Type 0 where
+  pub moves : MovesAt board old new
+  pub dismissed : IsDismissed board new
 
 -- from one moment between two events the run went on to another
 pub record Advances (board : Board) (before after : Situation) : Type 0 where
@@ -74,7 +99,7 @@ Resolves board (Ok x) before after = Advances board before after
 Resolves board (Err fail) before after = Halts board fail before after
 
 -- What a whole run comes to, by its answer. Where it found no memory, it may have added nothing, since not all workers came; else
--- it is as where a step did.
+-- it is as where a step did. However it ends, nothing more is let out, and the hands are told so.
 pub record Concludes (board : Board) (answer : Result Unit RunFail) (before after : Situation) : Type 0 where
   pub at : IsAt board after.desk
   pub places : places_of_lead after.desk.lead ≡ places_of_lead before.desk.lead
@@ -85,3 +110,4 @@ pub record Concludes (board : Board) (answer : Result Unit RunFail) (before afte
   pub spool_fault : answer ≡ Err run_fail.SpoolFault → Rose before.spool.faults after.spool.faults
   pub memory : answer ≡ Err run_fail.NoMemory → (list_at after.desk ≡ list_at before.desk) ⊎ (AwaitsReport (plan_at before.desk) (list_at after.desk) ⊎ (IsTrue after.may_lack × IsUntold after.told (list_at after.desk)))
   pub sound : (answer ≡ Err run_fail.JournalFault → ⊥) → state_of after.desk.work.journal ≡ state_of before.desk.work.journal
+  pub dismissed : IsDismissed board after.desk

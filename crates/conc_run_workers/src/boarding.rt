@@ -1,14 +1,17 @@
 // What the resolver does on the board and for the lanes, beside the list.
 ghost use Rattle.std.specs.Prelude.{◌≡◌, [], IsTrue, length};
+ghost use Rattle.conc_types.specs.declared.event.RequestId.{RequestId};
 ghost use Rattle.conc_board.specs.Seats.{plan_of};
 ghost use Rattle.conc_pool_lanes.specs.Lanes as lanes_spec;
 ghost use Rattle.conc_pool_lanes.specs.Lanes.{are_shorter, IsLeadPassOf, puts_of};
 ghost use Rattle.conc_pool_lanes.specs.Puts.{lists_for};
 ghost use Rattle.conc_pool_lanes.specs.Rooms.{room_for};
+ghost use Rattle.conc_pool_seats.specs.LeadStates.{IsLet};
 ghost use Rattle.conc_pool_seats.specs.Words.{IsRequest};
-ghost use Rattle.conc_run_desk.specs.Desks.{IsAt, list_at, plan_at};
+ghost use Rattle.conc_run_desk.specs.Desks.{IsAt, lead_state_at, list_at, plan_at};
+ghost use Rattle.conc_run_desk.specs.Following.{SameBut};
 ghost use Rattle.conc_run_workers.specs.Filling.{AreFilled, joined_after};
-ghost use Rattle.conc_run_workers.specs.Resolving.{StaysAt};
+ghost use Rattle.conc_run_workers.specs.Resolving.{Dismisses, SetsPlaces, StaysAt};
 
 use conc_board::{Board, Progress};
 use conc_pool_lanes::{Lanes, LeadPass};
@@ -89,7 +92,9 @@ pub(crate) fn release_all(board: &Board, desk: &mut Desk<'_>)
 pub(crate) fn withdraw(board: &Board, desk: &mut Desk<'_>, r: RequestId)
     requires at { IsAt board.now desk.old }
     requires request { IsRequest (plan_of board.now) r }
-    ensures { StaysAt board.now desk.old desk.new }
+    ensures stays { StaysAt board.now desk.old desk.new }
+    ensures not_let { IsLet (lead_state_at desk.new r) → ⊥ }
+    ensures others { SameBut r desk.old.lead desk.new.lead }
 {
     if matches!(desk.progress(board, r), Progress::Let) {
         desk.withdraw(board, r);
@@ -99,7 +104,9 @@ pub(crate) fn withdraw(board: &Board, desk: &mut Desk<'_>, r: RequestId)
 /// Withdraws each request that is let out and has no go. A hand that waits for one of them comes out only so.
 pub(crate) fn withdraw_all(board: &Board, desk: &mut Desk<'_>)
     requires at { IsAt board.now desk.old }
-    ensures { StaysAt board.now desk.old desk.new }
+    ensures stays { StaysAt board.now desk.old desk.new }
+    ensures none_let { (r : RequestId) → IsRequest (plan_of board.now) r → IsLet (lead_state_at desk.new r)
+        → ⊥ }
 {
     for request in desk.machine().plan().requests.as_slice() {
         withdraw(board, desk, request.number);
@@ -109,7 +116,7 @@ pub(crate) fn withdraw_all(board: &Board, desk: &mut Desk<'_>)
 /// Opens each place that may be used at the last reading, and closes each other one.
 pub(crate) fn set_places(board: &Board, desk: &mut Desk<'_>)
     requires at { IsAt board.now desk.old }
-    ensures { StaysAt board.now desk.old desk.new }
+    ensures { SetsPlaces board.now desk.old desk.new }
 {
     for index in 0..place_count(desk.machine().plan()) {
         let place = PlaceId { index };
@@ -124,7 +131,7 @@ pub(crate) fn set_places(board: &Board, desk: &mut Desk<'_>)
 /// Withdraws each request that no hand serves, and tells the hands that there is no more to come.
 pub(crate) fn dismiss(board: &Board, desk: &mut Desk<'_>)
     requires at { IsAt board.now desk.old }
-    ensures { StaysAt board.now desk.old desk.new }
+    ensures { Dismisses board.now desk.old desk.new }
 {
     withdraw_all(board, desk);
     desk.finish_all(board);

@@ -48,7 +48,7 @@ fn note(started: &mut [Option<RequestId>], place: PlaceId, r: RequestId) {
 }
 
 impl<D: Disk, E: Disk, T: Teller> Resolver<'_, '_, '_, D, E, T> {
-    ghost use Rattle.conc_run_workers.specs.Resolvers.{HasLetOut, IsOfPlan, MayStep, Steps};
+    ghost use Rattle.conc_run_workers.specs.Resolvers.{HasLetOut, IsOfPlan, MayBegin, MayStep, Steps};
 
     // ---- single events
 
@@ -267,7 +267,7 @@ impl<D: Disk, E: Disk, T: Teller> Resolver<'_, '_, '_, D, E, T> {
 
     /// Goes on from the journal's list to the end of the history, beside the hands.
     pub(crate) fn resolve<R: Wait>(&mut self, rt: &R) -> Result<(), RunFail>
-        requires { MayStep D.Disk E.Disk T.Teller self.old }
+        requires { MayBegin D.Disk E.Disk T.Teller self.old }
         ensures steps { Steps D.Disk E.Disk T.Teller result self.old self.new }
         ensures finished { OnOk result (IsFinished self.new.desk.now.work) }
     {

@@ -61,9 +61,9 @@ pub(crate) trait Director {
 }
 
 impl<D: Disk, E: Disk, T: Teller> Director for Resolver<'_, '_, '_, D, E, T> {
-    ghost use Rattle.conc_run_workers.specs.Resolvers.{Directs, MayStep};
+    ghost use Rattle.conc_run_workers.specs.Resolvers.{Directs, MayBegin};
 
-    ghost may_direct = { λ resolver. MayStep D.Disk E.Disk T.Teller resolver };
+    ghost may_direct = { λ resolver. MayBegin D.Disk E.Disk T.Teller resolver };
 
     ghost directs = { λ answer old new. Directs D.Disk E.Disk T.Teller answer old new };
 

@@ -17,6 +17,7 @@ use Rattle.conc_run_workers.specs.Resolvers.{situation}
 use Rattle.conc_run_workers.proofs.Ending.{end-no_resume, pending-tells}
 use Rattle.conc_run_workers.proofs.Kept.{halts-unkept}
 use Rattle.conc_run_workers.proofs.Logged.{advances-unkept, halts-unlogged, next-logged, told-answer}
+use Rattle.conc_run_workers.proofs.Opening.{end-no_tick, opens-added, opens-kept}
 use Rattle.conc_run_workers.proofs.Quiet.{adds-logged, adds-unlogged, end-quiet, quiet-after, quiet-empty, quiet-kept, quiet-one}
 use Rattle.conc_run_workers.proofs.Stepping.{handed, loans-same, none, quiet}
 use Rattle.conc_run_workers.proofs.resolving.Resolver.end.Goals as goal
@@ -35,7 +36,7 @@ returns-in_err-event g c =
     (halts-unkept r.shared.now.board (situation g.D.Disk g.E.Disk g.T.Teller r) mid s' c.args.r c.in_err-event.field-0.0 w c.requires.request c.machine.ensures.tied c.keep.ensures.list c.keep.ensures.parts c.keep.ensures.on c.keep.ensures.at c.keep.ensures.others.places
     c.in_err-event.ensures.keeps c.in_err-event.ensures.takes
     (λ leaves. subst (λ x. StoresOn (plan_at d) (used_of d.work.spool) (list_at d) (list_at d) s (g.E.Disk.state x)) (sym (c.in_err-event.ensures.untouched (inl leaves))) still))
-    (quiet-kept d mid c.keep.ensures.list))
+    (quiet-kept d mid c.keep.ensures.list) tt)
 
 pub returns-in_default : goal.returns-in_default
 returns-in_default g c =
@@ -48,7 +49,7 @@ returns-in_default g c =
     quiet _ c.requires.may_step (loans-same refl) refl
     (advances-unkept r.shared.now.board (situation g.D.Disk g.E.Disk g.T.Teller r) mid s' w c.keep.ensures.list parts c.keep.ensures.on c.keep.ensures.at c.keep.ensures.others.places
     (subst (λ x. StoresOn (plan_at d) (used_of d.work.spool) (list_at d) (list_at d) s (g.E.Disk.state x)) (sym same) still) none)
-    (quiet-kept d mid c.keep.ensures.list)
+    (quiet-kept d mid c.keep.ensures.list) (opens-kept c.keep.ensures.list c.keep.ensures.others.switches c.requires.may_step.opens)
 
 -- ---- the end is logged
 
@@ -81,7 +82,7 @@ returns-in_err-receipt g c =
     (g.T.Teller.list r.teller.now) (g.T.Teller.takes r.teller.now) (g.T.Teller.may_lack r.teller.now) (Some e) unlogged made.parts made.on (unlogged.kept ∙ kept.kept)
     (subst (λ (z : Plan × List Event). HasPendingText z.0 z.1 s' (Some e))
     (λ i. (sym (ap (λ (m : Machine). plan_of m) (unlogged.machine ∙ list.machine)) i, sym (unlogged.list ∙ ap (λ (x : Journal). list_of x) list.journal) i)) kept.text) c.in_err-receipt.ensures.fault)
-    (quiet-after d mid new (quiet-kept d mid list) (quiet-empty mid new (adds-unlogged e mid new unlogged))))
+    (quiet-after d mid new (quiet-kept d mid list) (quiet-empty mid new (adds-unlogged e mid new unlogged))) tt)
 
 pub returns-in_err-tell : goal.returns-in_err-tell
 returns-in_err-tell g c =
@@ -96,7 +97,7 @@ returns-in_err-tell g c =
     calm (pending-tells (plan_at d) (list_at d) s' e kept.text) kept.lawful kept.stores made.survives made.at c.keep.ensures.others.places
     logged made.parts made.on (g.T.Teller.list c.tell.new.teller) (g.T.Teller.takes c.tell.new.teller) (g.T.Teller.may_lack c.tell.new.teller) c.in_ok-receipt.receipt answer
     c.in_ok-receipt.ensures.receipt tt told.unchanged c.tell.ensures.takes told.cause told.lacked)
-    (quiet-after d mid new (quiet-kept d mid list) (quiet-one e mid new calm (end-quiet (plan_at d) (reverse (list_at d)) c.args.r e kept.is_end) (adds-logged e mid new logged))))
+    (quiet-after d mid new (quiet-kept d mid list) (quiet-one e mid new calm (end-quiet (plan_at d) (reverse (list_at d)) c.args.r e kept.is_end) (adds-logged e mid new logged))) tt)
 
 pub returns : goal.returns
 returns g c =
@@ -111,3 +112,4 @@ returns g c =
     logged made.parts made.on (g.T.Teller.list c.tell.new.teller) (g.T.Teller.takes c.tell.new.teller) (g.T.Teller.may_lack c.tell.new.teller) c.in_ok-receipt.receipt answer
     c.in_ok-receipt.ensures.receipt c.in_ok-tell.ensures.told tt c.tell.ensures.takes tt tt)
     (quiet-after d mid new (quiet-kept d mid list) (quiet-one e mid new calm (end-quiet (plan_at d) (reverse (list_at d)) c.args.r e kept.is_end) (adds-logged e mid new logged)))
+    (opens-added e (end-no_tick (plan_at d) (reverse (list_at d)) c.args.r e kept.is_end) (adds-logged e mid new logged) logged.follows.switches (opens-kept list c.keep.ensures.others.switches c.requires.may_step.opens))

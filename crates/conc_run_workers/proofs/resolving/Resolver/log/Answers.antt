@@ -1,4 +1,6 @@
-use Rattle.std.proofs.Common.{None, inl, refl, ◌∙◌}
+use Rattle.std.proofs.Common.{None, inl, refl, ◌∙◌, ap}
+use Rattle.conc_board.specs.declared.lead.Lead.{Lead}
+use Rattle.conc_board.specs.Seats.{switch_of}
 use Rattle.conc_journal_spool.specs.Spools.{used_of}
 use Rattle.conc_run_steps.specs.Steps.{readings_in}
 use Rattle.conc_run_steps.proofs.Coming.{takes-one}
@@ -36,6 +38,7 @@ returns-in_err-receipt g c =
       resolves = halts-unlogged r.shared.now.board (situation g.D.Disk g.E.Disk g.T.Teller r) d new j' s w refl refl w.ready.tied.spool_on e c.requires.no_resume (plain-tells (plan_at d) e c.requires.no_end) c.requires.lawful stores made.survives made.at refl
           (g.T.Teller.list r.teller.now) (g.T.Teller.takes r.teller.now) (g.T.Teller.may_lack r.teller.now) None unlogged made.parts made.on (unlogged.kept ∙ w.nothing_kept) tt c.in_err-receipt.ensures.fault;
       adds = inl (adds-unlogged e d new unlogged);
+      switches = record { each = λ word. ap (λ (l : Lead). switch_of l word) unlogged.lead };
     })
 
 pub returns : goal.returns
@@ -50,4 +53,5 @@ returns g c =
           c.in_ok-receipt.ensures.logged made.parts made.on (g.T.Teller.list c.tell.new.teller) (g.T.Teller.takes c.tell.new.teller) (g.T.Teller.may_lack c.tell.new.teller) c.in_ok-receipt.receipt c.tell.result
           c.in_ok-receipt.ensures.receipt told.told told.unchanged told.takes told.cause told.lacked;
       adds = adds-told e d new c.tell.result (adds-logged e d new c.in_ok-receipt.ensures.logged);
+      switches = c.in_ok-receipt.ensures.logged.follows.switches;
     }

@@ -1,15 +1,15 @@
 use Rattle.std.proofs.Common.{refl}
-use Rattle.conc_run_workers.proofs.Stepping.{both, handed, loans-same, on-board, may-step, twice}
+use Rattle.conc_run_workers.proofs.Stepping.{both, handed, loans-same, on-board, may-step, sets-places, twice}
 use Rattle.conc_run_workers.proofs.resolving.Resolver.resolve.Goals as goal
 
 pub settle-requires : goal.settle-requires
-settle-requires g c = may-step (on-board c.requires (g.met.E.Disk.seen_is_left c.args.self.now.spool.now) (loans-same refl) refl c.set_places.ensures)
+settle-requires g c = may-step (sets-places c.requires (g.met.E.Disk.seen_is_left c.args.self.now.spool.now) (loans-same refl) refl c.set_places.ensures)
 
 pub returns-in_err-settle-clause-steps : goal.returns-in_err-settle-clause-steps
-returns-in_err-settle-clause-steps g c = handed c.from_residual.result c.from_residual.ensures.1 (both (on-board c.requires (g.met.E.Disk.seen_is_left c.args.self.now.spool.now) (loans-same refl) refl c.set_places.ensures) c.in_err-settle.ensures)
+returns-in_err-settle-clause-steps g c = handed c.from_residual.result c.from_residual.ensures.1 (both (sets-places c.requires (g.met.E.Disk.seen_is_left c.args.self.now.spool.now) (loans-same refl) refl c.set_places.ensures) c.in_err-settle.ensures)
 
 pub loop-init : goal.loop-init
-loop-init g c = twice (on-board c.requires (g.met.E.Disk.seen_is_left c.args.self.now.spool.now) (loans-same refl) refl c.set_places.ensures)
+loop-init g c = twice (sets-places c.requires (g.met.E.Disk.seen_is_left c.args.self.now.spool.now) (loans-same refl) refl c.set_places.ensures)
     (both c.in_ok-settle.ensures (on-board (may-step c.in_ok-settle.ensures) (g.met.E.Disk.seen_is_left c.settle.new.self.spool.now) (loans-same refl) refl c.release_all.ensures))
 
 pub turn-requires : goal.turn-requires

@@ -8,6 +8,7 @@ use Rattle.conc_run_desk.specs.Desks.{list_at, plan_at}
 use Rattle.conc_run_workers.proofs.Coming.{forced-at, forced-lawful, forced-no_resume, forced-seen}
 use Rattle.conc_run_steps.proofs.Coming.{lawful-past}
 use Rattle.conc_run_workers.proofs.Filled.{has-room}
+use Rattle.conc_run_workers.proofs.Opening.{forced-no_tick}
 use Rattle.conc_run_workers.proofs.Stepping.{handed, let-out, loans-same, none, unlogged}
 use Rattle.conc_run_workers.proofs.resolving.Resolver.settle_one.Goals as goal
 
@@ -54,4 +55,4 @@ pub returns : goal.returns
 returns g c =
     let d = c.args.self.now.desk.now in let m = c.machine.ensures in
     let is = forced-at c.machine.result.now d m.machine m.stands c.forced.result (Some c.in-Some.event) c.forced.ensures c.in-Some.is in
-    let-out c.in-Some.event c.requires (forced-no_resume (plan_at d) (readings_in d.work) (list_at d) m.lawful c.in-Some.event is) c.in_ok-log.ensures (loans-same refl) refl c.let_out.ensures.stays c.let_out.ensures.pass c.let_out.ensures.put
+    let-out c.in-Some.event c.requires (forced-no_resume (plan_at d) (readings_in d.work) (list_at d) m.lawful c.in-Some.event is) (forced-no_tick (plan_at d) (reverse (list_at d)) c.in-Some.event is) c.in_ok-log.ensures (loans-same refl) refl c.let_out.ensures.stays c.let_out.ensures.pass c.let_out.ensures.put

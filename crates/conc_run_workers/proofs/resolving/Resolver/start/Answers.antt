@@ -29,16 +29,16 @@ pub returns-in_err-log : goal.returns-in_err-log
 returns-in_err-log g c =
     let looked = on-board c.requires.may_step (g.met.E.Disk.seen_is_left c.args.self.now.spool.now) (loans-same refl) refl (stays-moves c.look.ensures.moves) in
     handed {B = Unit {0}} c.from_residual.result c.from_residual.ensures.1
-    (both looked (logged (event.Started c.args.r c.in-Claimed.place) _ (may-step looked) refl (start-quiet c.args.r c.in-Claimed.place) c.in_err-log.ensures))
+    (both looked (logged (event.Started c.args.r c.in-Claimed.place) _ (may-step looked) refl (start-quiet c.args.r c.in-Claimed.place) refl c.in_err-log.ensures))
 
 pub returns-then-may_start : goal.returns-then-may_start
 returns-then-may_start g c =
     let looked = on-board c.requires.may_step (g.met.E.Disk.seen_is_left c.args.self.now.spool.now) (loans-same refl) refl (stays-moves c.look.ensures.moves) in
-    noted (both looked (logged (event.Started c.args.r c.in-Claimed.place) _ (may-step looked) refl (start-quiet c.args.r c.in-Claimed.place) c.in_ok-log.ensures)) (loans-same refl) refl
+    noted (both looked (logged (event.Started c.args.r c.in-Claimed.place) _ (may-step looked) refl (start-quiet c.args.r c.in-Claimed.place) refl c.in_ok-log.ensures)) (loans-same refl) refl
 
 pub returns-then-usable : goal.returns-then-usable
 returns-then-usable g c = ok (on-board c.requires.may_step (g.met.E.Disk.seen_is_left c.args.self.now.spool.now) (loans-same refl) refl (stays-moves c.look.ensures.moves))
 
 pub returns : goal.returns
 returns g c =
-    ok (on-board c.requires.may_step (g.met.E.Disk.seen_is_left c.args.self.now.spool.now) (loans-same refl) refl (stays-twice (stays-moves c.look.ensures.moves) (stays-twice c.withdraw.ensures c.release.ensures)))
+    ok (on-board c.requires.may_step (g.met.E.Disk.seen_is_left c.args.self.now.spool.now) (loans-same refl) refl (stays-twice (stays-moves c.look.ensures.moves) (stays-twice c.withdraw.ensures.stays c.release.ensures)))

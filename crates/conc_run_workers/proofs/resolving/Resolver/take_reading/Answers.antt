@@ -4,7 +4,7 @@ use Rattle.conc_run_steps.specs.Steps.{readings_in}
 use Rattle.conc_run_desk.specs.Desks.{list_at, plan_at}
 use Rattle.conc_run_workers.proofs.Coming.{forced-at, may_take-at, next-at, not-some, tick-lawful}
 use Rattle.conc_run_workers.proofs.Quiet.{tick-quiet}
-use Rattle.conc_run_workers.proofs.Stepping.{handed, logged, loans-same, none, on-board, may-step, twice}
+use Rattle.conc_run_workers.proofs.Stepping.{handed, loans-same, none, read, unlogged}
 use Rattle.conc_run_workers.proofs.resolving.Resolver.take_reading.Goals as goal
 
 pub returns-then-is_some : goal.returns-then-is_some
@@ -29,9 +29,8 @@ log-requires-clause-lawful g c =
 
 pub returns-in_err-log : goal.returns-in_err-log
 returns-in_err-log g c = let t = c.in-Some.reading.moment in
-    handed {B = Unit {0}} c.from_residual.result c.from_residual.ensures.1 (logged (event.Tick t) _ c.requires refl (tick-quiet t) c.in_err-log.ensures)
+    handed {B = Unit {0}} c.from_residual.result c.from_residual.ensures.1 (unlogged (event.Tick t) c.requires refl c.in_err-log.ensures)
 
 pub returns : goal.returns
 returns g c =
-    let t = c.in-Some.reading.moment in let log = logged (event.Tick t) _ c.requires refl (tick-quiet t) c.in_ok-log.ensures in
-    twice log (on-board (may-step log) (g.met.E.Disk.seen_is_left c.log.new.self.spool.now) (loans-same refl) refl c.set_places.ensures)
+    let t = c.in-Some.reading.moment in read (event.Tick t) c.requires refl (tick-quiet t) c.in_ok-log.ensures (loans-same refl) refl c.set_places.ensures
