@@ -1,5 +1,5 @@
 -- What a step of the lead's changes of what contracts see.
-use Rattle.std.proofs.Common.{◌≡◌, ℕ, ◌<◌, ◌≤◌, ◌≢◌, if◌then◌else◌, List, [], ◌∷◌, ◌++◌, length, get_or, set, sym, refl, ap, ◌∙◌, subst, inl, inr, arith, length-set, get_or-set_other, get_or-set_same, eq-eqb, ne_eqb, append_assoc}
+use Rattle.std.proofs.Common.{◌≡◌, ℕ, ◌<◌, ◌≤◌, ◌≢◌, if◌then◌else◌, List, [], ◌∷◌, ◌++◌, length, get_or, set, sym, refl, ap, ◌∙◌, subst, inl, inr, arith, length-set, get_or-set_other, get_or-set_same, eq-eqb, ne_eqb, append-nil, append_assoc}
 use mathlib.Core.Logic.{dite}
 use native.Mathlib.Decide.{ℕ_discrete}
 use Rattle.conc_types.specs.declared.event.RequestId.{RequestId}
@@ -15,7 +15,7 @@ use Rattle.conc_pool_seats.specs.Words.{IsRequest, count_of_requests, count_of_w
 use Rattle.conc_pool_seats.proofs.Facts.{request_eq}
 use Rattle.conc_board.specs.declared.board.Board.{Board}
 use Rattle.conc_board.specs.declared.lead.Lead.{Lead}
-use Rattle.conc_board.specs.Seats.{AddsOne, Changes, IsAsWritten, IsLeadOf, LeavesLeadStates, SetsFlag, lead_state_of, plan_of, switch_of}
+use Rattle.conc_board.specs.Seats.{AddsOne, Changes, IsAsWritten, IsLeadOf, LeavesLeadStates, SetsFlag, TakesMore, lead_state_of, plan_of, posts_of_lead, switch_of}
 
 -- ---- lead states of requests
 
@@ -71,6 +71,10 @@ settled_by board r old new st lead now others calm q = dite (ℕ_discrete q.numb
     (λ e. subst IsSettled (sym (ap (lead_state_of new) (request_eq q r e) ∙ now)) calm)
     (λ other. subst IsSettled (sym (others q (λ e. other (ap (λ (z : RequestId). z.number) e)))) (lead.settled q))
 
+-- it took nothing
+same_posts : (old new : Lead) → posts_of_lead new ≡ posts_of_lead old → TakesMore old new
+same_posts old new same = ([], same ∙ sym (append-nil (posts_of_lead old)))
+
 pub changes : (board : Board) (r : RequestId) (old new : Lead) (i : ℕ) (st : LeadState) (n : ℕ) → IsLeadOf board old → IsRequest (plan_of board) r → i ≡ request_word r →
     new.seat.table_id ≡ old.seat.table_id → new.seat.me.0 ≡ with_lead_state old.seat.me.0 i st n →
     GoesOn (lead_state_of old r) st → IsSettled st → Changes board r old new
@@ -89,13 +93,14 @@ changes board r old new i st n lead of_plan word seat is goes_on calm = record {
       ∙ (ap (λ (z : ℕ). lead_state_in (set old.seat.me.0.lead_states z st) q) word ∙ lead_state_in-set_other old.seat.me.0.lead_states r q st of_plan.from_one other);
   places = ap (λ (v : View). v.places) is;
   switches = record { each = λ word. ap (λ (v : View). get_or v.switches word 0) is };
+  posts = same_posts old new (ap (λ (v : View). v.posts) is);
 }
 
 -- its view changed at no lead state and at no place
 leaves_by : (board : Board) (old new : Lead) (w : View) → IsLeadOf board old → new.seat.table_id ≡ old.seat.table_id → new.seat.me.0 ≡ w →
     w.plan ≡ old.seat.me.0.plan → w.lead_states ≡ old.seat.me.0.lead_states → w.places ≡ old.seat.me.0.places → length w.switches ≡ length old.seat.me.0.switches →
-    LeavesLeadStates board old new
-leaves_by board old new w lead seat is plan lead_states places switches =
+    w.posts ≡ old.seat.me.0.posts → LeavesLeadStates board old new
+leaves_by board old new w lead seat is plan lead_states places switches posts =
     let same = ap (λ (v : View). v.lead_states) is ∙ lead_states in record {
       lead = record {
         seat = seat ∙ lead.seat;
@@ -106,18 +111,20 @@ leaves_by board old new w lead seat is plan lead_states places switches =
       };
       lead_states = record { each = λ r. ap (λ (ss : List LeadState). lead_state_in ss r) same };
       places = ap (λ (v : View). v.places) is ∙ places;
+      posts = same_posts old new (ap (λ (v : View). v.posts) is ∙ posts);
     }
 
 -- its view only notes a step
 pub no_change : (board : Board) (r : RequestId) (old new : Lead) (i n : ℕ) → IsLeadOf board old → new.seat.table_id ≡ old.seat.table_id →
     new.seat.me.0 ≡ noted old.seat.me.0 i n → Changes board r old new
 no_change board r old new i n lead seat is =
-    let leaves = leaves_by board old new (noted old.seat.me.0 i n) lead seat is refl refl refl refl in record {
+    let leaves = leaves_by board old new (noted old.seat.me.0 i n) lead seat is refl refl refl refl refl in record {
       lead = leaves.lead;
       goes_on = inl (leaves.lead_states.each r);
       others = λ q _. leaves.lead_states.each q;
       places = leaves.places;
       switches = record { each = λ word. ap (λ (v : View). get_or v.switches word 0) is };
+      posts = leaves.posts;
     }
 
 -- it writes x to a word that is no request's
@@ -126,11 +133,16 @@ pub sets_flag : (board : Board) (old new : Lead) (i word x n : ℕ) → IsLeadOf
 sets_flag board old new i word x n lead there inside seat is was small =
     let v = old.seat.me.0 in
     let now : (j : ℕ) → switch_of new j ≡ get_or (set v.switches word x) j 0 = λ j. ap (λ (u : View). get_or u.switches j 0) is ∙ ap (λ (z : ℕ). get_or (set v.switches z x) j 0) there in record {
-      lead = leaves_by board old new (with_switch v i x n) lead seat is refl refl refl (length-set v.switches i x);
+      lead = leaves_by board old new (with_switch v i x n) lead seat is refl refl refl (length-set v.switches i x) refl;
       found = adds_one (IsAsWritten old word) word i n v.found new.seat.me.0.found there (was ∙ ap (λ (z : ℕ). get_or v.switches z 0) there, small) (ap (λ (u : View). u.found) is);
       set = now word ∙ get_or-set_same v.switches word x 0 (let wide = lead.switches in omega arith);
       others = λ j other. now j ∙ get_or-set_other v.switches word j x 0 other;
     }
+
+-- one call after another
+pub takes_twice : (old mid new : Lead) → TakesMore old mid → TakesMore mid new → TakesMore old new
+takes_twice old mid new first second =
+    (first.0 ++ second.0, second.1 ∙ (ap (λ (z : List (ℕ × Posted)). z ++ second.0) first.1 ∙ append_assoc (posts_of_lead old) first.0 second.0))
 
 -- two calls on a request, of which the first keeps its lead state
 pub changes_after : (board : Board) (r : RequestId) (old mid new : Lead) → Changes board r old mid → lead_state_of mid r ≡ lead_state_of old r → Changes board r mid new → Changes board r old new
@@ -140,6 +152,7 @@ changes_after board r old mid new first same second = record {
   others = λ q other. second.others q other ∙ first.others q other;
   places = second.places ∙ first.places;
   switches = record { each = λ word. second.switches.each word ∙ first.switches.each word };
+  posts = takes_twice old mid new first.posts second.posts;
 }
 
 -- its view changed twice at one request, and it took this in between
@@ -163,6 +176,7 @@ changes_twice board r old new mid i one two n k x lead of_plan word seat is next
           ∙ (ap (λ (v : View). lead_state_in v.lead_states q) is ∙ (ap (λ (z : ℕ). lead_state_in (set old.seat.me.0.lead_states z one) q) word ∙ lead_state_in-set_other old.seat.me.0.lead_states r q one of_plan.from_one other))));
       places = ap (λ (v : View). v.places) next ∙ ap (λ (v : View). v.places) is;
       switches = record { each = λ word. ap (λ (v : View). get_or v.switches word 0) next ∙ ap (λ (v : View). get_or v.switches word 0) is };
+      posts = ((i, x) ∷ [], ap (λ (v : View). v.posts) next ∙ ap (λ (v : View). v.posts) is);
     }
 
 -- a settled lead state that is live is let out or has the go

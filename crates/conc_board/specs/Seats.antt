@@ -94,6 +94,10 @@ pub record SameLeadStates (old new : Lead) : Type 0 where
 pub record SameSwitches (old new : Lead) : Type 0 where
   pub each : (word : ℕ) → switch_of new word ≡ switch_of old word
 
+-- what the lead took out of slots before is the beginning of what it has taken since
+abbrev pub TakesMore : Lead → Lead → Type 0
+TakesMore old new = (taken : List (ℕ × Posted)) × (posts_of_lead new ≡ posts_of_lead old ++ taken)
+
 -- a call on a request: its lead state goes on, other requests are in the lead states that they were in, and
 -- the lead has the places that it had, and has them open or closed as before
 pub record Changes (board : Board) (r : RequestId) (old new : Lead) : Type 0 where
@@ -102,6 +106,7 @@ pub record Changes (board : Board) (r : RequestId) (old new : Lead) : Type 0 whe
   pub others : (q : RequestId) → q ≢ r → lead_state_of new q ≡ lead_state_of old q
   pub places : places_of_lead new ≡ places_of_lead old
   pub switches : SameSwitches old new
+  pub posts : TakesMore old new
 
 -- a call that finds the word of a request as its lead state has it, and sets that lead state
 pub record SetsLeadState (board : Board) (r : RequestId) (state : LeadState) (old new : Lead) : Type 0 where
@@ -114,6 +119,7 @@ pub record LeavesLeadStates (board : Board) (old new : Lead) : Type 0 where
   pub lead : IsLeadOf board new
   pub lead_states : SameLeadStates old new
   pub places : places_of_lead new ≡ places_of_lead old
+  pub posts : TakesMore old new
 
 -- what the lead last wrote to a word that is no request's, which is 0 or 1
 abbrev pub IsAsWritten : Lead → ℕ → ℕ → Type 0

@@ -11,7 +11,7 @@ use Rattle.conc_types.specs.Words.{some_and}
 use Rattle.conc_base_law.specs.Kinds.{act_of, is_terminate}
 use Rattle.conc_base_law.specs.Words.{id_eq}
 use Rattle.conc_board.specs.declared.lead.Lead.{Lead}
-use Rattle.conc_board.specs.Seats.{SameSwitches, found_by_lead, lead_state_of, places_of_lead}
+use Rattle.conc_board.specs.Seats.{SameSwitches, TakesMore, found_by_lead, lead_state_of, places_of_lead}
 use Rattle.conc_pool_seats.specs.Words.{request_word, running}
 use Rattle.conc_pool_seats.specs.declared.views.LeadState.{LeadState}
 use Rattle.conc_pool_seats.specs.declared.views.LeadState.TheVariants.{NotLet, Let, Seen, Gone}
@@ -43,12 +43,13 @@ abbrev pub StopsWhatRuns : LeadState → RequestId → Lead → Lead → Type 0
 StopsWhatRuns (Gone p marked) r old new = WasToldToStop r p marked old new
 StopsWhatRuns state r old new = ⊤
 
--- each other request is in the lead state that it was in, and the lead has the places that it had, and has them open or
--- closed as before
+-- Each other request is in the lead state that it was in. The lead has the places that it had, and has them open or closed as
+-- before; what it took out of slots before it has taken still.
 pub record SameBut (r : RequestId) (old new : Lead) : Type 0 where
   pub lead_states : (q : RequestId) → q ≢ r → lead_state_of new q ≡ lead_state_of old q
   pub places : places_of_lead new ≡ places_of_lead old
   pub switches : SameSwitches old new
+  pub posts : TakesMore old new
 
 -- ---- the lead state of a request after an event, by the one before
 
@@ -68,10 +69,11 @@ abbrev pub LeadStateAfter : Plan → Event → RequestId → LeadState → LeadS
 LeadStateAfter plan (event.Started q p) r old new = Where (id_eq q r) (new ≡ Gone p false) (new ≡ old)
 LeadStateAfter plan e r old new = LeadStateAfterAct (act_of plan e) r old new
 
--- the lead state of each request is so, a request with the go that is terminated was told to stop, and the lead has the
--- places that it had, and has them open or closed as before
+-- The lead state of each request is so, and a request with the go that is terminated was told to stop. The lead has the places
+-- that it had, and has them open or closed as before; what it took out of slots before it has taken still.
 pub record Follows (plan : Plan) (e : Event) (old new : Lead) : Type 0 where
   pub lead_states : (r : RequestId) → LeadStateAfter plan e r (lead_state_of old r) (lead_state_of new r)
   pub stops : (r : RequestId) → IsTrue (some_and (is_terminate r) (act_of plan e)) → StopsWhatRuns (lead_state_of old r) r old new
   pub places : places_of_lead new ≡ places_of_lead old
   pub switches : SameSwitches old new
+  pub posts : TakesMore old new

@@ -6,6 +6,7 @@ use Rattle.conc_base_law.specs.Law.{Finished}
 use Rattle.conc_outside.specs.Counts.{Rose}
 use Rattle.conc_journal.specs.Journals.{state_of}
 use Rattle.conc_board.specs.Looks.{LooksOn}
+use Rattle.conc_board.specs.Seats.{TakesMore}
 use Rattle.conc_board.specs.declared.board.Board.{Board}
 use Rattle.conc_pool_seats.specs.LeadStates.{IsGone, IsLet}
 use Rattle.conc_pool_seats.specs.declared.views.LeadState.{LeadState}
@@ -18,10 +19,11 @@ use Rattle.conc_run_steps.specs.Going.{IsUnderway, WentOn}
 use Rattle.conc_run_steps.specs.Steps.{IsFinished, plan_in, readings_in}
 use Rattle.conc_run_steps.specs.Told.{IsTold, IsUntold}
 use Rattle.conc_run_steps.proofs.Underway.{by-first, underway-more, underway-still, went-further, went-still}
-use Rattle.conc_run_desk.specs.Desks.{MovesOne}
+use Rattle.conc_run_desk.specs.Desks.{MovesOne, list_at, plan_at}
 use Rattle.conc_run_desk.specs.State.{DeskState}
-use Rattle.conc_run_workers.specs.Resolving.{Advances, Concludes, disks_between, IsAtWork, IsDismissed, MovesAt, Resolves, Situation, StaysAt}
+use Rattle.conc_run_workers.specs.Resolving.{Advances, Concludes, disks_between, IsAtWork, IsDismissed, IsShortOfMemory, LacksReport, MovesAt, Resolves, Situation, StaysAt}
 use Rattle.conc_run_workers.specs.Runs.{AwaitsReport}
+use Rattle.conc_run_workers.proofs.Awaiting.{lacks-still}
 
 -- the same, but for the desk
 abbrev pub with_desk : Situation → DeskState → Situation
@@ -80,27 +82,33 @@ after board old mid new (Err fail) first second = record {
   sound = λ none. second.sound none ∙ first.under.state;
 }
 
--- one step, and another on the board alone
-pub then-still : {T : Type 0} (board : Board) (old mid : Situation) (new : DeskState) (answer : Result T RunFail) → Resolves board answer old mid → MovesAt board mid.desk new → Resolves board answer old (with_desk mid new)
-then-still board old mid new (Ok x) first stays = record {
+-- one step that succeeded, and another on the board alone
+pub ok-still : {board : Board} {old mid : Situation} {new : DeskState} → Advances board old mid → MovesAt board mid.desk new → Advances board old (with_desk mid new)
+ok-still {board} {old} {mid} {new} first stays = record {
   at = stays.at;
   places = stays.places ∙ first.places;
   under = subst (λ (w : Work). IsUnderway old.desk.work w (disks_between old mid)) (sym stays.same.work) first.under;
   nothing_kept = stays.same.kept ∙ first.nothing_kept;
   is_told = subst (λ (w : Work). IsTold mid.told mid.takes (plan_in w) (list_in w)) (sym stays.same.work) first.is_told;
 }
-then-still board old mid new (Err fail) first stays = record {
+
+-- a want of memory stays one
+short-still : (mid : Situation) (new : DeskState) → new.work ≡ mid.desk.work → TakesMore mid.desk.lead new.lead → IsShortOfMemory mid → IsShortOfMemory (with_desk mid new)
+short-still mid new same posts (inl lacks) = inl (lacks-still mid.desk new same posts lacks)
+short-still mid new same posts (inr untold) = inr (untold.0, subst (λ (w : Work). IsUntold mid.told (list_in w)) (sym same) untold.1)
+
+-- one step, and another on the board alone
+pub then-still : {T : Type 0} (board : Board) (old mid : Situation) (new : DeskState) (answer : Result T RunFail) → Resolves board answer old mid → MovesAt board mid.desk new → TakesMore mid.desk.lead new.lead → Resolves board answer old (with_desk mid new)
+then-still board old mid new (Ok x) first stays posts = ok-still first stays
+then-still board old mid new (Err fail) first stays posts = record {
   at = stays.at;
   places = stays.places ∙ first.places;
   went = subst (λ (w : Work). WentOn (plan_in old.desk.work) (readings_in old.desk.work) (disks_between old mid) old.desk.work w) (sym stays.same.work) first.went;
   journal_fault = first.journal_fault;
   spool_fault = first.spool_fault;
-  memory = λ is. subst (λ (w : Work). AwaitsReport (plan_in w) (list_in w) ⊎ ((mid.may_lack ≡ true) × IsUntold mid.told (list_in w))) (sym stays.same.work) (first.memory is);
+  memory = λ is. short-still mid new stays.same.work posts (first.memory is);
   sound = λ none. ap (λ (w : Work). state_of w.journal) stays.same.work ∙ first.sound none;
 }
-
-pub ok-still : {board : Board} {old mid : Situation} {new : DeskState} → Advances board old mid → MovesAt board mid.desk new → Advances board old (with_desk mid new)
-ok-still {board} {old} {mid} {new} first stays = then-still {T = Unit {0}} board old mid new (Ok tt) first stays
 
 -- two steps on the board alone
 pub stays-twice : {board : Board} {old mid new : DeskState} → StaysAt board old mid → StaysAt board mid new → StaysAt board old new
@@ -132,7 +140,7 @@ stays-moves moves = record { at = moves.at; same = moves.same; places = moves.ot
 -- ---- what a whole run comes to
 
 -- one that goes on, by what its steps came to
-pub concludes-begun : (board : Board) (old new : Situation) (answer : Result Unit RunFail) → Resolves board answer old new → OnOk answer (IsFinished new.desk.work) → IsDismissed board new.desk → Concludes board answer old new
+pub concludes-begun : (board : Board) (old new : Situation) (answer : Result Unit RunFail) → Resolves board answer old new → OnOk answer (IsFinished new.desk.work) → IsDismissed board new.desk.lead → Concludes board answer old new
 concludes-begun board old new (Ok x) h is_finished dismissed =
     let went = h.under.went in record {
       at = h.at;
@@ -154,15 +162,22 @@ concludes-begun board old new (Err fail) h is_finished dismissed = record {
   is_told = tt;
   journal_fault = λ is. h.journal_fault (let e : fail ≡ run_fail.JournalFault = cc in e);
   spool_fault = λ is. h.spool_fault (let e : fail ≡ run_fail.SpoolFault = cc in e);
-  memory = λ is.
-      inr (by-first old.desk.work new.desk.work (disks_between old new) h.went (λ plan readings. AwaitsReport plan (list_in new.desk.work) ⊎ ((new.may_lack ≡ true) × IsUntold new.told (list_in new.desk.work)))
-      (h.memory (let e : fail ≡ run_fail.NoMemory = cc in e)));
+  memory = λ is. inr (h.memory (let e : fail ≡ run_fail.NoMemory = cc in e));
   sound = λ none. h.sound (λ is. none (ap (λ e. Err e) is));
   dismissed = dismissed;
 }
 
+-- where a whole run found no memory, by its plan at the beginning
+pub short-awaits : (old new : Situation) → WentOn (plan_at old.desk) (readings_in old.desk.work) (disks_between old new) old.desk.work new.desk.work
+    → (list_at new.desk ≡ list_at old.desk) ⊎ IsShortOfMemory new
+    → (list_at new.desk ≡ list_at old.desk) ⊎ (AwaitsReport (plan_at old.desk) (list_at new.desk) ⊎ ((new.may_lack ≡ true) × IsUntold new.told (list_at new.desk)))
+short-awaits old new went (inl same) = inl same
+short-awaits old new went (inr (inr untold)) = inr (inr untold)
+short-awaits old new went (inr (inl lacks)) =
+    inr (inl (by-first old.desk.work new.desk.work (disks_between old new) went (λ plan readings. AwaitsReport plan (list_in new.desk.work)) lacks.awaits))
+
 -- one that does not begin
-pub concludes-unbegun : (board : Board) (old : Situation) (new : DeskState) → IsAtWork board old → IfSome old.spool.seen old.spool.may_leave → MovesAt board old.desk new → IsDismissed board new
+pub concludes-unbegun : (board : Board) (old : Situation) (new : DeskState) → IsAtWork board old → IfSome old.spool.seen old.spool.may_leave → MovesAt board old.desk new → IsDismissed board new.lead
     → Concludes board (Err run_fail.NoMemory) old (with_desk old new)
 concludes-unbegun board old new at_work left stays dismissed =
     let went : WentOn (plan_in old.desk.work) (readings_in old.desk.work) (disks_between old old) old.desk.work old.desk.work = went-still old.desk.work old.journal old.spool at_work.ready left in record {

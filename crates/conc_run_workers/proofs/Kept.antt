@@ -16,7 +16,7 @@ use Rattle.conc_run_desk.specs.declared.keeping.KeepFail.{KeepFail}
 use Rattle.conc_run_desk.specs.declared.keeping.KeepFail.TheVariants as fails
 use Rattle.conc_run_desk.specs.Ties.{LeadStatesGoWith}
 use Rattle.conc_run_workers.specs.Resolving.{Halts, IsAtWork, Situation}
-use Rattle.conc_run_workers.proofs.Awaiting.{awaits}
+use Rattle.conc_run_workers.proofs.Awaiting.{lacks}
 use Rattle.conc_run_workers.proofs.Logged.{halts-memory, halts-spool, with_spool}
 
 -- none is kept after a failure
@@ -29,4 +29,4 @@ halts-unkept board before mid spool' r fails.SpoolFault at_work named tied list 
     halts-spool board before mid spool' at_work list (subst (λ (k : Option Event). IsTied k mid.work any_disk any_disk) keeps.kept parts) on at places keeps.stores keeps.fault
 halts-unkept board before mid spool' r fails.NoMemory at_work named tied list parts on at places keeps taken stores =
     halts-memory board before mid spool' at_work list (subst (λ (k : Option Event). IsTied k mid.work any_disk any_disk) keeps parts) on at places (stores tt)
-    (awaits board before.desk mid r at_work.at.plan named tied taken)
+    (lacks board before.desk mid r at_work.at.plan named tied list taken)

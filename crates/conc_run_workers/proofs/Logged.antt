@@ -36,8 +36,7 @@ use Rattle.conc_run_desk.specs.Desks.{IsAt, list_at, plan_at}
 use Rattle.conc_run_desk.specs.Keeping.{SameList}
 use Rattle.conc_run_desk.specs.Logging.{IsLogged, IsUnlogged}
 use Rattle.conc_run_desk.specs.State.{DeskState}
-use Rattle.conc_run_workers.specs.Resolving.{Advances, Halts, IsAtWork, Resolves, Situation}
-use Rattle.conc_run_workers.specs.Runs.{AwaitsReport}
+use Rattle.conc_run_workers.specs.Resolving.{Advances, Halts, IsAtWork, LacksReport, Resolves, Situation}
 use Rattle.conc_run_steps.specs.Told.{IsTold}
 use Rattle.conc_run_steps.proofs.Telling.{next-of, told-more, untold}
 
@@ -211,13 +210,13 @@ module _ (board : Board) (before : Situation) (new : DeskState) (spool' : DiskSt
   }
 
   -- its report had found no memory
-  pub halts-memory : AwaitsReport (plan_at before.desk) (list_at before.desk) → Halts board run_fail.NoMemory before (with_spool before new spool')
-  halts-memory awaits = record {
+  pub halts-memory : LacksReport new → Halts board run_fail.NoMemory before (with_spool before new spool')
+  halts-memory lacks = record {
     at = at;
     places = same_places;
     went = went-unkept;
     journal_fault = λ is. cc;
     spool_fault = λ is. cc;
-    memory = λ is. inl (subst (λ (z : Plan × List Event). AwaitsReport z.0 z.1) (λ i. (sym unkept-plan i, sym unkept-list i)) awaits);
+    memory = λ is. inl lacks;
     sound = λ other. unkept-state;
   }

@@ -3,19 +3,22 @@ use Rattle.std.specs.Prelude.{◌≡◌, ◌⊎◌, Bool, List, Option, None, Re
 use Rattle.conc_types.specs.declared.event.Event.{Event}
 use Rattle.conc_types.specs.declared.event.RequestId.{RequestId}
 use Rattle.conc_base_law.specs.Law.{Finished}
+use Rattle.conc_base_law.specs.Words.{Has}
 use Rattle.conc_outside.specs.Counts.{Rose}
 use Rattle.conc_disk.specs.Disk.{DiskState}
 use Rattle.conc_journal.specs.Journals.{state_of}
 use Rattle.conc_board.specs.declared.board.Board.{Board}
-use Rattle.conc_board.specs.Seats.{HasTold, SameSwitches, places_of_lead, plan_of}
+use Rattle.conc_board.specs.Seats.{HasTold, SameSwitches, TakesMore, lead_state_of, places_of_lead, plan_of, posts_of_lead}
+use Rattle.conc_board.specs.declared.lead.Lead.{Lead}
 use Rattle.conc_pool_seats.specs.LeadStates.{IsLet}
-use Rattle.conc_pool_seats.specs.Words.{IsRequest}
+use Rattle.conc_pool_seats.specs.Words.{IsRequest, request_word}
+use Rattle.conc_pool_seats.specs.declared.posted.Posted.TheVariants.{NoMemory}
 use Rattle.conc_run_state.specs.Disks.{Disks, disks}
 use Rattle.conc_run_state.specs.declared.error.RunFail.{RunFail}
 use Rattle.conc_run_state.specs.declared.error.RunFail.TheVariants as run_fail
 use Rattle.conc_run_steps.specs.Going.{IsUnderway, WentOn}
 use Rattle.conc_run_steps.specs.Steps.{IsReady, readings_in}
-use Rattle.conc_run_desk.specs.Desks.{IsAt, lead_state_at, list_at, OpensWhatIsUsable, plan_at, SameWork}
+use Rattle.conc_run_desk.specs.Desks.{IsAt, list_at, OpensWhatIsUsable, plan_at, SameWork}
 use Rattle.conc_run_desk.specs.State.{DeskState}
 use Rattle.conc_run_workers.specs.Runs.{AwaitsReport}
 use Rattle.conc_run_steps.specs.Told.{IsTold, IsUntold}
@@ -61,14 +64,15 @@ pub record SetsPlaces (board : Board) (old new : DeskState) : Type 0 where
   pub opens : OpensWhatIsUsable board new
 
 -- no request is let out on the board without the go, and the hands are told that there is no more to come
-pub record IsDismissed (board : Board) (desk : DeskState) : Type 0 where
-  pub none_let : (r : RequestId) → IsRequest (plan_of board) r → IsLet (lead_state_at desk r) → ⊥
-  pub told : HasTold board desk.lead
+pub record IsDismissed (board : Board) (lead : Lead) : Type 0 where
+  pub none_let : (r : RequestId) → IsRequest (plan_of board) r → IsLet (lead_state_of lead r) → ⊥
+  pub told : HasTold board lead
 
 -- a step on the board alone that comes to this
 pub record Dismisses (board : Board) (old new : DeskState) : Type 0 where
   pub moves : MovesAt board old new
-  pub dismissed : IsDismissed board new
+  pub posts : TakesMore old.lead new.lead
+  pub dismissed : IsDismissed board new.lead
 
 -- from one moment between two events the run went on to another
 pub record Advances (board : Board) (before after : Situation) : Type 0 where
@@ -78,10 +82,14 @@ pub record Advances (board : Board) (before after : Situation) : Type 0 where
   pub nothing_kept : after.desk.kept ≡ None
   pub is_told : IsTold after.told after.takes (plan_at after.desk) (list_at after.desk)
 
--- where a run that found no memory stands: a report may have found none, or the last event was not told, by a teller that may
--- find none
+-- a request runs after the desk's list and need not stop, and the lead was handed that its report found no memory
+pub record LacksReport (desk : DeskState) : Type 0 where
+  pub awaits : AwaitsReport (plan_at desk) (list_at desk)
+  pub handed : Has (posts_of_lead desk.lead) (request_word awaits.req.number, NoMemory)
+
+-- where a run that found no memory stands: a report found none, or the last event was not told, by a teller that may find none
 abbrev pub IsShortOfMemory : Situation → Type 0
-IsShortOfMemory s = AwaitsReport (plan_at s.desk) (list_at s.desk) ⊎ (IsTrue s.may_lack × IsUntold s.told (list_at s.desk))
+IsShortOfMemory s = LacksReport s.desk ⊎ (IsTrue s.may_lack × IsUntold s.told (list_at s.desk))
 
 -- The run ended before its history was finished. But for a fault of the journal's disk no append met one.
 pub record Halts (board : Board) (fail : RunFail) (before after : Situation) : Type 0 where
@@ -108,6 +116,6 @@ pub record Concludes (board : Board) (answer : Result Unit RunFail) (before afte
   pub is_told : OnOk answer (IsTold after.told after.takes (plan_at before.desk) (list_at after.desk))
   pub journal_fault : answer ≡ Err run_fail.JournalFault → Rose before.journal.faults after.journal.faults
   pub spool_fault : answer ≡ Err run_fail.SpoolFault → Rose before.spool.faults after.spool.faults
-  pub memory : answer ≡ Err run_fail.NoMemory → (list_at after.desk ≡ list_at before.desk) ⊎ (AwaitsReport (plan_at before.desk) (list_at after.desk) ⊎ (IsTrue after.may_lack × IsUntold after.told (list_at after.desk)))
+  pub memory : answer ≡ Err run_fail.NoMemory → (list_at after.desk ≡ list_at before.desk) ⊎ IsShortOfMemory after
   pub sound : (answer ≡ Err run_fail.JournalFault → ⊥) → state_of after.desk.work.journal ≡ state_of before.desk.work.journal
-  pub dismissed : IsDismissed board after.desk
+  pub dismissed : IsDismissed board after.desk.lead

@@ -1,7 +1,7 @@
 // What the resolver does on the board and for the lanes, beside the list.
 ghost use Rattle.std.specs.Prelude.{◌≡◌, [], IsTrue, length};
 ghost use Rattle.conc_types.specs.declared.event.RequestId.{RequestId};
-ghost use Rattle.conc_board.specs.Seats.{plan_of};
+ghost use Rattle.conc_board.specs.Seats.{plan_of, TakesMore};
 ghost use Rattle.conc_pool_lanes.specs.Lanes as lanes_spec;
 ghost use Rattle.conc_pool_lanes.specs.Lanes.{are_shorter, IsLeadPassOf, puts_of};
 ghost use Rattle.conc_pool_lanes.specs.Puts.{lists_for};
@@ -107,6 +107,7 @@ pub(crate) fn withdraw_all(board: &Board, desk: &mut Desk<'_>)
     ensures stays { StaysAt board.now desk.old desk.new }
     ensures none_let { (r : RequestId) → IsRequest (plan_of board.now) r → IsLet (lead_state_at desk.new r)
         → ⊥ }
+    ensures posts { TakesMore desk.old.lead desk.new.lead }
 {
     for request in desk.machine().plan().requests.as_slice() {
         withdraw(board, desk, request.number);

@@ -4,6 +4,7 @@ ghost use Rattle.conc_types.specs.declared.event.RequestId.{RequestId};
 ghost use Rattle.conc_board.specs.Seats.{HasAllPlaces, IsLeadOf, plan_of, SameLeadStates};
 ghost use Rattle.conc_pool_lanes.specs.Lanes.{AreHandPasses};
 ghost use Rattle.conc_pool_lanes.specs.declared.lanes.Lanes.{Lanes};
+ghost use Rattle.conc_run_workers.specs.Resolving.{IsDismissed};
 ghost use Rattle.conc_run_workers.specs.Crews.{AreDealt, Covers, HasOnePlan, HasPass, HaveServed, IsFree, IsFreeMember, MayServe, places_had, SamePasses};
 
 use crate::arrivals::Arrivals;
@@ -142,9 +143,10 @@ pub(crate) fn run_crew<R: Threads + Wait + Sync, G: Gate + Sync>(
     );
 }
 
-/// Joins the hands of all workers to the lead, which then has all places.
+/// Joins the hands of all workers, which were told that there is no more to come, to the lead, which then has all places.
 pub(crate) fn take_in(board: &Board, lead: &mut Lead, mut crew: Vec<CrewMember>)
     requires lead { IsLeadOf board.now lead.old }
+    requires dismissed { IsDismissed board.now lead.old }
     requires free { All (IsFreeMember board.now) crew.items }
     requires covers { Covers (plan_of board.now) lead.old crew.items }
     ensures lead { IsLeadOf board.now lead.new }

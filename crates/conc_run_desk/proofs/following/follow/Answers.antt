@@ -14,4 +14,5 @@ returns-in-Started-clause-follows c = record {
   stops = λ r terminates. absurd (starts_no_terminate c.args.plan.now c.in-Started.request c.in-Started.place c.args.event c.in-Started.is r terminates);
   places = search rules;
   switches = search rules;
+  posts = search rules;
 }

@@ -1,9 +1,10 @@
-use Rattle.std.proofs.Common.{◌≡◌, ◌+◌, ◌≤◌, length, arith, refl, sym, ◌∙◌, ap, subst}
+use Rattle.std.proofs.Common.{◌≡◌, ◌+◌, ◌≤◌, [], length, append-nil, arith, refl, sym, ◌∙◌, ap, subst}
 use mathlib.Core.Logic.{dite}
 use native.Mathlib.Decide.{ℕ_discrete}
 use Rattle.conc_types.specs.declared.event.RequestId.{RequestId}
 use Rattle.conc_types.specs.declared.plan.Plan.{Plan}
 use Rattle.conc_board.specs.Seats.{plan_of as board_plan}
+use Rattle.conc_board.proofs.Leads.{takes_twice}
 use Rattle.conc_pool_seats.specs.LeadStates.{IsLet}
 use Rattle.conc_pool_seats.proofs.Facts.{request_eq}
 use Rattle.conc_run_state.specs.Machines.{Machine, plan_of}
@@ -15,6 +16,7 @@ use Rattle.conc_run_workers.proofs.boarding.withdraw_all.Goals as goal
 pub loop-request-init : goal.loop-request-init
 loop-request-init c = record {
   stays = record { at = c.requires.at; same = record { work = refl; kept = refl; begun_with = refl }; places = refl; switches = record { each = λ word. refl } };
+  posts = ([], sym (append-nil _));
   items = c.as_slice-request-items.ensures ∙ ap (λ (p : Plan). p.requests) (c.plan.ensures ∙ ap (λ (m : Machine). plan_of m) c.machine.ensures.machine ∙ sym c.requires.at.plan);
   none = λ r named early is. let first = named.from_one in absurd (omega (arith, first, early));
 }
@@ -30,6 +32,7 @@ loop-request-preserved c =
     let i = c.loop-request.invariant in let n = c.loop-request.request-index in let x = c.request-item.result in let w = c.withdraw.ensures in
     let number = number-in (board_plan c.args.board.now) _ n x i.items (omega (arith, test, end)) c.request-item.is in record {
       stays = stays-twice i.stays w.stays;
+      posts = takes_twice c.args.desk.now.lead c.loop-request.desk.lead c.withdraw.new.desk.lead i.posts w.others.posts;
       items = i.items;
       none = λ r named early. dite (ℕ_discrete r.number x.number.number)
           (λ e is. w.not_let (subst (λ (z : RequestId). IsLet (lead_state_at c.withdraw.new.desk z)) (request_eq r x.number e) is))

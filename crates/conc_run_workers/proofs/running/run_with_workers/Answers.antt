@@ -13,7 +13,10 @@ use Rattle.conc_run_steps.specs.Steps.{plan_in, readings_in}
 use Rattle.conc_run_steps.specs.Told.{IsTold, IsUntold}
 use Rattle.conc_run_steps.proofs.Underway.{went-still}
 use Rattle.conc_run_workers.specs.Crews.{Covers}
+use Rattle.conc_run_workers.specs.Resolvers.{standing}
+use Rattle.conc_run_workers.specs.Resolving.{IsDismissed}
 use Rattle.conc_run_workers.specs.Runs.{AwaitsReport}
+use Rattle.conc_run_workers.proofs.Advancing.{short-awaits}
 use Rattle.conc_run_workers.proofs.Crews.{covers-same}
 use Rattle.conc_pool_lanes.specs.Puts.{lists_for}
 use Rattle.conc_pool_lanes.proofs.Lists.{lists_for-none}
@@ -35,6 +38,10 @@ put_waiting-requires-clause-empty g c =
 
 pub take_in-requires-clause-free : goal.take_in-requires-clause-free
 take_in-requires-clause-free g c = c.resolve_beside-answer.ensures.crew.0
+
+pub take_in-requires-clause-dismissed : goal.take_in-requires-clause-dismissed
+take_in-requires-clause-dismissed g c =
+    subst (λ (l : Lead). IsDismissed c.in-Ok.means.shared.board l) (sym (ap (λ z. z.0) c.into_parts-lead.ensures.parts)) c.resolve_beside-answer.ensures.concludes.dismissed
 
 pub take_in-requires-clause-covers : goal.take_in-requires-clause-covers
 take_in-requires-clause-covers g c =
@@ -71,7 +78,10 @@ pub returns-clause-memory : goal.returns-clause-memory
 returns-clause-memory g c = λ is.
     let told = g.T.Teller.list c.resolve_beside-answer.new.teller in let lacks = g.T.Teller.may_lack c.resolve_beside-answer.new.teller in
     subst (λ (z : Work × Work). (list_in z.1 ≡ list_in z.0) ⊎ (AwaitsReport (plan_in z.0) (list_in z.1) ⊎ ((lacks ≡ true) × IsUntold told (list_in z.1))))
-    (λ i. (c.new-desk.ensures.work i, sym (ap (λ z. z.1) c.into_parts-lead.ensures.parts) i)) (c.resolve_beside-answer.ensures.concludes.memory is)
+    (λ i. (c.new-desk.ensures.work i, sym (ap (λ z. z.1) c.into_parts-lead.ensures.parts) i))
+    (short-awaits (standing g.D.Disk g.E.Disk g.T.Teller c.new-desk.result c.args.journal.now c.args.spool.now c.args.teller.now)
+    (standing g.D.Disk g.E.Disk g.T.Teller c.resolve_beside-answer.new.desk c.resolve_beside-answer.new.journal c.resolve_beside-answer.new.spool c.resolve_beside-answer.new.teller)
+    c.resolve_beside-answer.ensures.concludes.went (c.resolve_beside-answer.ensures.concludes.memory is))
 
 pub returns-clause-sound : goal.returns-clause-sound
 returns-clause-sound g c = λ none.
