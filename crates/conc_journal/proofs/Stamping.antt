@@ -1,5 +1,5 @@
 -- Stamps that are written into the records of a journal of version 1.
-use Rattle.std.proofs.Common.{◌≡◌, ℕ, ◌+◌, ◌*◌, ◌^◌, ◌<◌, ◌≤◌, false, List, [], ◌∷◌, ◌++◌, length, get_or, take, drop, Option, Some, None, IfSome, is_some, OnErr, Result, Ok, Err, refl, sym, ap, ◌∙◌, subst, arith, le_refl}
+use Rattle.std.proofs.Common.{◌≡◌, ℕ, suc, ◌+◌, ◌*◌, ◌^◌, ◌<◌, ◌≤◌, false, List, [], ◌∷◌, ◌++◌, length, get_or, take, drop, Option, Some, None, IfSome, is_some, OnErr, Result, Ok, Err, refl, sym, ap, ◌∙◌, subst, arith, le_refl}
 use Rattle.std.specs.Int.{to_be_bytes, w64}
 use Rattle.std.specs.Option.{option_map}
 use Rattle.std.specs.Prelude.{cond, count_by, slice_get}
@@ -18,7 +18,7 @@ use Rattle.conc_journal_image.specs.declared.label.Version.TheVariants.{One}
 use Rattle.conc_journal_image.proofs.Appends.{length-journal}
 use Rattle.conc_journal_image.proofs.Stamps.{stamps_from-last}
 use Rattle.conc_journal_image.proofs.Turns.{stamping-keeps, stamping-stamps}
-use Rattle.conc_journal.specs.Migrating.{HaveStamps, IsOfOne, IsStamping, StaysOfOne}
+use Rattle.conc_journal.specs.Migrating.{HasMigrated, HaveStamps, IsOfOne, IsStamping, StaysOfOne, migrated_image, with_stamp_of, with_stamps}
 use Rattle.conc_journal.proofs.Steps.{each-torn}
 
 -- what holds of a state holds of it after an error too
@@ -60,6 +60,19 @@ no-command (event.Ended r o x) other = (refl, λ stamp. refl)
 no-command event.Resume other = (refl, λ stamp. refl)
 no-command (event.Interrupt r) other = (refl, λ stamp. refl)
 
+-- so none is written for it
+unstamped : (e : Event) (k stamp : ℕ) (image : List ℕ) → has_stamp e ≡ false → with_stamp_of (Some e) k stamp image ≡ image
+unstamped (event.Command n) k stamp image none = cc
+unstamped (event.Tick t) k stamp image none = refl
+unstamped (event.OpenSet s) k stamp image none = refl
+unstamped (event.Stage s n) k stamp image none = refl
+unstamped (event.CloseSet s o) k stamp image none = refl
+unstamped (event.LetOut r) k stamp image none = refl
+unstamped (event.Started r p) k stamp image none = refl
+unstamped (event.Ended r o x) k stamp image none = refl
+unstamped event.Resume k stamp image none = refl
+unstamped (event.Interrupt r) k stamp image none = refl
+
 -- one event more
 event-at : (events : List Event) (k : ℕ) (e : Event) → k < length events → get_or events k e ≡ e → take (k + 1) events ≡ take k events ++ e ∷ []
 event-at events k e below is = take_more events k e below ∙ ap (λ x. take k events ++ x ∷ []) is
@@ -90,8 +103,13 @@ stamping-none events stamps disk reaches = record {
   number_is = refl;
   reaches = reaches;
   written = empty disk.seen;
+  bytes = same disk.seen;
 }
   where
+    same : (seen : Option (List ℕ)) → seen ≡ option_map (with_stamps 0 events stamps) seen
+    same None = refl
+    same (Some image) = refl
+
     empty : (seen : Option (List ℕ)) → IfSome seen (HaveStamps [] [])
     empty None = tt
     empty (Some image) = refl
@@ -104,8 +122,19 @@ stamping-other events stamps k number e old disk below is other none so_far = re
   number_is = so_far.number_is ∙ sym (count-more events k e below is ∙ ap (λ b. count_by has_stamp (take k events) + cond b 1 0) other ∙ omega arith);
   reaches = so_far.reaches;
   written = go disk.seen so_far.written;
+  bytes = so_far.bytes ∙ step old.seen;
 }
   where
+    there : slice_get events k ≡ Some e
+    there = (at-place events k e e below is).0
+
+    step : (seen : Option (List ℕ)) → option_map (with_stamps k events stamps) seen ≡ option_map (with_stamps (k + 1) events stamps) seen
+    step None = refl
+    step (Some image) =
+        let stamp = get_or stamps (count_by has_stamp (take k events)) 0 in
+        ap Some (sym (ap (λ o. with_stamp_of o k stamp (with_stamps k events stamps image)) there ∙ unstamped e k stamp (with_stamps k events stamps image) other)
+        ∙ ap (λ m. with_stamps m events stamps image) (let one : suc k ≡ k + 1 = omega arith in one))
+
     go : (seen : Option (List ℕ)) → IfSome seen (HaveStamps (take k events) (take number stamps)) → IfSome seen (HaveStamps (take (k + 1) events) (take number stamps))
     go None h = tt
     go (Some image) h =
@@ -154,8 +183,19 @@ module _ (events : List Event) (stamps : List ℕ) (k number n : ℕ) (old mid n
     number_is = ap (λ m. m + 1) so_far.number_is ∙ sym (count-more events k (event.Command n) below is);
     reaches = subst (λ (s : Option (List ℕ)). IfSome s (λ bytes. 64 + 32 * length events + 1 ≤ length bytes)) (sym wrote) (long mid.seen so_far.reaches);
     written = subst (λ (s : Option (List ℕ)). IfSome s (HaveStamps (take (k + 1) events) (take (number + 1) stamps))) (sym wrote) (go mid.seen so_far.reaches so_far.written);
+    bytes = wrote ∙ (ap (λ (s : Option (List ℕ)). option_map (written (64 + 32 * k + 12) (to_be_bytes w64 stamp)) s) so_far.bytes ∙ step old.seen);
   }
     where
+      is_here : get_or stamps (count_by has_stamp (take k events)) 0 ≡ stamp
+      is_here = ap (λ m. get_or stamps m 0) (sym so_far.number_is) ∙ found_stamp
+
+      step : (seen : Option (List ℕ)) → option_map (written (64 + 32 * k + 12) (to_be_bytes w64 stamp)) (option_map (with_stamps k events stamps) seen) ≡ option_map (with_stamps (k + 1) events stamps) seen
+      step None = refl
+      step (Some image) =
+          let before = with_stamps k events stamps image in
+          ap Some (sym (ap (λ (z : Option Event × ℕ). with_stamp_of z.0 k z.1 before) (λ i. (there i, is_here i)))
+          ∙ ap (λ m. with_stamps m events stamps image) (let one : suc k ≡ k + 1 = omega arith in one))
+
       within : number < length stamps
       within = omega (arith, counted, so_far.number_is, count-within events k (event.Command n) below is)
 
@@ -183,3 +223,14 @@ module _ (events : List Event) (stamps : List ℕ) (k number n : ℕ) (old mid n
           ∙ stamping-stamps image (take k events) n stamp small (omega arith)
           ∙ ap (λ xs. xs ++ stamp ∷ []) h
           ∙ sym (take_more stamps number stamp within ∙ ap (λ s. take number stamps ++ s ∷ []) is_stamp)
+
+-- ---- the bytes of all steps
+
+pub bytes-written : (events : List Event) (base stamps : List ℕ) (old stamped headed new : DiskState) → stamped.seen ≡ option_map (with_stamps (length events) events stamps) old.seen
+    → headed.seen ≡ option_map (written 48 base) stamped.seen → new.seen ≡ option_map (written 63 (1 ∷ [])) headed.seen → HasMigrated events base stamps old new
+bytes-written events base stamps old stamped headed new one two three =
+    three ∙ (ap (λ (s : Option (List ℕ)). option_map (written 63 (1 ∷ [])) s) (two ∙ ap (λ (s : Option (List ℕ)). option_map (written 48 base) s) one) ∙ go old.seen)
+  where
+    go : (seen : Option (List ℕ)) → option_map (written 63 (1 ∷ [])) (option_map (written 48 base) (option_map (with_stamps (length events) events stamps) seen)) ≡ option_map (migrated_image events base stamps) seen
+    go None = refl
+    go (Some image) = refl

@@ -1,7 +1,8 @@
 -- How calls of a disk go on from one another.
 use Rattle.std.proofs.Common.{◌≡◌, ◌⊎◌, inl, inr, ⊎_elim, ℕ, ◌+◌, ◌≤◌, List, length, Option, None, Some, length-append, length-take, is_some, IfSome, Result, Ok, Err, OnOk, refl, ◌∙◌, ap, subst, sym, arith}
 use Rattle.conc_disk.specs.Disk.{DiskState, Follows, HasLength, LeavesWhatWasSeen, Reaches, Stays, Torn, written}
-use Rattle.conc_disk.specs.Left.{EachImage, LeavesOnly, TornFrom}
+use Rattle.conc_disk.specs.Left.{EachImage, HasWritten, LeavesOnly, TornFrom}
+use Rattle.std.specs.Option.{option_map}
 use Rattle.conc_journal.specs.Left.{LeavesWritten}
 
 -- ---- where it exposes its bytes
@@ -107,3 +108,13 @@ length-written at bytes before le = simp (length-append, length-take) (omega ari
 pub reaches-gate : (at : ℕ) (bytes : List ℕ) (old mid : DiskState) → IfSome mid.seen mid.may_leave → LeavesWritten (at + 1) bytes old mid → Reaches mid at
 reaches-gate at bytes old mid is_left each =
     reaches (WrittenFrom old (at + 1) bytes) at mid is_left each (λ c from. rw from.3 (omega (arith, length-written (at + 1) bytes from.0 from.2)))
+
+-- where the disk exposes its bytes before and after, what was written is seen
+pub written-seen : (at : ℕ) (bytes : List ℕ) (old new : DiskState) → is_some new.seen ≡ is_some old.seen → HasWritten at bytes old new → new.seen ≡ option_map (written at bytes) old.seen
+written-seen at bytes old new = go old.seen new.seen
+  where
+    go : (before after : Option (List ℕ)) → is_some after ≡ is_some before → IfSome before (λ b. (after ≡ Some (written at bytes b)) × ((image : List ℕ) → new.may_leave image → image ≡ written at bytes b))
+        → after ≡ option_map (written at bytes) before
+    go None None exposes wrote = refl
+    go None (Some x) exposes wrote = cc
+    go (Some b) after exposes wrote = wrote.0

@@ -71,6 +71,7 @@ impl Journal {
     ghost use Rattle.conc_disk.specs.Left.{LeavesOnly, TornFrom};
     ghost use Rattle.conc_journal.specs.Acknowledged.{IsAcknowledged, HasReceipt, StaysIn};
     ghost use Rattle.conc_journal.specs.Receipts.{event_of, number_of};
+    ghost use Rattle.conc_journal.specs.Migrating.{HasMigrated};
     ghost use Rattle.conc_journal.specs.Writes.{HasAppended, HasBegun};
     ghost use Rattle.conc_journal.specs.declared.receipt.Receipt.{Receipt as Acknowledged};
     ghost use Rattle.conc_journal.specs.JournalStates.{after_fault, has_faulted, is_of_version_one, takes_events};
@@ -300,7 +301,7 @@ impl Journal {
     /// Brings a journal of version 1 to version 2: it writes a stamp into the record of each command, and
     /// so much of the base digest as a header holds, and then the version. Each image that a crash at any
     /// moment may leave has the journal's list; it is of version 1 as before, or of version 2 with this
-    /// base digest and these stamps, and after an `Ok` it is of version 2. After a fault each later append
+    /// base digest and these stamps, and after an `Ok` it is of version 2. No other byte changes. After a fault each later append
     /// fails until the file is opened again. It takes no memory.
     pub fn migrate<D: Disk>(
         &mut self,
@@ -315,6 +316,8 @@ impl Journal {
         ensures on { IsOn self.new (D.state disk.new) }
         ensures migrated { (label : LabelOf) → state_of self.old ≡ Begun label
             → OnOk result (state_of self.new ≡ Begun (migrated label (take 15 base.now))) }
+        ensures written { OnOk result (HasMigrated (list_of self.old) (take 15 base.now) stamps.now
+            (D.state disk.old) (D.state disk.new)) }
         ensures failed { (label : LabelOf) → state_of self.old ≡ Begun label
             → OnErr result (state_of self.new ≡ MigrateFailed label (take 15 base.now)) }
         ensures fault { OnErr result (Rose (D.state disk.old).faults (D.state disk.new).faults) }

@@ -10,7 +10,7 @@ ghost use Rattle.conc_journal_image.specs.declared.label.Label.{Label};
 ghost use Rattle.conc_journal_image.specs.declared.label.Version.TheVariants.{One};
 ghost use Rattle.conc_journal_image.specs.declared.layout.TheConstants.{MOST_RECORDS};
 ghost use Rattle.conc_journal.specs.Journals.{FitsState};
-ghost use Rattle.conc_journal.specs.Migrating.{HaveStamps, IsOfOne, IsOfTwo, IsStamping, StaysOfOne};
+ghost use Rattle.conc_journal.specs.Migrating.{HasMigrated, HaveStamps, IsOfOne, IsOfTwo, IsStamping, StaysOfOne, with_stamps};
 ghost use Rattle.conc_journal.specs.declared.journal.JournalState.TheVariants.{MigrateFailed};
 
 use crate::durable::write_durable;
@@ -81,6 +81,8 @@ fn write_stamps<D: Disk>(disk: &mut D, events: &[Event], stamps: &[u64]) -> Resu
     ensures stays { StaysOfOne events.now (D.state disk.old) (D.state disk.new) }
     ensures stamped { OnOk result (IfSome (D.state disk.new).seen
         (HaveStamps events.now stamps.now)) }
+    ensures bytes { OnOk result ((D.state disk.new).seen
+        ≡ option_map (with_stamps (length events.now) events.now stamps.now) (D.state disk.old).seen) }
     ensures reaches { OnOk result (Reaches (D.state disk.new)
         (offset_behind (length events.now) + 1)) }
     ensures failed { OnErr result (Rose (D.state disk.old).faults (D.state disk.new).faults) }
@@ -115,6 +117,8 @@ pub(crate) fn write_version<D: Disk>(
         → EachImage (IsOfOne label events.now) (D.state disk.old)
         → LeavesOnly (FitsState (MigrateFailed label base.now) stamps.now events.now)
         (D.state disk.old) (D.state disk.new) }
+    ensures bytes { OnOk result (HasMigrated events.now base.now stamps.now (D.state disk.old)
+        (D.state disk.new)) }
     ensures failed { OnErr result (Rose (D.state disk.old).faults (D.state disk.new).faults) }
 {
     write_stamps(disk, events, stamps)?;

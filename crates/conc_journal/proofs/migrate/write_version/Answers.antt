@@ -1,8 +1,9 @@
 use Rattle.std.proofs.Common.{◌+◌, ◌*◌, [], ◌∷◌, length, arith}
-use Rattle.conc_disk.specs.Left.{EachImage}
+use Rattle.conc_disk.specs.Left.{EachImage, HasWritten}
 use Rattle.conc_journal.specs.Left.{LeavesWritten}
-use Rattle.conc_journal.specs.Migrating.{IsOfTwo}
-use Rattle.conc_journal.proofs.Steps.{on-ok}
+use Rattle.conc_journal.specs.Migrating.{HasMigrated, IsOfTwo}
+use Rattle.conc_journal.proofs.Stamping.{bytes-written}
+use Rattle.conc_journal.proofs.Steps.{on-ok, written-seen}
 use Rattle.conc_journal.proofs.Versions.{all-turned, based-images, based-left, reaches-less, reaches-written, turned-images, turned-left}
 use Rattle.conc_journal.proofs.migrate.write_version.Goals as goal
 
@@ -73,3 +74,18 @@ returns-clause-turned g c = λ label one each.
     headed d.survives.exposes d.images d.survives
     (g.met.D.Disk.seen_is_left c.write_stamps.new.disk) c.in_ok-write_stamps.ensures.stamped c.in_ok-write_durable.ensures.written
     new v.survives.exposes v.images v.survives)
+
+-- the bytes
+
+pub returns-clause-bytes : goal.returns-clause-bytes
+returns-clause-bytes g c =
+    let old = g.D.Disk.state c.args.disk.now in
+    let stamped = g.D.Disk.state c.write_stamps.new.disk in
+    let headed = g.D.Disk.state c.write_durable.new.disk in
+    let new = g.D.Disk.state c.write_durable-2.new.disk in
+    let base = c.args.base.now in
+    on-ok
+    c.write_durable-2.result (HasWritten 63 (1 ∷ []) headed new) (HasMigrated c.args.events.now base c.args.stamps.now old new) c.write_durable-2.ensures.written
+    (λ wrote. bytes-written c.args.events.now base c.args.stamps.now old stamped headed new c.in_ok-write_stamps.ensures.bytes
+    (written-seen 48 base stamped headed c.write_durable.ensures.survives.exposes c.in_ok-write_durable.ensures.written)
+    (written-seen 63 (1 ∷ []) headed new c.write_durable-2.ensures.survives.exposes wrote))
