@@ -27,7 +27,7 @@ shorter before after begins =
     omega (arith, whole, length-append before begins.0)
 
 -- a snapshot of a list is one of each list that begins with it
-look_later : (plan : Plan) (before after : List Event) (s : Snapshot) → IsPrefix before after → IsLookAt plan before s → IsLookAt plan after s
+pub look_later : (plan : Plan) (before after : List Event) (s : Snapshot) → IsPrefix before after → IsLookAt plan before s → IsLookAt plan after s
 look_later plan before after s begins look =
     let same : take s.length after ≡ take s.length before =
     ap (λ (events : List Event). take s.length events) (sym begins.1) ∙ take-append-le s.length before begins.0 look.within in record {
@@ -36,7 +36,7 @@ look_later plan before after s begins look =
     }
 
 -- a snapshot of the whole list
-look_whole : (plan : Plan) (events : List Event) (s : Snapshot) → s.length ≡ length events → s.counts ≡ counts_of plan events → IsLookAt plan events s
+pub look_whole : (plan : Plan) (events : List Event) (s : Snapshot) → s.length ≡ length events → s.counts ≡ counts_of plan events → IsLookAt plan events s
 look_whole plan events s long counts = record {
   within = omega (arith, long);
   counts = counts ∙ ap (counts_of plan) (sym (take_all s.length events (omega (arith, long))));
