@@ -162,36 +162,16 @@ concludes-begun board old new (Err fail) h is_finished dismissed = record {
   is_told = tt;
   journal_fault = λ is. h.journal_fault (let e : fail ≡ run_fail.JournalFault = cc in e);
   spool_fault = λ is. h.spool_fault (let e : fail ≡ run_fail.SpoolFault = cc in e);
-  memory = λ is. inr (h.memory (let e : fail ≡ run_fail.NoMemory = cc in e));
+  memory = λ is. h.memory (let e : fail ≡ run_fail.NoMemory = cc in e);
   sound = λ none. h.sound (λ is. none (ap (λ e. Err e) is));
   dismissed = dismissed;
 }
 
 -- where a whole run found no memory, by its plan at the beginning
-pub short-awaits : (old new : Situation) → WentOn (plan_at old.desk) (readings_in old.desk.work) (disks_between old new) old.desk.work new.desk.work
-    → (list_at new.desk ≡ list_at old.desk) ⊎ IsShortOfMemory new
-    → (list_at new.desk ≡ list_at old.desk) ⊎ (AwaitsReport (plan_at old.desk) (list_at new.desk) ⊎ ((new.may_lack ≡ true) × IsUntold new.told (list_at new.desk)))
-short-awaits old new went (inl same) = inl same
-short-awaits old new went (inr (inr untold)) = inr (inr untold)
-short-awaits old new went (inr (inl lacks)) =
-    inr (inl (by-first old.desk.work new.desk.work (disks_between old new) went (λ plan readings. AwaitsReport plan (list_in new.desk.work)) lacks.awaits))
-
--- one that does not begin
-pub concludes-unbegun : (board : Board) (old : Situation) (new : DeskState) → IsAtWork board old → IfSome old.spool.seen old.spool.may_leave → MovesAt board old.desk new → IsDismissed board new.lead
-    → Concludes board (Err run_fail.NoMemory) old (with_desk old new)
-concludes-unbegun board old new at_work left stays dismissed =
-    let went : WentOn (plan_in old.desk.work) (readings_in old.desk.work) (disks_between old old) old.desk.work old.desk.work = went-still old.desk.work old.journal old.spool at_work.ready left in record {
-      at = stays.at;
-      places = stays.places;
-      went = subst (λ (w : Work). WentOn (plan_in old.desk.work) (readings_in old.desk.work) (disks_between old old) old.desk.work w) (sym stays.same.work) went;
-      finished = tt;
-      is_told = tt;
-      journal_fault = λ is. cc;
-      spool_fault = λ is. cc;
-      memory = λ is. inl (ap (λ (w : Work). list_in w) stays.same.work);
-      sound = λ none. ap (λ (w : Work). state_of w.journal) stays.same.work;
-      dismissed = dismissed;
-    }
+pub short-awaits : (old new : Situation) → WentOn (plan_at old.desk) (readings_in old.desk.work) (disks_between old new) old.desk.work new.desk.work → IsShortOfMemory new
+    → AwaitsReport (plan_at old.desk) (list_at new.desk) ⊎ ((new.may_lack ≡ true) × IsUntold new.told (list_at new.desk))
+short-awaits old new went (inr untold) = inr untold
+short-awaits old new went (inl lacks) = inl (by-first old.desk.work new.desk.work (disks_between old new) went (λ plan readings. AwaitsReport plan (list_in new.desk.work)) lacks.awaits)
 
 -- a history that is finished is so after a step on the board alone
 pub finished-still : {T : Type 0} {board : Board} {mid new : DeskState} (answer : Result T RunFail) → OnOk answer (IsFinished mid.work) → MovesAt board mid new → OnOk answer (IsFinished new.work)

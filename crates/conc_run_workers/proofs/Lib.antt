@@ -6,6 +6,7 @@ pub mod Ending
 pub mod Filled
 pub mod Kept
 pub mod Opening
+pub mod Outcomes
 pub mod PutWaiting
 pub mod Quiet
 pub mod Stepping

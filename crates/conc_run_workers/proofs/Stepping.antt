@@ -1,5 +1,5 @@
 -- Steps of a resolver, one after another.
-use Rattle.std.proofs.Common.{◌≡◌, [], ◌∷◌, Result, Ok, Err, IfSome, OnOk, None, false, refl, sym, ◌∙◌, ap, subst}
+use Rattle.std.proofs.Common.{◌≡◌, ℕ, ◌<◌, [], ◌∷◌, Result, Ok, Err, IfSome, OnOk, None, false, refl, sym, ◌∙◌, ap, subst}
 use Rattle.std.specs.Prelude.{IsErrAnd}
 use base.Fml.{GName}
 use Rattle.conc_types.specs.declared.event.Event.{Event}
@@ -10,7 +10,6 @@ use Rattle.conc_pool_lanes.specs.declared.lanes.LeadPass.{LeadPass}
 use Rattle.conc_disk.specs.declared.disk.Disk.{Ghosts as DiskGhosts}
 use Rattle.conc_journal.specs.declared.teller.Teller.{Ghosts as TellerGhosts}
 use Rattle.conc_run_state.specs.declared.error.RunFail.{RunFail}
-use Rattle.conc_run_state.specs.declared.error.RunFail.TheVariants as run_fail
 use Rattle.conc_run_steps.specs.Steps.{IsFinished}
 use Rattle.conc_run_desk.specs.Desks.{OpensWhatIsUsable}
 use Rattle.conc_run_desk.specs.State.{DeskState}
@@ -19,11 +18,11 @@ use Rattle.conc_run_workers.specs.declared.resolving.Hints.{Hints}
 use Rattle.conc_run_workers.specs.declared.resolving.Resolver.{Resolver}
 use Rattle.conc_run_workers.specs.Filling.{AddsEvent, AddsNoLet, AreFilled, Fills, joined_after}
 use Rattle.conc_run_workers.specs.Resolving.{Advances, Concludes, Dismisses, IsAtWork, MovesAt, Resolves, SetsPlaces, StaysAt}
-use Rattle.conc_run_workers.specs.Resolvers.{Directs, Logs, MayBegin, SameLoans, situation, MayStep, Steps, Went}
-use Rattle.conc_run_workers.proofs.Advancing.{after, at-work, begins, concludes-begun, concludes-unbegun, finished-still, moves-at, ok-still, still, then-still}
+use Rattle.conc_run_workers.specs.Resolvers.{HasDirected, HasNotBegun, Logs, MayBegin, SameLoans, situation, MayStep, Steps, Went}
+use Rattle.conc_run_workers.proofs.Advancing.{after, at-work, begins, concludes-begun, finished-still, moves-at, ok-still, still, then-still}
 use Rattle.conc_run_workers.proofs.Filled.{filled-let, filled-still, fills-after, fills-none, fills-quiet, fills-still, partly-event}
 use Rattle.conc_run_workers.proofs.Opening.{opens-added, opens-stays}
-use Rattle.conc_run_workers.proofs.Quiet.{quiet-event, quiet-one, quiet-still}
+use Rattle.conc_run_workers.proofs.Quiet.{quiet-event, quiet-one}
 
 -- what a resolver borrows: what the threads share, and by name what it may change
 abbrev pub lent : {D E T : Type 0} → Resolver D E T → Shared × GName × GName × GName × GName × GName
@@ -58,6 +57,17 @@ loans-after first second = record {
   spool = second.spool ∙ first.spool;
   teller = second.teller ∙ first.teller;
   hints = second.hints ∙ first.hints;
+}
+
+-- it dismissed them, and did not begin
+pub not-begun : {D E T : Type 0} {here : ℕ} {old new : Resolver D E T} → SameLoans old new → beside-desk new ≡ beside-desk old → Dismisses old.shared.now.board old.desk.now new.desk.now
+    → (0 < here) × (here < old.shared.now.arrivals.expected) → HasNotBegun here old new
+not-begun loans same dismisses count = record {
+  loans = loans;
+  waited = record { dismisses = dismisses; some = count.0; fewer = count.1 };
+  journal = λ i. (same i).0;
+  spool = λ i. (same i).1;
+  teller = λ i. (same i).2;
 }
 
 module _ {D E T : Type 0} {d : DiskGhosts D} {e : DiskGhosts E} {t : TellerGhosts T} where
@@ -218,7 +228,7 @@ module _ {D E T : Type 0} {d : DiskGhosts D} {e : DiskGhosts E} {t : TellerGhost
 
   -- it went on, and then dismissed the workers
   pub directs : {old mid new : Resolver D E T} (answer : Result Unit RunFail) → Steps d e t answer old mid → OnOk answer (IsFinished mid.desk.now.work) → SameLoans mid new → beside-desk new ≡ beside-desk mid
-      → Dismisses mid.shared.now.board mid.desk.now new.desk.now → Directs d e t answer old new
+      → Dismisses mid.shared.now.board mid.desk.now new.desk.now → HasDirected d e t answer old new
   directs {old} {mid} {new} answer steps is_finished loans same dismisses =
       let ends = subst (λ (h : Shared). Dismisses h.board mid.desk.now new.desk.now) steps.loans.shared dismisses in let stays = ends.moves in record {
     loans = loans-after steps.loans loans;
@@ -227,16 +237,4 @@ module _ {D E T : Type 0} {d : DiskGhosts D} {e : DiskGhosts E} {t : TellerGhost
         (concludes-begun old.shared.now.board (situation d e t old) _ answer (then-still old.shared.now.board (situation d e t old) (situation d e t mid) new.desk.now answer steps.resolves stays ends.posts) (finished-still answer is_finished stays) ends.dismissed);
     fills = subst (λ (z : D × E × T × Hints). Fills old.shared.now.lanes answer old.desk.now new.desk.now z.3.pass) (sym same)
         (fills-still old.shared.now.lanes old.desk.now mid.desk.now new.desk.now mid.hints.now.pass answer steps.fills stays.same);
-  }
-
-  -- it dismissed them, and did not begin
-  pub directs-none : {old new : Resolver D E T} → MayBegin d e t old → IfSome (e.state old.spool.now).seen (e.state old.spool.now).may_leave → SameLoans old new → beside-desk new ≡ beside-desk old
-      → Dismisses old.shared.now.board old.desk.now new.desk.now → Directs d e t (Err run_fail.NoMemory) old new
-  directs-none {old} {new} before left loans same dismisses = let stays = dismisses.moves in record {
-    loans = loans;
-    concludes = subst (λ (z : D × E × T × Hints). Concludes old.shared.now.board (Err run_fail.NoMemory) (situation d e t old)
-        (record { desk = new.desk.now; journal = d.state z.0; spool = e.state z.1; told = t.list z.2; takes = t.takes z.2; may_lack = t.may_lack z.2 })) (sym same)
-        (concludes-unbegun old.shared.now.board (situation d e t old) new.desk.now before.at_work left stays dismisses.dismissed);
-    fills = subst (λ (z : D × E × T × Hints). Fills {T = Unit {0}} old.shared.now.lanes (Err run_fail.NoMemory) old.desk.now new.desk.now z.3.pass) (sym same)
-        (fills-quiet old.shared.now.lanes old.desk.now new.desk.now old.hints.now.pass (Err run_fail.NoMemory) before.filled (quiet-still old.desk.now new.desk.now stays.same));
   }

@@ -1,5 +1,5 @@
 -- A resolver between two events, and what a step of it comes to.
-use Rattle.std.specs.Prelude.{◌≡◌, Result, Ok, OnOk}
+use Rattle.std.specs.Prelude.{◌≡◌, ◌<◌, ⊤, ℕ, Result, Ok, OnOk}
 use Rattle.conc_types.specs.declared.event.Event.{Event}
 use Rattle.conc_types.specs.declared.event.RequestId.{RequestId}
 use Rattle.conc_pool_seats.specs.LeadStates.{IsGone, IsLet}
@@ -10,9 +10,12 @@ use Rattle.conc_journal.specs.declared.teller.Teller.{Ghosts as TellerGhosts}
 use Rattle.conc_run_desk.specs.Desks.{OpensWhatIsUsable, lead_state_at}
 use Rattle.conc_run_desk.specs.State.{DeskState}
 use Rattle.conc_run_state.specs.declared.error.RunFail.{RunFail}
+use Rattle.conc_run_workers.specs.declared.crew.Shared.{Shared}
 use Rattle.conc_run_workers.specs.declared.resolving.Resolver.{Resolver}
+use Rattle.conc_run_workers.specs.declared.running.Directed.{Directed}
+use Rattle.conc_run_workers.specs.declared.running.Directed.TheVariants as directed
 use Rattle.conc_run_workers.specs.Filling.{AddsEvent, AreFilled, Fills}
-use Rattle.conc_run_workers.specs.Resolving.{Concludes, IsAtWork, Resolves, Situation}
+use Rattle.conc_run_workers.specs.Resolving.{Concludes, Dismisses, IsAtWork, Resolves, Situation}
 
 -- what stands with this desk, these disks and this teller
 abbrev pub standing : {D E T : Type 0} → DiskGhosts D → DiskGhosts E → TellerGhosts T → DeskState → D → E → T → Situation
@@ -79,8 +82,37 @@ pub record Logs {D E T : Type 0} (d : DiskGhosts D) (e : DiskGhosts E) (t : Tell
   pub adds : AddsEvent event answer old.desk.now new.desk.now
   pub switches : SameSwitches old.desk.now.lead new.desk.now.lead
 
--- What a whole run comes to, by its answer.
-pub record Directs {D E T : Type 0} (d : DiskGhosts D) (e : DiskGhosts E) (t : TellerGhosts T) (answer : Result Unit RunFail) (old new : Resolver D E T) : Type 0 where
+-- What a whole run comes to that began, by its answer.
+pub record HasDirected {D E T : Type 0} (d : DiskGhosts D) (e : DiskGhosts E) (t : TellerGhosts T) (answer : Result Unit RunFail) (old new : Resolver D E T) : Type 0 where
   pub loans : SameLoans old new
   pub concludes : Concludes old.shared.now.board answer (situation d e t old) (situation d e t new)
   pub fills : Fills old.shared.now.lanes answer old.desk.now new.desk.now new.hints.now.pass
+
+-- What is left of a desk where not all workers came: it stays as it was, and the workers that did are told to leave. They are fewer than expected.
+pub record HasWaited (shared : Shared) (here : ℕ) (old new : DeskState) : Type 0 where
+  pub dismisses : Dismisses shared.board old new
+  pub some : 0 < here
+  pub fewer : here < shared.arrivals.expected
+
+-- So it is, and the disks and the teller are as they were.
+pub record HasNotBegun {D E T : Type 0} (here : ℕ) (old new : Resolver D E T) : Type 0 where
+  pub loans : SameLoans old new
+  pub waited : HasWaited old.shared.now here old.desk.now new.desk.now
+  pub journal : new.journal.now ≡ old.journal.now
+  pub spool : new.spool.now ≡ old.spool.now
+  pub teller : new.teller.now ≡ old.teller.now
+
+-- What comes of a whole run, which began or did not.
+abbrev pub Directs : {D E T : Type 0} → DiskGhosts D → DiskGhosts E → TellerGhosts T → Directed → Resolver D E T → Resolver D E T → Type 0
+Directs d e t (directed.Ended answer) old new = HasDirected d e t answer old new
+Directs d e t (directed.TooFew here) old new = HasNotBegun here old new
+
+-- so it is of the answer of a run that began
+abbrev pub IfEnded : Directed → (Result Unit RunFail → Type 0) → Type 0
+IfEnded (directed.Ended answer) IsSo = IsSo answer
+IfEnded (directed.TooFew here) IsSo = ⊤
+
+-- so it is of the number of workers that came to one that did not
+abbrev pub IfTooFew : Directed → (ℕ → Type 0) → Type 0
+IfTooFew (directed.Ended answer) IsSo = ⊤
+IfTooFew (directed.TooFew here) IsSo = IsSo here

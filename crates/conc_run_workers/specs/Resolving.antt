@@ -106,8 +106,7 @@ abbrev pub Resolves : {T : Type 0} → Board → Result T RunFail → Situation 
 Resolves board (Ok x) before after = Advances board before after
 Resolves board (Err fail) before after = Halts board fail before after
 
--- What a whole run comes to, by its answer. Where it found no memory, it may have added nothing, since not all workers came; else
--- it is as where a step did. However it ends, nothing more is let out, and the hands are told so.
+-- What a whole run comes to, by its answer. However it ends, nothing more is let out, and the hands are told so.
 pub record Concludes (board : Board) (answer : Result Unit RunFail) (before after : Situation) : Type 0 where
   pub at : IsAt board after.desk
   pub places : places_of_lead after.desk.lead ≡ places_of_lead before.desk.lead
@@ -116,6 +115,6 @@ pub record Concludes (board : Board) (answer : Result Unit RunFail) (before afte
   pub is_told : OnOk answer (IsTold after.told after.takes (plan_at before.desk) (list_at after.desk))
   pub journal_fault : answer ≡ Err run_fail.JournalFault → Rose before.journal.faults after.journal.faults
   pub spool_fault : answer ≡ Err run_fail.SpoolFault → Rose before.spool.faults after.spool.faults
-  pub memory : answer ≡ Err run_fail.NoMemory → (list_at after.desk ≡ list_at before.desk) ⊎ IsShortOfMemory after
+  pub memory : answer ≡ Err run_fail.NoMemory → IsShortOfMemory after
   pub sound : (answer ≡ Err run_fail.JournalFault → ⊥) → state_of after.desk.work.journal ≡ state_of before.desk.work.journal
   pub dismissed : IsDismissed board after.desk.lead

@@ -1,4 +1,6 @@
 // The workers of a run that have begun.
+ghost use Rattle.std.specs.Prelude.{◌≡◌, ◌<◌, IfSome};
+
 use std::sync::Wait;
 use std::sync::atomic::AtomicU64;
 use std::sync::atomic::Ordering::SeqCst;
@@ -19,7 +21,9 @@ pub(crate) struct Arrivals {
 
 impl Arrivals {
     /// Expects this many workers, none of which has arrived. It takes no memory.
-    pub(crate) fn new(expected: u32) -> Arrivals {
+    pub(crate) fn new(expected: u32) -> Arrivals
+        ensures { result.expected ≡ expected }
+    {
         Arrivals {
             count: AtomicU64::new(0),
             expected,
@@ -32,17 +36,38 @@ impl Arrivals {
         self.count.wake_all();
     }
 
-    /// Waits until all workers are here, but no longer than ten seconds. False where some are not.
-    pub(crate) fn are_all_here<R: Wait>(&self, rt: &R) -> bool {
+    // How many are here.
+    fn here(&self) -> u32 {
+        u32::try_from(self.count.load(SeqCst)).unwrap_or(u32::MAX)
+    }
+
+    // Sleeps until there are more than these, but not for long.
+    fn nap<R: Wait>(&self, rt: &R, here: u32) {
+        self.count
+            .park_timeout(rt, here, Duration::from_millis(NAP));
+    }
+
+    /// Waits for all workers, and after ten seconds for the first one. Returns how many are here where some are not.
+    pub(crate) fn wait_for_all<R: Wait>(&self, rt: &R) -> Option<u32>
+        ensures { IfSome result (λ here. (0 < here) × (here < self.now.expected)) }
+    {
         for _ in 0..NAPS {
-            let here = self.count.load(SeqCst);
-            if here >= self.expected as u64 {
-                return true;
+            let here = self.here();
+            if here >= self.expected {
+                return None;
             }
-            let seen = u32::try_from(here).unwrap_or(u32::MAX);
-            self.count
-                .park_timeout(rt, seen, Duration::from_millis(NAP));
+            self.nap(rt, here);
         }
-        false
+        for _ in rt.forever() {
+            let here = self.here();
+            if here >= self.expected {
+                return None;
+            }
+            if here > 0 {
+                return Some(here);
+            }
+            self.nap(rt, here);
+        }
+        unreachable!()
     }
 }

@@ -1,4 +1,4 @@
-ghost use Rattle.std.specs.Prelude.{◌≡◌, ◌⊎◌, ◌<◌, [], IfOk, IsErrOf, IsTrue, length, OnOk, replicate, Result};
+ghost use Rattle.std.specs.Prelude.{◌≡◌, ◌⊎◌, ◌<◌, ◌≤◌, [], IfOk, IsErrOf, IsTrue, length, OnOk, replicate, Result};
 ghost use Rattle.conc_types.specs.declared.event.RequestId.{RequestId};
 ghost use Rattle.conc_pool_seats.specs.declared.views.LeadState.TheVariants as lead_state;
 ghost use Rattle.std.specs.Thread.{IsSync};
@@ -15,7 +15,8 @@ ghost use Rattle.conc_run_steps.specs.Steps.{IsReady, plan_in, readings_in};
 ghost use Rattle.conc_pool_lanes.specs.Lanes.{IsLeadPassOf, puts_of};
 ghost use Rattle.conc_run_workers.specs.Crews.{Covers, HasOnePlan, HaveServed, MayServe};
 ghost use Rattle.conc_run_workers.specs.Filling.{AreFilled, Fills, HasPuts};
-ghost use Rattle.conc_run_workers.specs.Resolvers.{standing};
+ghost use Rattle.conc_run_workers.specs.Resolvers.{HasWaited, IfEnded, IfTooFew, standing};
+ghost use Rattle.conc_run_workers.specs.declared.running.Directed.{Directed};
 ghost use Rattle.conc_run_workers.specs.Resolving.{Concludes, IsAtWork};
 ghost use Rattle.conc_run_steps.specs.Told.{IsTold, IsUntold};
 ghost use Rattle.conc_run_workers.specs.Runs.{AwaitsReport};
@@ -48,14 +49,23 @@ pub struct Ran<'p> {
     pub answer: Result<(), RunFail>,
 }
 
+/// What comes of a run beside its workers.
+#[derive(Drop)]
+pub(crate) enum Directed {
+    /// It ended, with this answer.
+    Ended(Result<(), RunFail>),
+    /// It did not begin, since no more than these workers came.
+    TooFew(u32),
+}
+
 /// What goes on beside the workers of a run, in the thread that started them.
 pub(crate) trait Director {
     ghost may_direct: { Self → Type 0 };
 
-    ghost directs: { Result Unit RunFail → Self → Self → Type 0 };
+    ghost directs: { Directed → Self → Self → Type 0 };
 
-    /// Goes on to the end, and then dismisses the workers, however it ended.
-    fn direct<R: Wait>(&mut self, rt: &R) -> Result<(), RunFail>
+    /// Goes on to the end, if all workers come, and then dismisses them, however it ended.
+    fn direct<R: Wait>(&mut self, rt: &R) -> Directed
         requires { may_direct self.old }
         ensures { directs result self.old self.new };
 }
@@ -68,14 +78,14 @@ impl<D: Disk, E: Disk, T: Teller> Director for Resolver<'_, '_, '_, D, E, T> {
     ghost directs = { λ answer old new. Directs D.Disk E.Disk T.Teller answer old new };
 
     // It begins once all workers are here. Where they do not come in time it leaves the work as it is.
-    fn direct<R: Wait>(&mut self, rt: &R) -> Result<(), RunFail> {
-        if !self.shared.arrivals.are_all_here(rt) {
+    fn direct<R: Wait>(&mut self, rt: &R) -> Directed {
+        if let Some(here) = self.shared.arrivals.wait_for_all(rt) {
             dismiss(&self.shared.board, self.desk);
-            return Err(RunFail::NoMemory);
+            return Directed::TooFew(here);
         }
         let answer = self.resolve(rt);
         dismiss(&self.shared.board, self.desk);
-        answer
+        Directed::Ended(answer)
     }
 }
 
@@ -86,13 +96,13 @@ fn direct_crew<R: Threads + Wait + Sync, G: Gate + Sync, L: Director>(
     crew: &mut [CrewMember],
     gate: &G,
     director: &mut L,
-) -> Result<(), RunFail>
+) -> Directed
     requires crew { MayServe shared.now crew.old }
     requires director { L.may_direct director.old }
     ensures crew { HaveServed shared.now crew.old crew.new }
     ensures director { L.directs result director.old director.new }
 {
-    let mut answer = Ok(());
+    let mut directed = Directed::Ended(Ok(()));
     join_mut(
         rt,
         &mut ||
@@ -101,12 +111,12 @@ fn direct_crew<R: Threads + Wait + Sync, G: Gate + Sync, L: Director>(
         { run_crew(rt, shared, crew, gate) },
         &mut ||
             requires { L.may_direct director.now }
-            ensures { L.directs answer.exit director.entry.now director.exit.now }
+            ensures { L.directs directed.exit director.entry.now director.exit.now }
         {
-            answer = director.direct(rt);
+            directed = director.direct(rt);
         },
     );
-    answer
+    directed
 }
 
 // The workers, the host that has their threads, and the gate that they come through.
@@ -134,16 +144,19 @@ impl Shared<'_> {
         spool: &'a mut E,
         teller: &'a mut T,
         hints: &'a mut Hints,
-    ) -> Result<(), RunFail>
+    ) -> Directed
         requires crew { MayServe self.now crew.old.members.items }
         requires at_work { IsAtWork self.now.board (standing D.Disk E.Disk T.Teller desk.old
             journal.old spool.old teller.old) }
         requires filled { AreFilled self.now.lanes desk.old hints.old.pass }
         ensures crew { HaveServed self.now crew.old.members.items crew.new.members.items }
-        ensures concludes { Concludes self.now.board result
+        ensures concludes { IfEnded result (λ answer. Concludes self.now.board answer
             (standing D.Disk E.Disk T.Teller desk.old journal.old spool.old teller.old)
-            (standing D.Disk E.Disk T.Teller desk.new journal.new spool.new teller.new) }
-        ensures fills { Fills self.now.lanes result desk.old desk.new hints.new.pass }
+            (standing D.Disk E.Disk T.Teller desk.new journal.new spool.new teller.new)) }
+        ensures fills { IfEnded result (λ answer. Fills self.now.lanes answer desk.old desk.new
+            hints.new.pass) }
+        ensures waited { IfTooFew result (λ here. HasWaited self.now here desk.old desk.new
+            × (journal.new ≡ journal.old) × (spool.new ≡ spool.old) × (teller.new ≡ teller.old)) }
     {
         let mut resolver = Resolver {
             shared: self,
@@ -175,7 +188,8 @@ struct Means<'p> {
 // How many workers a run has: no more than places, since one without a place has nothing to do.
 fn crew_size(plan: &Plan, threads: u32) -> u32
     requires { 0 < threads }
-    ensures { 0 < result }
+    ensures some { 0 < result }
+    ensures few { result ≤ threads }
 {
     let places = place_count(plan);
     if 0 < places && places < threads {
@@ -198,6 +212,7 @@ fn prepare<'p>(alloc: Global, plan: &'p Plan, threads: u32) -> Result<Means<'p>,
         ≡ replicate (length plan.now.setup.managers) []) }
     ensures crew { IfOk result (λ means. MayServe means.shared means.crew.items) }
     ensures covers { IfOk result (λ means. Covers plan.now means.lead means.crew.items) }
+    ensures expected { IfOk result (λ means. means.shared.arrivals.expected ≤ threads) }
 {
     let size = crew_size(plan, threads);
     let started = vec![in alloc; None; place_count(plan) as usize]?;
@@ -221,10 +236,10 @@ fn prepare<'p>(alloc: Global, plan: &'p Plan, threads: u32) -> Result<Means<'p>,
 }
 
 /// Goes on from the journal's list to the end of the history, with so many workers in threads of their own, but no more than
-/// there are places: the place with index `i` is served by the worker `i` modulo `threads`. It takes the memory for the board,
+/// there are places: the place with index `i` is served by the worker `i` modulo their number. It takes the memory for the board,
 /// the lanes and the workers before it writes anything, and begins only when all workers have: where not all of them begin within
-/// ten seconds, as where a thread cannot be made, it returns `NoMemory`, and nothing was added to the list. After that a report
-/// may find no memory, which leaves its request without an end. However it ends, no worker is left running. The text of a report
+/// ten seconds, as where a thread cannot be made, it dismisses them and begins anew with as many as had come, at least one. Where it
+/// finds no memory for that, nothing was added to the list. After that a report may find none, which leaves its request without an end. However it ends, no worker is left running. The text of a report
 /// is on the spool's disk before its end is journaled, and an event is journaled before the machine takes it in, before it means
 /// anything to a worker, and before it is told.
 pub fn run_with_workers<
@@ -290,14 +305,19 @@ pub fn run_with_workers<
     let mut desk = Desk::new(plan, lead, work);
     put_waiting(rt, &shared.lanes, &desk, &mut hints.pass);
     let mut crew = Crew { rt, members, gate };
-    let answer = shared.resolve_beside(&mut crew, &mut desk, journal, spool, teller, &mut hints);
+    let directed = shared.resolve_beside(&mut crew, &mut desk, journal, spool, teller, &mut hints);
     let (mut lead, work) = desk.into_parts();
     take_in(&shared.board, &mut lead, crew.members);
     shared.board.close(lead);
     let Hints { pass, .. } = hints;
-    Ran {
-        work,
-        puts: Some(pass),
-        answer,
+    match directed {
+        Directed::Ended(answer) => Ran {
+            work,
+            puts: Some(pass),
+            answer,
+        },
+        Directed::TooFew(here) => {
+            run_with_workers(rt, alloc, work, journal, spool, teller, gate, here)
+        }
     }
 }
