@@ -53,12 +53,15 @@ awaits board old new r is named tied taken =
     let left = left_in board plan past r old.lead new.lead taken.posted is (subst (λ (p : Plan). IsRequest p r) is named) tied taken.collects taken.left in
     let goes : must_stop plan past r ≡ false = goes-on (must_stop_at old r) taken.posted taken.answers in
     let its_request : request plan r ≡ Some left.req = ap (request plan) (sym left.number) ∙ numbered_plan plan left.req left.there in
-    let facts = facts_at-state plan past left.req left.there in (record {
-      req = left.req;
-      there = left.there;
-      runs = ap (λ (o : Option PlaceId). is_some o) left.runs.place_is;
-      goes_on = sym (ap (λ (f : Facts). is_stopping f) facts) ∙ sym (ap (some_and (λ q. is_stopping (facts_at (state plan past) q))) its_request) ∙ goes;
-    }, left.number)
+    let facts = facts_at-state plan past left.req left.there in (
+      record {
+        req = left.req;
+        there = left.there;
+        runs = ap (λ (o : Option PlaceId). is_some o) left.runs.place_is;
+        goes_on = sym (ap (λ (f : Facts). is_stopping f) facts) ∙ sym (ap (some_and (λ q. is_stopping (facts_at (state plan past) q))) its_request) ∙ goes;
+      },
+      left.number,
+    )
 
 -- so the desk lacks its report then
 pub lacks : (board : Board) (old new : DeskState) (r : RequestId) → board_plan board ≡ plan_at old → IsRequest (board_plan board) r → LeadStatesGoWith (plan_at old) (reverse (list_at old)) old.lead

@@ -1,5 +1,5 @@
 -- What comes of a run that began, and of one that did not.
-use Rattle.std.proofs.Common.{◌≡◌, ℕ, Result, subst}
+use Rattle.std.proofs.Common.{ℕ, Result}
 use Rattle.conc_run_state.specs.declared.error.RunFail.{RunFail}
 use Rattle.conc_run_workers.specs.Resolvers.{IfEnded, IfTooFew}
 use Rattle.conc_run_workers.specs.declared.running.Directed.{Directed}
@@ -10,11 +10,3 @@ pub either-way : (Ends : Result Unit RunFail → Type 0) (Waits : ℕ → Type 0
     → ((a : Result Unit RunFail) → Ends a → P) → ((here : ℕ) → Waits here → P) → P
 either-way Ends Waits (directed.Ended a) ends waits one other = one a ends
 either-way Ends Waits (directed.TooFew here) ends waits one other = other here waits
-
--- what holds of a run that began
-pub of-ended : (Ends : Result Unit RunFail → Type 0) {answer : Directed} {a : Result Unit RunFail} → answer ≡ directed.Ended a → IfEnded answer Ends → Ends a
-of-ended Ends is ends = subst (λ (x : Directed). IfEnded x Ends) is ends
-
--- what holds of one that did not
-pub of-too-few : (Waits : ℕ → Type 0) {answer : Directed} {here : ℕ} → answer ≡ directed.TooFew here → IfTooFew answer Waits → Waits here
-of-too-few Waits is waits = subst (λ (x : Directed). IfTooFew x Waits) is waits

@@ -61,10 +61,10 @@ loans-after first second = record {
 
 -- it dismissed them, and did not begin
 pub not-begun : {D E T : Type 0} {here : ℕ} {old new : Resolver D E T} → SameLoans old new → beside-desk new ≡ beside-desk old → Dismisses old.shared.now.board old.desk.now new.desk.now
-    → (0 < here) × (here < old.shared.now.arrivals.expected) → HasNotBegun here old new
-not-begun loans same dismisses count = record {
+    → here < old.shared.now.arrivals.expected → HasNotBegun here old new
+not-begun loans same dismisses fewer = record {
   loans = loans;
-  waited = record { dismisses = dismisses; some = count.0; fewer = count.1 };
+  waited = record { dismisses = dismisses; fewer = fewer };
   journal = λ i. (same i).0;
   spool = λ i. (same i).1;
   teller = λ i. (same i).2;
@@ -231,10 +231,10 @@ module _ {D E T : Type 0} {d : DiskGhosts D} {e : DiskGhosts E} {t : TellerGhost
       → Dismisses mid.shared.now.board mid.desk.now new.desk.now → HasDirected d e t answer old new
   directs {old} {mid} {new} answer steps is_finished loans same dismisses =
       let ends = subst (λ (h : Shared). Dismisses h.board mid.desk.now new.desk.now) steps.loans.shared dismisses in let stays = ends.moves in record {
-    loans = loans-after steps.loans loans;
-    concludes = subst (λ (z : D × E × T × Hints). Concludes old.shared.now.board answer (situation d e t old)
-        (record { desk = new.desk.now; journal = d.state z.0; spool = e.state z.1; told = t.list z.2; takes = t.takes z.2; may_lack = t.may_lack z.2 })) (sym same)
-        (concludes-begun old.shared.now.board (situation d e t old) _ answer (then-still old.shared.now.board (situation d e t old) (situation d e t mid) new.desk.now answer steps.resolves stays ends.posts) (finished-still answer is_finished stays) ends.dismissed);
-    fills = subst (λ (z : D × E × T × Hints). Fills old.shared.now.lanes answer old.desk.now new.desk.now z.3.pass) (sym same)
-        (fills-still old.shared.now.lanes old.desk.now mid.desk.now new.desk.now mid.hints.now.pass answer steps.fills stays.same);
-  }
+        loans = loans-after steps.loans loans;
+        concludes = subst (λ (z : D × E × T × Hints). Concludes old.shared.now.board answer (situation d e t old)
+            (record { desk = new.desk.now; journal = d.state z.0; spool = e.state z.1; told = t.list z.2; takes = t.takes z.2; may_lack = t.may_lack z.2 })) (sym same)
+            (concludes-begun old.shared.now.board (situation d e t old) _ answer (then-still old.shared.now.board (situation d e t old) (situation d e t mid) new.desk.now answer steps.resolves stays ends.posts) (finished-still answer is_finished stays) ends.dismissed);
+        fills = subst (λ (z : D × E × T × Hints). Fills old.shared.now.lanes answer old.desk.now new.desk.now z.3.pass) (sym same)
+            (fills-still old.shared.now.lanes old.desk.now mid.desk.now new.desk.now mid.hints.now.pass answer steps.fills stays.same);
+      }

@@ -88,10 +88,9 @@ pub record HasDirected {D E T : Type 0} (d : DiskGhosts D) (e : DiskGhosts E) (t
   pub concludes : Concludes old.shared.now.board answer (situation d e t old) (situation d e t new)
   pub fills : Fills old.shared.now.lanes answer old.desk.now new.desk.now new.hints.now.pass
 
--- What is left of a desk where not all workers came: it stays as it was, and the workers that did are told to leave. They are fewer than expected.
+-- What is left of a desk where not all workers came: it stays as it was, and those that did are told to leave. They are fewer than expected.
 pub record HasWaited (shared : Shared) (here : ℕ) (old new : DeskState) : Type 0 where
   pub dismisses : Dismisses shared.board old new
-  pub some : 0 < here
   pub fewer : here < shared.arrivals.expected
 
 -- So it is, and the disks and the teller are as they were.

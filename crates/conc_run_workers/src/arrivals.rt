@@ -6,8 +6,11 @@ use std::sync::atomic::AtomicU64;
 use std::sync::atomic::Ordering::SeqCst;
 use std::time::Duration;
 
-/// How often the lead sleeps at most until the workers are here: with naps of `NAP` that is ten seconds.
-const NAPS: u32 = 1000;
+/// How often the lead sleeps at most until all workers are here: with naps of `NAP` that is ten seconds.
+const NAPS_FOR_ALL: u32 = 1000;
+
+/// How often it sleeps at most until the first one is here: that is a minute.
+const NAPS_FOR_ONE: u32 = 6000;
 
 /// How many milliseconds the lead sleeps at most before it counts the workers again.
 const NAP: u64 = 10;
@@ -36,38 +39,31 @@ impl Arrivals {
         self.count.wake_all();
     }
 
-    // How many are here.
-    fn here(&self) -> u32 {
-        u32::try_from(self.count.load(SeqCst)).unwrap_or(u32::MAX)
-    }
-
-    // Sleeps until there are more than these, but not for long.
-    fn nap<R: Wait>(&self, rt: &R, here: u32) {
-        self.count
-            .park_timeout(rt, here, Duration::from_millis(NAP));
-    }
-
-    /// Waits for all workers, and after ten seconds for the first one. Returns how many are here where some are not.
-    pub(crate) fn wait_for_all<R: Wait>(&self, rt: &R) -> Option<u32>
-        ensures { IfSome result (λ here. (0 < here) × (here < self.now.expected)) }
+    // How many are here, where some are not.
+    fn too_few(&self) -> Option<u32>
+        ensures { IfSome result (λ here. here < self.now.expected) }
     {
-        for _ in 0..NAPS {
-            let here = self.here();
-            if here >= self.expected {
-                return None;
-            }
-            self.nap(rt, here);
+        let here = u32::try_from(self.count.load(SeqCst)).unwrap_or(u32::MAX);
+        if here < self.expected {
+            Some(here)
+        } else {
+            None
         }
-        for _ in rt.forever() {
-            let here = self.here();
-            if here >= self.expected {
-                return None;
-            }
-            if here > 0 {
+    }
+
+    /// Waits for all workers, but after ten seconds for the first one alone, and for that no longer than a minute. Returns how
+    /// many are here where some are not.
+    pub(crate) fn wait_for_all<R: Wait>(&self, rt: &R) -> Option<u32>
+        ensures { IfSome result (λ here. here < self.now.expected) }
+    {
+        for nap in 0..NAPS_FOR_ONE {
+            let here = self.too_few()?;
+            if nap >= NAPS_FOR_ALL && here > 0 {
                 return Some(here);
             }
-            self.nap(rt, here);
+            self.count
+                .park_timeout(rt, here, Duration::from_millis(NAP));
         }
-        unreachable!()
+        self.too_few()
     }
 }

@@ -237,11 +237,12 @@ fn prepare<'p>(alloc: Global, plan: &'p Plan, threads: u32) -> Result<Means<'p>,
 
 /// Goes on from the journal's list to the end of the history, with so many workers in threads of their own, but no more than
 /// there are places: the place with index `i` is served by the worker `i` modulo their number. It takes the memory for the board,
-/// the lanes and the workers before it writes anything, and begins only when all workers have: where not all of them begin within
-/// ten seconds, as where a thread cannot be made, it dismisses them and begins anew with as many as had come, at least one. Where it
-/// finds no memory for that, nothing was added to the list. After that a report may find none, which leaves its request without an end. However it ends, no worker is left running. The text of a report
-/// is on the spool's disk before its end is journaled, and an event is journaled before the machine takes it in, before it means
-/// anything to a worker, and before it is told.
+/// the lanes and the workers before it writes anything, and begins once all workers have. Where some have not after ten seconds, as
+/// where the system is busy or refuses a thread, it begins anew with as many workers as had come; where none has after a minute, it
+/// returns `NoMemory`. Where it returns that before it has begun, nothing was added to the list. After that a report may find no
+/// memory, which leaves its request without an end. However it ends, no worker is left running. The text of a report is on the
+/// spool's disk before its end is journaled, and an event is journaled before the machine takes it in, before it means anything to a
+/// worker, and before it is told.
 pub fn run_with_workers<
     'p,
     R: Threads + Wait + Sync,
@@ -316,8 +317,13 @@ pub fn run_with_workers<
             puts: Some(pass),
             answer,
         },
-        Directed::TooFew(here) => {
+        Directed::TooFew(here) if here > 0 => {
             run_with_workers(rt, alloc, work, journal, spool, teller, gate, here)
         }
+        Directed::TooFew(_) => Ran {
+            work,
+            puts: None,
+            answer: Err(RunFail::NoMemory),
+        },
     }
 }

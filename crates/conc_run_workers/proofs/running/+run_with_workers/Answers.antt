@@ -3,6 +3,7 @@ use Rattle.std.specs.Prelude.{OnOk}
 use Rattle.conc_types.specs.declared.plan.Plan.{Plan}
 use Rattle.conc_board.specs.declared.lead.Lead.{Lead}
 use Rattle.conc_board.specs.Seats.{places_of_lead, plan_of}
+use Rattle.conc_disk.specs.Disk.{DiskState}
 use Rattle.conc_journal.specs.Journals.{state_of}
 use Rattle.conc_base_law.specs.Law.{Finished}
 use Rattle.conc_run_state.specs.Disks.{disks}
@@ -17,7 +18,7 @@ use Rattle.conc_run_workers.specs.Resolvers.{standing}
 use Rattle.conc_run_workers.specs.Resolving.{IsDismissed}
 use Rattle.conc_run_workers.specs.Runs.{AwaitsReport}
 use Rattle.conc_run_workers.proofs.Advancing.{short-awaits}
-use Rattle.conc_run_workers.proofs.Outcomes.{either-way, of-ended}
+use Rattle.conc_run_workers.proofs.Outcomes.{either-way}
 use Rattle.conc_run_workers.proofs.Crews.{covers-same}
 use Rattle.conc_pool_lanes.specs.Puts.{lists_for}
 use Rattle.conc_pool_lanes.proofs.Lists.{lists_for-none}
@@ -25,29 +26,29 @@ use Rattle.conc_run_workers.proofs.Filled.{puts-by}
 use Rattle.conc_run_workers.proofs.running.+run_with_workers.Goals as goal
 
 pub returns-in_default-clause-went_on : goal.returns-in_default-clause-went_on
-returns-in_default-clause-went_on g n c =
+returns-in_default-clause-went_on g t c =
     went-still c.args.work (g.D.Disk.state c.args.journal.now) (g.E.Disk.state c.args.spool.now) c.requires.ready ((g.met.E.Disk g.world.𝓛 g.world.𝓜 g.world.𝓡 ((λ s x. x), (λ x. x), (λ x. x), λ x. x)).seen_is_left c.args.spool.now)
 
 -- ---- the lanes
 
 pub put_waiting-requires-clause-empty : goal.put_waiting-requires-clause-empty
-put_waiting-requires-clause-empty g n c =
+put_waiting-requires-clause-empty g t c =
     c.in-Ok.ensures.empty
     ∙ (sym (lists_for-none c.plan-plan.result.now) ∙ ap (λ (p : Plan). lists_for p []) (c.plan-plan.ensures ∙ sym (ap (λ (w : Work). plan_in w) c.new-desk.ensures.work)))
 
 -- ---- the workers
 
 pub take_in-requires-clause-free : goal.take_in-requires-clause-free
-take_in-requires-clause-free g n c = c.resolve_beside-directed.ensures.crew.0
+take_in-requires-clause-free g t c = c.resolve_beside-directed.ensures.crew.0
 
 pub take_in-requires-clause-dismissed : goal.take_in-requires-clause-dismissed
-take_in-requires-clause-dismissed g n c =
+take_in-requires-clause-dismissed g t c =
     let made = c.resolve_beside-directed.ensures in
     subst (λ (l : Lead). IsDismissed c.in-Ok.means.shared.board l) (sym (ap (λ z. z.0) c.into_parts-lead.ensures.parts))
     (either-way _ _ c.resolve_beside-directed.result made.concludes made.waited (λ a ends. ends.dismissed) (λ here waits. waits.0.dismisses.dismissed))
 
 pub take_in-requires-clause-covers : goal.take_in-requires-clause-covers
-take_in-requires-clause-covers g n c =
+take_in-requires-clause-covers g t c =
     let made = c.resolve_beside-directed.ensures in
     let us = c.resolve_beside-directed.new.crew.members.items in let ws = c.in-Ok.means.crew.items in let lead' = c.into_parts-lead.result.0 in
     let stays : places_of_lead c.resolve_beside-directed.new.desk.lead ≡ places_of_lead c.new-desk.result.lead =
@@ -59,37 +60,35 @@ take_in-requires-clause-covers g n c =
 -- ---- what a run made that began
 
 pub returns-in-Ended-clause-went_on : goal.returns-in-Ended-clause-went_on
-returns-in-Ended-clause-went_on g n c =
-    let ended = of-ended _ c.in-Ended.is c.resolve_beside-directed.ensures.concludes in
+returns-in-Ended-clause-went_on g t c =
+    let ended = c.in-Ended.ensures.concludes in
     let d = disks (g.D.Disk.state c.args.journal.now) (g.D.Disk.state c.resolve_beside-directed.new.journal) (g.E.Disk.state c.args.spool.now) (g.E.Disk.state c.resolve_beside-directed.new.spool) in
     subst (λ (z : Work × Work). WentOn (plan_in z.0) (readings_in z.0) d z.0 z.1) (λ i. (c.new-desk.ensures.work i, sym (ap (λ z. z.1) c.into_parts-lead.ensures.parts) i)) ended.went
 
 pub returns-in-Ended-clause-finished : goal.returns-in-Ended-clause-finished
-returns-in-Ended-clause-finished g n c =
-    let ended = of-ended _ c.in-Ended.is c.resolve_beside-directed.ensures.concludes in
+returns-in-Ended-clause-finished g t c =
+    let ended = c.in-Ended.ensures.concludes in
     subst (λ (z : Work × Work). OnOk c.in-Ended.answer (Finished (plan_in z.0) (readings_in z.0) (list_in z.1)))
     (λ i. (c.new-desk.ensures.work i, sym (ap (λ z. z.1) c.into_parts-lead.ensures.parts) i)) ended.finished
 
 pub returns-in-Ended-clause-told : goal.returns-in-Ended-clause-told
-returns-in-Ended-clause-told g n c =
-    let ended = of-ended _ c.in-Ended.is c.resolve_beside-directed.ensures.concludes in
+returns-in-Ended-clause-told g t c =
+    let ended = c.in-Ended.ensures.concludes in
     let told = g.T.Teller.list c.resolve_beside-directed.new.teller in let takes = g.T.Teller.takes c.resolve_beside-directed.new.teller in
     subst (λ (z : Work × Work). OnOk c.in-Ended.answer (IsTold told takes (plan_in z.0) (list_in z.1)))
     (λ i. (c.new-desk.ensures.work i, sym (ap (λ z. z.1) c.into_parts-lead.ensures.parts) i)) ended.is_told
 
 pub returns-in-Ended-clause-journal_fault : goal.returns-in-Ended-clause-journal_fault
-returns-in-Ended-clause-journal_fault g n c = λ is.
-    let ended = of-ended _ c.in-Ended.is c.resolve_beside-directed.ensures.concludes in
-    ended.journal_fault is
+returns-in-Ended-clause-journal_fault g t c = λ is.
+    c.in-Ended.ensures.concludes.journal_fault is
 
 pub returns-in-Ended-clause-spool_fault : goal.returns-in-Ended-clause-spool_fault
-returns-in-Ended-clause-spool_fault g n c = λ is.
-    let ended = of-ended _ c.in-Ended.is c.resolve_beside-directed.ensures.concludes in
-    ended.spool_fault is
+returns-in-Ended-clause-spool_fault g t c = λ is.
+    c.in-Ended.ensures.concludes.spool_fault is
 
 pub returns-in-Ended-clause-memory : goal.returns-in-Ended-clause-memory
-returns-in-Ended-clause-memory g n c = λ is.
-    let ended = of-ended _ c.in-Ended.is c.resolve_beside-directed.ensures.concludes in
+returns-in-Ended-clause-memory g t c = λ is.
+    let ended = c.in-Ended.ensures.concludes in
     let told = g.T.Teller.list c.resolve_beside-directed.new.teller in let lacks = g.T.Teller.may_lack c.resolve_beside-directed.new.teller in
     subst (λ (z : Work × Work). (list_in z.1 ≡ list_in z.0) ⊎ (AwaitsReport (plan_in z.0) (list_in z.1) ⊎ ((lacks ≡ true) × IsUntold told (list_in z.1))))
     (λ i. (c.new-desk.ensures.work i, sym (ap (λ z. z.1) c.into_parts-lead.ensures.parts) i))
@@ -98,12 +97,22 @@ returns-in-Ended-clause-memory g n c = λ is.
     ended.went (ended.memory is)))
 
 pub returns-in-Ended-clause-sound : goal.returns-in-Ended-clause-sound
-returns-in-Ended-clause-sound g n c = λ none.
-    let ended = of-ended _ c.in-Ended.is c.resolve_beside-directed.ensures.concludes in
+returns-in-Ended-clause-sound g t c = λ none.
+    let ended = c.in-Ended.ensures.concludes in
     ap (λ z. state_of z.1.journal) c.into_parts-lead.ensures.parts ∙ ended.sound none ∙ ap (λ (w : Work). state_of w.journal) c.new-desk.ensures.work
 
 pub returns-in-Ended-clause-puts : goal.returns-in-Ended-clause-puts
-returns-in-Ended-clause-puts g n c =
-    let left = of-ended _ c.in-Ended.is c.resolve_beside-directed.ensures.fills in
+returns-in-Ended-clause-puts g t c =
+    let left = c.in-Ended.ensures.fills in
     puts-by c.in-Ended.answer c.in-Ok.means.shared.lanes (plan_in c.args.work) (list_in c.args.work) c.resolve_beside-directed.new.desk c.resolve_beside-directed.new.hints.pass c.into_parts-lead.result.1
     (ap (λ z. z.1) c.into_parts-lead.ensures.parts) (c.in-Ok.ensures.one_plan.1 ∙ (c.in-Ok.ensures.plan ∙ c.plan-plan.ensures)) (left.begun_with ∙ c.new-desk.ensures.begun_with) left.filled
+
+-- ---- where no worker came
+
+pub returns-clause-went_on : goal.returns-clause-went_on
+returns-clause-went_on g t c =
+    let waited = c.in-TooFew-2.ensures.waited in
+    let same : c.into_parts-lead.result.1 ≡ c.args.work = ap (λ z. z.1) c.into_parts-lead.ensures.parts ∙ waited.0.dismisses.moves.same.work ∙ c.new-desk.ensures.work in
+    let still = went-still c.args.work (g.D.Disk.state c.args.journal.now) (g.E.Disk.state c.args.spool.now) c.requires.ready ((g.met.E.Disk g.world.𝓛 g.world.𝓜 g.world.𝓡 ((λ s x. x), (λ x. x), (λ x. x), λ x. x)).seen_is_left c.args.spool.now) in
+    subst (λ (z : DiskState × DiskState × Work). WentOn (plan_in c.args.work) (readings_in c.args.work) (disks (g.D.Disk.state c.args.journal.now) z.0 (g.E.Disk.state c.args.spool.now) z.1) c.args.work z.2)
+    (λ i. (g.D.Disk.state (sym waited.1 i), g.E.Disk.state (sym waited.2 i), sym same i)) still
