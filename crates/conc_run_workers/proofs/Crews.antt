@@ -1,6 +1,6 @@
 -- Places that pass between the lead and the workers.
-use Rattle.std.proofs.Common.{◌≡◌, ◌≢◌, ◌⊎◌, ◌%◌, inl, inr, ⊎_elim, ℕ, zero, suc, ◌<◌, ◌+◌, ◌==◌, ◌||◌, Bool, true, false, if◌then◌else◌, List, [], ◌∷◌, ◌++◌, length, get_or, take, Option, None, Some, refl, sym, ◌∙◌, ap, subst, arith, eqb-true, eq-eqb}
-use Rattle.std.specs.Prelude.{◌↔◌}
+use Rattle.std.proofs.Common.{◌≡◌, ◌≢◌, ◌⊎◌, ◌%◌, inl, inr, ⊎_elim, ℕ, zero, suc, ◌<◌, ◌+◌, ◌==◌, ◌||◌, Bool, true, false, if◌then◌else◌, List, [], ◌∷◌, ◌++◌, length, get_or, set, take, Option, None, Some, refl, sym, ◌∙◌, ap, subst, arith, eqb-true, eq-eqb}
+use Rattle.std.specs.Prelude.{◌↔◌, ◌≤◌, IfSome}
 use mathlib.Core.Logic.{dite}
 use native.Mathlib.Decide.{ℕ_discrete}
 use Rattle.conc_types.specs.declared.event.PlaceId.{PlaceId}
@@ -17,7 +17,7 @@ use Rattle.conc_base_law.specs.Places.{count_of_places}
 use Rattle.conc_pool_lanes.specs.Lanes.{AreHandPasses, IsHandPassOf}
 use Rattle.conc_pool_lanes.specs.declared.lanes.HandPass.{HandPass}
 use Rattle.conc_pool_lanes.specs.declared.lanes.Lanes.{Lanes}
-use Rattle.conc_run_workers.specs.Crews.{Covers, IsFree, IsFreeMember, places_had, SamePlaces}
+use Rattle.conc_run_workers.specs.Crews.{AreDealt, Covers, IsCrewFor, IsFree, IsFreeMember, places_had, SameLists, SamePlaces}
 use Rattle.conc_run_workers.specs.declared.crew.CrewMember.{CrewMember}
 
 -- ---- lists of places
@@ -157,24 +157,35 @@ covers-same plan lead lead' ws us places same covers = record {
   ];
 }
 
--- a worker is taken in
-pub covers-joined : (plan : Plan) (lead lead' : Lead) (ws : List CrewMember) (w : CrewMember) (hand : Hand) → w.hand ≡ Some hand → places_of_lead lead' ≡ places_of_hand hand ++ places_of_lead lead → Covers plan lead (ws ++ w ∷ [])
-    → Covers plan lead' ws
-covers-joined plan lead lead' ws w hand has_hand places covers = record {
+-- an item of those is the one at this index, or stays where that is replaced
+has-set : {T : Type 0} (xs : List T) (i : ℕ) (x d y : T) → Has xs y → (y ≡ get_or xs i d) ⊎ Has (set xs i x) y
+has-set [] i x d y none = absurd none
+has-set (z ∷ xs) zero x d y (inl e) = inl e
+has-set (z ∷ xs) zero x d y (inr later) = inr (inr later)
+has-set (z ∷ xs) (suc i) x d y (inl e) = inr (inl e)
+has-set (z ∷ xs) (suc i) x d y (inr later) = ⊎_elim (λ e. inl e) (λ h. inr (inr h)) (has-set xs i x d y later)
+
+-- the hand of a worker is taken in
+pub covers-taken : (plan : Plan) (lead lead' : Lead) (ws : List CrewMember) (i : ℕ) (w d : CrewMember) (hand : Hand) → (get_or ws i d).hand ≡ Some hand → places_of_lead lead' ≡ places_of_hand hand ++ places_of_lead lead
+    → Covers plan lead ws → Covers plan lead' (set ws i w)
+covers-taken plan lead lead' ws i w d hand has_hand places covers = record {
   each = λ p is. elim (covers.each p is) [
     | inl own ↦ inl (ap (λ (ps : List PlaceId). has ps p) places ∙ has-right (places_of_hand hand) (places_of_lead lead) p own)
-    | inr v ↦ ⊎_elim (λ there. inr (v.0, there, v.2))
+    | inr v ↦ ⊎_elim
         (λ e. inl (ap (λ (ps : List PlaceId). has ps p) places
         ∙ has-left (places_of_hand hand) (places_of_lead lead) p (ap (λ (o : Option Hand). has (places_had o) p) (sym (ap (λ (x : CrewMember). x.hand) e ∙ has_hand)) ∙ v.2)))
-        (has-snoc ws w v.0 v.1)
+        (λ there. inr (v.0, there, v.2))
+        (has-set ws i w d v.0 v.1)
   ];
 }
 
--- all are taken in
-pub covers-none : (plan : Plan) (lead : Lead) (ws : List CrewMember) → ws ≡ [] → Covers plan lead ws → (p : PlaceId) → IsPlace plan p → has (places_of_lead lead) p ≡ true
+-- all hands are taken in
+pub covers-none : (plan : Plan) (lead : Lead) (ws : List CrewMember) → ((k : ℕ) (d : CrewMember) → k < length ws → (get_or ws k d).hand ≡ None) → Covers plan lead ws → (p : PlaceId) → IsPlace plan p
+    → has (places_of_lead lead) p ≡ true
 covers-none plan lead ws none covers p is = elim (covers.each p is) [
   | inl own ↦ own
-  | inr w ↦ absurd (subst (λ (l : List CrewMember). Has l w.0) none w.1)
+  | inr w ↦ let gone = each-had (λ (x : CrewMember). x.hand ≡ None) ws none w.0 w.1 in
+      let never : has [] p ≡ true = ap (λ (o : Option Hand). has (places_had o) p) (sym gone) ∙ w.2 in absurd (cc)
 ]
 
 -- a worker without a hand is not free
@@ -205,3 +216,28 @@ each-more P [] w each last zero d below = last
 each-more P [] w each last (suc k) d below = absurd (omega arith)
 each-more P (x ∷ ws) w each last zero d below = each 0 x (omega arith)
 each-more P (x ∷ ws) w each last (suc k) d below = each-more (λ j. P (suc j)) ws w (λ j e less. each (suc j) e (omega arith)) last k d (omega arith)
+
+-- ---- who serves which place
+
+pub lists-after : (first mid last : List CrewMember) → SameLists first mid → SameLists mid last → SameLists first last
+lists-after first mid last one other = record {
+  long = other.long ∙ one.long;
+  each = λ i d below. other.each i d (omega (arith, below, one.long)) ∙ one.each i d below;
+}
+
+pub crew-same : (plan : Plan) (threads : ℕ) (ws us : List CrewMember) → SameLists ws us → IsCrewFor plan threads ws → IsCrewFor plan threads us
+crew-same plan threads ws us same fits = record {
+  some = omega (arith, fits.some, same.long);
+  few = omega (arith, fits.few, same.long);
+  spare = λ there. let spare = fits.spare there in omega (arith, spare, same.long);
+  dealt = λ i d below.
+      let small : i < length ws = omega (arith, below, same.long) in
+      subst (λ (n : ℕ). AreDealt plan n i (get_or us i d).places.items) (sym same.long) (subst (λ (l : List PlaceId). AreDealt plan (length ws) i l) (sym (same.each i d small)) (fits.dealt i d small));
+}
+
+pub crew-wider : (plan : Plan) (few threads : ℕ) (crew : List CrewMember) → few ≤ threads → IsCrewFor plan few crew → IsCrewFor plan threads crew
+crew-wider plan few threads crew less fits = record { some = fits.some; few = omega (arith, fits.few, less); spare = fits.spare; dealt = fits.dealt }
+
+pub if-some : {A : Type 0} (P Q : A → Type 0) (o : Option A) → ((x : A) → P x → Q x) → IfSome o P → IfSome o Q
+if-some P Q None step is = tt
+if-some P Q (Some x) step is = step x is

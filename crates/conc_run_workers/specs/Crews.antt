@@ -1,5 +1,5 @@
 -- The workers of a run, and which places the lead and they have together.
-use Rattle.std.specs.Prelude.{◌≡◌, All, ◌⊎◌, ◌↔◌, ◌<◌, ◌%◌, ℕ, List, [], length, slice_index_or, Option, None, Some, IsTrue}
+use Rattle.std.specs.Prelude.{◌≡◌, All, ◌⊎◌, ◌↔◌, ◌<◌, ◌≤◌, ◌%◌, ℕ, List, [], length, slice_index_or, Option, None, Some, IsTrue}
 use Rattle.conc_types.specs.declared.event.PlaceId.{PlaceId}
 use Rattle.conc_types.specs.declared.plan.Plan.{Plan}
 use Rattle.conc_base_law.specs.Places.{count_of_places}
@@ -47,6 +47,11 @@ pub record SamePlaces (before after : List CrewMember) : Type 0 where
   pub long : length after ≡ length before
   pub each : (i : ℕ) (d : CrewMember) → i < length before → places_had (slice_index_or after i d).hand ≡ places_had (slice_index_or before i d).hand
 
+-- each has the list of places that it had
+pub record SameLists (before after : List CrewMember) : Type 0 where
+  pub long : length after ≡ length before
+  pub each : (i : ℕ) (d : CrewMember) → i < length before → (slice_index_or after i d).places.items ≡ (slice_index_or before i d).places.items
+
 -- each worker has the pass that it had
 pub record SamePasses (before after : List CrewMember) : Type 0 where
   pub long : length after ≡ length before
@@ -69,4 +74,14 @@ MayServe shared crew = HasOnePlan shared × (0 < length crew) × All (IsFreeMemb
 
 -- each has a hand that does nothing, with the places that it had
 abbrev pub HaveServed : Shared → List CrewMember → List CrewMember → Type 0
-HaveServed shared before after = All (IsFreeMember shared.board) after × SamePlaces before after
+HaveServed shared before after = All (IsFreeMember shared.board) after × SamePlaces before after × SameLists before after
+
+-- ---- the crew of a run
+
+-- there are some workers, no more than so many threads, and no more than there are places, where there are any; and the places of the
+-- plan are dealt among them
+pub record IsCrewFor (plan : Plan) (threads : ℕ) (crew : List CrewMember) : Type 0 where
+  pub some : 0 < length crew
+  pub few : length crew ≤ threads
+  pub spare : 0 < count_of_places plan → length crew ≤ count_of_places plan
+  pub dealt : (i : ℕ) (d : CrewMember) → i < length crew → AreDealt plan (length crew) i (slice_index_or crew i d).places.items

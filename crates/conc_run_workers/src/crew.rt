@@ -5,7 +5,7 @@ ghost use Rattle.conc_board.specs.Seats.{HasAllPlaces, IsLeadOf, plan_of, SameLe
 ghost use Rattle.conc_pool_lanes.specs.Lanes.{AreHandPasses};
 ghost use Rattle.conc_pool_lanes.specs.declared.lanes.Lanes.{Lanes};
 ghost use Rattle.conc_run_workers.specs.Resolving.{IsDismissed};
-ghost use Rattle.conc_run_workers.specs.Crews.{AreDealt, Covers, HasOnePlan, HasPass, HaveServed, IsFree, IsFreeMember, MayServe, places_had, SamePasses};
+ghost use Rattle.conc_run_workers.specs.Crews.{AreDealt, Covers, HasOnePlan, HasPass, HaveServed, IsFree, IsFreeMember, MayServe, places_had, SameLists, SamePasses};
 
 use crate::arrivals::Arrivals;
 use conc_board::{Board, Hand, Lead};
@@ -30,12 +30,13 @@ pub(crate) struct Shared<'p> {
     pub(crate) arrivals: Arrivals,
 }
 
-/// A worker of a run: the places that it serves, and its hand while it serves none.
+/// A worker of a run, with its hand while it serves no place.
 #[derive(Drop)]
-pub(crate) struct CrewMember {
+pub struct CrewMember {
     pub(crate) hand: Option<Hand>,
     pub(crate) pass: HandPass,
-    pub(crate) places: Vec<PlaceId>,
+    /// The places that it serves.
+    pub places: Vec<PlaceId>,
 }
 
 // The places of one thread of so many: each whose index leaves this rest.
@@ -94,6 +95,7 @@ pub(crate) fn give_hands(board: &Board, lead: &mut Lead, crew: &mut [CrewMember]
     ensures lead_states { SameLeadStates lead.old lead.new }
     ensures free { All (IsFreeMember board.now) crew.new }
     ensures covers { Covers (plan_of board.now) lead.new crew.new }
+    ensures lists { SameLists crew.old crew.new }
     ensures passes { SamePasses crew.old crew.new }
 {
     for index in 0..crew.len() {
@@ -121,7 +123,8 @@ pub(crate) fn run_crew<R: Threads + Wait + Sync, G: Gate + Sync>(
             requires { HasOnePlan shared.now × IsFreeMember shared.now.board member.now
                 × HasPass shared.now.lanes member.now }
             ensures { IsFreeMember shared.entry.now.board member.exit.now
-                × (places_had member.exit.now.hand ≡ places_had member.entry.now.hand) }
+                × (places_had member.exit.now.hand ≡ places_had member.entry.now.hand)
+                × (member.exit.now.places.items ≡ member.entry.now.places.items) }
         {
             shared.arrivals.arrive();
             let Some(hand) = member.hand.take() else {
@@ -144,17 +147,17 @@ pub(crate) fn run_crew<R: Threads + Wait + Sync, G: Gate + Sync>(
 }
 
 /// Joins the hands of all workers, which were told that there is no more to come, to the lead, which then has all places.
-pub(crate) fn take_in(board: &Board, lead: &mut Lead, mut crew: Vec<CrewMember>)
+pub(crate) fn take_in(board: &Board, lead: &mut Lead, crew: &mut [CrewMember])
     requires lead { IsLeadOf board.now lead.old }
     requires dismissed { IsDismissed board.now lead.old }
-    requires free { All (IsFreeMember board.now) crew.items }
-    requires covers { Covers (plan_of board.now) lead.old crew.items }
+    requires free { All (IsFreeMember board.now) crew.old }
+    requires covers { Covers (plan_of board.now) lead.old crew.old }
     ensures lead { IsLeadOf board.now lead.new }
     ensures all { HasAllPlaces board.now lead.new }
+    ensures lists { SameLists crew.old crew.new }
 {
-    while let Some(member) = crew.pop() {
-        let CrewMember { hand, .. } = member;
-        if let Some(hand) = hand {
+    for index in 0..crew.len() {
+        if let Some(hand) = crew[index].hand.take() {
             board.join(lead, hand);
         }
     }

@@ -9,4 +9,5 @@ mod logging;
 mod resolving;
 mod running;
 
+pub use crew::CrewMember;
 pub use running::{Ran, run_with_workers};

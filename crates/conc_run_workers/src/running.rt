@@ -1,10 +1,11 @@
-ghost use Rattle.std.specs.Prelude.{◌≡◌, ◌⊎◌, ◌<◌, ◌≤◌, [], IfOk, IsErrOf, IsTrue, length, OnOk, replicate, Result};
+ghost use Rattle.std.specs.Prelude.{◌≡◌, ◌⊎◌, ◌<◌, ◌≤◌, [], IfOk, IfSome, IsErrOf, IsSome, IsTrue, length, OnOk, replicate, Result};
 ghost use Rattle.conc_types.specs.declared.event.RequestId.{RequestId};
 ghost use Rattle.conc_pool_seats.specs.declared.views.LeadState.TheVariants as lead_state;
 ghost use Rattle.std.specs.Thread.{IsSync};
 ghost use Rattle.conc_board.specs.Seats.{IsLeadOf, lead_state_of, plan_of};
 ghost use Rattle.conc_journal.specs.Journals.{state_of};
 ghost use Rattle.conc_base_law.specs.Law.{Finished};
+ghost use Rattle.conc_base_law.specs.Places.{count_of_places};
 ghost use Rattle.conc_outside.specs.Counts.{Rose};
 ghost use Rattle.conc_run_state.specs.Disks.{disks};
 ghost use Rattle.conc_run_state.specs.Works.{list_in};
@@ -13,7 +14,7 @@ ghost use Rattle.conc_run_state.specs.declared.error.RunFail.TheVariants as run_
 ghost use Rattle.conc_run_steps.specs.Going.{WentOn};
 ghost use Rattle.conc_run_steps.specs.Steps.{IsReady, plan_in, readings_in};
 ghost use Rattle.conc_pool_lanes.specs.Lanes.{IsLeadPassOf, puts_of};
-ghost use Rattle.conc_run_workers.specs.Crews.{Covers, HasOnePlan, HaveServed, MayServe};
+ghost use Rattle.conc_run_workers.specs.Crews.{Covers, HasOnePlan, HaveServed, IsCrewFor, MayServe};
 ghost use Rattle.conc_run_workers.specs.Filling.{AreFilled, Fills, HasPuts};
 ghost use Rattle.conc_run_workers.specs.Resolvers.{HasWaited, IfEnded, IfTooFew, standing};
 ghost use Rattle.conc_run_workers.specs.declared.running.Directed.{Directed};
@@ -45,6 +46,8 @@ pub struct Ran<'p> {
     pub work: Work<'p>,
     /// The pass that filled the lanes of the run. None only where the run found no memory.
     pub puts: Option<LeadPass>,
+    /// The workers of the run. None only where the run found no memory.
+    pub crew: Option<Vec<CrewMember>>,
     /// Whether the history is finished, or why it is not.
     pub answer: Result<(), RunFail>,
 }
@@ -190,6 +193,7 @@ fn crew_size(plan: &Plan, threads: u32) -> u32
     requires { 0 < threads }
     ensures some { 0 < result }
     ensures few { result ≤ threads }
+    ensures spare { 0 < count_of_places plan.now → result ≤ count_of_places plan.now }
 {
     let places = place_count(plan);
     if 0 < places && places < threads {
@@ -212,6 +216,7 @@ fn prepare<'p>(alloc: Global, plan: &'p Plan, threads: u32) -> Result<Means<'p>,
         ≡ replicate (length plan.now.setup.managers) []) }
     ensures crew { IfOk result (λ means. MayServe means.shared means.crew.items) }
     ensures covers { IfOk result (λ means. Covers plan.now means.lead means.crew.items) }
+    ensures crew_for { IfOk result (λ means. IsCrewFor plan.now threads means.crew.items) }
     ensures expected { IfOk result (λ means. means.shared.arrivals.expected ≤ threads) }
 {
     let size = crew_size(plan, threads);
@@ -277,6 +282,10 @@ pub fn run_with_workers<
     ensures puts { HasPuts (plan_in work.entry) (list_in work.entry) (list_in result.work)
         result.answer result.puts }
 
+    // Who served, and where.
+    ensures crew { IfSome result.crew (λ crew. IsCrewFor (plan_in work.entry) threads crew.items) }
+    ensures served { IsSome result.puts → IsSome result.crew }
+
     // Why it ends before.
     ensures journal_fault { IsErrOf result.answer run_fail.JournalFault
         → Rose (D.state journal.old).faults (D.state journal.new).faults }
@@ -294,6 +303,7 @@ pub fn run_with_workers<
         return Ran {
             work,
             puts: None,
+            crew: None,
             answer: Err(RunFail::NoMemory),
         };
     };
@@ -308,13 +318,14 @@ pub fn run_with_workers<
     let mut crew = Crew { rt, members, gate };
     let directed = shared.resolve_beside(&mut crew, &mut desk, journal, spool, teller, &mut hints);
     let (mut lead, work) = desk.into_parts();
-    take_in(&shared.board, &mut lead, crew.members);
+    take_in(&shared.board, &mut lead, crew.members.as_mut_slice());
     shared.board.close(lead);
     let Hints { pass, .. } = hints;
     match directed {
         Directed::Ended(answer) => Ran {
             work,
             puts: Some(pass),
+            crew: Some(crew.members),
             answer,
         },
         Directed::TooFew(here) if here > 0 => {
@@ -323,6 +334,7 @@ pub fn run_with_workers<
         Directed::TooFew(_) => Ran {
             work,
             puts: None,
+            crew: None,
             answer: Err(RunFail::NoMemory),
         },
     }

@@ -48,6 +48,10 @@ loop-index-preserved c =
           (λ e. subst (λ (z : ℕ). places_had (get_or (set ws k worker) z d).hand ≡ (get_or (set ws k worker) z d).places.items) (sym e)
           (subst (λ (w : CrewMember). places_had w.hand ≡ w.places.items) (sym (now d)) (made.passed ∙ places)))
           (λ other. subst (λ (w : CrewMember). places_had w.hand ≡ w.places.items) (sym (get_or-set_other ws k j worker d other)) (i.own j d (omega (arith, small, other))));
+      lists = λ j d small. dite (ℕ_discrete j k)
+          (λ e. subst (λ (z : ℕ). (get_or (set ws k worker) z d).places.items ≡ (get_or c.args.crew.now z d).places.items) (sym e)
+          (ap (λ (w : CrewMember). w.places.items) (now d) ∙ (i.lists k y below ∙ ap (λ (w : CrewMember). w.places.items) (get_or_default c.args.crew.now k y d below))))
+          (λ other. ap (λ (w : CrewMember). w.places.items) (get_or-set_other ws k j worker d other) ∙ i.lists j d small);
       passes = λ j d small. dite (ℕ_discrete j k)
           (λ e. subst (λ (z : ℕ). (get_or (set ws k worker) z d).pass ≡ (get_or c.args.crew.now z d).pass) (sym e)
           (ap (λ (w : CrewMember). w.pass) (now d) ∙ (i.passes k y below ∙ ap (λ (w : CrewMember). w.pass) (get_or_default c.args.crew.now k y d below))))

@@ -17,5 +17,6 @@ invariant-loop-index l = record {
   rest : (p : PlaceId) → IsPlace (plan_of l.board) p → l.index ≤ p.index % length l.initial.crew → has (places_of_lead l.lead) p ≡ true;
   free : (i : ℕ) (d : CrewMember) → i < l.index → IsFreeMember l.board (slice_index_or l.crew i d);
   own : (i : ℕ) (d : CrewMember) → i < l.index → places_had (slice_index_or l.crew i d).hand ≡ (slice_index_or l.crew i d).places.items;
+  lists : (i : ℕ) (d : CrewMember) → i < length l.initial.crew → (slice_index_or l.crew i d).places.items ≡ (slice_index_or l.initial.crew i d).places.items;
   passes : (i : ℕ) (d : CrewMember) → i < length l.initial.crew → (slice_index_or l.crew i d).pass ≡ (slice_index_or l.initial.crew i d).pass;
 }

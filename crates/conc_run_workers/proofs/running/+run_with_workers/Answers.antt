@@ -1,11 +1,13 @@
-use Rattle.std.proofs.Common.{◌≡◌, ◌⊎◌, inr, [], true, sym, ◌∙◌, ap, subst}
+use Rattle.std.proofs.Common.{◌≡◌, ◌⊎◌, ◌++◌, ℕ, All, List, Some, inr, [], true, length, take, drop, sym, ◌∙◌, ap, subst, arith}
 use Rattle.std.specs.Prelude.{OnOk}
 use Rattle.conc_types.specs.declared.plan.Plan.{Plan}
 use Rattle.conc_board.specs.declared.lead.Lead.{Lead}
 use Rattle.conc_board.specs.Seats.{places_of_lead, plan_of}
+use Rattle.conc_pool_seats.specs.Words.{count_of_requests, count_of_words}
 use Rattle.conc_disk.specs.Disk.{DiskState}
 use Rattle.conc_journal.specs.Journals.{state_of}
 use Rattle.conc_base_law.specs.Law.{Finished}
+use Rattle.conc_run_desk.specs.Desks.{IsAt}
 use Rattle.conc_run_state.specs.Disks.{disks}
 use Rattle.conc_run_state.specs.Works.{list_in}
 use Rattle.conc_run_state.specs.declared.work.Work.{Work}
@@ -13,13 +15,14 @@ use Rattle.conc_run_steps.specs.Going.{WentOn}
 use Rattle.conc_run_steps.specs.Steps.{plan_in, readings_in}
 use Rattle.conc_run_steps.specs.Told.{IsTold, IsUntold}
 use Rattle.conc_run_steps.proofs.Underway.{went-still}
-use Rattle.conc_run_workers.specs.Crews.{Covers}
+use Rattle.conc_run_workers.specs.Crews.{Covers, IsCrewFor, IsFreeMember, SameLists}
+use Rattle.conc_run_workers.specs.declared.crew.CrewMember.{CrewMember}
 use Rattle.conc_run_workers.specs.Resolvers.{standing}
 use Rattle.conc_run_workers.specs.Resolving.{IsDismissed}
 use Rattle.conc_run_workers.specs.Runs.{AwaitsReport}
 use Rattle.conc_run_workers.proofs.Advancing.{short-awaits}
 use Rattle.conc_run_workers.proofs.Outcomes.{either-way}
-use Rattle.conc_run_workers.proofs.Crews.{covers-same}
+use Rattle.conc_run_workers.proofs.Crews.{covers-same, crew-same, crew-wider, if-some, lists-after, take-front}
 use Rattle.conc_pool_lanes.specs.Puts.{lists_for}
 use Rattle.conc_pool_lanes.proofs.Lists.{lists_for-none}
 use Rattle.conc_run_workers.proofs.Filled.{puts-by}
@@ -39,13 +42,25 @@ put_waiting-requires-clause-empty g t c =
 -- ---- the workers
 
 pub take_in-requires-clause-free : goal.take_in-requires-clause-free
-take_in-requires-clause-free g t c = c.resolve_beside-directed.ensures.crew.0
+take_in-requires-clause-free g t c = subst (λ (ws : List CrewMember). All (IsFreeMember c.in-Ok.means.shared.board) ws) (sym c.as_mut_slice.ensures.value) c.resolve_beside-directed.ensures.crew.0
 
 pub take_in-requires-clause-dismissed : goal.take_in-requires-clause-dismissed
 take_in-requires-clause-dismissed g t c =
     let made = c.resolve_beside-directed.ensures in
     subst (λ (l : Lead). IsDismissed c.in-Ok.means.shared.board l) (sym (ap (λ z. z.0) c.into_parts-lead.ensures.parts))
     (either-way _ _ c.resolve_beside-directed.result made.concludes made.waited (λ a ends. ends.dismissed) (λ here waits. waits.0.dismisses.dismissed))
+
+pub take_in-requires-clause-lead : goal.take_in-requires-clause-lead
+take_in-requires-clause-lead g t c =
+    let made = c.resolve_beside-directed.ensures in let parts = c.into_parts-lead.ensures.parts in let seated = c.into_parts-lead.ensures.seated in
+    let at : IsAt c.in-Ok.means.shared.board c.resolve_beside-directed.new.desk = either-way _ _ c.resolve_beside-directed.result made.concludes made.waited (λ a ends. ends.at) (λ here waits. waits.0.dismisses.moves.at) in
+    let same : plan_in c.into_parts-lead.result.1 ≡ plan_of c.in-Ok.means.shared.board = ap (λ z. plan_in z.1) parts ∙ sym at.plan in record {
+      seat = ap (λ z. z.0.seat.table_id) parts ∙ at.seat;
+      plan = seated.knows ∙ ap (λ (p : Plan). Some p) same;
+      lead_states = seated.lead_states ∙ ap (λ (p : Plan). count_of_requests p) same;
+      settled = seated.settled;
+      switches = seated.switches ∙ ap (λ (p : Plan). count_of_words p) same;
+    }
 
 pub take_in-requires-clause-covers : goal.take_in-requires-clause-covers
 take_in-requires-clause-covers g t c =
@@ -55,7 +70,8 @@ take_in-requires-clause-covers g t c =
     either-way _ _ c.resolve_beside-directed.result made.concludes made.waited (λ a ends. ends.places) (λ here waits. waits.0.dismisses.moves.places) in
     let places = ap (λ z. places_of_lead z.0) c.into_parts-lead.ensures.parts ∙ stays ∙ ap (λ (l : Lead). places_of_lead l) c.new-desk.ensures.lead in
     let covers = subst (λ (p : Plan). Covers p c.in-Ok.means.lead ws) (sym c.in-Ok.ensures.plan ∙ c.in-Ok.ensures.one_plan.0) c.in-Ok.ensures.covers in
-    covers-same (plan_of c.in-Ok.means.shared.board) c.in-Ok.means.lead lead' ws us places c.resolve_beside-directed.ensures.crew.1 covers
+    subst (λ (l : List CrewMember). Covers (plan_of c.in-Ok.means.shared.board) lead' l) (sym c.as_mut_slice.ensures.value)
+    (covers-same (plan_of c.in-Ok.means.shared.board) c.in-Ok.means.lead lead' ws us places c.resolve_beside-directed.ensures.crew.1 covers)
 
 -- ---- what a run made that began
 
@@ -106,6 +122,26 @@ returns-in-Ended-clause-puts g t c =
     let left = c.in-Ended.ensures.fills in
     puts-by c.in-Ended.answer c.in-Ok.means.shared.lanes (plan_in c.args.work) (list_in c.args.work) c.resolve_beside-directed.new.desk c.resolve_beside-directed.new.hints.pass c.into_parts-lead.result.1
     (ap (λ z. z.1) c.into_parts-lead.ensures.parts) (c.in-Ok.ensures.one_plan.1 ∙ (c.in-Ok.ensures.plan ∙ c.plan-plan.ensures)) (left.begun_with ∙ c.new-desk.ensures.begun_with) left.filled
+
+pub returns-in-Ended-clause-crew : goal.returns-in-Ended-clause-crew
+returns-in-Ended-clause-crew g t c =
+    let members = c.resolve_beside-directed.new.crew.members in let us = c.take_in.new.crew in let ws = c.in-Ok.means.crew.items in
+    let first : SameLists ws members.items = c.resolve_beside-directed.ensures.crew.2 in
+    let second : SameLists members.items us = subst (λ (l : List CrewMember). SameLists l us) c.as_mut_slice.ensures.value c.take_in.ensures.lists in
+    let count : length us ≡ members.len = omega (arith, second.long, members.ok) in
+    let front : us ≡ take members.len (us ++ drop (length us) members.items) = sym (take-front us (drop (length us) members.items)) ∙ ap (λ (n : ℕ). take n (us ++ drop (length us) members.items)) count in
+    subst (λ (l : List CrewMember). IsCrewFor (plan_in c.args.work) c.args.threads l) front
+    (crew-same (plan_in c.args.work) c.args.threads ws us (lists-after ws members.items us first second)
+    (subst (λ (p : Plan). IsCrewFor p c.args.threads ws) c.plan-plan.ensures c.in-Ok.ensures.crew_for))
+
+pub returns-in-TooFew-clause-crew : goal.returns-in-TooFew-clause-crew
+returns-in-TooFew-clause-crew g t c =
+    let waited = c.in-TooFew.ensures.waited in
+    let same : c.into_parts-lead.result.1 ≡ c.args.work = ap (λ z. z.1) c.into_parts-lead.ensures.parts ∙ waited.0.dismisses.moves.same.work ∙ c.new-desk.ensures.work in
+    if-some _ _ c.run_with_workers.result.crew
+    (λ crew fits. crew-wider (plan_in c.args.work) c.in-TooFew.here c.args.threads crew.items (omega (arith, waited.0.fewer, c.in-Ok.ensures.expected))
+    (subst (λ (w : Work). IsCrewFor (plan_in w) c.in-TooFew.here crew.items) same fits))
+    c.run_with_workers.ensures.crew
 
 -- ---- where no worker came
 
