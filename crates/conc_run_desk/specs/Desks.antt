@@ -46,11 +46,12 @@ pub record IsLetAfter (plan : Plan) (past : List Event) (r : RequestId) : Type 0
 abbrev pub IsLetIn : DeskState → RequestId → Type 0
 IsLetIn desk r = IsLetAfter (plan_at desk) (reverse (list_at desk)) r
 
--- the work, the end that is kept and the list at the beginning are as they were
+-- the work, the end that is kept and the list at the beginning are as they were, and no end was lost since
 pub record SameWork (old new : DeskState) : Type 0 where
   pub work : new.work ≡ old.work
   pub kept : new.kept ≡ old.kept
   pub begun_with : new.begun_with ≡ old.begun_with
+  pub failed : new.failed ≡ old.failed
 
 -- a call that writes this to the word with this number, which is that of a place or of the end, and does nothing else
 pub record SwitchesFlag (board : Board) (word value : ℕ) (old new : DeskState) : Type 0 where

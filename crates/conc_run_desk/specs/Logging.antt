@@ -33,6 +33,7 @@ pub record IsLogged (e : Event) (old new : DeskState) : Type 0 where
   pub room : room_of new.work.journal + 1 ≡ room_of old.work.journal
   pub spool : new.work.spool ≡ old.work.spool
   pub begun_with : new.begun_with ≡ old.begun_with
+  pub failed : new.failed ≡ old.failed
 
 -- list, machine, spool and board are as they were, and what was kept is kept. The journal's disk has the event or not
 pub record IsUnlogged (e : Event) (old new : DeskState) : Type 0 where
@@ -44,3 +45,4 @@ pub record IsUnlogged (e : Event) (old new : DeskState) : Type 0 where
   pub lead : new.lead ≡ old.lead
   pub kept : new.kept ≡ old.kept
   pub begun_with : new.begun_with ≡ old.begun_with
+  pub failed : new.failed ≡ old.failed

@@ -1,5 +1,5 @@
 -- What a desk holds, and what is true of it between two calls.
-use Rattle.std.specs.Prelude.{◌≡◌, ℕ, Option, reverse}
+use Rattle.std.specs.Prelude.{◌≡◌, ℕ, Bool, Option, reverse}
 use Rattle.conc_types.specs.declared.event.Event.{Event}
 use Rattle.conc_types.specs.declared.plan.Plan.{Plan}
 use Rattle.conc_board.specs.declared.lead.Lead.{Lead}
@@ -10,13 +10,15 @@ use Rattle.conc_run_desk.specs.Kept.{MayBeKept}
 use Rattle.conc_run_desk.specs.Seated.{IsSeated}
 use Rattle.conc_run_desk.specs.Ties.{LeadStatesGoWith}
 
--- a desk as contracts see it: its plan, the lead, the work, the end that is kept, and how many events the list had when it was made
+-- A desk as contracts see it: its plan, the lead, the work, the end that is kept, how many events the list had when it was made, and
+-- whether an end could not be kept.
 pub record DeskState : Type 0 where
   pub plan : Plan
   pub lead : Lead
   pub work : Work
   pub kept : Option Event
   pub begun_with : ℕ
+  pub failed : Bool
 
 -- The lead is seated. Machine, journal and spool stand for one list, with the end that is kept behind it. The lead's view
 -- of each request goes with that list, and the end may be kept.

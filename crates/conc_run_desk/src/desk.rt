@@ -28,6 +28,8 @@ pub struct Desk<'a> {
     pub(crate) kept: Option<Event>,
     // How many events the list had when the desk was made.
     pub(crate) begun_with: usize,
+    // Whether an end could not be kept. Then nothing more is journaled.
+    pub(crate) failed: bool,
 }
 
 impl<'a> Model for Desk<'a> {
@@ -39,6 +41,7 @@ impl<'a> Model for Desk<'a> {
       work = d.work;
       kept = d.kept;
       begun_with = d.begun_with;
+      failed = d.failed;
     } };
 
     ghost invariant = { λ d. IsDesk d.plan.now d.lead d.work d.kept };
@@ -76,6 +79,7 @@ impl<'a> Desk<'a> {
         ensures work { result.work ≡ work.entry }
         ensures kept { result.kept ≡ None }
         ensures begun_with { result.begun_with ≡ length (list_in work.entry) }
+        ensures sound { IsFalse result.failed }
     {
         let begun_with = work.journal.events().len();
         Desk {
@@ -84,6 +88,7 @@ impl<'a> Desk<'a> {
             work,
             kept: None,
             begun_with,
+            failed: false,
         }
     }
 
@@ -183,7 +188,8 @@ impl<'a> Desk<'a> {
 
     /// Journals an event and takes it into the machine, and then does what it means for the board: the go
     /// after a start; a request that is held or cancelled is withdrawn, one that is terminated is told to
-    /// stop. After a fault list, machine and board are as they were. It takes no memory.
+    /// stop. After a fault list, machine and board are as they were. It takes no memory. Once an end could not be kept,
+    /// no event may follow.
     pub fn log_event<D: Disk>(
         &mut self,
         board: &Board,
@@ -198,6 +204,7 @@ impl<'a> Desk<'a> {
         requires room { 0 < room_of self.old.work.journal }
         requires seen { WasSeen event self.old }
         requires turn { IsItsTurn self.old.kept event }
+        requires sound { IsFalse self.old.failed }
 
         ensures at { IsAt board.now self.new }
         ensures parts { IsTied self.new.kept self.new.work any_disk any_disk }
@@ -219,8 +226,9 @@ impl<'a> Desk<'a> {
 
     /// Takes what was left for a request that has the go, and keeps its end, which may come next. One that has to stop
     /// ends as terminated, whatever was left; else the text of its report is brought to the spool's disk first.
-    /// `NotYet` only where its word was found to run still. After a failure the request is done on the board, no end is kept, and
-    /// the list is as before. It takes no memory: the worker's report found none where it answers so.
+    /// `NotYet` only where its word was found to run still. After a failure the request is done on the board, no end is kept,
+    /// the list is as before, and the desk takes no event more. It takes no memory: the worker's report found none where it
+    /// answers so.
     pub fn keep<E: Disk>(
         &mut self,
         board: &Board,
@@ -242,12 +250,15 @@ impl<'a> Desk<'a> {
         ensures untouched { LeavesDisk result ⊎ IsTrue (must_stop_at self.old r)
             → spool.new ≡ spool.old }
         ensures list { SameList self.old self.new }
+        ensures goes_on { OnOk result (self.new.failed ≡ self.old.failed) }
+        ensures failed { OnErr result (IsTrue self.new.failed) }
         ensures others { SameBut r self.old.lead self.new.lead }
     {
         let Ok(posted) = board.collect(&mut self.lead, r) else {
             return Ok(Kept::NotYet);
         };
         let Some(next) = end_left(self.plan, &self.work, r, posted) else {
+            self.failed = true;
             return Err(KeepFail::NoMemory);
         };
         match store_text(&mut self.work, spool, &next) {
@@ -255,7 +266,10 @@ impl<'a> Desk<'a> {
                 self.kept = Some(next.event);
                 Ok(Kept::Ready(next.event))
             }
-            Err(_) => Err(KeepFail::SpoolFault),
+            Err(_) => {
+                self.failed = true;
+                Err(KeepFail::SpoolFault)
+            }
         }
     }
 

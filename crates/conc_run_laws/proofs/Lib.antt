@@ -5,3 +5,4 @@ pub mod RightLives
 pub mod Crashed
 pub mod Ended
 pub mod Growing
+pub mod Moments

@@ -8,4 +8,4 @@ mod next;
 
 pub use grown::a_grown_script_fits;
 pub use lives::{a_finished_life_interrupts_what_ran, a_life_goes_on_rightly};
-pub use next::{the_end_is_fit, the_next_run};
+pub use next::{a_crash_in_a_step_goes_on, the_end_is_fit, the_next_run};

@@ -1,4 +1,5 @@
 //! A run that crashed, and the next one of the same files over what the crash left.
+ghost use Rattle.conc_run_laws.specs.Moments.{GoesOnFromAnEvent, GoesOnFromAText};
 ghost use Rattle.conc_run_laws.specs.Next.{AnEndIsFit, ANextRunGoesOn};
 
 use conc_disk::Disk;
@@ -19,4 +20,13 @@ pub fn the_next_run<D: Disk, E: Disk>()
 /// with all that was acknowledged.
 pub fn the_end_is_fit<D: Disk, E: Disk>()
     ensures { AnEndIsFit D.Disk E.Disk }
+{}
+
+/// Let a crash come at any moment of a step of a run: while a text is written to the spool, or while an event is
+/// journaled. Whatever it leaves of both disks, a run of the same files over these two images refuses nothing but for
+/// want of room. Its list begins with the one to which the run had come before the step, thus with all that was
+/// acknowledged by then, and is a right life behind what it finds.
+pub fn a_crash_in_a_step_goes_on<D: Disk, E: Disk>()
+    ensures text { GoesOnFromAText D.Disk E.Disk }
+    ensures event { GoesOnFromAnEvent D.Disk E.Disk }
 {}

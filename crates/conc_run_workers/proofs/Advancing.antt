@@ -41,12 +41,13 @@ still {board} {before} {new} at_work left stays = record {
   places = stays.places;
   under = subst (λ (w : Work). IsUnderway before.desk.work w (disks_between before before)) (sym stays.same.work) (underway-still before.desk.work before.journal before.spool at_work.ready left);
   nothing_kept = stays.same.kept ∙ at_work.nothing_kept;
+  sound = stays.same.failed ∙ at_work.sound;
   is_told = subst (λ (w : Work). IsTold before.told before.takes (plan_in w) (list_in w)) (sym stays.same.work) at_work.is_told;
 }
 
 -- no step
 pub begins : {board : Board} {s : Situation} → IsAtWork board s → IfSome s.spool.seen s.spool.may_leave → Advances board s s
-begins at_work left = still at_work left (record { at = at_work.at; same = record { work = refl; kept = refl; begun_with = refl }; places = refl })
+begins at_work left = still at_work left (record { at = at_work.at; same = record { work = refl; kept = refl; begun_with = refl; failed = refl }; places = refl })
 
 -- ---- what holds between two steps
 
@@ -55,6 +56,7 @@ at-work first = record {
   at = first.at;
   ready = first.under.ready;
   nothing_kept = first.nothing_kept;
+  sound = first.sound;
   is_told = first.is_told;
 }
 
@@ -70,6 +72,7 @@ after board old mid new (Ok x) first second = record {
   places = second.places ∙ first.places;
   under = underway-more old.desk.work mid.desk.work new.desk.work old.journal mid.journal new.journal old.spool mid.spool new.spool first.under second.under.went second.under.ready second.under.state;
   nothing_kept = second.nothing_kept;
+  sound = second.sound;
   is_told = second.is_told;
 }
 after board old mid new (Err fail) first second = record {
@@ -78,6 +81,7 @@ after board old mid new (Err fail) first second = record {
   went = went-further old.desk.work mid.desk.work new.desk.work old.journal mid.journal new.journal old.spool mid.spool new.spool first.under second.went;
   journal_fault = λ is. rose-since old.journal.faults mid.journal.faults new.journal.faults first.under.faults (second.journal_fault is);
   spool_fault = λ is. rose-since old.spool.faults mid.spool.faults new.spool.faults first.under.went.spool.faults (second.spool_fault is);
+  stops = second.stops;
   memory = second.memory;
   sound = λ none. second.sound none ∙ first.under.state;
 }
@@ -89,6 +93,7 @@ ok-still {board} {old} {mid} {new} first stays = record {
   places = stays.places ∙ first.places;
   under = subst (λ (w : Work). IsUnderway old.desk.work w (disks_between old mid)) (sym stays.same.work) first.under;
   nothing_kept = stays.same.kept ∙ first.nothing_kept;
+  sound = stays.same.failed ∙ first.sound;
   is_told = subst (λ (w : Work). IsTold mid.told mid.takes (plan_in w) (list_in w)) (sym stays.same.work) first.is_told;
 }
 
@@ -106,6 +111,7 @@ then-still board old mid new (Err fail) first stays posts = record {
   went = subst (λ (w : Work). WentOn (plan_in old.desk.work) (readings_in old.desk.work) (disks_between old mid) old.desk.work w) (sym stays.same.work) first.went;
   journal_fault = first.journal_fault;
   spool_fault = first.spool_fault;
+  stops = λ is. stays.same.failed ∙ first.stops is;
   memory = λ is. short-still mid new stays.same.work posts (first.memory is);
   sound = λ none. ap (λ (w : Work). state_of w.journal) stays.same.work ∙ first.sound none;
 }
@@ -118,6 +124,7 @@ stays-twice first second = record {
     work = second.same.work ∙ first.same.work;
     kept = second.same.kept ∙ first.same.kept;
     begun_with = second.same.begun_with ∙ first.same.begun_with;
+    failed = second.same.failed ∙ first.same.failed;
   };
   places = second.places ∙ first.places;
   switches = record { each = λ word. second.switches.each word ∙ first.switches.each word };
@@ -130,6 +137,7 @@ moves-twice first second = record {
     work = second.same.work ∙ first.same.work;
     kept = second.same.kept ∙ first.same.kept;
     begun_with = second.same.begun_with ∙ first.same.begun_with;
+    failed = second.same.failed ∙ first.same.failed;
   };
   places = second.places ∙ first.places;
 }
@@ -150,6 +158,7 @@ concludes-begun board old new (Ok x) h is_finished dismissed =
       is_told = by-first old.desk.work new.desk.work (disks_between old new) went (λ plan readings. IsTold new.told new.takes plan (list_in new.desk.work)) h.is_told;
       journal_fault = λ is. cc;
       spool_fault = λ is. cc;
+      stops = λ is. cc;
       memory = λ is. cc;
       sound = λ none. h.under.state;
       dismissed = dismissed;
@@ -162,6 +171,7 @@ concludes-begun board old new (Err fail) h is_finished dismissed = record {
   is_told = tt;
   journal_fault = λ is. h.journal_fault (let e : fail ≡ run_fail.JournalFault = cc in e);
   spool_fault = λ is. h.spool_fault (let e : fail ≡ run_fail.SpoolFault = cc in e);
+  stops = λ is. h.stops (let e : fail ≡ run_fail.SpoolFault = cc in e);
   memory = λ is. h.memory (let e : fail ≡ run_fail.NoMemory = cc in e);
   sound = λ none. h.sound (λ is. none (ap (λ e. Err e) is));
   dismissed = dismissed;

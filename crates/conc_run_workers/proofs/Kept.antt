@@ -1,5 +1,5 @@
 -- The end that a desk keeps for a request that has the go, or why it keeps none.
-use Rattle.std.proofs.Common.{◌≡◌, Option, Err, reverse, subst}
+use Rattle.std.proofs.Common.{◌≡◌, true, Option, Err, reverse, subst}
 use Rattle.conc_types.specs.declared.event.Event.{Event}
 use Rattle.conc_types.specs.declared.event.RequestId.{RequestId}
 use Rattle.conc_disk.specs.Disk.{DiskState}
@@ -24,9 +24,9 @@ pub halts-unkept : (board : Board) (before : Situation) (mid : DeskState) (spool
     → LeadStatesGoWith (plan_at before.desk) (reverse (list_at before.desk)) before.desk.lead → SameList before.desk mid → IsTied mid.kept mid.work any_disk any_disk → SpoolIsOn mid.work.spool spool' → IsAt board mid
     → places_of_lead mid.lead ≡ places_of_lead before.desk.lead → Keeps r (Err fail) before.desk mid before.spool spool' → IsTaken board r (Err fail) before.desk mid
     → (LeavesDisk (Err fail) → StoresOn (plan_at before.desk) (used_of before.desk.work.spool) (list_at before.desk) (list_at before.desk) before.spool spool')
-    → Halts board (run_fail fail) before (with_spool before mid spool')
-halts-unkept board before mid spool' r fails.SpoolFault at_work named tied list parts on at places keeps taken stores =
-    halts-spool board before mid spool' at_work list (subst (λ (k : Option Event). IsTied k mid.work any_disk any_disk) keeps.kept parts) on at places keeps.stores keeps.fault
-halts-unkept board before mid spool' r fails.NoMemory at_work named tied list parts on at places keeps taken stores =
+    → mid.failed ≡ true → Halts board (run_fail fail) before (with_spool before mid spool')
+halts-unkept board before mid spool' r fails.SpoolFault at_work named tied list parts on at places keeps taken stores stops =
+    halts-spool board before mid spool' at_work list (subst (λ (k : Option Event). IsTied k mid.work any_disk any_disk) keeps.kept parts) on at places keeps.stores keeps.fault stops
+halts-unkept board before mid spool' r fails.NoMemory at_work named tied list parts on at places keeps taken stores stops =
     halts-memory board before mid spool' at_work list (subst (λ (k : Option Event). IsTied k mid.work any_disk any_disk) keeps parts) on at places (stores tt)
     (lacks board before.desk mid r at_work.at.plan named tied list taken)

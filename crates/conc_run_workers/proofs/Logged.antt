@@ -51,7 +51,7 @@ module _ (board : Board) (before : Situation) (mid new : DeskState) (journal' sp
     (e : Event) (none : is_resume e ≡ false) (tells : TellsReport (plan_at before.desk) e) (lawful : Lawful (plan_at before.desk) (readings_in before.desk.work) (list_at before.desk ++ e ∷ []))
     (stores : StoresOn (plan_at before.desk) (used_of before.desk.work.spool) (list_at before.desk) (list_at before.desk ++ e ∷ []) before.spool spool')
     (survives : SurvivesFor mid.work (list_at mid) (list_at mid ++ e ∷ []) before.journal journal') (at : IsAt board new)
-    (mid_places : places_of_lead mid.lead ≡ places_of_lead before.desk.lead) where
+    (mid_places : places_of_lead mid.lead ≡ places_of_lead before.desk.lead) (mid_failed : mid.failed ≡ before.desk.failed) where
   takes_events' : takes_events (state_of mid.work.journal) ≡ true
   takes_events' = ap (λ (j : Journal). takes_events (state_of j)) same ∙ at_work.ready.tied.takes
 
@@ -105,6 +105,7 @@ module _ (board : Board) (before : Situation) (mid new : DeskState) (journal' sp
       places = places logged;
       under = under-logged;
       nothing_kept = logged.kept;
+      sound = logged.failed ∙ (mid_failed ∙ at_work.sound);
       is_told = subst (λ (p : Plan). IsTold told' takes' p (list_at new)) (sym new-plan)
           (told-more before.told told' before.takes takes' (plan_at before.desk) (list_at before.desk) (list_at new) at_work.is_told still_takes receipt more (ap (λ (l : List Event). l ++ event_of receipt ∷ []) (sym same_list) ∙ next.1));
     }
@@ -114,6 +115,7 @@ module _ (board : Board) (before : Situation) (mid new : DeskState) (journal' sp
       went = under-logged.went;
       journal_fault = λ is. let never : run_fail.NoMemory ≡ run_fail.JournalFault = sym fail ∙ is in cc;
       spool_fault = λ is. let never : run_fail.NoMemory ≡ run_fail.SpoolFault = sym fail ∙ is in cc;
+      stops = λ is. let never : run_fail.NoMemory ≡ run_fail.SpoolFault = sym fail ∙ is in cc;
       memory = λ is. inr (may, untold before.told told' before.takes (plan_at before.desk) (list_at before.desk) (list_at new) e at_work.is_told stays new-list);
       sound = λ other. under-logged.state;
     }
@@ -132,6 +134,7 @@ module _ (board : Board) (before : Situation) (mid new : DeskState) (journal' sp
         unlogged.list unlogged.state unlogged.held_for;
     journal_fault = λ is. rose fault;
     spool_fault = λ is. cc;
+    stops = λ is. cc;
     memory = λ is. cc;
     sound = λ other. absurd (other refl);
   }
@@ -182,8 +185,8 @@ module _ (board : Board) (before : Situation) (new : DeskState) (spool' : DiskSt
       }
 
   -- nothing was left yet
-  pub advances-unkept : new.kept ≡ None → Advances board before (with_spool before new spool')
-  advances-unkept none = record {
+  pub advances-unkept : new.kept ≡ None → new.failed ≡ before.desk.failed → Advances board before (with_spool before new spool')
+  advances-unkept none same = record {
     at = at;
     places = same_places;
     under = record {
@@ -194,17 +197,19 @@ module _ (board : Board) (before : Situation) (new : DeskState) (spool' : DiskSt
       faults = le_refl before.journal.faults;
     };
     nothing_kept = none;
+    sound = same ∙ at_work.sound;
     is_told = subst (λ (z : Plan × List Event). IsTold before.told before.takes z.0 z.1) (λ i. (sym unkept-plan i, sym unkept-list i)) at_work.is_told;
   }
 
   -- the spool's disk failed
-  pub halts-spool : Rose before.spool.faults spool'.faults → Halts board run_fail.SpoolFault before (with_spool before new spool')
-  halts-spool rose = record {
+  pub halts-spool : Rose before.spool.faults spool'.faults → new.failed ≡ true → Halts board run_fail.SpoolFault before (with_spool before new spool')
+  halts-spool rose stops = record {
     at = at;
     places = same_places;
     went = went-unkept;
     journal_fault = λ is. cc;
     spool_fault = λ is. rose;
+    stops = λ is. stops;
     memory = λ is. cc;
     sound = λ other. unkept-state;
   }
@@ -217,6 +222,7 @@ module _ (board : Board) (before : Situation) (new : DeskState) (spool' : DiskSt
     went = went-unkept;
     journal_fault = λ is. cc;
     spool_fault = λ is. cc;
+    stops = λ is. cc;
     memory = λ is. inl lacks;
     sound = λ other. unkept-state;
   }

@@ -1,5 +1,5 @@
 -- What a step of the resolver takes and leaves.
-use Rattle.std.specs.Prelude.{◌≡◌, ◌⊎◌, Bool, List, Option, None, Result, Ok, Err, IsTrue, OnOk}
+use Rattle.std.specs.Prelude.{◌≡◌, ◌⊎◌, Bool, List, Option, None, Result, Ok, Err, IsFalse, IsTrue, OnOk}
 use Rattle.conc_types.specs.declared.event.Event.{Event}
 use Rattle.conc_types.specs.declared.event.RequestId.{RequestId}
 use Rattle.conc_base_law.specs.Law.{Finished}
@@ -37,12 +37,13 @@ pub record Situation : Type 1 where
 abbrev pub disks_between : Situation → Situation → Disks
 disks_between before after = disks before.journal after.journal before.spool after.spool
 
--- A desk at this board between two events: its work is ready for the two disks, no end is kept, and the teller, if it has a
--- list, was told all.
+-- A desk at this board between two events: its work is ready for the two disks, no end is kept and none was lost, and the
+-- teller, if it has a list, was told all.
 pub record IsAtWork (board : Board) (s : Situation) : Type 0 where
   pub at : IsAt board s.desk
   pub ready : IsReady s.desk.work s.journal s.spool
   pub nothing_kept : s.desk.kept ≡ None
+  pub sound : IsFalse s.desk.failed
   pub is_told : IsTold s.told s.takes (plan_at s.desk) (list_at s.desk)
 
 -- a step on the board alone: the work is as it was, and the lead has the places that it had
@@ -80,6 +81,7 @@ pub record Advances (board : Board) (before after : Situation) : Type 0 where
   pub places : places_of_lead after.desk.lead ≡ places_of_lead before.desk.lead
   pub under : IsUnderway before.desk.work after.desk.work (disks_between before after)
   pub nothing_kept : after.desk.kept ≡ None
+  pub sound : IsFalse after.desk.failed
   pub is_told : IsTold after.told after.takes (plan_at after.desk) (list_at after.desk)
 
 -- a request runs after the desk's list and need not stop, and the lead was handed that its report found no memory
@@ -91,13 +93,15 @@ pub record LacksReport (desk : DeskState) : Type 0 where
 abbrev pub IsShortOfMemory : Situation → Type 0
 IsShortOfMemory s = LacksReport s.desk ⊎ (IsTrue s.may_lack × IsUntold s.told (list_at s.desk))
 
--- The run ended before its history was finished. But for a fault of the journal's disk no append met one.
+-- The run ended before its history was finished. But for a fault of the journal's disk no append met one. After a fault of the
+-- spool's disk the desk takes no event more.
 pub record Halts (board : Board) (fail : RunFail) (before after : Situation) : Type 0 where
   pub at : IsAt board after.desk
   pub places : places_of_lead after.desk.lead ≡ places_of_lead before.desk.lead
   pub went : WentOn (plan_at before.desk) (readings_in before.desk.work) (disks_between before after) before.desk.work after.desk.work
   pub journal_fault : fail ≡ run_fail.JournalFault → Rose before.journal.faults after.journal.faults
   pub spool_fault : fail ≡ run_fail.SpoolFault → Rose before.spool.faults after.spool.faults
+  pub stops : fail ≡ run_fail.SpoolFault → IsTrue after.desk.failed
   pub memory : fail ≡ run_fail.NoMemory → IsShortOfMemory after
   pub sound : (fail ≡ run_fail.JournalFault → ⊥) → state_of after.desk.work.journal ≡ state_of before.desk.work.journal
 
@@ -115,6 +119,7 @@ pub record Concludes (board : Board) (answer : Result Unit RunFail) (before afte
   pub is_told : OnOk answer (IsTold after.told after.takes (plan_at before.desk) (list_at after.desk))
   pub journal_fault : answer ≡ Err run_fail.JournalFault → Rose before.journal.faults after.journal.faults
   pub spool_fault : answer ≡ Err run_fail.SpoolFault → Rose before.spool.faults after.spool.faults
+  pub stops : answer ≡ Err run_fail.SpoolFault → IsTrue after.desk.failed
   pub memory : answer ≡ Err run_fail.NoMemory → IsShortOfMemory after
   pub sound : (answer ≡ Err run_fail.JournalFault → ⊥) → state_of after.desk.work.journal ≡ state_of before.desk.work.journal
   pub dismissed : IsDismissed board after.desk.lead

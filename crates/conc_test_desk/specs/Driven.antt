@@ -1,5 +1,5 @@
 -- A desk that is driven by a trial, and the disks that it is lent.
-use Rattle.std.specs.Prelude.{◌≡◌, ◌≤◌, ℕ, None, ⊤}
+use Rattle.std.specs.Prelude.{◌≡◌, ◌≤◌, ℕ, None, IsFalse, ⊤}
 use Rattle.conc_types.specs.declared.event.Event.{Event}
 use Rattle.conc_types.specs.declared.event.Event.TheVariants as event
 use Rattle.conc_types.specs.declared.event.RequestId.{RequestId}
@@ -13,11 +13,12 @@ use Rattle.conc_journal.specs.Journals.{IsOn as JournalIsOn, room_of}
 use Rattle.conc_journal_spool.specs.Spools.{IsOn as SpoolIsOn}
 use Rattle.conc_test_desk.specs.declared.disks.Disks.{Disks}
 
--- The desk is at the board, no end is kept, and both disks are on. The request is one of the plan.
+-- The desk is at the board, no end is kept and none was lost, and both disks are on. The request is one of the plan.
 pub record IsDriven (r : RequestId) (board : Board) (desk : DeskState) (disks : Disks) : Type 0 where
   pub at : IsAt board desk
   pub request : IsRequest (plan_of board) r
   pub nothing_kept : desk.kept ≡ None
+  pub sound : IsFalse desk.failed
   pub journal_on : JournalIsOn desk.work.journal (state_of disks.journal)
   pub spool_on : SpoolIsOn desk.work.spool (state_of disks.spool)
 

@@ -1,4 +1,4 @@
-ghost use Rattle.std.specs.Prelude.{◌≡◌, ◌≤◌, ◌+◌, IfOk, IfSome, IsTrue, None};
+ghost use Rattle.std.specs.Prelude.{◌≡◌, ◌≤◌, ◌+◌, IfOk, IfSome, IsFalse, IsTrue, None};
 ghost use Rattle.conc_base_law.specs.Places.{count_of_places};
 ghost use Rattle.conc_board.specs.Claims.{HasPermit};
 ghost use Rattle.conc_board.specs.Seats.{HasAllPlaces, IsLeadOf, lead_state_of, places_of_lead, plan_of as board_plan, SameLeadStates, Stays};
@@ -190,6 +190,7 @@ fn desk_at<'a>(board: &Board, plan: &'a Plan, lead: Lead, work: Work<'a>) -> Des
     requires parts { IsTied None work any_disk any_disk }
     ensures at { IsAt board.now result }
     ensures nothing_kept { result.kept ≡ None }
+    ensures sound { IsFalse result.failed }
     ensures work { result.work ≡ work.entry }
 {
     let mut desk = Desk::new(plan, lead, work);

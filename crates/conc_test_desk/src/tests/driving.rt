@@ -1,4 +1,4 @@
-ghost use Rattle.std.specs.Prelude.{◌≡◌, ◌<◌, ◌+◌, IfOk, IsTrue, None};
+ghost use Rattle.std.specs.Prelude.{◌≡◌, ◌<◌, ◌+◌, IfOk, IsTrue, None, OnOk};
 ghost use Rattle.conc_pool_seats.specs.declared.views.LeadState.TheVariants as lead_state;
 ghost use Rattle.conc_run_desk.specs.Desks.{lead_state_at};
 ghost use Rattle.conc_test_desk.specs.Driven.{IsDriven, IsPlain, room_at};
@@ -127,7 +127,7 @@ pub(crate) fn end<Rt: Abort>(
 ) -> Result<Option<Event>, KeepFail>
     requires driven { IsDriven r board.now desk.old disks.old }
     requires room { 0 < room_at desk.old }
-    ensures driven { IsDriven r board.now desk.new disks.new }
+    ensures driven { OnOk result (IsDriven r board.now desk.new disks.new) }
     ensures room { IfOk result (λ ended. ended ≡ None → room_at desk.new ≡ room_at desk.old) }
 {
     match desk.progress(board, r) {

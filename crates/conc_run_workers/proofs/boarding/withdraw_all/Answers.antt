@@ -15,7 +15,7 @@ use Rattle.conc_run_workers.proofs.boarding.withdraw_all.Goals as goal
 
 pub loop-request-init : goal.loop-request-init
 loop-request-init c = record {
-  stays = record { at = c.requires.at; same = record { work = refl; kept = refl; begun_with = refl }; places = refl; switches = record { each = λ word. refl } };
+  stays = record { at = c.requires.at; same = record { work = refl; kept = refl; begun_with = refl; failed = refl }; places = refl; switches = record { each = λ word. refl } };
   posts = ([], sym (append-nil _));
   items = c.as_slice-request-items.ensures ∙ ap (λ (p : Plan). p.requests) (c.plan.ensures ∙ ap (λ (m : Machine). plan_of m) c.machine.ensures.machine ∙ sym c.requires.at.plan);
   none = λ r named early is. let first = named.from_one in absurd (omega (arith, first, early));

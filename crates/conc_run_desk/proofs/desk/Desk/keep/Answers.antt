@@ -42,7 +42,7 @@ returns-in-Ok-store_text-clause-takes g c =
     let past = reverse (list_in c.self.inside.work) in
     let makes = subst (λ (p : Plan). MakesOf (must_stop p past c.args.r) c.in-Ok.posted (Some c.in-Some.next)) c.self.invariant.plan_is c.in-Some.ensures.makes in
     subst (λ (d : DeskState). IsTaken c.args.board.now c.args.r (Ok (keeps.Ready c.in-Some.next.event)) d
-    (record { plan = c.self.inside.plan.now; lead = c.collect.new.lead; work = c.store_text.new.work; kept = Some c.in-Some.next.event; begun_with = c.self.inside.begun_with })) c.self.view_is
+    (record { plan = c.self.inside.plan.now; lead = c.collect.new.lead; work = c.store_text.new.work; kept = Some c.in-Some.next.event; begun_with = c.self.inside.begun_with; failed = c.self.inside.failed })) c.self.view_is
     (record {
       posted = c.in-Ok.posted;
       left = c.in-Ok.ensures.posted;
@@ -59,7 +59,7 @@ returns-in-Ok-store_text-clause-keeps g c =
     let e = c.in-Some.next.event in
     let spool = g.E.Disk.state c.store_text.new.spool in
     subst (λ (d : DeskState). IsReady e c.args.r d
-    (record { plan = c.self.inside.plan.now; lead = c.collect.new.lead; work = c.store_text.new.work; kept = Some e; begun_with = c.self.inside.begun_with })
+    (record { plan = c.self.inside.plan.now; lead = c.collect.new.lead; work = c.store_text.new.work; kept = Some e; begun_with = c.self.inside.begun_with; failed = c.self.inside.failed })
     (g.E.Disk.state c.args.spool.now) spool) c.self.view_is
     (record {
       kept = refl;
@@ -76,7 +76,7 @@ returns-clause-takes g c =
     let past = reverse (list_in c.self.inside.work) in
     let makes = subst (λ (p : Plan). MakesOf (must_stop p past c.args.r) c.in-Ok.posted (Some c.in-Some.next)) c.self.invariant.plan_is c.in-Some.ensures.makes in
     subst (λ (d : DeskState). IsTaken c.args.board.now c.args.r (Err fails.SpoolFault) d
-    (record { plan = c.self.inside.plan.now; lead = c.collect.new.lead; work = c.store_text.new.work; kept = c.self.inside.kept; begun_with = c.self.inside.begun_with })) c.self.view_is
+    (record { plan = c.self.inside.plan.now; lead = c.collect.new.lead; work = c.store_text.new.work; kept = c.self.inside.kept; begun_with = c.self.inside.begun_with; failed = true })) c.self.view_is
     (record {
       posted = c.in-Ok.posted;
       left = c.in-Ok.ensures.posted;

@@ -35,7 +35,8 @@ returns-in_err-event g c =
     (quiet (Err _) c.requires.may_step (loans-same refl) refl
     (halts-unkept r.shared.now.board (situation g.D.Disk g.E.Disk g.T.Teller r) mid s' c.args.r c.in_err-event.field-0.0 w c.requires.request c.machine.ensures.tied c.keep.ensures.list c.keep.ensures.parts c.keep.ensures.on c.keep.ensures.at c.keep.ensures.others.places
     c.in_err-event.ensures.keeps c.in_err-event.ensures.takes
-    (λ leaves. subst (λ x. StoresOn (plan_at d) (used_of d.work.spool) (list_at d) (list_at d) s (g.E.Disk.state x)) (sym (c.in_err-event.ensures.untouched (inl leaves))) still))
+    (λ leaves. subst (λ x. StoresOn (plan_at d) (used_of d.work.spool) (list_at d) (list_at d) s (g.E.Disk.state x)) (sym (c.in_err-event.ensures.untouched (inl leaves))) still)
+    c.in_err-event.ensures.failed)
     (quiet-kept d mid c.keep.ensures.list) tt)
 
 pub returns-in_default : goal.returns-in_default
@@ -48,7 +49,7 @@ returns-in_default g c =
     let still = stores-still (plan_at d) (used_of d.work.spool) (list_at d) s (g.met.E.Disk.seen_is_left r.spool.now) w.ready.tied.spool_on in
     quiet _ c.requires.may_step (loans-same refl) refl
     (advances-unkept r.shared.now.board (situation g.D.Disk g.E.Disk g.T.Teller r) mid s' w c.keep.ensures.list parts c.keep.ensures.on c.keep.ensures.at c.keep.ensures.others.places
-    (subst (λ x. StoresOn (plan_at d) (used_of d.work.spool) (list_at d) (list_at d) s (g.E.Disk.state x)) (sym same) still) none)
+    (subst (λ x. StoresOn (plan_at d) (used_of d.work.spool) (list_at d) (list_at d) s (g.E.Disk.state x)) (sym same) still) none c.in_ok-event.ensures.goes_on)
     (quiet-kept d mid c.keep.ensures.list) (opens-kept c.keep.ensures.list c.keep.ensures.others.switches c.requires.may_step.opens)
 
 -- ---- the end is logged
@@ -66,7 +67,7 @@ tell-requires g c =
     let s = g.E.Disk.state r.spool.now in let s' = g.E.Disk.state c.keep.new.spool in let list = c.keep.ensures.list in
     let kept = subst (λ (k : Kept). Keeps c.args.r (Ok k) d mid s s') c.in-Ready.is c.in_ok-event.ensures.keeps in
     next-logged r.shared.now.board (situation g.D.Disk g.E.Disk g.T.Teller r) mid new (g.D.Disk.state c.log_event.new.journal) s' w list.machine list.journal c.keep.ensures.on e
-    (end-no_resume (plan_at d) (reverse (list_at d)) c.args.r e kept.is_end) (pending-tells (plan_at d) (list_at d) s' e kept.text) kept.lawful kept.stores made.survives made.at c.keep.ensures.others.places
+    (end-no_resume (plan_at d) (reverse (list_at d)) c.args.r e kept.is_end) (pending-tells (plan_at d) (list_at d) s' e kept.text) kept.lawful kept.stores made.survives made.at c.keep.ensures.others.places c.in_ok-event.ensures.goes_on
     c.in_ok-receipt.ensures.logged made.parts made.on c.in_ok-receipt.receipt c.in_ok-receipt.ensures.receipt
 
 pub returns-in_err-receipt : goal.returns-in_err-receipt
@@ -78,7 +79,7 @@ returns-in_err-receipt g c =
     handed {B = Unit {0}} c.from_residual-in_err-receipt.result c.from_residual-in_err-receipt.ensures.1
     (quiet (Err _) c.requires.may_step (loans-same refl) refl
     (halts-unlogged r.shared.now.board (situation g.D.Disk g.E.Disk g.T.Teller r) mid new (g.D.Disk.state c.log_event.new.journal) s' w list.machine list.journal c.keep.ensures.on e
-    (end-no_resume (plan_at d) (reverse (list_at d)) c.args.r e kept.is_end) (pending-tells (plan_at d) (list_at d) s' e kept.text) kept.lawful kept.stores made.survives made.at c.keep.ensures.others.places
+    (end-no_resume (plan_at d) (reverse (list_at d)) c.args.r e kept.is_end) (pending-tells (plan_at d) (list_at d) s' e kept.text) kept.lawful kept.stores made.survives made.at c.keep.ensures.others.places c.in_ok-event.ensures.goes_on
     (g.T.Teller.list r.teller.now) (g.T.Teller.takes r.teller.now) (g.T.Teller.may_lack r.teller.now) (Some e) unlogged made.parts made.on (unlogged.kept ∙ kept.kept)
     (subst (λ (z : Plan × List Event). HasPendingText z.0 z.1 s' (Some e))
     (λ i. (sym (ap (λ (m : Machine). plan_of m) (unlogged.machine ∙ list.machine)) i, sym (unlogged.list ∙ ap (λ (x : Journal). list_of x) list.journal) i)) kept.text) c.in_err-receipt.ensures.fault)
@@ -94,7 +95,7 @@ returns-in_err-tell g c =
     handed {B = Unit {0}} c.from_residual-in_err-tell.result c.from_residual-in_err-tell.ensures.1
     (quiet answer c.requires.may_step (loans-same refl) refl
     (told-answer r.shared.now.board (situation g.D.Disk g.E.Disk g.T.Teller r) mid new (g.D.Disk.state c.log_event.new.journal) s' w list.machine list.journal c.keep.ensures.on e
-    calm (pending-tells (plan_at d) (list_at d) s' e kept.text) kept.lawful kept.stores made.survives made.at c.keep.ensures.others.places
+    calm (pending-tells (plan_at d) (list_at d) s' e kept.text) kept.lawful kept.stores made.survives made.at c.keep.ensures.others.places c.in_ok-event.ensures.goes_on
     logged made.parts made.on (g.T.Teller.list c.tell.new.teller) (g.T.Teller.takes c.tell.new.teller) (g.T.Teller.may_lack c.tell.new.teller) c.in_ok-receipt.receipt answer
     c.in_ok-receipt.ensures.receipt tt told.unchanged c.tell.ensures.takes told.cause told.lacked)
     (quiet-after d mid new (quiet-kept d mid list) (quiet-one e mid new calm (end-quiet (plan_at d) (reverse (list_at d)) c.args.r e kept.is_end) (adds-logged e mid new logged))) tt)
@@ -108,7 +109,7 @@ returns g c =
     let logged = c.in_ok-receipt.ensures.logged in let answer : Result Unit RunFail = Ok tt in
     quiet _ c.requires.may_step (loans-same refl) refl
     (told-answer r.shared.now.board (situation g.D.Disk g.E.Disk g.T.Teller r) mid new (g.D.Disk.state c.log_event.new.journal) s' w list.machine list.journal c.keep.ensures.on e
-    calm (pending-tells (plan_at d) (list_at d) s' e kept.text) kept.lawful kept.stores made.survives made.at c.keep.ensures.others.places
+    calm (pending-tells (plan_at d) (list_at d) s' e kept.text) kept.lawful kept.stores made.survives made.at c.keep.ensures.others.places c.in_ok-event.ensures.goes_on
     logged made.parts made.on (g.T.Teller.list c.tell.new.teller) (g.T.Teller.takes c.tell.new.teller) (g.T.Teller.may_lack c.tell.new.teller) c.in_ok-receipt.receipt answer
     c.in_ok-receipt.ensures.receipt c.in_ok-tell.ensures.told tt c.tell.ensures.takes tt tt)
     (quiet-after d mid new (quiet-kept d mid list) (quiet-one e mid new calm (end-quiet (plan_at d) (reverse (list_at d)) c.args.r e kept.is_end) (adds-logged e mid new logged)))

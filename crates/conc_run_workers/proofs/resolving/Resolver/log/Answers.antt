@@ -23,7 +23,7 @@ tell-requires g c =
     let r = c.args.self.now in let d = r.desk.now in let new = c.log_event.new.self in let w = c.requires.may_step.at_work in let e = c.args.event in let made = c.log_event.ensures in
     let j' = g.D.Disk.state c.log_event.new.journal in let s = g.E.Disk.state r.spool.now in
     let stores = stores-without (plan_at d) (used_of d.work.spool) (list_at d) s (g.met.E.Disk.seen_is_left r.spool.now) w.ready.tied.spool_on e (plain-text (plan_at d) e c.requires.no_end) in
-    next-logged r.shared.now.board (situation g.D.Disk g.E.Disk g.T.Teller r) d new j' s w refl refl w.ready.tied.spool_on e c.requires.no_resume (plain-tells (plan_at d) e c.requires.no_end) c.requires.lawful stores made.survives made.at refl
+    next-logged r.shared.now.board (situation g.D.Disk g.E.Disk g.T.Teller r) d new j' s w refl refl w.ready.tied.spool_on e c.requires.no_resume (plain-tells (plan_at d) e c.requires.no_end) c.requires.lawful stores made.survives made.at refl refl
     c.in_ok-receipt.ensures.logged made.parts made.on c.in_ok-receipt.receipt c.in_ok-receipt.ensures.receipt
 
 pub returns-in_err-receipt : goal.returns-in_err-receipt
@@ -35,7 +35,7 @@ returns-in_err-receipt g c =
     logs-handed c.from_residual.result c.from_residual.ensures.1 (record {
       loans = loans-same refl;
       hints = refl;
-      resolves = halts-unlogged r.shared.now.board (situation g.D.Disk g.E.Disk g.T.Teller r) d new j' s w refl refl w.ready.tied.spool_on e c.requires.no_resume (plain-tells (plan_at d) e c.requires.no_end) c.requires.lawful stores made.survives made.at refl
+      resolves = halts-unlogged r.shared.now.board (situation g.D.Disk g.E.Disk g.T.Teller r) d new j' s w refl refl w.ready.tied.spool_on e c.requires.no_resume (plain-tells (plan_at d) e c.requires.no_end) c.requires.lawful stores made.survives made.at refl refl
           (g.T.Teller.list r.teller.now) (g.T.Teller.takes r.teller.now) (g.T.Teller.may_lack r.teller.now) None unlogged made.parts made.on (unlogged.kept ∙ w.nothing_kept) tt c.in_err-receipt.ensures.fault;
       adds = inl (adds-unlogged e d new unlogged);
       switches = record { each = λ word. ap (λ (l : Lead). switch_of l word) unlogged.lead };
@@ -49,7 +49,7 @@ returns g c =
     let told = c.tell.ensures in record {
       loans = loans-same refl;
       hints = refl;
-      resolves = told-answer r.shared.now.board (situation g.D.Disk g.E.Disk g.T.Teller r) d new j' s w refl refl w.ready.tied.spool_on e c.requires.no_resume (plain-tells (plan_at d) e c.requires.no_end) c.requires.lawful stores made.survives made.at refl
+      resolves = told-answer r.shared.now.board (situation g.D.Disk g.E.Disk g.T.Teller r) d new j' s w refl refl w.ready.tied.spool_on e c.requires.no_resume (plain-tells (plan_at d) e c.requires.no_end) c.requires.lawful stores made.survives made.at refl refl
           c.in_ok-receipt.ensures.logged made.parts made.on (g.T.Teller.list c.tell.new.teller) (g.T.Teller.takes c.tell.new.teller) (g.T.Teller.may_lack c.tell.new.teller) c.in_ok-receipt.receipt c.tell.result
           c.in_ok-receipt.ensures.receipt told.told told.unchanged told.takes told.cause told.lacked;
       adds = adds-told e d new c.tell.result (adds-logged e d new c.in_ok-receipt.ensures.logged);
