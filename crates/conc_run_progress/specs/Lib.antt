@@ -1,0 +1,6 @@
+pub mod Boards
+pub mod Runs
+pub mod Logs
+pub mod LeadMoves
+pub mod HandMoves
+pub mod Progress

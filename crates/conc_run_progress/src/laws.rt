@@ -1,0 +1,34 @@
+//! Laws on what can be done next in a run with workers, and on what has the go in it. Each function here has an empty
+//! body; its contract is the law.
+ghost use Rattle.conc_run_progress.specs.Progress.{NoDeskIsDead, NoStateIsDead};
+ghost use Rattle.conc_run_progress.specs.Runs.{WhatRunsHasTheGoAfterACall, WhatRunsHasTheGoAfterEachEvent, WhatRunsHasTheGoAtTheBeginning, WhatRunsHasTheGoOnceAnEndIsKept, WhatRunsHasTheGoWithTheSameLeadStates};
+
+/// No state of a run with workers is dead. Between two calls of the lead, while the workers are at work, the history is
+/// finished, or somebody can go on: the resolver can log an event for which no worker has to do anything, the lead can make
+/// a move on the board, or a worker can. It does not say that they do, which is up to the threads.
+pub fn no_state_is_dead()
+    ensures { NoStateIsDead }
+{}
+
+/// So it is between two calls of a desk. The desk's own invariant says that the list is lawful and that what the lead
+/// knows goes with it.
+pub fn no_desk_is_dead()
+    ensures { NoDeskIsDead }
+{}
+
+/// Each request that runs since a start of this life has the go on the board, at the place where it runs. It is so
+/// after one more event, once what that event means for the board is done. A request ends only by an end that was kept for it.
+pub fn what_runs_has_the_go_after_each_event()
+    ensures { WhatRunsHasTheGoAfterEachEvent }
+{}
+
+/// It is so at the beginning of a life, and stays so between two events. A request whose end is kept runs on in the list
+/// until that end is logged; every other request that runs has the go.
+pub fn what_runs_has_the_go_between_events()
+    ensures beginning { WhatRunsHasTheGoAtTheBeginning }
+
+    // After a call on one request that takes no go, a call that changes no lead state, and one that keeps an end.
+    ensures call { WhatRunsHasTheGoAfterACall }
+    ensures same { WhatRunsHasTheGoWithTheSameLeadStates }
+    ensures kept { WhatRunsHasTheGoOnceAnEndIsKept }
+{}
