@@ -1,5 +1,5 @@
 -- At a desk: its invariant says what the law asks for.
-use Rattle.std.proofs.Common.{◌≡◌, ◌⊎◌, true, List, ◌∷◌, Option, None, Some, reverse, sym, refl, ap, ◌∙◌, subst}
+use Rattle.std.proofs.Common.{◌≡◌, ◌⊎◌, true, List, Option, None, Some, reverse, sym, subst}
 use Rattle.conc_types.specs.declared.event.Event.{Event}
 use Rattle.conc_types.specs.declared.event.Event.TheVariants as event
 use Rattle.conc_types.specs.declared.plan.Plan.{Plan}
