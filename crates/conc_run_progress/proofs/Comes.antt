@@ -1,9 +1,8 @@
 -- What may come next: what is forced, the tick of the next reading at rest, and a start.
-use Rattle.std.proofs.Common.{◌≡◌, ◌==◌, ◌&&◌, ◌||◌, ℕ, Bool, true, false, not, List, [], ◌∷◌, ◌++◌, reverse, Option, None, Some, is_some, refl, sym, ◌∙◌, ap, inl, inr}
+use Rattle.std.proofs.Common.{◌≡◌, ◌==◌, ◌&&◌, ◌||◌, ◌+◌, ◌<◌, ℕ, zero, suc, Bool, true, false, not, List, [], ◌∷◌, ◌++◌, reverse, Option, None, Some, is_some, refl, sym, ◌∙◌, ap, inl, inr, arith}
 use Rattle.std.specs.List.{find, range_with_len}
 use Rattle.std.specs.Option.{option_map, option_or}
 use Rattle.std.specs.Prelude.{map}
-use Rattle.std.proofs.Common.{◌+◌, ◌<◌, zero, suc, arith}
 use Rattle.std.proofs.lemmas.Bool.{and_from, and_parts, cond-false, not-true, not_from_false, or_right}
 use Rattle.conc_types.specs.declared.event.Event.{Event}
 use Rattle.conc_types.specs.declared.event.Event.TheVariants as event

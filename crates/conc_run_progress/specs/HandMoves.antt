@@ -26,14 +26,14 @@ pub record CanClaim (plan : Plan) (s : BoardState) (hand : ℕ) : Type 0 where
   pub admitted : IsTrue (admits_at plan place request)
   pub word : word_of s request ≡ released
 
--- it waits for a request, and finds what became of its claim: the word is no claim of its place any more
+-- it waits for a request, and learns what became of its claim, since the word is no claim of its place any more
 pub record CanPoll (s : BoardState) (hand : ℕ) : Type 0 where
   pub request : RequestId
   pub place : PlaceId
   pub waits : doing_in s hand ≡ Waits request place
   pub answered : word_of s request ≢ claimed place
 
--- it serves a request, which has a report, and has its slot: it leaves what came of it
+-- it serves a request, has its slot, and leaves what came of it; there is a report to make
 pub record CanPost (plan : Plan) (s : BoardState) (hand : ℕ) : Type 0 where
   pub request : RequestId
   pub place : PlaceId
@@ -43,11 +43,12 @@ pub record CanPost (plan : Plan) (s : BoardState) (hand : ℕ) : Type 0 where
   pub slot : slot_of s request ≡ none
   pub report : IsSome (report_for plan request)
 
+-- one of these moves
 pub data HandMove (plan : Plan) (s : BoardState) (hand : ℕ) : Type 0 where
   claims : CanClaim plan s hand → HandMove plan s hand
   polls : CanPoll s hand → HandMove plan s hand
   posts : CanPost plan s hand → HandMove plan s hand
 
--- some hand can make such a move
+-- some worker's hand can make such a move
 abbrev pub HandCan : Plan → BoardState → Type 0
 HandCan plan s = (hand : ℕ) × IsHandIn s hand × HandMove plan s hand

@@ -45,7 +45,7 @@ pub record CanSee (plan : Plan) (lead : Lead) (s : BoardState) : Type 0 where
   pub lead_state : lead_state_of lead request ≡ Let
   pub word : word_of s request ≡ claimed place
 
--- what it answers to a claim that it saw: the go, by a start that may come next; or, where the place may not be used, that the request is withdrawn
+-- What it has to answer to a claim that it saw: the go, where the start may come next, or that the request is withdrawn, where the place may not be used.
 abbrev pub HasAnswer : Plan → List Reading → List Event → Option Event → RequestId → PlaceId → Type 0
 HasAnswer plan readings list kept r p =
     (Lawful plan readings (list ++ event.Started r p ∷ []) × IsItsTurn kept (event.Started r p))
@@ -62,7 +62,7 @@ pub record CanAnswer (plan : Plan) (readings : List Reading) (list : List Event)
   pub waits : doing_in s hand ≡ Waits request place
   pub answer : HasAnswer plan readings list kept request place
 
--- it takes what was left for a request that has the go. Nothing is forced, and no end is kept
+-- It takes what was left for a request that has the go. Nothing is forced, and no end is kept.
 pub record CanCollect (plan : Plan) (list : List Event) (kept : Option Event) (lead : Lead) (s : BoardState) : Type 0 where
   pub request : RequestId
   pub place : PlaceId
@@ -74,6 +74,7 @@ pub record CanCollect (plan : Plan) (list : List Event) (kept : Option Event) (l
   pub nothing_forced : forced plan (state plan (reverse list)) ≡ None
   pub nothing_kept : kept ≡ None
 
+-- one of these moves
 pub data LeadMove (plan : Plan) (readings : List Reading) (list : List Event) (kept : Option Event) (lead : Lead) (s : BoardState) : Type 0 where
   opens : CanOpen plan list s → LeadMove plan readings list kept lead s
   lets_out : CanLetOut plan list lead s → LeadMove plan readings list kept lead s
@@ -81,6 +82,6 @@ pub data LeadMove (plan : Plan) (readings : List Reading) (list : List Event) (k
   answers : CanAnswer plan readings list kept lead s → LeadMove plan readings list kept lead s
   collects : CanCollect plan list kept lead s → LeadMove plan readings list kept lead s
 
--- it is in the middle of no call, and can make such a move
+-- the lead is in the middle of no call, and can make such a move
 abbrev pub LeadCan : Plan → List Reading → List Event → Option Event → Lead → BoardState → Type 0
 LeadCan plan readings list kept lead s = IsSeated plan lead × LeadMove plan readings list kept lead s

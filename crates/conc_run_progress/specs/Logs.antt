@@ -17,7 +17,7 @@ pub record IsNextTick (readings : List Reading) (past : List Event) (e : Event) 
   pub next : next_reading readings past ≡ Some reading
   pub tick : e ≡ event.Tick reading.moment
 
--- the end that is kept; where none is, the event that is forced, or the tick of the next reading
+-- no worker has to do anything for the end that is kept; nor, where none is, for the event that is forced and the tick of the next reading
 abbrev pub NeedsNoWorker : Plan → List Reading → List Event → Option Event → Event → Type 0
 NeedsNoWorker plan readings past (Some kept) e = e ≡ kept
 NeedsNoWorker plan readings past None e = (forced plan (state plan past) ≡ Some e) ⊎ IsNextTick readings past e

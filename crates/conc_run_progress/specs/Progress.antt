@@ -60,7 +60,7 @@ pub record IsGoingOn (plan : Plan) (readings : Readings) (list : List Event) (ke
 
 -- ---- what somebody can do
 
--- the resolver can log such an event, or the lead or a worker's hand can move
+-- the resolver can log an event for which no worker has to do anything, or the lead or a worker's hand can move on the board
 abbrev pub SomebodyCanGoOn : Plan → List Reading → List Event → Option Event → Lead → BoardState → Type 0
 SomebodyCanGoOn plan readings list kept lead s = CanLog plan readings list kept ⊎ (LeadCan plan readings list kept lead s ⊎ HandCan plan s)
 
