@@ -5,7 +5,8 @@ use Rattle.conc_types.specs.declared.event.Event.TheVariants as event
 use Rattle.conc_pool_seats.specs.declared.views.LeadState.TheVariants.{Seen}
 use Rattle.conc_journal.specs.Journals.{room_of, state_of}
 use Rattle.conc_journal.specs.JournalStates.{after_fault}
-use Rattle.conc_run_steps.specs.Steps.{readings_in, stamp_for, StaysBegun, StaysHeld}
+use Rattle.conc_run_state.specs.Adding.{stamp_for}
+use Rattle.conc_run_steps.specs.Steps.{readings_in, StaysBegun, StaysHeld}
 use Rattle.conc_run_desk.specs.Following.{Follows}
 use Rattle.conc_run_desk.specs.Desks.{lead_state_at, list_at, plan_at}
 use Rattle.conc_run_desk.specs.State.{DeskState}

@@ -57,6 +57,7 @@ impl<'a> Desk<'a> {
     ghost use Rattle.conc_journal.specs.Journals.{IsOn as JournalIsOn, room_of, state_of};
     ghost use Rattle.conc_journal.specs.Receipts.{IsNextOf};
     ghost use Rattle.conc_run_desk.specs.Ties.{LeadStatesGoWith};
+    ghost use Rattle.conc_run_state.specs.Adding.{AddsRecords};
     ghost use Rattle.conc_run_state.specs.Machines.{readings_of, StandsFor};
     ghost use Rattle.conc_base_law.specs.Kinds.{is_resume};
     ghost use Rattle.conc_base_law.specs.Law.{Lawful};
@@ -212,6 +213,8 @@ impl<'a> Desk<'a> {
         ensures logged { OnOk result (IsLogged event self.old self.new) }
         ensures receipt { IfOk result (IsNextOf (Some (list_at self.old))
             (λ list. list ≡ list_at self.new)) }
+        ensures written { OnOk result (AddsRecords (plan_at self.old) (length (list_at self.old))
+            (event ∷ []) (D.state journal.old) (D.state journal.new)) }
         ensures unlogged { OnErr result (IsUnlogged event self.old self.new) }
         ensures fault { OnErr result (Rose (D.state journal.old).faults (D.state journal.new).faults
             ⊎ IsTrue (has_faulted (state_of self.old.work.journal))) }

@@ -16,3 +16,4 @@ pub mod Stored
 pub mod Ends
 pub mod Failing
 pub mod Opened
+pub mod Written

@@ -3,6 +3,7 @@ use Rattle.std.specs.Prelude.{◌≡◌, ◌⊎◌, ℕ, List, Result, reverse, 
 use Rattle.conc_types.specs.declared.event.Event.{Event}
 use Rattle.conc_base_law.specs.Alone.{opening}
 use Rattle.conc_base_law.specs.State.{used}
+use Rattle.conc_disk.specs.Disk.{SeenFollows}
 use Rattle.conc_disk.specs.declared.disk.Disk.{Ghosts as DiskGhosts}
 use Rattle.conc_disk.specs.Left.{EachImage, LeavesOnly}
 use Rattle.conc_journal_spool.specs.Spools.{KeepsBelow}
@@ -15,6 +16,7 @@ use Rattle.conc_run_state.specs.Works.{AreReady, list_in}
 use Rattle.conc_run_state.specs.declared.error.HistoryFail.{HistoryFail}
 use Rattle.conc_run_state.specs.declared.work.Work.{Work}
 use Rattle.conc_run_open.specs.Examined.{WasExaminedOn}
+use Rattle.conc_run_open.specs.Starting.{IsOpened}
 use Rattle.conc_run_open.specs.declared.examining.Examined.{Examined}
 use Rattle.conc_run_open.specs.declared.opening.Begun.{Begun}
 
@@ -30,7 +32,8 @@ LeavesOpening h found = LeavesOnly (λ image. h.disks.journal_before.may_leave i
 abbrev pub StillStored : Handed → List Event → Type 0
 StillStored h found = (from : ℕ) → IfSome h.disks.spool_before.seen (AreStored h.plan from found) → EachImage (AreStored h.plan from found) h.disks.spool_after
 
--- a life is begun in a journal of version 2: the list has the events found, with a resume behind them if there are any
+-- a life is begun in a journal of version 2: the list has the events found, with a resume behind them if there are any, and nothing else was
+-- written for that
 pub record IsBegun (h : Handed) (work : Work) : Type 0 where
   pub found : List Event
   pub taken : IsTaken h found
@@ -38,6 +41,7 @@ pub record IsBegun (h : Handed) (work : Work) : Type 0 where
   pub ready : AreReady h.plan h.readings work h.disks.journal_after h.disks.spool_after
   pub begun_for : IsBegunFor h.plan h.digests work.journal
   pub version : IsOfVersionTwo work.journal
+  pub written : SeenFollows (IsOpened h.plan h.digests found) h.disks.journal_before h.disks.journal_after
   pub left : LeavesOpening h found
   pub stored : StillStored h found
 

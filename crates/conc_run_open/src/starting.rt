@@ -1,13 +1,15 @@
-ghost use Rattle.std.specs.Prelude.{◌≡◌, ◌<◌, IsFalse, IsTrue, OnErr, OnOk};
+ghost use Rattle.std.specs.Prelude.{◌≡◌, ◌<◌, IsFalse, IsTrue, OnErr, OnOk, length};
 ghost use Rattle.conc_outside.specs.Counts.{Rose};
 ghost use Rattle.conc_types.specs.declared.digests.Digests.{Digests as DigestsOf};
 ghost use Rattle.conc_types.specs.declared.plan.Plan.{Plan};
 ghost use Rattle.conc_base_law.specs.Alone.{opening};
 ghost use Rattle.conc_journal.specs.Journals.{IsOn, list_of, room_of, state_of};
 ghost use Rattle.conc_journal.specs.JournalStates.{has_faulted, takes_events};
+ghost use Rattle.conc_disk.specs.Disk.{SeenFollows};
+ghost use Rattle.conc_run_state.specs.Adding.{AddsRecords};
 ghost use Rattle.conc_run_state.specs.Inputs.{IsBegunFor, IsOfVersionTwo};
 ghost use Rattle.conc_run_open.specs.Examined.{MayStartWith};
-ghost use Rattle.conc_run_open.specs.Starting.{HasOpened, SurvivesBetween};
+ghost use Rattle.conc_run_open.specs.Starting.{HasOpened, IsOpened, IsRenewed, resume_behind, SurvivesBetween};
 
 use conc_disk::{Disk, DiskFault};
 use conc_journal::{Journal, Receipt};
@@ -29,6 +31,9 @@ fn renew<D: Disk>(
     ensures version { OnOk result (IsOfVersionTwo journal.new) }
     ensures list { list_of journal.new ≡ list_of journal.old }
     ensures room { room_of journal.new ≡ room_of journal.old }
+    ensures written { (plan : Plan) → MayStartWith plan digests.now due.now journal.old
+        → OnOk result (SeenFollows (IsRenewed plan digests.now (list_of journal.old))
+        (D.state disk.old) (D.state disk.new)) }
     ensures fault { OnErr result (Rose (D.state disk.old).faults (D.state disk.new).faults) }
     ensures survives { (plan : Plan) → MayStartWith plan digests.now due.now journal.old
         → SurvivesBetween plan digests.now (list_of journal.old) (list_of journal.old)
@@ -52,6 +57,8 @@ fn resume<D: Disk>(journal: &mut Journal, disk: &mut D) -> Result<Option<Receipt
         → OnOk result (IsBegunFor plan digests journal.new) }
     ensures version { IsOfVersionTwo journal.old → OnOk result (IsOfVersionTwo journal.new) }
     ensures opened { HasOpened result journal.old journal.new }
+    ensures written { (plan : Plan) → OnOk result (AddsRecords plan (length (list_of journal.old))
+        (resume_behind (list_of journal.old)) (D.state disk.old) (D.state disk.new)) }
     ensures fault { OnErr result (Rose (D.state disk.old).faults (D.state disk.new).faults) }
     ensures survives { (plan : Plan) (digests : DigestsOf) → IsBegunFor plan digests journal.old
         → SurvivesBetween plan digests (list_of journal.old) (opening (list_of journal.old))
@@ -83,6 +90,9 @@ pub(crate) fn start<D: Disk>(
         → OnOk result (IsBegunFor plan digests.now journal.new) }
     ensures version { OnOk result (IsOfVersionTwo journal.new) }
     ensures opened { HasOpened result journal.old journal.new }
+    ensures written { (plan : Plan) → MayStartWith plan digests.now due.now journal.old
+        → OnOk result (SeenFollows (IsOpened plan digests.now (list_of journal.old))
+        (D.state disk.old) (D.state disk.new)) }
     ensures fault { OnErr result (Rose (D.state disk.old).faults (D.state disk.new).faults) }
 
     ensures survives { (plan : Plan) → MayStartWith plan digests.now due.now journal.old

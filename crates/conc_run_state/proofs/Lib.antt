@@ -1,3 +1,4 @@
 pub mod Prefixes
 pub mod Surviving
 pub mod Lives
+pub mod Adding

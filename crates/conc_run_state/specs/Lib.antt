@@ -11,3 +11,4 @@ pub mod Inputs
 pub mod Machines
 pub mod Stores
 pub mod Fails
+pub mod Adding

@@ -1,5 +1,5 @@
 -- What a run makes of its work, event by event.
-use Rattle.std.proofs.Common.{◌≡◌, ◌⊎◌, inl, inr, ℕ, zero, suc, ◌<◌, ◌≤◌, Bool, false, ◌||◌, List, [], ◌∷◌, ◌++◌, length, reverse, Option, None, Some, refl, sym, ◌∙◌, ap, subst, le_refl, arith, append_assoc, append-nil}
+use Rattle.std.proofs.Common.{◌≡◌, ◌⊎◌, inl, inr, ℕ, zero, suc, ◌+◌, ◌<◌, ◌≤◌, Bool, false, ◌||◌, List, [], ◌∷◌, ◌++◌, length, reverse, Option, None, Some, refl, sym, ◌∙◌, ap, subst, le_refl, arith, append_assoc, append-nil, length-append}
 use Rattle.std.specs.Prelude.{IfSome, IsSomeAnd, MatchOption, slice_get}
 use Rattle.std.proofs.lemmas.Bool.{cases_lt}
 use Rattle.std.proofs.lemmas.List.Folds.{list_any-append}
@@ -30,6 +30,8 @@ use Rattle.conc_run_state.specs.Stored.{AreStored}
 use Rattle.conc_run_state.specs.Works.{AreReady, AreTied, list_in, longest_in}
 use Rattle.conc_run_state.specs.declared.work.Work.{Work}
 use Rattle.conc_run_state.specs.Disks.{disks}
+use Rattle.conc_run_state.specs.Adding.{AddsRecords}
+use Rattle.conc_run_state.proofs.Adding.{adds-none, adds-twice}
 use Rattle.conc_run_steps.specs.Going.{TellsReport, WentOn}
 use Rattle.conc_run_steps.specs.Steps.{plan_in, StaysHeld, StoresOn, SurvivesFor}
 use Rattle.conc_run_steps.proofs.Extents.{used-more}
@@ -86,6 +88,7 @@ module _ (plan : Plan) (readings : List Reading) (old new : Work) (journal spool
     last_is = inl (longest ∙ sym (ap (λ j. list_of j) same));
     stored = λ from. subst (λ (l : List Event). EachImage (AreStored plan from (list_in old)) spool → EachImage (AreStored plan from l) spool') (sym longest) (stores.stored from);
     label = ap (λ j. state_label (state_of j)) same;
+    written = λ is. adds-none plan (length (list_in old)) journal;
     held = λ digests begun. subst (λ (j : Journal). IsHeldFor plan digests j) (sym same) (begun-held plan digests old.journal begun);
     journal = λ digests begun. leaves-none (Survives plan digests (list_in old) (longest_in new)) journal;
     journal_faults = le_refl journal.faults;
@@ -101,10 +104,11 @@ module _ (plan : Plan) (readings : List Reading) (old new : Work) (e : Event) (p
       → (longest_in new ≡ list_in new) ⊎ ((e : Event) × (longest_in new ≡ list_in new ++ e ∷ []))
       → StoresOn plan (used_of old.spool) (list_in old) (list_in old ++ e ∷ []) spool spool'
       → state_label (state_of new.journal) ≡ state_label (state_of old.journal)
+      → (state_of new.journal ≡ state_of old.journal → AddsRecords plan (length (list_in old)) (e ∷ []) journal journal')
       → StaysHeld plan old.journal new.journal
       → SurvivesFor old (list_in old) (list_in old ++ e ∷ []) journal journal'
       → WentOn plan readings (disks journal journal' spool spool') old new
-  went-one own tied lawful last_is stores label held left = record {
+  went-one own tied lawful last_is stores label wrote held left = record {
     pending = pending;
     tied = tied;
     list = record {
@@ -117,6 +121,7 @@ module _ (plan : Plan) (readings : List Reading) (old new : Work) (e : Event) (p
     last_is = last_is;
     stored = λ from. subst (λ (l : List Event). EachImage (AreStored plan from (list_in old)) spool → EachImage (AreStored plan from l) spool') (sym longest) (stores.stored from);
     label = label;
+    written = wrote;
     held = held;
     journal = λ digests begun.
         subst (λ (z : Plan × List Event). LeavesOnly (Survives z.0 digests (list_in old) z.1) journal journal') (λ i. (own i, sym longest i))
@@ -163,13 +168,26 @@ keeps-below m n old mid le follows = go old.seen mid.seen follows where
 -- ---- a run that goes on from a sound work
 
 module _ (plan : Plan) (readings : List Reading) (old mid new : Work) (journal journal' journal'' spool spool' spool'' : DiskState) (ready : AreReady plan readings mid journal' spool')
-    (begins : used_of old.spool ≡ used (reverse (list_in old))) where
+    (begins : used_of old.spool ≡ used (reverse (list_in old))) (mid_state : state_of mid.journal ≡ state_of old.journal) where
   whole : longest_in mid ≡ list_in mid
   whole = sound-longest mid ready.sound
 
   module _ (first : WentOn plan readings (disks journal journal' spool spool') old mid) (second : WentOn plan readings (disks journal' journal'' spool' spool'') mid new) where
     goes : GoesOn plan readings (list_in old) (list_in mid)
-    goes = subst (λ (l : List Event). GoesOn plan readings (list_in old) l) whole first.list
+    goes = record {
+      added = first.list.added;
+      all = sym whole ∙ first.list.all;
+      lawful = subst (λ (l : List Event). Lawful plan readings l) whole first.list.lawful;
+      no_resume = first.list.no_resume;
+      reported = λ i id o x from there. first.list.reported i id o x from (ap (λ l. slice_get l i) whole ∙ there);
+    }
+
+    -- the records of both parts
+    both : state_of new.journal ≡ state_of old.journal → AddsRecords plan (length (list_in old)) (first.list.added ++ second.list.added) journal journal''
+    both same =
+        let behind : length (list_in mid) ≡ length (list_in old) + length first.list.added = ap length goes.all ∙ length-append (list_in old) first.list.added in
+        adds-twice plan (length (list_in old)) first.list.added second.list.added journal journal' journal'' (first.written mid_state)
+        (subst (λ (n : ℕ). AddsRecords plan n second.list.added journal' journal'') behind (second.written (same ∙ sym mid_state)))
 
     -- so the texts of the first part are as many or fewer
     fewer : used_of old.spool ≤ used_of mid.spool
@@ -186,6 +204,7 @@ module _ (plan : Plan) (readings : List Reading) (old mid new : Work) (journal j
       last_is = second.last_is;
       stored = λ from stored. second.stored from (subst (λ (l : List Event). EachImage (AreStored plan from l) spool') whole (first.stored from stored));
       label = second.label ∙ first.label;
+      written = both;
       held = λ digests begun. second.held digests (still-begun digests begun);
       journal = λ digests begun.
           let kind = Survives plan digests (list_in old) (longest_in new) in

@@ -69,6 +69,11 @@ pub faulted-longest : (e : Event) (s : ℕ) (state : JournalState) → takes_eve
 faulted-longest e s (Begun label) takes sound = refl
 faulted-longest e s state takes sound = cc
 
+-- a fault shows in the state
+pub fault-shows : (e : Event) (s : ℕ) (state : JournalState) → takes_events state ≡ true → has_faulted state ≡ false → after_fault e s state ≡ state → ⊥
+fault-shows e s (Begun label) takes sound is = cc is
+fault-shows e s state takes sound is = cc
+
 -- ---- the input of a journal
 
 -- a journal that is begun for an input is held for it

@@ -23,7 +23,8 @@ use Rattle.conc_run_state.specs.Machines.{readings_of}
 use Rattle.conc_run_state.specs.Inputs.{AreStampsOf, command_of, IsOfInput, NamesInput}
 use Rattle.conc_run_state.specs.Works.{list_in}
 use Rattle.conc_run_state.specs.declared.work.Work.{Work}
-use Rattle.conc_run_steps.specs.Steps.{plan_in, readings_in, stamp_for}
+use Rattle.conc_run_state.specs.Adding.{stamp_for}
+use Rattle.conc_run_steps.specs.Steps.{plan_in, readings_in}
 use Rattle.conc_run_steps.proofs.Coming.{last-follows, lawful-past}
 
 -- a command is one of the plan, and this is its stamp

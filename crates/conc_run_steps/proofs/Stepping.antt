@@ -1,5 +1,5 @@
 -- One step of a run: its text is stored, and then its event is logged.
-use Rattle.std.proofs.Common.{◌≡◌, inl, inr, ◌+◌, true, false, List, [], ◌∷◌, ◌++◌, Option, None, Some, refl, sym, ◌∙◌, ap, subst}
+use Rattle.std.proofs.Common.{◌≡◌, inl, inr, ◌+◌, true, false, length, List, [], ◌∷◌, ◌++◌, Option, None, Some, refl, sym, ◌∙◌, ap, subst}
 use Rattle.std.specs.Prelude.{unwrap_or}
 use Rattle.conc_types.specs.declared.digests.Digests.{Digests}
 use Rattle.conc_types.specs.declared.event.Event.{Event}
@@ -23,10 +23,11 @@ use Rattle.conc_run_state.specs.Works.{AreTied, HasPendingText, HasRoom, list_in
 use Rattle.conc_run_state.specs.declared.work.Work.{Work}
 use Rattle.conc_run_state.specs.Disks.{disks}
 use Rattle.conc_run_steps.specs.Going.{TellsReport, WentOn}
-use Rattle.conc_run_steps.specs.Steps.{any_disk, IsReady, IsTied, plan_in, readings_in, stamp_for, StaysBegun, StaysHeld, StoresOn, SurvivesFor}
+use Rattle.conc_run_state.specs.Adding.{AddsRecords, stamp_for}
+use Rattle.conc_run_steps.specs.Steps.{any_disk, IsReady, IsTied, plan_in, readings_in, StaysBegun, StaysHeld, StoresOn, SurvivesFor}
 use Rattle.conc_run_steps.proofs.Coming.{has-room}
 use Rattle.conc_run_steps.proofs.Going.{sound-longest, went-none, went-one}
-use Rattle.conc_run_steps.proofs.Logs.{begun-held, faulted-label, faulted-longest}
+use Rattle.conc_run_steps.proofs.Logs.{begun-held, fault-shows, faulted-label, faulted-longest}
 
 -- what is tied by its own plan and readings is tied by those that are the same
 pub tied-by : (plan : Plan) (readings : List Reading) (pending : Option Event) (work : Work) (journal journal' spool spool' : DiskState) → plan_in work ≡ plan → readings_in work ≡ readings
@@ -101,6 +102,7 @@ module _ (old mid : Work) (journal spool spool' : DiskState) (ready : IsReady ol
         (tied-by (plan_in old) (readings_in old) pending new journal' journal' spool' spool' new-plan new-readings tied.journal_on tied.spool_on tied.pending_text tied)
         lawful (inr (e, longest)) stores
         (ap state_label failed ∙ faulted-label e (stamp_for (plan_in mid) e) (state_of mid.journal) ∙ ap (λ j. state_label (state_of j)) same)
+        (λ is. absurd (fault-shows e (stamp_for (plan_in mid) e) (state_of mid.journal) takes mid-sound (sym failed ∙ (is ∙ sym (ap (λ j. state_of j) same)))))
         (old-held held) old-survives
 
     module _ (tied : IsTied None new journal' spool') (added : list_in new ≡ list_in mid ++ e ∷ []) (state : state_of new.journal ≡ state_of mid.journal) where
@@ -113,13 +115,14 @@ module _ (old mid : Work) (journal spool spool' : DiskState) (ready : IsReady ol
       pub longest-logged : longest_in new ≡ list_in old ++ e ∷ []
       longest-logged = sound-longest new new-sound ∙ added-to
 
-      pub went-logged : StaysBegun (plan_in mid) mid.journal new.journal → WentOn (plan_in old) (readings_in old) (disks journal journal' spool spool') old new
-      went-logged begun =
+      pub went-logged : AddsRecords (plan_in mid) (length (list_in mid)) (e ∷ []) journal journal' → StaysBegun (plan_in mid) mid.journal new.journal → WentOn (plan_in old) (readings_in old) (disks journal journal' spool spool') old new
+      went-logged wrote begun =
           went-one (plan_in old) (readings_in old) old new e None journal journal' spool spool' none
           longest-logged told refl
           (tied-by (plan_in old) (readings_in old) None new journal' journal' spool' spool' new-plan new-readings tied.journal_on tied.spool_on tt tied)
           lawful (inl (sound-longest new new-sound)) stores
           (ap state_label state ∙ ap (λ j. state_label (state_of j)) same)
+          (λ is. subst (λ (z : Plan × Journal). AddsRecords z.0 (length (list_of z.1)) (e ∷ []) journal journal') (λ i. (mid-plan i, same i)) wrote)
           (old-held (λ digests is. begun-held (plan_in mid) digests new.journal (begun digests is))) old-survives
 
       pub ready-logged : room_of new.journal + 1 ≡ room_of mid.journal → IsReady new journal' spool'

@@ -58,7 +58,7 @@ module _ (first mid new : Work) (journal journal' journal'' spool spool' spool''
   went-further =
       went-twice (plan_in first) (readings_in first) first mid new journal journal' journal'' spool spool' spool''
       (by-mid (λ p l. AreReady p l mid journal' spool') under.ready)
-      under.began.tied.used_is under.went
+      under.began.tied.used_is under.state under.went
       (by-mid (λ p l. WentOn p l (disks journal' journal'' spool' spool'') mid new) more)
 
   pub underway-more : IsReady new journal'' spool'' → state_of new.journal ≡ state_of mid.journal → IsUnderway first new (disks journal journal'' spool spool'')

@@ -1,5 +1,5 @@
 -- What a run makes of its work, event by event.
-use Rattle.std.specs.Prelude.{◌≡◌, ◌⊎◌, ℕ, ◌∷◌, [], ◌++◌, ◌≤◌, List, Option, Some, ⊤}
+use Rattle.std.specs.Prelude.{◌≡◌, ◌⊎◌, ℕ, ◌∷◌, [], ◌++◌, ◌≤◌, List, length, Option, Some, ⊤}
 use Rattle.conc_types.specs.declared.digests.Digests.{Digests}
 use Rattle.conc_types.specs.declared.event.Event.{Event}
 use Rattle.conc_types.specs.declared.event.Event.TheVariants as event
@@ -11,6 +11,7 @@ use Rattle.conc_disk.specs.Left.{EachImage, LeavesOnly}
 use Rattle.conc_journal.specs.Journals.{state_of}
 use Rattle.conc_journal.specs.JournalStates.{state_label}
 use Rattle.conc_journal_spool.specs.Spools.{Agrees, KeepsBelow, used_of}
+use Rattle.conc_run_state.specs.Adding.{AddsRecords}
 use Rattle.conc_run_state.specs.Disks.{Disks}
 use Rattle.conc_run_state.specs.Inputs.{IsBegunFor}
 use Rattle.conc_run_state.specs.Lists.{GoesOn}
@@ -26,7 +27,7 @@ TellsReport plan (event.Ended id o (Some x)) = IsReported plan id o x
 TellsReport plan e = ⊤
 
 -- What a run made of its work, however it ended. The list went on lawfully, also by the event whose append met a fault, if one
--- did. The texts of ends that the spool held before it holds still, and those that were added too. At
+-- did. Where none did, the records of the events that were added were written to the journal, and nothing else. The texts of ends that the spool held before it holds still, and those that were added too. At
 -- each moment the journal's disk had a list between the one before and the longest after, and the spool's bytes of earlier
 -- ends stayed. A journal that was begun for an input is that of the input.
 pub record WentOn (plan : Plan) (readings : List Reading) (d : Disks) (old new : Work) : Type 0 where
@@ -36,6 +37,7 @@ pub record WentOn (plan : Plan) (readings : List Reading) (d : Disks) (old new :
   pub last_is : (longest_in new ≡ list_in new) ⊎ ((e : Event) × (longest_in new ≡ list_in new ++ e ∷ []))
   pub stored : (from : ℕ) → EachImage (AreStored plan from (list_in old)) d.spool_before → EachImage (AreStored plan from (longest_in new)) d.spool_after
   pub label : state_label (state_of new.journal) ≡ state_label (state_of old.journal)
+  pub written : state_of new.journal ≡ state_of old.journal → AddsRecords plan (length (list_in old)) list.added d.journal_before d.journal_after
   pub held : StaysHeld plan old.journal new.journal
   pub journal : (digests : Digests) → IsBegunFor plan digests old.journal → LeavesOnly (Survives plan digests (list_in old) (longest_in new)) d.journal_before d.journal_after
   pub journal_faults : d.journal_before.faults ≤ d.journal_after.faults

@@ -2,10 +2,8 @@
 use Rattle.std.specs.Prelude.{ℕ, ◌<◌, ◌≤◌, List, [], ◌∷◌, ◌++◌, Option, reverse, unwrap_or, IsFalse, IsTrue}
 use Rattle.conc_types.specs.declared.digests.Digests.{Digests}
 use Rattle.conc_types.specs.declared.event.Event.{Event}
-use Rattle.conc_types.specs.declared.event.Event.TheVariants as event
 use Rattle.conc_types.specs.declared.plan.Plan.{Plan}
 use Rattle.conc_types.specs.declared.script.Reading.{Reading}
-use Rattle.conc_types.specs.Plans.{stamp}
 use Rattle.conc_base_law.specs.Alone.{next_alone}
 use Rattle.conc_base_law.specs.Law.{Finished, Lawful}
 use Rattle.conc_base_law.specs.Remaining.{remaining}
@@ -56,11 +54,6 @@ abbrev pub left_in : Work → ℕ
 left_in work = remaining (plan_in work) (readings_in work) (reverse (list_in work))
 
 -- ---- one event
-
--- the stamp with which an event is journaled: the plan's for a command, and 0 for every other event
-abbrev pub stamp_for : Plan → Event → ℕ
-stamp_for plan (event.Command number) = unwrap_or (stamp plan number) 0
-stamp_for plan e = 0
 
 -- the event may come next, and the journal can take it
 pub record MayLog (work : Work) (event : Event) : Type 0 where

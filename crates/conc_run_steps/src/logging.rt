@@ -1,4 +1,4 @@
-ghost use Rattle.std.specs.Prelude.{◌≡◌, ◌⊎◌, ◌+◌, ◌<◌, ◌∷◌, ◌++◌, [], IfOk, IsTrue, None, OnErr, OnOk, Some};
+ghost use Rattle.std.specs.Prelude.{◌≡◌, ◌⊎◌, ◌+◌, ◌<◌, ◌∷◌, ◌++◌, [], IfOk, IsTrue, None, OnErr, OnOk, Some, length};
 ghost use Rattle.conc_journal.specs.Journals.{room_of, state_of};
 ghost use Rattle.conc_journal.specs.Receipts.{IsNextOf};
 ghost use Rattle.conc_journal.specs.JournalStates.{after_fault, has_faulted};
@@ -6,7 +6,8 @@ ghost use Rattle.conc_journal_image.specs.Fields.{has_record};
 ghost use Rattle.conc_base_law.specs.Law.{Lawful};
 ghost use Rattle.conc_outside.specs.Counts.{Rose};
 ghost use Rattle.conc_run_steps.specs.Logging.{LogsEvent};
-ghost use Rattle.conc_run_steps.specs.Steps.{any_disk, IsTied, MayLog, plan_in, readings_in, stamp_for, StaysBegun, StaysHeld, SurvivesFor};
+ghost use Rattle.conc_run_state.specs.Adding.{AddsRecords, stamp_for};
+ghost use Rattle.conc_run_steps.specs.Steps.{any_disk, IsTied, MayLog, plan_in, readings_in, StaysBegun, StaysHeld, SurvivesFor};
 ghost use Rattle.conc_run_state.specs.Works.{list_in};
 
 use crate::JournalFault;
@@ -44,6 +45,8 @@ pub fn add_event<D: Disk>(
     ensures receipt { IfOk result (IsNextOf (Some (list_in work.old))
         (λ list. list ≡ list_in work.new)) }
     ensures state { OnOk result (state_of work.new.journal ≡ state_of work.old.journal) }
+    ensures written { OnOk result (AddsRecords (plan_in work.old) (length (list_in work.old))
+        (event ∷ []) (D.state journal.old) (D.state journal.new)) }
     ensures room { OnOk result (room_of work.new.journal + 1 ≡ room_of work.old.journal) }
     ensures begun_for { OnOk result (StaysBegun (plan_in work.old) work.old.journal
         work.new.journal) }

@@ -26,6 +26,7 @@ use Rattle.conc_run_state.specs.Works.{HasPendingText, HasRoom, list_in}
 use Rattle.conc_run_state.specs.declared.error.RunFail.{RunFail}
 use Rattle.conc_run_state.specs.declared.error.RunFail.TheVariants as run_fail
 use Rattle.conc_run_state.specs.declared.work.Work.{Work}
+use Rattle.conc_run_state.specs.Adding.{AddsRecords}
 use Rattle.conc_run_steps.specs.Going.{IsUnderway, TellsReport, WentOn}
 use Rattle.conc_run_steps.specs.Steps.{any_disk, IsTied, plan_in, readings_in, StoresOn, SurvivesFor}
 use Rattle.conc_run_state.specs.Machines.{need}
@@ -67,7 +68,8 @@ module _ (board : Board) (before : Situation) (mid new : DeskState) (journal' sp
 
   -- ---- it is on the disk
 
-  module _ (logged : IsLogged e mid new) (parts : IsTied new.kept new.work any_disk any_disk) (on : JournalIsOn new.work.journal journal') where
+  module _ (logged : IsLogged e mid new) (parts : IsTied new.kept new.work any_disk any_disk) (on : JournalIsOn new.work.journal journal')
+      (wrote : AddsRecords (plan_at mid) (length (list_at mid)) (e ∷ []) before.journal journal') where
     new-tied : IsTied None new.work journal' spool'
     new-tied =
         with-disks None new.work journal' spool' (subst (λ (k : Option Event). IsTied k new.work any_disk any_disk) logged.kept parts) on
@@ -75,7 +77,7 @@ module _ (board : Board) (before : Situation) (mid new : DeskState) (journal' sp
 
     pub under-logged : IsUnderway before.desk.work new.work (disks before.journal journal' before.spool spool')
     under-logged =
-        let went = went-logged before.desk.work mid.work before.journal before.spool spool' at_work.ready machine same new.work e journal' none tells lawful takes_events' stores survives logged.plan logged.readings new-tied logged.list logged.state logged.begun_for in
+        let went = went-logged before.desk.work mid.work before.journal before.spool spool' at_work.ready machine same new.work e journal' none tells lawful takes_events' stores survives logged.plan logged.readings new-tied logged.list logged.state wrote logged.begun_for in
         record {
           began = at_work.ready;
           ready = ready-logged before.desk.work mid.work before.journal before.spool spool' at_work.ready machine same new.work e journal' none tells lawful takes_events' stores survives logged.plan logged.readings new-tied logged.list logged.state logged.room;

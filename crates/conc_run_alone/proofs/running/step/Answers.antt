@@ -66,7 +66,7 @@ returns-in_ok-log_event-in-Some-clause-went_on g c =
     let done = c.in_ok-log_event-in-Some.ensures in
     went-logged c.args.work.now c.store_text.new.work (g.D.Disk.state c.args.journal.now) (g.E.Disk.state c.args.spool.now) (g.E.Disk.state c.store_text.new.spool) c.requires.ready c.store_text.ensures.machine c.store_text.ensures.journal
     c.log_event.new.work c.in-Some.next.event (g.D.Disk.state c.log_event.new.journal) (no-resume c.args.work.now c.in-Some.next.event next) (tells-report (plan_in c.args.work.now) c.in-Some.next.event c.in-Some.next.text (c.in_ok-next.ensures.text c.in-Some.next c.in-Some.is)) (may-log c.args.work.now c.in-Some.next.event c.in-Some.next.text (g.D.Disk.state c.args.journal.now) (g.E.Disk.state c.args.spool.now) c.requires.ready (sym c.in_ok-next.ensures.event ∙ ap (option_map event_of) c.in-Some.is) (c.in_ok-next.ensures.text c.in-Some.next c.in-Some.is)).lawful text.pending.takes text.stored logged.survives logged.plan logged.readings
-    done.logged done.added done.state done.begun_for
+    done.logged done.added done.state done.written done.begun_for
 
 pub returns-in_ok-log_event-in-Some-clause-ready : goal.returns-in_ok-log_event-in-Some-clause-ready
 returns-in_ok-log_event-in-Some-clause-ready g c =

@@ -3,6 +3,7 @@ use Rattle.conc_disk.proofs.Leaving.{leaves-none}
 use Rattle.conc_run_state.specs.Survival.{Survives}
 use Rattle.conc_run_open.proofs.Renewing.{begun-now, begun-two, migrated-for, migrated-now, migrated-two, migrating-left, one-named}
 use Rattle.conc_run_open.proofs.Resuming.{is-begun, is-one, stamps-counted}
+use Rattle.conc_run_open.proofs.Written.{migrated-renewed, still-renewed}
 use Rattle.conc_run_open.proofs.starting.renew.Goals as goal
 
 pub migrate-requires-clause-begun : goal.migrate-requires-clause-begun
@@ -49,3 +50,10 @@ pub returns-else-is_of_version_one-clause-version : goal.returns-else-is_of_vers
 returns-else-is_of_version_one-clause-version g c =
     let may = c.requires.may in
     begun-two may.0 c.args.digests.now c.args.journal.now (is-begun may.0 c.args.digests.now c.args.journal.now may.1.may_start c.requires.begun) (sym c.is_of_version_one.ensures ∙ c.if-is_of_version_one.false)
+
+pub returns-then-is_of_version_one-clause-written : goal.returns-then-is_of_version_one-clause-written
+returns-then-is_of_version_one-clause-written g c = λ plan may.
+    migrated-renewed c.migrate.result plan c.args.digests.now c.args.journal.now.events.items c.args.due.now (g.D.Disk.state c.args.disk.now) (g.D.Disk.state c.migrate.new.disk) may.due_are c.migrate.ensures.written
+
+pub returns-else-is_of_version_one-clause-written : goal.returns-else-is_of_version_one-clause-written
+returns-else-is_of_version_one-clause-written g c = λ plan may. still-renewed plan c.args.digests.now c.args.journal.now.events.items (g.D.Disk.state c.args.disk.now)

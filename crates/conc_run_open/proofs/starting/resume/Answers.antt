@@ -1,6 +1,7 @@
 use Rattle.std.proofs.Common.{◌<◌, length, sym, ap, ◌∙◌, Err}
 use Rattle.conc_run_open.proofs.Renewing.{two-still}
 use Rattle.conc_run_open.proofs.Resuming.{not-empty, resume-begun-for, resume-failed, resume-left, resume-there}
+use Rattle.conc_run_open.proofs.Written.{no-resume-written, resume-written}
 use Rattle.conc_run_open.proofs.starting.resume.Goals as goal
 
 pub returns-in-Ok-clause-begun_for : goal.returns-in-Ok-clause-begun_for
@@ -30,3 +31,9 @@ returns-in-Err-clause-survives g c = λ plan digests begun.
 
 pub returns-in-Ok-clause-version : goal.returns-in-Ok-clause-version
 returns-in-Ok-clause-version g c = two-still c.args.journal.now c.append.new.self c.in-Ok.ensures.state
+
+pub returns-in-Ok-clause-written : goal.returns-in-Ok-clause-written
+returns-in-Ok-clause-written g c = λ plan.
+    let journal = c.args.journal.now in
+    let some : 0 < length journal.events.items = not-empty journal.events.items c.events.result.now c.events.ensures (sym c.is_empty.ensures ∙ c.if-is_empty.false) in
+    resume-written plan journal.events.items (g.D.Disk.state c.args.disk.now) (g.D.Disk.state c.append.new.disk) some c.in-Ok.ensures.written c.append.ensures.survives.exposes

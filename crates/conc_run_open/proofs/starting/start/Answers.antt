@@ -9,6 +9,7 @@ use Rattle.conc_run_open.proofs.Renewing.{version-two}
 use Rattle.conc_run_open.proofs.Resuming.{header-begun-for, header-left, header-now}
 use Rattle.conc_run_open.proofs.Opened.{opened-same}
 use Rattle.conc_run_open.proofs.TwoSteps.{now-wider, renewed-left, start-twice, unbegun}
+use Rattle.conc_run_open.proofs.Written.{header-opens, written-after}
 use Rattle.conc_run_open.proofs.starting.start.Goals as goal
 
 pub begin-requires-clause-state : goal.begin-requires-clause-state
@@ -68,3 +69,16 @@ returns-then-not-takes_events-clause-version g c = version-two c.begin.new.self 
 
 pub returns-clause-version : goal.returns-clause-version
 returns-clause-version g c = c.resume.ensures.version c.in_ok-renew.ensures.version
+
+-- ---- the bytes
+
+pub returns-then-not-takes_events-clause-written : goal.returns-then-not-takes_events-clause-written
+returns-then-not-takes_events-clause-written g c = λ plan may.
+    header-opens plan c.args.digests.now c.args.journal.now (g.D.Disk.state c.args.disk.now) (g.D.Disk.state c.begin.new.disk)
+    (unbegun plan c.args.digests.now c.args.journal.now may.may_start (sym c.takes_events.ensures ∙ c.if-not-takes_events.true)) c.requires.on (g.met.D.Disk.seen_is_left c.args.disk.now)
+    c.in_ok-begin.ensures.written c.begin.ensures.survives.exposes
+
+pub returns-clause-written : goal.returns-clause-written
+returns-clause-written g c = λ plan may.
+    written-after c.resume.result plan c.args.digests.now c.args.journal.now.events.items c.renew.new.journal.events.items (g.D.Disk.state c.args.disk.now) (g.D.Disk.state c.renew.new.disk) (g.D.Disk.state c.resume.new.disk)
+    c.renew.ensures.list (c.in_ok-renew.ensures.written plan may) (c.resume.ensures.written plan)

@@ -1,6 +1,9 @@
-use Rattle.std.proofs.Common.{◌∙◌, ap, reverse, refl, rules}
+use Rattle.std.proofs.Common.{◌≡◌, ◌∙◌, ℕ, ap, length, reverse, refl, rules, subst}
+use Rattle.conc_journal.specs.Writes.{HasAppended}
 use Rattle.conc_run_state.specs.Works.{list_in}
-use Rattle.conc_run_steps.specs.Steps.{plan_in, stamp_for}
+use Rattle.conc_run_state.specs.Adding.{stamp_for}
+use Rattle.conc_run_state.proofs.Adding.{adds-one}
+use Rattle.conc_run_steps.specs.Steps.{plan_in}
 use Rattle.conc_types.specs.declared.plan.Plan.{Plan}
 use Rattle.conc_run_steps.proofs.Coming.{tied-added}
 use Rattle.conc_run_steps.proofs.Logs.{append-begun, append-held, append-survives}
@@ -38,3 +41,10 @@ returns-in-Ok-clause-logged g c =
     let old = c.args.work.now in
     tied-added old (record { machine = c.apply.new.self; journal = c.append.new.self; spool = old.spool }) c.args.event (g.D.Disk.state c.args.journal.now) (g.D.Disk.state c.append.new.disk)
     c.requires.tied c.requires.lawful c.apply.ensures.plan c.apply.ensures.readings (c.apply.ensures.stands (reverse (list_in old)) c.requires.tied.stands) c.in-Ok.ensures.appended c.in-Ok.ensures.state refl c.append.ensures.on
+
+pub returns-in-Ok-clause-written : goal.returns-in-Ok-clause-written
+returns-in-Ok-clause-written g c =
+    let work = c.args.work.now in let e = c.args.event in
+    let stamp : c.stamp_due-stamp.result ≡ stamp_for (plan_in work) e = c.stamp_due-stamp.ensures ∙ ap (λ (p : Plan). stamp_for p e) c.plan.ensures in
+    adds-one (plan_in work) (length (list_in work)) e (g.D.Disk.state c.args.journal.now) (g.D.Disk.state c.append.new.disk)
+    (subst (λ (n : ℕ). HasAppended e n (length (list_in work)) (g.D.Disk.state c.args.journal.now) (g.D.Disk.state c.append.new.disk)) stamp c.in-Ok.ensures.written) c.append.ensures.survives.exposes

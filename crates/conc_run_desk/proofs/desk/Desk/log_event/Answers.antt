@@ -1,4 +1,5 @@
-use Rattle.std.proofs.Common.{◌∷◌, ◌++◌, [], List, None, Some, reverse, sym, ◌∙◌, ap, subst}
+use Rattle.std.proofs.Common.{◌∷◌, ◌++◌, [], List, None, Some, length, reverse, sym, ◌∙◌, ap, subst}
+use Rattle.conc_run_state.specs.Adding.{AddsRecords}
 use Rattle.conc_types.specs.declared.event.Event.{Event}
 use Rattle.conc_types.specs.declared.plan.Plan.{Plan}
 use Rattle.conc_journal.specs.Journals.{IsOn as JournalIsOn}
@@ -41,6 +42,11 @@ pub returns-clause-survives : goal.returns-clause-survives
 returns-clause-survives g c =
     let old = g.D.Disk.state c.args.journal.now in let new = g.D.Disk.state c.add_event.new.journal in
     subst (λ (d : DeskState). SurvivesFor d.work (list_at d) (list_at d ++ c.args.event ∷ []) old new) c.self.view_is c.add_event.ensures.survives
+
+pub returns-clause-written : goal.returns-clause-written
+returns-clause-written g c =
+    let old = g.D.Disk.state c.args.journal.now in let new = g.D.Disk.state c.add_event.new.journal in
+    subst (λ (d : DeskState). AddsRecords (plan_at d) (length (list_at d)) (c.args.event ∷ []) old new) c.self.view_is c.in_ok-receipt.ensures.written
 
 pub invariant_of-self-2 : goal.invariant_of-self-2
 invariant_of-self-2 g c =

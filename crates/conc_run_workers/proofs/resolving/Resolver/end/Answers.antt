@@ -68,7 +68,7 @@ tell-requires g c =
     let kept = subst (λ (k : Kept). Keeps c.args.r (Ok k) d mid s s') c.in-Ready.is c.in_ok-event.ensures.keeps in
     next-logged r.shared.now.board (situation g.D.Disk g.E.Disk g.T.Teller r) mid new (g.D.Disk.state c.log_event.new.journal) s' w list.machine list.journal c.keep.ensures.on e
     (end-no_resume (plan_at d) (reverse (list_at d)) c.args.r e kept.is_end) (pending-tells (plan_at d) (list_at d) s' e kept.text) kept.lawful kept.stores made.survives made.at c.keep.ensures.others.places c.in_ok-event.ensures.goes_on
-    c.in_ok-receipt.ensures.logged made.parts made.on c.in_ok-receipt.receipt c.in_ok-receipt.ensures.receipt
+    c.in_ok-receipt.ensures.logged made.parts made.on c.in_ok-receipt.ensures.written c.in_ok-receipt.receipt c.in_ok-receipt.ensures.receipt
 
 pub returns-in_err-receipt : goal.returns-in_err-receipt
 returns-in_err-receipt g c =
@@ -96,7 +96,7 @@ returns-in_err-tell g c =
     (quiet answer c.requires.may_step (loans-same refl) refl
     (told-answer r.shared.now.board (situation g.D.Disk g.E.Disk g.T.Teller r) mid new (g.D.Disk.state c.log_event.new.journal) s' w list.machine list.journal c.keep.ensures.on e
     calm (pending-tells (plan_at d) (list_at d) s' e kept.text) kept.lawful kept.stores made.survives made.at c.keep.ensures.others.places c.in_ok-event.ensures.goes_on
-    logged made.parts made.on (g.T.Teller.list c.tell.new.teller) (g.T.Teller.takes c.tell.new.teller) (g.T.Teller.may_lack c.tell.new.teller) c.in_ok-receipt.receipt answer
+    logged made.parts made.on c.in_ok-receipt.ensures.written (g.T.Teller.list c.tell.new.teller) (g.T.Teller.takes c.tell.new.teller) (g.T.Teller.may_lack c.tell.new.teller) c.in_ok-receipt.receipt answer
     c.in_ok-receipt.ensures.receipt tt told.unchanged c.tell.ensures.takes told.cause told.lacked)
     (quiet-after d mid new (quiet-kept d mid list) (quiet-one e mid new calm (end-quiet (plan_at d) (reverse (list_at d)) c.args.r e kept.is_end) (adds-logged e mid new logged))) tt)
 
@@ -110,7 +110,7 @@ returns g c =
     quiet _ c.requires.may_step (loans-same refl) refl
     (told-answer r.shared.now.board (situation g.D.Disk g.E.Disk g.T.Teller r) mid new (g.D.Disk.state c.log_event.new.journal) s' w list.machine list.journal c.keep.ensures.on e
     calm (pending-tells (plan_at d) (list_at d) s' e kept.text) kept.lawful kept.stores made.survives made.at c.keep.ensures.others.places c.in_ok-event.ensures.goes_on
-    logged made.parts made.on (g.T.Teller.list c.tell.new.teller) (g.T.Teller.takes c.tell.new.teller) (g.T.Teller.may_lack c.tell.new.teller) c.in_ok-receipt.receipt answer
+    logged made.parts made.on c.in_ok-receipt.ensures.written (g.T.Teller.list c.tell.new.teller) (g.T.Teller.takes c.tell.new.teller) (g.T.Teller.may_lack c.tell.new.teller) c.in_ok-receipt.receipt answer
     c.in_ok-receipt.ensures.receipt c.in_ok-tell.ensures.told tt c.tell.ensures.takes tt tt)
     (quiet-after d mid new (quiet-kept d mid list) (quiet-one e mid new calm (end-quiet (plan_at d) (reverse (list_at d)) c.args.r e kept.is_end) (adds-logged e mid new logged)))
     (opens-added e (end-no_tick (plan_at d) (reverse (list_at d)) c.args.r e kept.is_end) (adds-logged e mid new logged) logged.follows.switches (opens-kept list c.keep.ensures.others.switches c.requires.may_step.opens))

@@ -24,7 +24,7 @@ tell-requires g c =
     let j' = g.D.Disk.state c.log_event.new.journal in let s = g.E.Disk.state r.spool.now in
     let stores = stores-without (plan_at d) (used_of d.work.spool) (list_at d) s (g.met.E.Disk.seen_is_left r.spool.now) w.ready.tied.spool_on e (plain-text (plan_at d) e c.requires.no_end) in
     next-logged r.shared.now.board (situation g.D.Disk g.E.Disk g.T.Teller r) d new j' s w refl refl w.ready.tied.spool_on e c.requires.no_resume (plain-tells (plan_at d) e c.requires.no_end) c.requires.lawful stores made.survives made.at refl refl
-    c.in_ok-receipt.ensures.logged made.parts made.on c.in_ok-receipt.receipt c.in_ok-receipt.ensures.receipt
+    c.in_ok-receipt.ensures.logged made.parts made.on c.in_ok-receipt.ensures.written c.in_ok-receipt.receipt c.in_ok-receipt.ensures.receipt
 
 pub returns-in_err-receipt : goal.returns-in_err-receipt
 returns-in_err-receipt g c =
@@ -50,7 +50,7 @@ returns g c =
       loans = loans-same refl;
       hints = refl;
       resolves = told-answer r.shared.now.board (situation g.D.Disk g.E.Disk g.T.Teller r) d new j' s w refl refl w.ready.tied.spool_on e c.requires.no_resume (plain-tells (plan_at d) e c.requires.no_end) c.requires.lawful stores made.survives made.at refl refl
-          c.in_ok-receipt.ensures.logged made.parts made.on (g.T.Teller.list c.tell.new.teller) (g.T.Teller.takes c.tell.new.teller) (g.T.Teller.may_lack c.tell.new.teller) c.in_ok-receipt.receipt c.tell.result
+          c.in_ok-receipt.ensures.logged made.parts made.on c.in_ok-receipt.ensures.written (g.T.Teller.list c.tell.new.teller) (g.T.Teller.takes c.tell.new.teller) (g.T.Teller.may_lack c.tell.new.teller) c.in_ok-receipt.receipt c.tell.result
           c.in_ok-receipt.ensures.receipt told.told told.unchanged told.takes told.cause told.lacked;
       adds = adds-told e d new c.tell.result (adds-logged e d new c.in_ok-receipt.ensures.logged);
       switches = c.in_ok-receipt.ensures.logged.follows.switches;
