@@ -9,3 +9,4 @@ pub mod Ended
 pub mod Next
 pub mod Telling
 pub mod Untold
+pub mod Journaled

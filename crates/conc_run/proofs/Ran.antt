@@ -26,7 +26,8 @@ use Rattle.conc_run_state.specs.Works.{list_in, longest_in, with_pending}
 use Rattle.conc_run_state.specs.declared.error.HistoryFail.{HistoryFail}
 use Rattle.conc_run_state.specs.declared.error.HistoryFail.TheVariants as history_fail
 use Rattle.conc_run_state.specs.declared.work.Work.{Work}
-use Rattle.conc_run.specs.Whole.{HasLeft, HasNow, IsCutShort, IsFinished}
+use Rattle.conc_run.specs.Whole.{HasLeft, HasNow, IsCutShort, IsFinished, IsJournaled}
+use Rattle.conc_run.proofs.Journaled.{journaled-seen}
 use Rattle.conc_run_state.proofs.Prefixes.{prefix-twice}
 use Rattle.conc_run_state.proofs.Surviving.{held-begun}
 use Rattle.conc_run.proofs.Lists.{prefix-acknowledged, prefix-with_pending, stored-opening, used-opening, used-prefix}
@@ -132,6 +133,11 @@ module _ (threads : ℕ) (h : Handed) (journal spool : DiskState) (old new : Wor
         of_input = still;
       })
 
+  -- the bytes of the opening, and of what was added
+  journaled : state_of new.journal ≡ state_of old.journal → SeenFollows (IsJournaled h.plan h.digests begun.found (list_in new)) h.disks.journal_before h.disks.journal_after
+  journaled same = journaled-seen h.plan h.digests begun.found (list_in old) (list_in new) went.list.added h.disks.journal_before journal h.disks.journal_after begun.list
+      (sym (longest-acknowledged same) ∙ went.list.all) begun.written (went.written same)
+
   pub finished-run : ((list : List Event) → Lawful h.plan h.readings list → LawfulSoFar h.plan list) → HasLaw h → Stays h.disks.spool_before spool → LeavesOnly h.disks.spool_before.may_leave h.disks.spool_before spool → state_of new.journal ≡ state_of old.journal
       → Finished h.plan h.readings (list_in new) → IsFinished threads h (list_in new)
   finished-run to_so_far law stays survives same finished = record {
@@ -141,6 +147,7 @@ module _ (threads : ℕ) (h : Handed) (journal spool : DiskState) (old new : Wor
     finished = finished;
     alone = is-alone same finished;
     same = same-result h begun.found (list_in new) law (goes-acknowledged same) finished (stored-acknowledged same 0);
+    written = journaled same;
     journal = holds-list same;
     stored = stored-acknowledged same;
     left = subst (λ (l : List Event). HasLeft threads h begun.found (list_in new) l) (longest-acknowledged same) (left-run to_so_far stays survives);

@@ -1,18 +1,23 @@
 -- What a whole run leaves, and why it ends before its history is finished.
-use Rattle.std.specs.Prelude.{◌≡◌, ◌≢◌, ◌⊎◌, ℕ, ◌∷◌, [], ◌++◌, List, Result, reverse, IfErr, IfOk, IfSome, IsFalse, IsTrue}
+use Rattle.std.specs.Prelude.{◌≡◌, ◌≢◌, ◌⊎◌, ℕ, ◌∷◌, [], ◌++◌, List, length, Result, reverse, IfErr, IfOk, IfSome, IsFalse, IsTrue}
+use Rattle.conc_types.specs.declared.digests.Digests.{Digests}
 use Rattle.conc_types.specs.declared.event.Event.{Event}
+use Rattle.conc_types.specs.declared.plan.Plan.{Plan}
 use Rattle.conc_base_law.specs.Alone.{Alone, opening}
 use Rattle.conc_base_law.specs.Law.{Finished, LawfulSoFar}
 use Rattle.conc_base_law.specs.State.{used}
 use Rattle.conc_base_law.specs.Steady.{Steady}
 use Rattle.conc_disk.specs.declared.disk.Disk.{Ghosts as DiskGhosts}
+use Rattle.conc_disk.specs.Disk.{SeenFollows}
 use Rattle.conc_disk.specs.Left.{EachImage, LeavesOnly}
 use Rattle.conc_journal.specs.Opens.{events_of}
 use Rattle.conc_journal_spool.specs.Spools.{KeepsBelow}
 use Rattle.conc_run_alone.specs.Runs.{LacksMemory}
 use Rattle.conc_run_workers.specs.Runs.{AwaitsReport}
 use Rattle.conc_run_open.specs.Examined.{WasExaminedOn}
+use Rattle.conc_run_open.specs.Starting.{IsOpened}
 use Rattle.conc_run_open.specs.declared.examining.Examined.{Examined}
+use Rattle.conc_run_state.specs.Adding.{HasRecords}
 use Rattle.conc_run_state.specs.Causes.{HasCause, is_journal_fault, is_refusal}
 use Rattle.conc_run_state.specs.Handed.{Handed, IsTaken, IsUntouched}
 use Rattle.conc_run_state.specs.Lists.{GoesOn, GoesOnAlone, IsPrefix}
@@ -59,12 +64,22 @@ pub record HasLeft (threads : ℕ) (h : Handed) (found acknowledged last : List 
   pub spool : LeavesOnly (KeepsTexts h found) h.disks.spool_before h.disks.spool_after
   pub now : IsUntouched h ⊎ HasNow h found acknowledged last
 
+-- ---- the bytes of the journal
+
+-- the second image is the first, which was found, with what begins a life, and with the records of all further events of the list
+pub record IsJournaled (plan : Plan) (digests : Digests) (found list : List Event) (old new : List ℕ) : Type 0 where
+  pub begun : List ℕ
+  pub opened : IsOpened plan digests found old begun
+  pub added : List Event
+  pub all : list ≡ opening found ++ added
+  pub records : HasRecords plan (length (opening found)) added begun new
+
 -- ---- how a run ends
 
 -- The run is finished: its list goes on from the list found, with one resume where that is not empty, and its history is
 -- finished. Without threads it is the one that the run without workers makes. For a steady plan over an empty list the result is
--- that of the run without workers, whatever the number of threads. Each image now of the journal has the list, and each of the
--- spool holds the texts of the ends that were added, and of all ends if it held those found.
+-- that of the run without workers, whatever the number of threads. A read of the journal gives what it gave with what the run has to
+-- write, byte for byte, and each image now of it has the list. Each image now of the spool holds the texts of the ends that were added, and of all ends if it held those found.
 pub record IsFinished (threads : ℕ) (h : Handed) (list : List Event) : Type 0 where
   pub found : List Event
   pub taken : IsTaken h found
@@ -72,6 +87,7 @@ pub record IsFinished (threads : ℕ) (h : Handed) (list : List Event) : Type 0 
   pub finished : Finished h.plan h.readings list
   pub alone : threads ≡ 0 → Alone h.plan h.readings found list
   pub same : found ≡ [] → Steady h.plan h.readings → HasResultOfAlone h list
+  pub written : SeenFollows (IsJournaled h.plan h.digests found list) h.disks.journal_before h.disks.journal_after
   pub journal : EachImage (HoldsList h.plan h.digests list) h.disks.journal_after
   pub stored : (from : ℕ) → IfSome h.disks.spool_before.seen (AreStored h.plan from found) → EachImage (AreStored h.plan from list) h.disks.spool_after
   pub left : HasLeft threads h found list list

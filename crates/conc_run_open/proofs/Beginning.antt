@@ -5,7 +5,7 @@ use Rattle.conc_types.specs.declared.event.Event.{Event}
 use Rattle.conc_types.specs.declared.plan.Plan.{Plan}
 use Rattle.conc_types.specs.declared.script.Reading.{Reading}
 use Rattle.conc_types.specs.declared.script.Readings.{Readings}
-use Rattle.conc_disk.specs.Disk.{DiskState, Stays}
+use Rattle.conc_disk.specs.Disk.{DiskState, SeenFollows, Stays}
 use Rattle.conc_disk.specs.declared.disk.Disk.{Ghosts as DiskGhosts}
 use Rattle.conc_disk.specs.Left.{EachImage, LeavesOnly}
 use Rattle.conc_base_law.specs.Alone.{opening}
@@ -31,7 +31,9 @@ use Rattle.conc_run_open.specs.Examined.{IsExamined, MayBegin, MayStartWith, Was
 use Rattle.conc_run_open.specs.Opening.{BeginsOn, IsBegun, IsBegunOrGivenUp, IsGivenUp, LeavesOpening, StillStored}
 use Rattle.conc_run_open.proofs.Counting.{end-within}
 use Rattle.conc_run_open.proofs.Lives.{disk-stored, opening-lawful, opening-lives, opening-used}
+use Rattle.conc_run_open.specs.Starting.{IsOpened}
 use Rattle.conc_run_open.proofs.Surviving.{opening-left, texts-stay}
+use Rattle.conc_run_open.proofs.Written.{seen-since}
 
 -- what a life is begun with
 abbrev pub begun_with : Examined → Journal → Work
@@ -115,14 +117,15 @@ module _ (plan : Plan) (readings : Readings) (digests : Digests) (journal mid ne
   }
 
   -- the life is begun
-  pub begins : (list : Journal) → IsStarted plan digests examined.journal list new → IsBegun (handed plan readings digests journal new spool spool') (begun_with examined list)
-  begins list started = record {
+  pub begins : (list : Journal) → IsStarted plan digests examined.journal list new → SeenFollows (IsOpened plan digests (list_of examined.journal)) mid new → IsBegun (handed plan readings digests journal new spool spool') (begun_with examined list)
+  begins list started wrote = record {
     found = list_of examined.journal;
     taken = taken;
     list = started.all;
     ready = are-ready plan readings.list digests mid new spool' examined list is.may_begin started;
     begun_for = started.begun_for;
     version = started.version;
+    written = seen-since (IsOpened plan digests (list_of examined.journal)) journal mid new was.untouched.journal.seen wrote;
     left = left;
     stored = stored-still;
   }

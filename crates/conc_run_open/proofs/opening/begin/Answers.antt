@@ -18,7 +18,7 @@ returns-in-Ok-clause-begins g c = λ before texts was.
     record {
       begun = begins input.plan.now input.readings.now input.digests.now (g.D.Disk.state before) old (g.D.Disk.state c.start.new.disk) (g.E.Disk.state texts) spool
           c.args.examined was (c.start.ensures.survives input.plan.now may).survives c.start.new.journal
-          (record { on = made.on; begun_for = made.begun_for input.plan.now may; version = made.version; all = made.opened.list; room = made.opened.room });
+          (record { on = made.on; begun_for = made.begun_for input.plan.now may; version = made.version; all = made.opened.list; room = made.opened.room }) (made.written input.plan.now may);
       given_up = tt;
     }
 
