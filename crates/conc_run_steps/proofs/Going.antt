@@ -185,7 +185,7 @@ module _ (plan : Plan) (readings : List Reading) (old mid new : Work) (journal j
     -- the records of both parts
     both : state_of new.journal ≡ state_of old.journal → AddsRecords plan (length (list_in old)) (first.list.added ++ second.list.added) journal journal''
     both same =
-        let behind : length (list_in mid) ≡ length (list_in old) + length first.list.added = ap length goes.all ∙ length-append (list_in old) first.list.added in
+        let behind : length (list_in mid) ≡ length (list_in old) + length first.list.added = ap length (sym whole ∙ first.list.all) ∙ length-append (list_in old) first.list.added in
         adds-twice plan (length (list_in old)) first.list.added second.list.added journal journal' journal'' (first.written mid_state)
         (subst (λ (n : ℕ). AddsRecords plan n second.list.added journal' journal'') behind (second.written (same ∙ sym mid_state)))
 
@@ -197,6 +197,7 @@ module _ (plan : Plan) (readings : List Reading) (old mid new : Work) (journal j
     still-begun digests begun = sound-held plan digests mid.journal ready.tied.takes ready.sound (first.held digests begun)
 
     pub went-twice : WentOn plan readings (disks journal journal'' spool spool'') old new
+    unfolding goes goes-twice
     went-twice = record {
       pending = second.pending;
       tied = second.tied;
