@@ -29,9 +29,12 @@ has-twice : (plan : Plan) (records : ℕ) (first second : List Event) (a b c : L
 has-twice plan records [] second a b c one two = subst (λ (z : ℕ × List ℕ). HasRecords plan z.0 second z.1 c) (λ i. (here i, one i)) two where
   here : records + 0 ≡ records
   here = omega arith
-has-twice plan records (e ∷ first) second a b c (bytes, spelled, one) two =
-    (bytes, spelled, has-twice plan (records + 1) first second (written (offset_behind records) (behind_open_gate bytes) a) b c one
-    (subst (λ (n : ℕ). HasRecords plan n second b c) behind two))
+has-twice plan records (e ∷ first) second a b c (bytes, spelled, one) two = (
+  bytes,
+  spelled,
+  has-twice plan (records + 1) first second (written (offset_behind records) (behind_open_gate bytes) a) b c one
+      (subst (λ (n : ℕ). HasRecords plan n second b c) behind two),
+)
   where
     behind : records + length (e ∷ first) ≡ records + 1 + length first
     behind = omega arith
