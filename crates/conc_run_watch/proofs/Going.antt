@@ -7,7 +7,7 @@ use Rattle.conc_view.specs.declared.naming.Naming.{Ghosts}
 use Rattle.conc_types.specs.declared.plan.Plan.{Plan}
 use Rattle.conc_run_watch.specs.Crews.{AreWatching, StillWatch}
 use Rattle.conc_run_watch.specs.Looks.{Goes, HasLooked, kept_in, plan_in, seen_in}
-use Rattle.conc_run_watch.specs.Watches.{ComesOfLook, IsLookAt, kept_after, with_early_look}
+use Rattle.conc_run_watch.specs.Watches.{ComesOfLook, IsLookAt, kept_after, seen_at_last, with_early_look}
 use Rattle.conc_view.specs.declared.watcher.Snapshot.{Snapshot}
 use Rattle.conc_run_watch.proofs.Kept.{keeps_early, look_later, look_whole, up_to_date}
 use Rattle.conc_run_watch.specs.declared.crew.Watchers.{Watchers}
@@ -22,10 +22,14 @@ kept_last : (kept looks : List Snapshot) (s : Snapshot) → kept_after kept (loo
 kept_last kept [] s = refl
 kept_last kept (x ∷ looks) s = kept_last (with_early_look kept x) looks s
 
+seen_last : (n : ℕ) (looks : List Snapshot) (s : Snapshot) → seen_at_last n (looks ++ s ∷ []) ≡ s.length
+seen_last n [] s = refl
+seen_last n (x ∷ looks) s = seen_last x.length looks s
+
 module _ {J : Type 0} {names : Ghosts J} where
   -- before the first look
   pub goes_none : (looks : Looks J names) → Goes looks looks
-  goes_none looks = record { looks = []; right = λ i d inside. absurd (omega arith); kept = refl; plan = refl; begins = ([], append-nil (seen_in looks)); keeps = ([], append-nil (kept_in looks)) }
+  goes_none looks = record { looks = []; right = λ i d inside. absurd (omega arith); kept = refl; last = refl; plan = refl; begins = ([], append-nil (seen_in looks)); keeps = ([], append-nil (kept_in looks)) }
 
   -- one look more
   pub goes_more : (first before after : Looks J names) → Goes first before → plan_in after ≡ plan_in before → IsPrefix (seen_in before) (seen_in after)
@@ -37,6 +41,7 @@ module _ {J : Type 0} {names : Ghosts J} where
         (look_later (plan_in before) (seen_in before) (seen_in after) (get_or went.looks i d) begins (went.right i d inside)))
         (look_whole (plan_in after) (seen_in after) look.snapshot look.long look.counts);
     kept = look.kept ∙ (ap (λ (kept : List Snapshot). with_early_look kept look.snapshot) went.kept ∙ sym (kept_last (kept_in first) went.looks look.snapshot));
+    last = sym look.long ∙ sym (seen_last (length (seen_in first)) went.looks look.snapshot);
     plan = plan ∙ went.plan;
     begins = prefix_on (seen_in first) (seen_in before) (seen_in after) went.begins begins;
     keeps = prefix_on (kept_in first) (kept_in before) (kept_in after) went.keeps

@@ -7,7 +7,7 @@ use Rattle.conc_view.specs.Watcher.{seen_by, watched_plan}
 use Rattle.conc_view.specs.declared.naming.Naming.{Ghosts}
 use Rattle.conc_view.specs.declared.watcher.Watcher.{Watcher}
 use Rattle.conc_view.specs.declared.watcher.Snapshot.{Snapshot}
-use Rattle.conc_run_watch.specs.Watches.{AreUpToDate, IsLookAt, kept_after}
+use Rattle.conc_run_watch.specs.Watches.{AreUpToDate, IsLookAt, kept_after, seen_at_last}
 use Rattle.conc_run_watch.specs.declared.looks.Looks.{Looks}
 
 module _ {J : Type 0} {names : Ghosts J} where
@@ -31,12 +31,13 @@ module _ {J : Type 0} {names : Ghosts J} where
   abbrev pub Watches : Plan → Looks J names → Type 0
   Watches plan looks = plan_in looks ≡ plan
 
-  -- It watches what it watched, and has seen what it had seen, and maybe more. It looked so often, each time at what it had seen by then, and
-  -- keeps of these looks what is to be kept.
+  -- It watches what it watched, and has seen what it had seen, and maybe more. It made these looks, each at what it had seen by then, and keeps
+  -- of them what is to be kept; at the last of them it saw all that it has seen.
   pub record Goes (before after : Looks J names) : Type 0 where
     pub looks : List Snapshot
     pub right : All (IsLookAt (plan_in after) (seen_in after)) looks
     pub kept : kept_in after ≡ kept_after (kept_in before) looks
+    pub last : length (seen_in after) ≡ seen_at_last (length (seen_in before)) looks
     pub plan : plan_in after ≡ plan_in before
     pub begins : IsPrefix (seen_in before) (seen_in after)
     pub keeps : IsPrefix (kept_in before) (kept_in after)

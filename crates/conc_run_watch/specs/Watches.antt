@@ -48,6 +48,11 @@ abbrev pub kept_after : List Snapshot → List Snapshot → List Snapshot
 kept_after kept [] = kept
 kept_after kept (s ∷ looks) = kept_after (with_early_look kept s) looks
 
+-- how many events the last of these looks saw; this many where there is none
+abbrev pub seen_at_last : ℕ → List Snapshot → ℕ
+seen_at_last n [] = n
+seen_at_last n (s ∷ looks) = seen_at_last s.length looks
+
 -- what is kept comes of one look at the whole of this list
 pub record ComesOfLook (plan : Plan) (events : List Event) (keep : Snapshot → List Snapshot) (all : List Snapshot) : Type 0 where
   pub snapshot : Snapshot
