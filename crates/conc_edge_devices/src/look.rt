@@ -7,7 +7,7 @@ ghost use Rattle.conc_edge_devices.specs.Looks.{growing_state, snapshot_state};
 
 use crate::faults::Faults;
 use crate::file::{length_of, read_piece};
-use crate::opening::{must_be_elsewhere, open_old};
+use crate::opening::{must_be_elsewhere, open_plain};
 use conc_disk::Disk;
 use conc_outside::{Failed, metadata_of, read_up_to};
 use std::alloc::Global;
@@ -39,13 +39,13 @@ impl<'a, R: Files> GrowingDisk<'a, R> {
         }
     }
 
-    /// Opens the file for reading. Returns `None` where there is no file; fails where it is a folder, and where
-    /// it stands at one of the other paths.
+    /// Opens the file for reading. Returns `None` where there is no file; fails where what is there is no plain file,
+    /// and where it is at one of the other paths too.
     fn open(&self) -> Result<Option<R::File>, Failed> {
-        let opened = open_old(self.rt, self.path, false)?;
+        let opened = open_plain(self.rt, self.path)?;
         if let Some(file) = &opened {
             must_be_elsewhere(self.rt, file, self.others)?;
-            if metadata_of(file)?.is_dir() {
+            if !metadata_of(file)?.is_file() {
                 return Err(Failed);
             }
         }

@@ -4,7 +4,7 @@ ghost use Rattle.std.specs.Prelude.{◌≡◌, IfOk};
 ghost use Rattle.conc_edge_devices.specs.Files.{file_state};
 
 use crate::FileDisk;
-use conc_outside::{Failed, is_at_one_of};
+use conc_outside::{Failed, is_at_one_of, metadata_at};
 use std::fs::{File, OpenFile, OpenOptions};
 use std::io::ErrorKind;
 use std::os::unix::fs::FileExt;
@@ -32,6 +32,17 @@ pub(crate) fn open_old<R: Files>(
 ) -> Result<Option<R::File>, Failed> {
     match OpenOptions::new().read(true).write(writes).open(rt, path) {
         Ok(file) => Ok(Some(file)),
+        Err(error) if error.kind() == ErrorKind::NotFound => Ok(None),
+        Err(_) => Err(Failed),
+    }
+}
+
+/// Opens a plain file for reading. Returns `None` where there is no file, and fails where something else is there,
+/// which it does not open: to open a pipe is to wait for a writer.
+pub(crate) fn open_plain<R: Files>(rt: &R, path: &str) -> Result<Option<R::File>, Failed> {
+    match metadata_at(rt, path) {
+        Ok(told) if told.is_file() => open_old(rt, path, false),
+        Ok(_) => Err(Failed),
         Err(error) if error.kind() == ErrorKind::NotFound => Ok(None),
         Err(_) => Err(Failed),
     }

@@ -15,4 +15,4 @@ pub use memory_sink::MemSink;
 pub use real::{FileShelf, WriterSink};
 pub use shelf::Shelf;
 pub use sink::{Sink, write_all};
-pub use system::{is_at_one_of, metadata_of, read_up_to};
+pub use system::{is_at_one_of, metadata_at, metadata_of, read_up_to};

@@ -60,7 +60,7 @@ pub fn metadata_of<F: OpenFile>(file: &F) -> Result<Metadata, Failed> {
 }
 
 /// What the system tells of the file at a path.
-fn metadata_at<R: Files>(rt: &R, path: &str) -> io::Result<Metadata> {
+pub fn metadata_at<R: Files>(rt: &R, path: &str) -> io::Result<Metadata> {
     for _ in 0..u64::MAX {
         match fs::metadata(rt, path) {
             Err(error) if error.kind() == ErrorKind::Interrupted => {}
