@@ -1,12 +1,12 @@
 -- What a file of repeats expands to, by what was read of it.
-use Rattle.std.proofs.Common.{◌≡◌, refl, ◌∙◌, ap, sym, ℕ, false, List, [], ◌∷◌, length, get_or, map, drop, subst}
+use Rattle.std.proofs.Common.{◌≡◌, refl, ◌∙◌, ap, sym, ℕ, false, List, [], ◌∷◌, length, get_or, map}
 use Rattle.std.specs.Prelude.{nat_lt, Some}
 use Rattle.std.proofs.Math.ListN.{get_or-map}
 use Rattle.conc_data_records.specs.Records.{Record, records_of}
 use Rattle.conc_repeat.specs.declared.dues.Due.{Due}
 use Rattle.conc_repeat.specs.declared.series.Series.{Series}
 use Rattle.conc_repeat.specs.Kept.{AreSeries, line_by, line_kept, words_in, words_of}
-use Rattle.conc_repeat.specs.Script.{dues_from, dues_of, Expands, IsByMoment, IsScriptOf, line_of, script_header, text_of}
+use Rattle.conc_repeat.specs.Script.{dues_from, Expands, IsByMoment, IsScriptOf, line_of, script_header, text_of}
 use Rattle.conc_repeat.specs.Series.{header}
 use Rattle.conc_repeat.proofs.FileFaults.{fault_of_file}
 

@@ -1,5 +1,5 @@
 -- The day that lies so many months after a moment's day: what `jiff` says of it is what the law says.
-use Rattle.std.proofs.Common.{◌≡◌, ◌∙◌, sym, subst, refl, ap, ℕ, ◌+◌, ◌-◌, ◌*◌, ◌/◌, ◌%◌, ◌<◌, ◌≤◌, min, inl, inr, Bool, true, false, Option, Some, None, ℤ, pos, ◌+ℤ◌, ◌-ℤ◌, ◌*ℤ◌, ◌<ℤ◌, ◌≤ℤ◌, unsigned_abs, MatchOption, IfSome, arith, get_or, lt-ltb}
+use Rattle.std.proofs.Common.{◌≡◌, ◌∙◌, sym, subst, refl, ap, ℕ, ◌+◌, ◌*◌, ◌/◌, ◌%◌, ◌<◌, ◌≤◌, min, Bool, true, false, Option, Some, None, ℤ, pos, ◌+ℤ◌, ◌-ℤ◌, ◌<ℤ◌, ◌≤ℤ◌, unsigned_abs, MatchOption, IfSome, arith, lt-ltb}
 use Rattle.std.specs.Prelude.{nat_le}
 use Rattle.std.specs.Bool.{then_some}
 use Rattle.std.proofs.lemmas.Bool.Decides.{nat_tests}
@@ -14,11 +14,11 @@ use Rattle.jiff_core.specs.Span.{clock_days, IsOnly, magnitude, span_days, span_
 use Rattle.jiff_core.proofs.CalendarLemmas.{days_in_month_bounds}
 use Rattle.jiff_core.proofs.SignedLemmas.{one_part}
 use Rattle.jiff_span.specs.Add.{CanAddToDate, date_add}
-use Rattle.jiff_span.specs.Months.{add_months, shifted_month, shifted_year}
+use Rattle.jiff_span.specs.Months.{add_months, shifted_year}
 use Rattle.jiff_span.proofs.DifferenceLemmas.{signed_zero}
 use Rattle.jiff_span.proofs.MonthLemmas.{shift_parts}
 use Rattle.conc_types.specs.declared.event.Moment.{Moment}
-use Rattle.conc_base_law.specs.Calendar.{Civil, days_before, moment_at, month_lengths, seconds_of}
+use Rattle.conc_base_law.specs.Calendar.{Civil, days_before, moment_at, seconds_of}
 use Rattle.conc_base_law.proofs.EqualEvents.{moment_same}
 use Rattle.conc_time.proofs.Accepted.{placed}
 use Rattle.conc_time.proofs.Calendars.{before_start, day_number, months_same}

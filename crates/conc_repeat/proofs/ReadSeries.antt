@@ -5,7 +5,6 @@ use Rattle.std.specs.List.{sum_by}
 use Rattle.std.proofs.lemmas.List.{append-nil, get_or_at, length-map, length_push, map-append, take_at}
 use Rattle.std.proofs.lemmas.List.Sums.{sum_by-append}
 use Rattle.conc_types.specs.declared.kind.RefusalKind.{RefusalKind}
-use Rattle.conc_types.specs.Decimals.{decimal_value}
 use Rattle.conc_types.specs.Faults.{first_broken, first_fault}
 use Rattle.conc_data_records.specs.Records.{Record}
 use Rattle.conc_repeat.specs.declared.courses.Course.{Course}

@@ -1,6 +1,6 @@
 -- What the rules of a record say, once what its fields say is known.
-use Rattle.std.proofs.Common.{◌≡◌, refl, ◌+◌, ℕ, true, false, List}
-use Rattle.std.specs.Prelude.{nat_lt, Option, None, Some}
+use Rattle.std.proofs.Common.{◌≡◌, refl, ◌+◌, ℕ, true, false}
+use Rattle.std.specs.Prelude.{nat_lt, None, Some}
 use Rattle.conc_types.specs.declared.kind.RefusalKind.TheVariants as refused
 use Rattle.conc_types.specs.declared.event.Moment.{Moment}
 use Rattle.conc_types.specs.Faults.{first_broken}

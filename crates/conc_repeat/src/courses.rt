@@ -24,7 +24,7 @@ const SECONDS_PER_WEEK: u64 = 604_800;
 
 /// What the distance between the moments of a series is counted in.
 #[derive(Clone, Copy, Debug, PartialEq, Eq)]
-pub(crate) enum TimeUnit {
+pub enum TimeUnit {
     Hours,
     Days,
     Weeks,
@@ -53,7 +53,7 @@ impl TimeUnit {
 
 /// When a series has its moments: so many times, each so many units after the one before.
 #[derive(Clone, Copy, Debug)]
-pub(crate) struct Course {
+pub struct Course {
     pub from: Moment,
     pub every: u16,
     pub unit: TimeUnit,
@@ -66,7 +66,11 @@ impl Course {
     pub(crate) fn moment(&self, place: u16) -> Option<Moment>
         ensures { result ≡ series_spec.moment_in self.now place }
     {
-        moved(self.from, self.unit, u32::from(place) * u32::from(self.every))
+        moved(
+            self.from,
+            self.unit,
+            u32::from(place) * u32::from(self.every),
+        )
     }
 
     /// Whether the calendar has each moment.

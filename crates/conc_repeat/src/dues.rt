@@ -1,4 +1,4 @@
-ghost use Rattle.std.specs.Prelude.{◌≡◌, ◌+◌, ◌<◌, ◌++◌, All, Some, length, map, IfOk, OnOk};
+ghost use Rattle.std.specs.Prelude.{◌≡◌, ◌<◌, ◌++◌, All, Some, length, map, IfOk, OnOk};
 ghost use Rattle.conc_repeat.specs.Script.{dues_at, dues_from, IsByMoment};
 
 use crate::courses::Course;
@@ -8,7 +8,7 @@ use std::alloc::Global;
 
 /// A submission: its moment, and the place of its series, from 0.
 #[derive(Clone, Copy, Debug, PartialEq, Eq)]
-pub(crate) struct Due {
+pub struct Due {
     pub at: Moment,
     pub series: usize,
 }

@@ -66,10 +66,7 @@ fn form(fields: &Fields) -> Option<(Moment, u16, u16)>
 
 /// The course of the series that a record says, and its fields, behind records of so many commands;
 /// or the kind of the first rule that it breaks.
-pub(crate) fn judge(
-    commands: usize,
-    row: &ByteRecord,
-) -> Result<(Course, Fields<'_>), RefusalKind>
+pub(crate) fn judge(commands: usize, row: &ByteRecord) -> Result<(Course, Fields<'_>), RefusalKind>
     requires { commands ≤ 4096 }
     ensures rules { first_broken (record_rules commands (fields_of row.now)) ≡ result_err result }
     ensures fields { IfOk result (λ p. fields_of row.now ≡ list_of p.1) }

@@ -10,5 +10,6 @@ mod lines;
 mod series;
 mod writing;
 
+pub use courses::{Course, TimeUnit};
+pub use dues::Due;
 pub use expanding::expand;
-

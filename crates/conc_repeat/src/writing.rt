@@ -1,4 +1,4 @@
-ghost use Rattle.std.specs.Prelude.{◌≡◌, ◌<◌, ◌++◌, ◌∷◌, [], All, length, map, IfOk};
+ghost use Rattle.std.specs.Prelude.{◌≡◌, ◌<◌, ◌++◌, ◌∷◌, All, length, map, IfOk};
 ghost use Rattle.csv.specs.Writing.{default_writer, row_text};
 ghost use Rattle.conc_repeat.specs.Kept.{line_by, line_kept, words_in};
 ghost use Rattle.conc_repeat.specs.Script.{script_header, text_of};
@@ -51,11 +51,7 @@ fn with_submission(
 }
 
 /// The text of a script with these submissions, each of one of the series.
-pub(crate) fn script_bytes(
-    alloc: Global,
-    all: &[Series],
-    dues: &[Due],
-) -> Result<Vec<u8>, NoMemory>
+pub(crate) fn script_bytes(alloc: Global, all: &[Series], dues: &[Due]) -> Result<Vec<u8>, NoMemory>
     requires { All (λ due. due.series < length all.now) dues.now }
     ensures { IfOk result (λ script. script.items
         ≡ text_of (script_header ∷ map (line_kept all.now) dues.now)) }

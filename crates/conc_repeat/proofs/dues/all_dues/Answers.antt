@@ -11,8 +11,8 @@ pub loop-place-preserved : goal.loop-place-preserved
 loop-place-preserved c = (
   more_to c.args.all.now c.loop-place.place c.index-all-place.result _ _ c.loop-place-test.true (sym c.index-all-place.is) c.loop-place.invariant.0 c.in_ok-push_dues.ensures,
   rw c.in_ok-push_dues.ensures
-  (All-append (λ (due : Due). due.series < length c.args.all.now) _ _ c.loop-place.invariant.1
-  (of_series c.loop-place.place (length c.args.all.now) c.index-all-place.result.course c.loop-place-test.true)),
+      (All-append (λ (due : Due). due.series < length c.args.all.now) _ _ c.loop-place.invariant.1
+      (of_series c.loop-place.place (length c.args.all.now) c.index-all-place.result.course c.loop-place-test.true)),
 )
 
 pub returns-clause-list : goal.returns-clause-list

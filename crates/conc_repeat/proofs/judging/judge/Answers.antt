@@ -1,6 +1,5 @@
-use Rattle.std.proofs.Common.{◌≡◌, ◌∙◌, sym, ap, refl, true, false, is_some, lt-ltb, le-ltb, MatchOption, Option, Some}
+use Rattle.std.proofs.Common.{◌≡◌, ◌∙◌, sym, ap, true, false, is_some, lt-ltb, le-ltb, MatchOption, Option, Some}
 use Rattle.std.proofs.lemmas.Option.{MatchOption-at_some}
-use Rattle.csv.specs.Records.{fields_of}
 use Rattle.conc_data_records.specs.Records.{Record}
 use Rattle.conc_repeat.specs.declared.fields.Fields.{Fields}
 use Rattle.conc_repeat.specs.Kept.{list_of}
