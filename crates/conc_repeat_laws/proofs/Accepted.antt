@@ -98,7 +98,6 @@ module _ (setup : Setup) (records : List Record) (dues : List Due) (rising : IsN
     (known : (k : ℕ) (d : Due) → k < length dues → (get_or dues k d).series < length records)
     (good : (j : ℕ) → j < length records → Keeps (get_or records j []))
     (names : HasNames setup records) (few : length dues ≤ 4096) where
-
   line-at : (i : ℕ) → i < length dues → get_or (map (line_of records) dues) i [] ≡ line_of records (get_or dues i first-due)
   line-at i below = get_or-map (line_of records) dues i first-due [] below
 
