@@ -1,4 +1,4 @@
--- The script that a file of repeats spells.
+-- The script to which a file of repeats expands.
 use Rattle.std.specs.Prelude.{◌≡◌, ℕ, ◌+◌, List, [], ◌∷◌, ◌++◌, codes, drop, get_or, map, IsPermutation, Option, None, Some}
 use Rattle.std.specs.List.{concat}
 use Rattle.std.specs.List.Sorted.{IsNonDecreasingBy, IsStableByKey}

@@ -22,7 +22,7 @@ const SECONDS_PER_DAY: u64 = 86_400;
 
 const SECONDS_PER_WEEK: u64 = 604_800;
 
-/// What the distance between the moments of a series is counted in.
+/// The unit of time by which the moments of a series lie apart.
 #[derive(Clone, Copy, Debug, PartialEq, Eq)]
 pub enum TimeUnit {
     Hours,
@@ -51,7 +51,7 @@ impl TimeUnit {
     }
 }
 
-/// When a series has its moments: so many times, each so many units after the one before.
+/// The moments of a series: `times` of them, from the first one on, each `every` units apart.
 #[derive(Clone, Copy, Debug)]
 pub struct Course {
     pub from: Moment,
@@ -92,7 +92,7 @@ fn moment_at(seconds: u64) -> Option<Moment>
     }
 }
 
-// The day of the moment that is so many months later, counted from 0 for 0001-01-01.
+// The day, counted from 0 for 0001-01-01, that is so many months after the day of a moment.
 fn day_later(from: Moment, months: u32) -> Option<u64>
     ensures day { result ≡ then_some (nat_le (months_later months (civil_at from)).year 9999)
         (days_before (months_later months (civil_at from))) }

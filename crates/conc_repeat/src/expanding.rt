@@ -60,26 +60,27 @@ fn read_series(alloc: Global, records: &mut Records) -> Result<Vec<Series>, Read
     Ok(all)
 }
 
-/// The script that a file of repeats spells. Each record of comma-separated fields after the header
-/// `from,every,unit,times,what,user,priority,domain,argument` stands for a series of submissions. A
-/// byte order mark at the start of the file, and lines with nothing on them, are no part of any
-/// record.
+/// The script to which a file of repeats expands. Each record behind the header
+/// `from,every,unit,times,what,user,priority,domain,argument` is a series of submissions. A byte
+/// order mark at the start of the file, and empty lines, belong to no record.
 ///
-/// `from` is the first moment of the series, and `times`, 1 to 4,096, says how many there are. The
-/// k-th, from 0, is `from` moved by k times `every` of the unit: 1 to 1,000 `hours`, `days`, `weeks`
-/// or `months`. A move by months keeps the time and the day, or takes the last day of a month that is
-/// shorter. The other fields are those of a script's submissions, which have them as they stand.
+/// `from` is the first moment of a series, and `times`, from 1 to 4,096, the number of its moments.
+/// Counted from 0, moment k is `from` moved by k times `every` units: from 1 to 1,000 `hours`,
+/// `days`, `weeks` or `months`. A move by months keeps the time and the day, or takes the last day of
+/// a month that is shorter. The submissions have the other fields as they are in the record.
 ///
-/// The script has the header of scripts and a submission for each moment, as `csv` writes them with
-/// its defaults. They are ordered by their moments, and those at one moment as their records are.
+/// The script has the header of scripts and a submission for each moment, as `csv` writes them by
+/// default. They are in the order of their moments, and those at one moment in the order of their
+/// records.
 ///
-/// Where the file breaks a rule it is refused for the first record that does, numbered from 1 with
-/// the header, and of that record for the first rule in this order: it has nine fields of UTF-8, and
-/// the first record is the header (`NotRepeats`); each field but the unit has its form (`BadRepeat`);
-/// the unit is one of the four (`UnknownUnit`); no moment of the series is past the end of the year
-/// 9999 (`PastEnd`); there are at most 4,096 submissions so far (`TooManyCommands`). A file of more
-/// than 67,108,864 bytes is refused at line 0 (`TooManyCommands`). Where memory lacks there is neither
-/// a script nor a refusal.
+/// A file that breaks a rule is refused for the first record that does, where the header is record 1,
+/// and of that record for the first rule in this order: it has nine fields of UTF-8, and the first
+/// record is the header (`NotRepeats`); each field but the unit has its form (`BadRepeat`); the unit
+/// is one of the four (`UnknownUnit`); no moment of the series is past the end of the year 9999
+/// (`PastEnd`); there are at most 4,096 submissions so far (`TooManyCommands`). A file of more than
+/// 67,108,864 bytes is refused at line 0 (`TooManyCommands`).
+///
+/// Where memory runs out, the answer is `NoMemory`, whatever the file is.
 pub fn expand(alloc: Global, bytes: &[u8]) -> Result<Vec<u8>, ReadFail>
     ensures ok { IfOk result (λ script. Expands bytes.now script.items) }
     ensures err { IfErr result (IsFailure kind.Repeats (repeats_fault bytes.now)) }
