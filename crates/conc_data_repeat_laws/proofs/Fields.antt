@@ -28,8 +28,8 @@ use Rattle.conc_script.specs.Script.{domain_of, is_record as is_script_record, p
 use Rattle.conc_repeat.specs.Refusing.{has_form, is_record, submission_form}
 use Rattle.conc_repeat.specs.Script.{submission}
 use Rattle.conc_repeat.specs.Series.{argument_field, domain_field, every_field, from_field, number_up_to, priority_field, times_field, user_field, what_field}
-use Rattle.conc_repeat_laws.proofs.Records.{IsGood}
-use Rattle.conc_repeat_laws.proofs.Sizes.{IsShort}
+use Rattle.conc_data_repeat_laws.proofs.Records.{IsGood}
+use Rattle.conc_data_repeat_laws.proofs.Sizes.{IsShort}
 
 -- ---- moments
 

@@ -5,7 +5,7 @@ ghost use Rattle.std.specs.Prelude.{ℕ, List, drop};
 ghost use Rattle.conc_types.specs.declared.setup.Setup.{Setup};
 ghost use Rattle.conc_data_records.specs.Records.{records_of};
 ghost use Rattle.conc_repeat.specs.Script.{Expands};
-ghost use Rattle.conc_repeat_laws.specs.Readings.{HasNames, IsReadAs};
+ghost use Rattle.conc_data_repeat_laws.specs.Readings.{HasNames, IsReadAs};
 
 /// What a file of repeats is expanded to is a script of each setup that has a program or a set with
 /// the name of each record, and its commands are the submissions of the records, by their moments.

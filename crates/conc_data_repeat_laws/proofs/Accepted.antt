@@ -20,11 +20,11 @@ use Rattle.conc_repeat.specs.declared.dues.Due.{Due}
 use Rattle.conc_repeat.specs.Script.{dues_of, Expands, IsByMoment, line_of, script_header, seconds, submission, text_of}
 use Rattle.conc_repeat.specs.Series.{argument_field, user_field, what_field}
 use Rattle.conc_repeat.specs.Kept.{fault_behind}
-use Rattle.conc_repeat_laws.specs.Readings.{command_at, command_of, HasNames, IsReadAs}
-use Rattle.conc_repeat_laws.proofs.Fields.{Keeps, keeps, moment-back}
-use Rattle.conc_repeat_laws.proofs.ReadBack.{script-read}
-use Rattle.conc_repeat_laws.proofs.Records.{few-commands, file-known, good-at, length-dues, series-known}
-use Rattle.conc_repeat_laws.proofs.Sizes.{line-short, text-short}
+use Rattle.conc_data_repeat_laws.specs.Readings.{command_at, command_of, HasNames, IsReadAs}
+use Rattle.conc_data_repeat_laws.proofs.Fields.{Keeps, keeps, moment-back}
+use Rattle.conc_data_repeat_laws.proofs.ReadBack.{script-read}
+use Rattle.conc_data_repeat_laws.proofs.Records.{few-commands, file-known, good-at, length-dues, series-known}
+use Rattle.conc_data_repeat_laws.proofs.Sizes.{line-short, text-short}
 
 -- ---- one submission
 

@@ -1,5 +1,0 @@
-use Rattle.conc_repeat_laws.proofs.Accepted.{accepted}
-use Rattle.conc_repeat_laws.proofs.expanded_scripts_are_read.Goals as goal
-
-pub returns : goal.returns
-returns c = accepted
