@@ -80,7 +80,7 @@ _conc() {
   COMPREPLY=()
   _conc_read --threads --watch
   if [[ ${#before[@]} -eq 0 ]]; then
-    [[ -n $option || $given != ' ' ]] || _conc_words run plan check status output make
+    [[ -n $option || $given != ' ' ]] || _conc_words run plan check status output make repeat
     return
   fi
   local command=${before[0]} count=$((${#before[@]} - 1))
@@ -97,6 +97,7 @@ _conc() {
   fi
   case $command:$count in
     run:0 | plan:0 | check:0 | status:0 | output:0) _conc_files .toml ;;
+    repeat:0) _conc_files .csv ;;
     run:1 | plan:1 | check:1 | status:1 | output:1) _conc_files .csv ;;
     run:2) _conc_words system; _conc_files .clock ;;
     check:2) _conc_files .clock ;;

@@ -19,6 +19,7 @@ _conc_command() {
     'status:show how the requests of the journal stand'
     'output:show the report of a request'
     'make:run inputs of a generator, and sum up'
+    'repeat:write the script of repeated submissions'
   )
   _describe command commands
 }
@@ -66,6 +67,7 @@ _conc() {
     check) _arguments $setup $script '3:clock:_files -g "*.clock"' '4:history:_files' ;;
     output) _arguments $setup $script '3:request, from 1:' ;;
     make) _arguments '1:seed:' '2:size, 1 to 4000:' ;;
+    repeat) _arguments '1:repeats:_files -g "*.csv"' ;;
   esac
 }
 

@@ -4,6 +4,7 @@ mod make;
 mod plan;
 mod queue;
 mod records;
+mod repeat;
 mod reports;
 mod script;
 mod setup;

@@ -10,8 +10,8 @@ mod shifts;
 
 pub use laws::{moments_are_read_back, moments_have_one_spelling};
 pub use managers::{is_admitted_at, is_usable, place_count, place_of};
-pub use moments::put_moment;
-pub use reading::read_moment;
+pub use moments::{date_of, put_moment};
+pub use reading::{days_from_start, read_moment};
 pub use shifts::places;
 
 const SECONDS_PER_DAY: u64 = 86400;

@@ -10,8 +10,8 @@ use conc_types::{Moment, NoMemory};
 use jiff::ToSpan;
 use jiff::civil::{Date, date};
 
-// The date of a day that is counted from 0 for 0001-01-01, up to 9999-12-31.
-fn date_of(day: u64) -> Date
+/// The date of a day that is counted from 0 for 0001-01-01, up to 9999-12-31.
+pub fn date_of(day: u64) -> Date
     requires { day < 3652059 }
     ensures { epoch_day result ≡ pos day -ℤ pos 719162 }
 {

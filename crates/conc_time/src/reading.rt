@@ -50,8 +50,8 @@ fn days_until(day: Date) -> i64
     date(1, 1, 1).duration_until(day).as_hours() / 24
 }
 
-// The same, or None where it is negative.
-fn days_from_start(day: Date) -> Option<u64>
+/// The days from 0001-01-01 to a date, or None before it.
+pub fn days_from_start(day: Date) -> Option<u64>
     ensures { MatchOption result ((epoch_day day +ℤ pos 719162) <ℤ pos 0)
         (λ days. pos days ≡ epoch_day day +ℤ pos 719162) }
 {

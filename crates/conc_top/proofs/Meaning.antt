@@ -141,6 +141,7 @@ no-memory (Some (command.Check setup script clock history)) a d nothing left = (
 no-memory (Some (command.Status setup script)) a d nothing left = (inr nothing, left)
 no-memory (Some (command.Output setup script request)) a d nothing left = (inr nothing, left)
 no-memory (Some (command.Make seed size)) a d nothing left = (nothing, left)
+no-memory (Some (command.Repeat repeats)) a d nothing left = (nothing, left)
 
 -- words that give no command
 pub no-command : (asked : Option Command) (a : Around) (d : Disks) (end : Exit) → GivesNoCommand asked end → TookNothing a.sink → AreUntouched d → Means asked a d end

@@ -17,6 +17,7 @@ use Rattle.conc_top.specs.declared.exit.Exit.{Exit}
 use Rattle.conc_top.specs.declared.exit.Exit.TheVariants as exit
 use Rattle.conc_top.specs.Checks.{CheckEnds, Judging}
 use Rattle.conc_top.specs.Printing.{Prints, Sunk, TookNothing}
+use Rattle.conc_top.specs.Repeats.{RepeatEnds}
 use Rattle.conc_top.specs.Runs.{RunEnds}
 use Rattle.conc_top.specs.Shows.{OutputEnds, StatusEnds}
 
@@ -99,3 +100,6 @@ AnswersOutput names id a d end =
 
 abbrev pub AnswersMake : ℕ → ℕ → Sunk → Exit → Type 0
 AnswersMake seed size sink end = Prints (IsSummary seed size) sink end
+
+abbrev pub AnswersRepeat : List ℕ → Around → Exit → Type 0
+AnswersRepeat name a end = RepeatEnds (record { name = name; before = a.before.shelf; after = a.after.shelf }) a.sink end

@@ -3,6 +3,7 @@ pub mod Printing
 pub mod Ways
 pub mod Runs
 pub mod Checks
+pub mod Repeats
 pub mod Shows
 pub mod Answers
 pub mod Contexts

@@ -11,7 +11,7 @@ use Rattle.conc_top_words.specs.Words.{command_of}
 use Rattle.conc_run_state.specs.Disks.{AreUntouched, Disks, disks}
 use Rattle.conc_top.specs.declared.exit.Exit.{Exit}
 use Rattle.conc_top.specs.declared.exit.Exit.TheVariants as exit
-use Rattle.conc_top.specs.Answers.{AnswersCheck, AnswersMake, AnswersOutput, AnswersPlan, AnswersRun, AnswersStatus, Around, around}
+use Rattle.conc_top.specs.Answers.{AnswersCheck, AnswersMake, AnswersOutput, AnswersPlan, AnswersRepeat, AnswersRun, AnswersStatus, Around, around}
 use Rattle.conc_top.specs.Printing.{Sunk, sunk, TookNothing}
 
 -- words that are no command line are Usage, unless there is no memory to read them; nothing is written
@@ -37,6 +37,7 @@ Means (Some (command.Status setup script)) a d end =
     AnswersStatus (named setup script None) a d.journal_before d.journal_after end × AreUntouched d
 Means (Some (command.Output setup script request)) a d end = AnswersOutput (named setup script None) request a d end × AreUntouched d
 Means (Some (command.Make seed size)) a d end = AnswersMake seed size a.sink end × AreUntouched d
+Means (Some (command.Repeat repeats)) a d end = AnswersRepeat repeats a end × AreUntouched d
 
 -- ---- the whole program
 
@@ -93,3 +94,7 @@ MeansOutput _ a d end = IsNoCommand a.sink end
 abbrev pub MeansMake : Option Command → Sunk → Exit → Type 0
 MeansMake (Some (command.Make seed size)) sink end = AnswersMake seed size sink end
 MeansMake _ sink end = IsNoCommand sink end
+
+abbrev pub MeansRepeat : Option Command → Around → Exit → Type 0
+MeansRepeat (Some (command.Repeat repeats)) a end = AnswersRepeat repeats a end
+MeansRepeat _ a end = IsNoCommand a.sink end

@@ -9,7 +9,7 @@ ghost use Rattle.conc_top_words.specs.Words.{AreWithin, command_of};
 ghost use Rattle.conc_run_state.specs.Disks.{AreUntouched, disks};
 ghost use Rattle.conc_top.specs.Answers.{around};
 ghost use Rattle.conc_top.specs.Meaning.{AreAnswered, GivesNoCommand, IsPlain, outside};
-ghost use Rattle.conc_top.specs.Meaning.{MeansCheck, MeansMake, MeansOutput, MeansPlan, MeansRun, MeansStatus};
+ghost use Rattle.conc_top.specs.Meaning.{MeansCheck, MeansMake, MeansOutput, MeansPlan, MeansRepeat, MeansRun, MeansStatus};
 ghost use Rattle.conc_top.specs.Printing.{sunk};
 ghost use Rattle.conc_top.specs.Shows.{IsDiskUntouched};
 
@@ -57,6 +57,7 @@ fn asked(alloc: Global, words: &[String]) -> Result<Command, Exit>
 /// - `output SETUP SCRIPT NUMBER` writes the text of the report with which the request ended.
 /// - `make SEED SIZE` makes inputs of a seed with so many submissions, runs them over disks in memory, and
 ///   writes a summary.
+/// - `repeat REPEATS` reads a file of repeats, and writes the script to which it expands.
 ///
 /// The files are read from the shelf in the order setup, script, clock, the setup's tables, and then the
 /// history, each of them judged before the next one is read; the first one that is lacking, that cannot be
@@ -129,6 +130,7 @@ pub fn conc<
             Exit::of(context.show_report(&mut stores, setup, script, request))
         }
         Command::Make { seed, size } => Exit::of(print_summary(alloc, seed, size, context.out)),
+        Command::Repeat { repeats } => Exit::of(context.expand_file(repeats)),
     }
 }
 
@@ -339,6 +341,27 @@ pub fn make_and_run<O: Sink>(alloc: Global, words: &[String], out: &mut O) -> Ex
 {
     match asked(alloc, words) {
         Ok(Command::Make { seed, size }) => Exit::of(print_summary(alloc, seed, size, out)),
+        Ok(_) => Exit::Usage,
+        Err(exit) => exit,
+    }
+}
+
+/// Does `repeat REPEATS`, as `conc` says. It touches no clock and no disk.
+pub fn show_repeat<F: Shelf, O: Sink>(
+    alloc: Global,
+    words: &[String],
+    shelf: &mut F,
+    out: &mut O,
+) -> Exit
+    ensures means { (clock : ClockState) → MeansRepeat (command_of (map string_bytes words.now))
+        (around (F.state shelf.old) (F.state shelf.new) clock clock
+        (sunk (O.state out.old) (O.state out.new)))
+        result }
+    ensures later { IsLater (F.state shelf.old) (F.state shelf.new) }
+{
+    let mut context = Context { alloc, shelf, out };
+    match asked(alloc, words) {
+        Ok(Command::Repeat { repeats }) => Exit::of(context.expand_file(repeats)),
         Ok(_) => Exit::Usage,
         Err(exit) => exit,
     }

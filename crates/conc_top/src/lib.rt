@@ -8,11 +8,13 @@ mod context;
 mod exit;
 mod line;
 mod printing;
+mod repeating;
 mod running;
 mod showing;
 
 pub use commands::{
-    check_history, conc, make_and_run, run, run_plain, show_output, show_plan, show_status,
+    check_history, conc, make_and_run, run, run_plain, show_output, show_plan, show_repeat,
+    show_status,
 };
 pub use conc_run_state::DiskName;
 pub use exit::Exit;

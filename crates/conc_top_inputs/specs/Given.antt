@@ -110,12 +110,13 @@ pub record IsNextTable (exposed : Exposed) (names : Names) (number : ℕ) (name 
   pub given : HasTables exposed.files (take number before.before.before.setup.tables) tables
   pub named : slice_get before.before.before.setup.tables number ≡ Some name
 
--- all files before this one were there and accepted, and it is to be read next, under this name
+-- all files before this one were there and accepted, and it is to be read next, under this name; a file of repeats never is
 abbrev pub IsNext : Exposed → Names → FileKind → List ℕ → Type 0
 IsNext exposed names kind.Setup name = name ≡ names.setup
 IsNext exposed names kind.Script name = HasSetup exposed.files names × (name ≡ names.script)
 IsNext exposed names kind.Clock name = HasScript exposed.files names × (names.clock ≡ Some name) × (is_system name ≡ false)
 IsNext exposed names (kind.Table number) name = IsNextTable exposed names number name
+IsNext exposed names kind.Repeats name = ⊥
 
 -- all files were there and accepted, with these tables
 pub record HasAll (exposed : Exposed) (names : Names) (tables : List Table) : Type 0 where

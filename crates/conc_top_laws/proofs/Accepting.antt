@@ -141,6 +141,7 @@ module _ (files : Files) (before after : ClockState) (names : Names) (accepted :
       no-fault (clock_fault bytes) fault (clock-faultless files names.clock name bytes accepted.clock next.1 next.2 given) has
   file-unrefused (kind.Table number) name next bytes fault given has =
       no-fault (fault_of_table (sum_by length next.given.contents) bytes) fault (table-faultless number name next bytes given) has
+  file-unrefused kind.Repeats name next bytes fault given has = absurd has
 
   plan-unrefused : (refusal : Refusal) (name : List ℕ) → IsPlanRefused (exposed-of files before after) names refusal name → ⊥
   plan-unrefused refusal name is =

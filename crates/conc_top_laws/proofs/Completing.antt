@@ -6,8 +6,8 @@ use Rattle.conc_run_state.specs.Disks.{Disks}
 use Rattle.conc_top.specs.declared.exit.Exit.{Exit}
 use Rattle.conc_top.specs.Answers.{Around, handed_in, IsSummary, judging_in}
 use Rattle.conc_top_inputs.specs.Given.{digests_of, named}
-use Rattle.conc_top_laws.specs.Completes.{CheckCompletes, MakeCompletes, OutputCompletes, PlanCompletes, RunCompletes, StatusCompletes}
-use Rattle.conc_top_laws.proofs.Ending.{check-done, output-done, run-done, status-done}
+use Rattle.conc_top_laws.specs.Completes.{CheckCompletes, MakeCompletes, OutputCompletes, PlanCompletes, RepeatCompletes, RunCompletes, StatusCompletes}
+use Rattle.conc_top_laws.proofs.Ending.{check-done, output-done, repeat-done, run-done, status-done}
 use Rattle.conc_top_laws.proofs.Printed.{prints-done, unplanned-done}
 
 module _ (a : Around) (d : Disks) (end : Exit) where
@@ -47,6 +47,9 @@ module _ (a : Around) (d : Disks) (end : Exit) where
         | inl planned ↦ output-done planned.0.plan (digests_of planned.0.accepted.files) id d a.sink (fits planned.0) still quiet.sink end planned.1
         | inr not ↦ unplanned-done (named setup script None) a end not accepted quiet
       ]
+
+  pub repeat : (name : List ℕ) → RepeatCompletes name a d end
+  repeat name means has quiet = repeat-done (record { name = name; before = a.before.shelf; after = a.after.shelf }) has.files has.exposed has.bytes has.given has.faultless a.sink quiet.absences quiet.shelf quiet.sink end means.0
 
   pub make : (seed size : ℕ) → MakeCompletes seed size a d end
   make seed size means quiet = prints-done (IsSummary seed size) a.sink end means.0 quiet.sink

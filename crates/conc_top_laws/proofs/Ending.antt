@@ -27,7 +27,9 @@ use Rattle.conc_run_state.specs.declared.error.HistoryFail.TheVariants as histor
 use Rattle.conc_top.specs.declared.exit.Exit.{Exit}
 use Rattle.conc_top.specs.declared.exit.Exit.TheVariants as exit
 use Rattle.conc_top.specs.Checks.{CheckEnds, Judging}
+use Rattle.conc_repeat.specs.Refusing.{repeats_fault}
 use Rattle.conc_top.specs.Printing.{Sunk}
+use Rattle.conc_top.specs.Repeats.{RepeatEnds, Repeating}
 use Rattle.conc_top.specs.Runs.{RunEnds}
 use Rattle.conc_top.specs.Shows.{OutputEnds, StatusEnds}
 use Rattle.conc_top_laws.specs.Completes.{IsDone}
@@ -170,3 +172,28 @@ module _ (j : Judging) (files : Files) (exposed : j.before.files ≡ Some files)
   check-done (exit.JournalFull len needed) is = absurd is
   check-done (exit.Unlawful number) is = absurd is
   check-done (exit.NotEnded number) is = absurd is
+
+-- ---- a script of repeats
+
+module _ (r : Repeating) (files : Files) (exposed : r.before.files ≡ Some files) (bytes : List ℕ) (given : Gives (Some files) r.name bytes) (faultless : repeats_fault bytes ≡ None) (sink : Sunk)
+    (absences : IsQuiet r.before.absences r.after.absences) (quiet : IsQuiet r.before.faults r.after.faults) (sink_quiet : IsQuiet sink.before.faults sink.after.faults) where
+  pub repeat-done : (end : Exit) → RepeatEnds r sink end → IsDone end
+  repeat-done (exit.Refused refusal name) is =
+      let other = subst (λ (o : Option Files). Gives o r.name is.0.bytes) exposed is.0.given in
+      let same = gives-one files r.name is.0.bytes bytes other given in
+      let two : None ≡ Some (refusal.line, refusal.kind) = sym faultless ∙ (ap repeats_fault (sym same) ∙ is.0.fault.1) in cc two
+  repeat-done (exit.Absent name) is = absurd (absences is.0.2)
+  repeat-done (exit.ReadFault name) is = absurd (quiet is.0.2)
+  repeat-done exit.Done is = inl refl
+  repeat-done exit.NoMemory is = inr refl
+  repeat-done exit.WriteFault is = absurd (sink_quiet is.3)
+  repeat-done exit.Usage is = absurd is
+  repeat-done exit.ClockFault is = absurd is
+  repeat-done (exit.DiskFault disk) is = absurd is
+  repeat-done exit.NotJournal is = absurd is
+  repeat-done (exit.OtherInput found given) is = absurd is
+  repeat-done (exit.OtherScript command found given) is = absurd is
+  repeat-done (exit.JournalFull len needed) is = absurd is
+  repeat-done (exit.Unlawful number) is = absurd is
+  repeat-done (exit.NotLawful line) is = absurd is
+  repeat-done (exit.NotEnded number) is = absurd is

@@ -9,7 +9,7 @@ use Rattle.conc_run_state.specs.Disks.{Disks, disks}
 use Rattle.conc_top.specs.declared.exit.Exit.{Exit}
 use Rattle.conc_top.specs.Answers.{Around, around}
 use Rattle.conc_top.specs.Printing.{sunk}
-use Rattle.conc_top_laws.specs.Completes.{CheckCompletes, MakeCompletes, OutputCompletes, PlanCompletes, RunCompletes, StatusCompletes}
+use Rattle.conc_top_laws.specs.Completes.{CheckCompletes, MakeCompletes, OutputCompletes, PlanCompletes, RepeatCompletes, RunCompletes, StatusCompletes}
 
 -- what a command is handed, at one moment
 pub record Handles (F O D E C : Type 0) : Type 0 where
@@ -48,6 +48,9 @@ module _ {F O D E C : Type 0} (f : ShelfGhosts F) (o : SinkGhosts O) (d : DiskGh
 
   abbrev pub OutputsComplete : Type 0
   OutputsComplete = (setup script : List ℕ) (id : RequestId) → Always (OutputCompletes setup script id)
+
+  abbrev pub RepeatsComplete : Type 0
+  RepeatsComplete = (name : List ℕ) → Always (RepeatCompletes name)
 
   abbrev pub MakesComplete : Type 0
   MakesComplete = (seed size : ℕ) → Always (MakeCompletes seed size)

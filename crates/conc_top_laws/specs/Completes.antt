@@ -1,6 +1,8 @@
 -- What it is to say of a command that it does what it is for.
 use Rattle.std.specs.Prelude.{◌≡◌, ◌⊎◌, ℕ, List, None, Some}
 use Rattle.conc_types.specs.declared.event.RequestId.{RequestId}
+use Rattle.conc_outside.specs.Files.{Files, Gives}
+use Rattle.conc_repeat.specs.Refusing.{repeats_fault}
 use Rattle.conc_run_state.specs.Disks.{Disks}
 use Rattle.conc_top.specs.declared.exit.Exit.{Exit}
 use Rattle.conc_top.specs.declared.exit.Exit.TheVariants as exit
@@ -41,6 +43,17 @@ abbrev pub OutputCompletes : List ℕ → List ℕ → RequestId → Around → 
 OutputCompletes setup script id a d end =
     Means (Some (command.Output setup script id)) a d end → HasAccepted a (named setup script None) → IsQuietAround a → AreQuietDisks d
     → ((p : HasPlan a (named setup script None)) → FitsOutput p.plan (digests_of p.accepted.files) id d.journal_before d.spool_before) → IsDone end
+
+-- the file of repeats is there, and breaks no rule
+pub record HasRepeats (a : Around) (name : List ℕ) : Type 0 where
+  pub files : Files
+  pub exposed : a.before.shelf.files ≡ Some files
+  pub bytes : List ℕ
+  pub given : Gives (Some files) name bytes
+  pub faultless : repeats_fault bytes ≡ None
+
+abbrev pub RepeatCompletes : List ℕ → Around → Disks → Exit → Type 0
+RepeatCompletes name a d end = Means (Some (command.Repeat name)) a d end → HasRepeats a name → IsQuietAround a → IsDone end
 
 abbrev pub MakeCompletes : ℕ → ℕ → Around → Disks → Exit → Type 0
 MakeCompletes seed size a d end = Means (Some (command.Make seed size)) a d end → IsQuietAround a → IsDone end

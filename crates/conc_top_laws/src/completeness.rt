@@ -1,4 +1,4 @@
-ghost use Rattle.conc_top_laws.specs.Complete.{ChecksComplete, MakesComplete, OutputsComplete, PlansComplete, RunsComplete, StatusesComplete};
+ghost use Rattle.conc_top_laws.specs.Complete.{ChecksComplete, MakesComplete, OutputsComplete, PlansComplete, RepeatsComplete, RunsComplete, StatusesComplete};
 
 use conc_disk::Disk;
 use conc_edge_clock::Clock;
@@ -26,4 +26,7 @@ pub fn commands_complete<F: Shelf, O: Sink, D: Disk, E: Disk, C: Clock>()
 
     // `make` prints the summary.
     ensures make { MakesComplete F.Shelf O.Sink D.Disk E.Disk C.Clock }
+
+    // `repeat` prints the script, where the file of repeats is there and breaks no rule.
+    ensures repeat { RepeatsComplete F.Shelf O.Sink D.Disk E.Disk C.Clock }
 {}

@@ -153,6 +153,11 @@ abbrev pub make_of : List (List ℕ) → Option Command
 make_of (seed ∷ size ∷ []) = option_and_then (λ s. option_map (λ n. command.Make s n) (size_of size)) (decimal_value seed)
 make_of _ = None
 
+-- `REPEATS`
+abbrev pub repeat_of : List (List ℕ) → Option Command
+repeat_of (repeats ∷ []) = then_some (is_file repeats) (command.Repeat repeats)
+repeat_of _ = None
+
 -- ---- all commands
 
 -- the command of a name, with the words behind it
@@ -164,6 +169,7 @@ command_named name words =
     else if is (codes "status") name then status_of words
     else if is (codes "output") name then output_of words
     else if is (codes "make") name then make_of words
+    else if is (codes "repeat") name then repeat_of words
     else None
 
 -- the command that the words give

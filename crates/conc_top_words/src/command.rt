@@ -1,6 +1,6 @@
 ghost use Rattle.std.specs.Prelude.{◌≡◌, [], ◌∷◌, IfOk, IfSome, map};
 ghost use Rattle.std.specs.String.{string_bytes};
-ghost use Rattle.conc_top_words.specs.Words.{AreWithin, check_of, command_named, command_of, file_pair, make_of, output_of, plan_of, status_of};
+ghost use Rattle.conc_top_words.specs.Words.{AreWithin, check_of, command_named, command_of, file_pair, make_of, output_of, plan_of, repeat_of, status_of};
 
 use crate::options::read_run;
 use crate::words::{is, is_file, own_name, request_of, size_of};
@@ -49,6 +49,10 @@ pub enum Command {
     Make {
         seed: u64,
         size: u32,
+    },
+    /// `repeat REPEATS`.
+    Repeat {
+        repeats: Name,
     },
 }
 
@@ -148,6 +152,21 @@ fn read_make(words: &[String]) -> Option<Command>
     Some(Command::Make { seed, size })
 }
 
+// A repetition of the submissions of a file, where this word is its name.
+fn read_repeat(alloc: Global, words: &[String]) -> Result<Option<Command>, NoMemory>
+    ensures { IfOk result (λ command. command ≡ repeat_of (map string_bytes words.now)) }
+{
+    let [repeats] = words else {
+        return Ok(None);
+    };
+    if !is_file(repeats.as_bytes()) {
+        return Ok(None);
+    }
+    Ok(Some(Command::Repeat {
+        repeats: own_name(alloc, repeats.as_bytes())?,
+    }))
+}
+
 // The command of a name, with what the words behind it say.
 #[tactic(auto, unfolding(crate::specs::Words::command_named))]
 fn read_named(alloc: Global, name: &[u8], words: &[String]) -> Result<Option<Command>, NoMemory>
@@ -166,6 +185,8 @@ fn read_named(alloc: Global, name: &[u8], words: &[String]) -> Result<Option<Com
         read_output(alloc, words)
     } else if is(b"make", name) {
         Ok(read_make(words))
+    } else if is(b"repeat", name) {
+        read_repeat(alloc, words)
     } else {
         Ok(None)
     }

@@ -29,6 +29,11 @@ number_of refused.TooLarge = 33
 number_of refused.UnknownTable = 40
 number_of refused.UnknownColumn = 41
 number_of refused.TooManyRequests = 42
+number_of refused.NotRepeats = 50
+number_of refused.BadRepeat = 51
+number_of refused.UnknownUnit = 52
+number_of refused.PastEnd = 53
+number_of refused.TooManyCommands = 54
 
 -- the one of two kinds that has the lesser number
 abbrev pub lesser_of : RefusalKind → RefusalKind → RefusalKind

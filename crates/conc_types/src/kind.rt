@@ -52,6 +52,18 @@ pub enum RefusalKind {
     UnknownColumn = 41,
     /// A command with which there are more requests than a limit allows.
     TooManyRequests = 42,
+    /// A record of a file of repeats that does not have nine fields of UTF-8, or a first one that is
+    /// not the header.
+    NotRepeats = 50,
+    /// A field of such a record, other than its unit, that does not have its form.
+    BadRepeat = 51,
+    /// A unit that is none of the four.
+    UnknownUnit = 52,
+    /// A series with a moment past the end of the calendar.
+    PastEnd = 53,
+    /// A record of a file of repeats with which there are more commands than a script can have, or
+    /// such a file of too many bytes.
+    TooManyCommands = 54,
 }
 
 impl RefusalKind {

@@ -7,6 +7,7 @@ pub enum FileKind {
     Script,
     Clock,
     Table(u32),
+    Repeats,
 }
 
 /// Why a file is refused: the kind of the rule that it breaks, and the line that breaks it.

@@ -90,3 +90,15 @@ returns-in-Output-clause-answered g c =
     new.stores.journal.now c.journal-in-Output-1.given.0 new.stores.spool.now c.spool-in-Output-1.given.0
     (c.journal-in-Output-1.given.1 (sym c.show_report.ensures.stores.journal)) (c.spool-in-Output-1.given.1 (sym c.show_report.ensures.stores.spool))
     (c.show_report.ensures.answers (g.C.Clock.state c.args.clock.now), c.show_report.ensures.untouched))
+
+pub returns-in-Repeat-clause-answered : goal.returns-in-Repeat-clause-answered
+returns-in-Repeat-clause-answered g c =
+    let repeat = c.in-Repeat in
+    let is = command.Repeat repeat.repeats in
+    let asked = command_of (map string_bytes c.args.words.now) in
+    let new = c.expand_file.new in
+    of-same (λ shelf out end asked. Means asked (around (g.F.Shelf.state c.args.shelf.now) (g.F.Shelf.state shelf) (g.C.Clock.state c.args.clock.now) (g.C.Clock.state c.args.clock.now) (sunk (g.O.Sink.state c.args.out.now) (g.O.Sink.state out)))
+    (disks (g.D.Disk.state c.args.journal.now) (g.D.Disk.state c.args.journal.now) (g.E.Disk.state c.args.spool.now) (g.E.Disk.state c.args.spool.now)) end)
+    new.self.shelf.now c.shelf-in-Repeat-1.given.0 new.self.out.now c.out-in-Repeat-1.given.0 (exit_of c.expand_file.result) c.of-in-Repeat.result (Some is) asked
+    (c.shelf-in-Repeat-1.given.1 (sym c.expand_file.ensures.continues.same_shelf)) (c.out-in-Repeat-1.given.1 (sym c.expand_file.ensures.continues.same_sink)) c.of-in-Repeat.ensures (asked-is asked c.in-Ok.command is c.in-Ok.ensures.read repeat.is)
+    (c.expand_file.ensures.answers (g.C.Clock.state c.args.clock.now), untouched (g.D.Disk.state c.args.journal.now) (g.E.Disk.state c.args.spool.now))

@@ -1,5 +1,5 @@
 use Rattle.conc_top_laws.specs.Complete.{around_by, disks_by}
-use Rattle.conc_top_laws.proofs.Completing.{check, make, output, plan, run, status}
+use Rattle.conc_top_laws.proofs.Completing.{check, make, output, plan, repeat, run, status}
 use Rattle.conc_top_laws.proofs.completeness.commands_complete.Goals as goal
 
 pub returns-clause-run : goal.returns-clause-run
@@ -31,3 +31,8 @@ pub returns-clause-make : goal.returns-clause-make
 returns-clause-make g c seed size old new end =
     let around = around_by g.F.Shelf g.O.Sink g.D.Disk g.E.Disk g.C.Clock old new in
     make around (disks_by g.F.Shelf g.O.Sink g.D.Disk g.E.Disk g.C.Clock old new) end seed size
+
+pub returns-clause-repeat : goal.returns-clause-repeat
+returns-clause-repeat g c name old new end =
+    let around = around_by g.F.Shelf g.O.Sink g.D.Disk g.E.Disk g.C.Clock old new in
+    repeat around (disks_by g.F.Shelf g.O.Sink g.D.Disk g.E.Disk g.C.Clock old new) end name

@@ -1,0 +1,11 @@
+pub mod Faults
+pub mod NineFields
+pub mod HeaderRecord
+pub mod FileFaults
+pub mod Rules
+pub mod ReadSeries
+pub mod Months
+pub mod DuesPushed
+pub mod Ordering
+pub mod LinesWritten
+pub mod Expanded

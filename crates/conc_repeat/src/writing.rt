@@ -1,0 +1,64 @@
+ghost use Rattle.std.specs.Prelude.{◌≡◌, ◌<◌, ◌++◌, ◌∷◌, All, length, map, IfOk};
+ghost use Rattle.csv.specs.Writing.{default_writer, row_text};
+ghost use Rattle.conc_repeat.specs.Kept.{line_by, line_kept, words_in};
+ghost use Rattle.conc_repeat.specs.Script.{script_header, text_of};
+
+use crate::dues::Due;
+use crate::lines::Lines;
+use crate::series::Series;
+use conc_time::put_moment;
+use conc_types::{Moment, NoMemory};
+use std::alloc::Global;
+
+// The header of a script.
+fn header(alloc: Global) -> Result<Lines, NoMemory>
+    ensures { IfOk result (λ lines. lines ≡ row_text default_writer script_header) }
+{
+    Lines::new(alloc).with(&[
+        b"at".as_slice(),
+        b"do".as_slice(),
+        b"what".as_slice(),
+        b"user".as_slice(),
+        b"priority".as_slice(),
+        b"start".as_slice(),
+        b"domain".as_slice(),
+        b"argument".as_slice(),
+    ])
+}
+
+// The same lines, and behind them the submission of a series at a moment.
+fn with_submission(
+    alloc: Global,
+    lines: Lines,
+    at: Moment,
+    series: &Series,
+) -> Result<Lines, NoMemory>
+    ensures { IfOk result (λ more. more
+        ≡ lines ++ row_text default_writer (line_by at (words_in series.now))) }
+{
+    let mut moment = Vec::new(alloc);
+    put_moment(&mut moment, at)?;
+    lines.with(&[
+        moment.as_slice(),
+        b"submit".as_slice(),
+        series.what.as_slice(),
+        series.user.as_slice(),
+        series.priority.as_slice(),
+        b"".as_slice(),
+        series.domain.as_slice(),
+        series.argument.as_slice(),
+    ])
+}
+
+/// The text of a script with these submissions, each of one of the series.
+pub(crate) fn script_bytes(alloc: Global, all: &[Series], dues: &[Due]) -> Result<Vec<u8>, NoMemory>
+    requires { All (λ due. due.series < length all.now) dues.now }
+    ensures { IfOk result (λ script. script.items
+        ≡ text_of (script_header ∷ map (line_kept all.now) dues.now)) }
+{
+    let mut lines = header(alloc)?;
+    for due in dues {
+        lines = with_submission(alloc, lines, due.at, &all[due.series])?;
+    }
+    lines.into_bytes()
+}
