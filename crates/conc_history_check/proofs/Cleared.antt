@@ -7,11 +7,3 @@ pub cleared-more : {T : Type 0} (v : T) (xs : List T) (i : ℕ) → i < length x
 cleared-more v [] i h = absurd (omega arith)
 cleared-more v (x ∷ xs) zero h = refl
 cleared-more v (x ∷ xs) (suc i) h = ap (λ l. v ∷ l) (cleared-more v xs i (omega arith))
-
--- lists of one length
-pub cleared-alike : {S T U : Type 0} (v : U) (xs : List S) (ys : List T) → length xs ≡ length ys
-    → map (λ (x : S). v) xs ≡ map (λ (y : T). v) ys
-cleared-alike v [] [] h = refl
-cleared-alike v [] (y ∷ ys) h = absurd (omega arith)
-cleared-alike v (x ∷ xs) [] h = absurd (omega arith)
-cleared-alike v (x ∷ xs) (y ∷ ys) h = ap (λ l. v ∷ l) (cleared-alike v xs ys (omega arith))

@@ -1,5 +1,5 @@
 -- A history is lawful where the event at each of its positions is.
-use Rattle.std.proofs.Common.{◌≡◌, ◌⊎◌, ℕ, zero, suc, ◌-◌, ◌≤◌, Bool, true, not, ◌&&◌, if◌then◌else◌, List, [], ◌∷◌, length, take, drop, reverse, Option, None, Some, refl, sym, ◌∙◌, ap, subst, inl, inr, arith}
+use Rattle.std.proofs.Common.{◌≡◌, ◌⊎◌, ℕ, zero, suc, ◌+◌, ◌-◌, ◌≤◌, Bool, true, not, ◌&&◌, if◌then◌else◌, List, [], ◌∷◌, length, take, drop, reverse, IsTrue, Option, None, Some, refl, sym, ◌∙◌, ap, subst, inl, inr, arith}
 use Rattle.std.specs.Prelude.{slice_get}
 use Rattle.std.specs.Option.{option_map}
 use Rattle.std.proofs.Math.Seq.{drop-length}
@@ -19,7 +19,8 @@ use Rattle.conc_base_law.specs.Readings.{next_reading}
 use Rattle.conc_base_law.specs.State.{state}
 use Rattle.conc_base_law.proofs.Positions.{reverse-push, slice_get-some, take-suc_at}
 use Rattle.conc_history_check.specs.declared.findings.Findings.{Findings}
-use Rattle.conc_history_check.specs.Findings.{HasTaken}
+use Rattle.conc_history_check.specs.declared.prepared.Prepared.{Prepared}
+use Rattle.conc_history_check.specs.Findings.{AreFindings, HasTaken}
 use Rattle.conc_history_check.specs.Positions.{AreLawfulTo, is_lawful_at, known_before}
 
 -- lawful, where the readings of the last life are known, or none are
@@ -167,3 +168,21 @@ pub lawful_without : (plan : Plan) (readings : List Reading) (history : List Eve
 lawful_without plan readings history i f e next at are h =
     may_come-next plan f.state next (option_map (λ known. next_reading known (reverse (take i history))) (known_before readings (drop (suc i) history))) e h
     ∙ lawful_here plan readings history i f e _ at are refl
+
+-- ---- one position after the other
+
+-- events that are lawful up to a position are so up to the next one, where the event there is
+pub lawful_more : (plan : Plan) (readings : List Reading) (history : List Event) (n : ℕ) → AreLawfulTo plan readings history n
+    → IsTrue (is_lawful_at plan readings history (n + 1)) → AreLawfulTo plan readings history (n + 1)
+lawful_more plan readings history n before here = λ i least most. elim (up_to_more i n (omega arith)) [
+  | inl below ↦ before i least below
+  | inr this ↦ let same : n + 1 ≡ i = omega arith in subst (λ k. is_lawful_at plan readings history k ≡ true) same here
+]
+
+-- what is read of the events up to a position and of the one there is read of the events up to the next position
+pub read_more : (plan : Plan) (prepared : Prepared) (history : List Event) (n : ℕ) (e : Event) (f : Findings) → slice_get history n ≡ Some e
+    → AreFindings plan prepared (e ∷ reverse (take n history)) f → AreFindings plan prepared (reverse (take (n + 1) history)) f
+read_more plan prepared history n e f found are =
+    let next : suc n ≡ n + 1 = omega arith in
+    subst (λ past. AreFindings plan prepared past f)
+    (sym (ap reverse (take-suc_at history n e found) ∙ reverse-push (take n history) e) ∙ ap (λ k. reverse (take k history)) next) are

@@ -11,12 +11,6 @@ use Rattle.conc_history_check.specs.declared.findings.Findings.{Findings}
 use Rattle.conc_history_check.specs.declared.prepared.Prepared.{Prepared}
 use Rattle.conc_history_check.specs.Live.{AreLive}
 
--- there is room for what is read of each request and command, and for a live request of each class
-pub record HasRoom (plan : Plan) (prepared : Prepared) (f : Findings) : Type 0 where
-  pub live : length f.live ≡ length prepared.classes.sizes
-  pub facts : length f.state.facts ≡ length plan.requests
-  pub done : length f.state.done ≡ length plan.script.commands
-
 -- the last tick of the earlier lives and the ticks of the last life, after one more event
 abbrev pub earlier_after : Option Moment → Option Moment → Event → Option Moment
 earlier_after now earlier event.Resume = now

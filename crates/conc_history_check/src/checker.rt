@@ -1,8 +1,8 @@
-ghost use Rattle.std.specs.Prelude.{◌≡◌, ◌↔◌, ℕ, ◌≤◌, List, IfOk, IsTrue, MatchOption, length, reverse, Err};
+ghost use Rattle.std.specs.Prelude.{◌≡◌, ◌↔◌, ℕ, ◌≤◌, List, IfNone, IfOk, IsTrue, MatchOption, length, reverse, Err};
 ghost use Rattle.conc_types.specs.declared.event.Event.{Event};
 ghost use Rattle.conc_base_law.specs.Law.{Finished, Lawful};
 ghost use Rattle.conc_types.specs.declared.error.CheckFail.TheVariants.{Unlawful as unlawful_at};
-ghost use Rattle.conc_history_check.specs.Findings.{AreFindings, HasRoom};
+ghost use Rattle.conc_history_check.specs.Findings.{AreFindings};
 ghost use Rattle.conc_history_check.specs.Positions.{AreLawfulTo, IsFirstBad};
 ghost use Rattle.conc_history_check.specs.Prepared.{IsPrepared};
 
@@ -15,7 +15,7 @@ use crate::readings::next_reading;
 use conc_types::{CheckFail, Event, Plan, Readings};
 use std::alloc::Global;
 
-// The first position at which the event is not lawful, if there is one.
+// The first position at which the event is not lawful, if there is one. All events before it are read.
 fn first_bad(
     plan: &Plan,
     prepared: &Prepared,
@@ -24,17 +24,17 @@ fn first_bad(
     events: &[Event],
 ) -> Option<u64>
     requires prepared { IsPrepared plan.now prepared.now }
-    requires room { HasRoom plan.now prepared.now findings.old }
+    requires none { AreFindings plan.now prepared.now [] findings.old }
     ensures first { MatchOption result
         (AreLawfulTo plan.now readings.now.list events.now (length events.now))
         (IsFirstBad plan.now readings.now.list events.now) }
-    ensures room { HasRoom plan.now prepared.now findings.new }
+    ensures read { IfNone result (AreFindings plan.now prepared.now (reverse events.now) findings.new) }
 {
     for i in 0..events.len() {
-        findings.read(plan, prepared, &events[..i]);
         if !is_lawful_at(plan, prepared, readings, findings, events, i) {
             return Some(i as u64 + 1);
         }
+        findings.read(plan, prepared, &events[i]);
     }
     None
 }
@@ -61,8 +61,8 @@ fn is_finished(
 }
 
 /// Whether a history is finished, where it is lawful; else the first position, from 1, whose event may
-/// not stand there. The events before each position are read anew, in one pass over them; the time
-/// grows with the square of their number.
+/// not stand there. The events are read in one pass; for each of them the requests of the plan are looked
+/// through.
 pub fn check(
     alloc: Global,
     plan: &Plan,
@@ -79,9 +79,6 @@ pub fn check(
     let mut findings = Findings::new(alloc, plan, &prepared)?;
     match first_bad(plan, &prepared, readings, &mut findings, events) {
         Some(position) => Err(CheckFail::Unlawful { position }),
-        None => {
-            findings.read(plan, &prepared, events);
-            Ok(is_finished(plan, &prepared, readings, &findings, events))
-        }
+        None => Ok(is_finished(plan, &prepared, readings, &findings, events)),
     }
 }

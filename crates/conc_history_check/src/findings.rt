@@ -1,15 +1,13 @@
-ghost use Rattle.std.specs.Prelude.{◌≡◌, ◌∷◌, ◌+◌, ◌<◌, ◌^◌, [], Bool, IfOk, List, false, length, map, reverse};
+ghost use Rattle.std.specs.Prelude.{◌≡◌, ◌∷◌, ◌+◌, ◌<◌, ◌^◌, [], IfOk, List, length};
 ghost use Rattle.conc_types.specs.declared.event.Event.{Event};
-ghost use Rattle.conc_types.specs.declared.facts.Facts.{Facts};
-ghost use Rattle.conc_base_law.specs.State as state_spec;
-ghost use Rattle.conc_history_check.specs.Findings.{AreFindings, HasRoom, HasTaken, earlier_after, ticks_after};
+ghost use Rattle.conc_history_check.specs.Findings.{AreFindings, HasTaken, earlier_after, ticks_after};
 ghost use Rattle.conc_history_check.specs.Prepared.{IsPrepared};
 
 use crate::live::{note_live, room_for_live};
 use crate::prepared::Prepared;
 use conc_event_effects::begin;
 use conc_history_replay::take_in;
-use conc_types::{Event, Facts, Moment, NoMemory, Plan, RequestId, Seq, State};
+use conc_types::{Event, Moment, NoMemory, Plan, RequestId, Seq, State};
 use std::alloc::Global;
 
 /// What is read of the events before a position.
@@ -24,50 +22,21 @@ pub(crate) struct Findings {
     pub live: Seq<Option<RequestId>>,
 }
 
-// ---- no events
-
-fn clear_facts(facts: &mut Seq<Facts>)
-    ensures { facts.new ≡ map (λ (own : Facts). state_spec.no_facts) facts.old }
-{
-    for i in 0..facts.len() {
-        facts.set(i, Facts::NONE);
-    }
-}
-
-fn clear_flags(flags: &mut Seq<bool>)
-    ensures { flags.new ≡ map (λ (flag : Bool). false) flags.old }
-{
-    for i in 0..flags.len() {
-        flags.set(i, false);
-    }
-}
-
 impl Findings {
     /// What no events say, with room for what any events of the plan say.
     pub fn new(alloc: Global, plan: &Plan, prepared: &Prepared) -> Result<Findings, NoMemory>
-        ensures { IfOk result (HasRoom plan.now prepared.now) }
+        requires { IsPrepared plan.now prepared.now }
+        ensures { IfOk result (AreFindings plan.now prepared.now []) }
     {
+        let state = begin(alloc, plan)?;
+        let mut live = room_for_live(alloc, &prepared.classes)?;
+        note_live(plan, &prepared.classes, &state, &mut live);
         Ok(Findings {
-            state: begin(alloc, plan)?,
+            state,
             earlier: None,
             ticks: 0,
-            live: room_for_live(alloc, &prepared.classes)?,
+            live,
         })
-    }
-
-    // Forgets what was read.
-    fn clear(&mut self, _plan: &Plan, _prepared: &Prepared)
-        requires { HasRoom _plan.now _prepared.now self.old }
-        ensures read { HasTaken _plan.now [] self.new }
-        ensures live { self.new.live ≡ self.old.live }
-    {
-        clear_facts(&mut self.state.facts);
-        clear_flags(&mut self.state.done);
-        self.state.used = Some(0);
-        self.state.time = None;
-        self.state.empty = true;
-        self.earlier = None;
-        self.ticks = 0;
     }
 
     // Notes a tick of the last life, or the end of that life.
@@ -103,17 +72,15 @@ impl Findings {
         take_in(plan, &prepared.spans, &prepared.entries, &mut self.state, e);
     }
 
-    /// Reads these events, from the first one on, and nothing else. It takes no memory.
-    pub fn read(&mut self, plan: &Plan, prepared: &Prepared, events: &[Event])
+    /// Reads one more event, and notes what is live behind it. It takes no memory.
+    pub fn read(&mut self, plan: &Plan, prepared: &Prepared, e: &Event)
         requires prepared { IsPrepared plan.now prepared.now }
-        requires room { HasRoom plan.now prepared.now self.old }
-        ensures read { AreFindings plan.now prepared.now (reverse events.now) self.new }
-        ensures room { HasRoom plan.now prepared.now self.new }
+        requires few { self.old.ticks + 1 < 2 ^ 64 }
+        requires room { length self.old.live ≡ length prepared.now.classes.sizes }
+        ensures { (past : List Event) → AreFindings plan.now prepared.now past self.old
+            → AreFindings plan.now prepared.now (e.now ∷ past) self.new }
     {
-        self.clear(plan, prepared);
-        for e in events {
-            self.take_in(plan, prepared, e);
-        }
+        self.take_in(plan, prepared, e);
         note_live(plan, &prepared.classes, &self.state, &mut self.live);
     }
 }
