@@ -6,3 +6,9 @@ pub mod Claims
 pub mod Served
 pub mod Alive
 pub mod Desks
+pub mod Below
+pub mod Lighter
+pub mod Logged
+pub mod LeadLess
+pub mod HandLess
+pub mod Falls

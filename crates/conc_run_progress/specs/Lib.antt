@@ -4,3 +4,6 @@ pub mod Logs
 pub mod LeadMoves
 pub mod HandMoves
 pub mod Progress
+pub mod Measure
+pub mod Moves
+pub mod EachStep

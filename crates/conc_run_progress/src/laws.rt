@@ -1,5 +1,6 @@
 //! Laws on what can be done next in a run with workers, and on what has the go in it. Each function here has an empty
 //! body; its contract is the law.
+ghost use Rattle.conc_run_progress.specs.EachStep.{FindingNothingLeavesIt, HandMovesMakeItLess, LeadMovesMakeItLess, LoggingMakesItLess, NoMeasureFallsForEver, WritingDoneMakesItLess};
 ghost use Rattle.conc_run_progress.specs.Progress.{NoDeskIsDead, NoStateIsDead};
 ghost use Rattle.conc_run_progress.specs.Runs.{WhatRunsHasTheGoAfterACall, WhatRunsHasTheGoAfterEachEvent, WhatRunsHasTheGoAtTheBeginning, WhatRunsHasTheGoOnceAnEndIsKept, WhatRunsHasTheGoWithTheSameLeadStates};
 
@@ -14,6 +15,26 @@ pub fn no_state_is_dead()
 /// knows goes with it.
 pub fn no_desk_is_dead()
     ensures { NoDeskIsDead }
+{}
+
+/// There is a measure of a moment which each step that `no_state_is_dead` speaks of makes less: an event that the resolver
+/// logs, a move of the lead's, and a move of a hand's while no place is open that may not be used. It has three numbers, of
+/// which the first counts most: how many events the life still has at most; how many places may be used and are closed,
+/// with the requests that are claimed by places which may not be used; and how far the requests and the hands are from what
+/// they do last. No measure becomes less for ever: so a run ends in which, as long as somebody can go on, somebody does.
+///
+/// A move is given by the step on the board that makes it, as the rule of the board has it; what an event means for the
+/// board belongs to the event. A step that finds nothing new leaves the measure. A claim is a move here while its place is
+/// open: the law does not count one whose place was closed since the hand looked at it, which happens once for a hand and an
+/// event at most. It says nothing of time: not that a thread gets the processor, nor that a bell wakes who waits for it,
+/// which is trusted.
+pub fn each_step_makes_the_measure_less()
+    ensures log { LoggingMakesItLess }
+    ensures lead { LeadMovesMakeItLess }
+    ensures done { WritingDoneMakesItLess }
+    ensures hand { HandMovesMakeItLess }
+    ensures still { FindingNothingLeavesIt }
+    ensures ends { NoMeasureFallsForEver }
 {}
 
 /// Each request that runs since a start of this life has the go on the board, at the place where it runs. It is so
