@@ -51,7 +51,7 @@ opened_less : (a a' b b' : ℕ) → a' + 1 ≡ a + 0 → b' ≡ b → a' + b' < 
 opened_less a a' b b' sum same = omega (arith, sum, same)
 
 one_less : (a b : ℕ) → a ≡ 0 → b ≡ 1 → a < b
-one_less a b none one = omega (arith, none, one)
+one_less a b first second = omega (arith, first, second)
 
 -- what is left for a request: its word holds no claim
 ended_four : (p : PlaceId) (n : ℕ) → p.index < 64 → n ≡ ended p → n / 256 ≡ 4

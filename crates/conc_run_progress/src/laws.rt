@@ -21,13 +21,13 @@ pub fn no_desk_is_dead()
 /// logs, a move of the lead's, and a move of a hand's while no place is open that may not be used. It has three numbers, of
 /// which the first counts most: how many events the life still has at most; how many places may be used and are closed,
 /// with the requests that are claimed by places which may not be used; and how far the requests and the hands are from what
-/// they do last. No measure becomes less for ever: so a run ends in which, as long as somebody can go on, somebody does.
+/// they do last. A step that finds nothing new leaves it, and no measure becomes less for ever: so a run makes only so many
+/// of these steps, whatever steps that find nothing new stand between them.
 ///
 /// A move is given by the step on the board that makes it, as the rule of the board has it; what an event means for the
-/// board belongs to the event. A step that finds nothing new leaves the measure. A claim is a move here while its place is
-/// open: the law does not count one whose place was closed since the hand looked at it, which happens once for a hand and an
-/// event at most. It says nothing of time: not that a thread gets the processor, nor that a bell wakes who waits for it,
-/// which is trusted.
+/// board belongs to the event. A claim is a move here while its place is open: the law does not count one whose place was
+/// closed since the hand looked at it. It says nothing of time: not that a thread gets the processor, nor that a bell wakes
+/// who waits for it, which is trusted.
 pub fn each_step_makes_the_measure_less()
     ensures log { LoggingMakesItLess }
     ensures lead { LeadMovesMakeItLess }
