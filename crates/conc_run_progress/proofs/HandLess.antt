@@ -1,8 +1,8 @@
 -- Each move of a hand makes the measure less.
-use Rattle.std.proofs.Common.{◌≡◌, ◌==◌, ◌∷◌, [], ℕ, ◌+◌, ◌/◌, ◌<◌, ◌≢◌, ◌⊎◌, Bool, true, false, if◌then◌else◌, List, Option, None, Some, length, set, reverse, slice_index, refl, sym, ap, ◌∙◌, subst, inl, inr, arith, eq-eqb, get_or-set_other, get_or-set_same}
+use Rattle.std.proofs.Common.{◌≡◌, ◌==◌, ◌∷◌, [], ℕ, ◌+◌, ◌/◌, ◌<◌, ◌≢◌, ◌⊎◌, Bool, true, if◌then◌else◌, List, None, Some, length, set, reverse, slice_index, refl, sym, ap, ◌∙◌, subst, inl, inr, arith, eq-eqb, get_or-set_other, get_or-set_same}
 use mathlib.Core.Option.{some}
 use lib.ListN.{get_elem?}
-use Rattle.atomic_table.specs.Table.{Act, Me, carried_after, step, stepped}
+use Rattle.atomic_table.specs.Table.{Act, Me, stepped}
 use Rattle.conc_types.specs.declared.event.Event.{Event}
 use Rattle.conc_types.specs.declared.event.PlaceId.{PlaceId}
 use Rattle.conc_types.specs.declared.event.RequestId.{RequestId}
@@ -16,7 +16,6 @@ use Rattle.conc_pool_seats.specs.LeadStates.{lead_state_at}
 use Rattle.conc_pool_seats.specs.Rule.{BoardState, Runs, view_at}
 use Rattle.conc_pool_seats.specs.Steps.{Slot, with_doing, with_left}
 use Rattle.conc_pool_seats.specs.Words.{IsPlace, IsRequest, claimed, count_of_requests, count_of_words, ended, place_in, request_of, request_word, running, stopping}
-use Rattle.conc_pool_seats.specs.declared.posted.Posted.{Posted}
 use Rattle.conc_pool_seats.specs.declared.views.Doing.{Doing}
 use Rattle.conc_pool_seats.specs.declared.views.Doing.TheVariants.{Idle, Waits, Serves}
 use Rattle.conc_pool_seats.specs.declared.views.LeadState.{LeadState}
@@ -25,9 +24,9 @@ use Rattle.conc_pool_seats.proofs.Facts.{at_view, same_part}
 use Rattle.conc_pool_seats.proofs.HandSteps.{polled_cases}
 use Rattle.conc_run_progress.specs.Boards.{doing_in, is_usable_after, word_of}
 use Rattle.conc_run_progress.specs.EachStep.{OpensOnlyWhatIsUsable}
-use Rattle.conc_run_progress.specs.HandMoves.{CanClaim, CanPoll, CanPost, HandMove, claims, polls, posts}
+use Rattle.conc_run_progress.specs.HandMoves.{HandMove, claims, polls, posts}
 use Rattle.conc_run_progress.specs.Measure.{IsLess, doing_weight, lead_state_weight, measure_of, requests_weight, seats_weight, unfit_count, word_weight}
-use Rattle.conc_run_progress.specs.Moves.{HandLeaves, HandSteps}
+use Rattle.conc_run_progress.specs.Moves.{HandLeaves}
 use Rattle.conc_run_progress.proofs.Board.{few, runs_there}
 use Rattle.conc_run_progress.proofs.Lighter.{ChangesAt, IsLighter, less-lighter, lighter-at, requests-kept, seats-after, unfit-kept, unfit_count-claim, unfit_count-no_claim, word_weight-other}
 
@@ -149,8 +148,7 @@ module _ (plan : Plan) (list : List Event) (lead : Lead) (s : BoardState) (sits 
       let below : doing_weight (polled (Waits r p) (word_of s r)) < 2 =
       polled_cases plan (λ (d : Doing). doing_weight d < 2) r p (word_of s r) (λ e. one_below) (λ e. one_below) (λ e. absurd (answered e)) (λ a b c. none_below) in
       let requests : requests_weight plan lead.seat.id next ≡ requests_weight plan lead.seat.id s =
-      requests-kept plan s hand (request_word r) me.1 me.0 w act there lead.seat.id same in
-      (
+      requests-kept plan s hand (request_word r) me.1 me.0 w act there lead.seat.id same in (
         unfit-kept plan s hand (request_word r) me.1 me.0 w act there (reverse list),
         subst (λ (n : ℕ). n + seats_weight next < requests_weight plan lead.seat.id s + seats_weight s) (sym requests)
             (poll_weighs (requests_weight plan lead.seat.id s) (seats_weight s) (seats_weight next) (doing_weight me.0.doing) (doing_weight w.doing)

@@ -1,5 +1,5 @@
 -- Each move of the lead makes the measure less.
-use Rattle.std.proofs.Common.{◌≡◌, ◌==◌, ◌∷◌, ◌++◌, [], ℕ, ◌+◌, ◌/◌, ◌<◌, ◌≢◌, Bool, true, false, if◌then◌else◌, List, Option, length, set, reverse, slice_index, refl, sym, ap, ◌∙◌, subst, inl, inr, arith, eq-eqb, get_or-set_other, get_or-set_same}
+use Rattle.std.proofs.Common.{◌≡◌, ℕ, ◌+◌, ◌/◌, ◌<◌, ◌≢◌, Bool, true, false, if◌then◌else◌, List, Option, length, set, reverse, slice_index, refl, sym, ap, ◌∙◌, subst, inl, inr, arith, eq-eqb, get_or-set_other, get_or-set_same}
 use mathlib.Core.Option.{none, some}
 use lib.ListN.{get_elem?}
 use Rattle.atomic_table.specs.Table.{Act, Me, carried_after, stepped}
@@ -27,7 +27,7 @@ use Rattle.conc_pool_seats.proofs.Facts.{at_view}
 use Rattle.conc_pool_seats.proofs.Moves.{led}
 use Rattle.conc_run_progress.specs.Boards.{is_usable_after, slot_of, word_of}
 use Rattle.conc_run_progress.specs.LeadMoves.{CanCollect, CanLetOut, CanOpen, CanSee, HasAnswer, LeadMove, answers, collects, lets_out, opens, sees}
-use Rattle.conc_run_progress.specs.Measure.{IsLess, closed_count, closed_places, lead_state_weight, measure_of, sum_below, unfit_claims, unfit_count, word_weight}
+use Rattle.conc_run_progress.specs.Measure.{IsLess, closed_count, closed_places, lead_state_weight, measure_of, unfit_claims, unfit_count, word_weight}
 use Rattle.conc_run_progress.specs.Moves.{AnswersTo, GetsTo, LeadLeaves, LetsOutTo, OpensTo, SeesTo, WithdrawsTo, WritesDone, on_word}
 use Rattle.conc_run_progress.proofs.Below.{balance, sum-one, sum-same}
 use Rattle.conc_run_progress.proofs.Board.{at_place, few, fits_as}
@@ -139,8 +139,7 @@ module _ (plan : Plan) (list : List Event) (lead : Lead) (s : BoardState) (sits 
       → (view.lead_states ≡ set lead.seat.me.0.lead_states (request_word r) (Got p m)) × (view.doing ≡ lead.seat.me.0.doing)
   got_view r p m view act is so word leaves =
       let near = fits_as plan lead s sits r (Gone p m) is so in
-      let taken = (leaves.0 (ended_four p (word_of s r) (few plan lead s sits p near.0) word)).1 in
-      (
+      let taken = (leaves.0 (ended_four p (word_of s r) (few plan lead s sits p near.0) word)).1 in (
         ap (λ (v : View). v.lead_states) taken.1 ∙ ap (λ (z : LeadState). set lead.seat.me.0.lead_states (request_word r) (got z)) (at_request r (Gone p m) is so),
         ap (λ (v : View). v.doing) taken.1,
       )

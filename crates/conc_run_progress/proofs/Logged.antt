@@ -1,5 +1,5 @@
 -- A logged event leaves fewer events.
-use Rattle.std.proofs.Common.{◌≡◌, ◌&&◌, ◌∷◌, ◌++◌, [], ℕ, ◌<◌, Bool, true, false, if◌then◌else◌, List, Option, Some, reverse, sym, ap, ◌∙◌, subst, inl}
+use Rattle.std.proofs.Common.{◌≡◌, ◌&&◌, ◌∷◌, ◌++◌, [], ℕ, ◌<◌, true, false, if◌then◌else◌, List, Option, Some, reverse, sym, ap, ◌∙◌, subst, inl}
 use Rattle.std.proofs.lemmas.Bool.{and_parts, cond-false}
 use Rattle.conc_types.specs.declared.event.Event.{Event}
 use Rattle.conc_types.specs.declared.plan.Plan.{Plan}

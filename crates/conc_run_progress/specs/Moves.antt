@@ -16,8 +16,8 @@ use Rattle.conc_pool_seats.specs.Steps.{Slot, StepLeaves, back_leaves, claim_lea
 use Rattle.conc_pool_seats.specs.Words.{claimed, count_of_requests, done, ended, idle, place_word, released, request_word}
 use Rattle.conc_pool_seats.specs.declared.views.View.{View}
 use Rattle.conc_run_progress.specs.Boards.{word_of}
-use Rattle.conc_run_progress.specs.HandMoves.{CanClaim, CanPoll, CanPost, HandMove, claims, polls, posts}
-use Rattle.conc_run_progress.specs.LeadMoves.{CanAnswer, CanCollect, CanLetOut, CanOpen, CanSee, HasAnswer, LeadMove, answers, collects, lets_out, opens, sees}
+use Rattle.conc_run_progress.specs.HandMoves.{HandMove, claims, polls, posts}
+use Rattle.conc_run_progress.specs.LeadMoves.{CanCollect, CanLetOut, CanOpen, CanSee, HasAnswer, LeadMove, answers, collects, lets_out, opens, sees}
 
 -- ---- one step
 
