@@ -12,3 +12,4 @@ pub mod Logged
 pub mod LeadLess
 pub mod HandLess
 pub mod Falls
+pub mod Level

@@ -76,7 +76,7 @@ pub record ChangesAt (plan : Plan) (lead i : ℕ) (s next : BoardState) (old new
   pub states : (j : ℕ) → j ≢ i → lead_state_at (view_at next.views lead).lead_states j ≡ lead_state_at (view_at s.views lead).lead_states j
   pub words : (j : ℕ) → j ≢ i → slice_index next.words j ≡ slice_index s.words j
 
-abbrev request_weight : BoardState → ℕ → ℕ → ℕ
+abbrev pub request_weight : BoardState → ℕ → ℕ → ℕ
 request_weight s lead j = lead_state_weight (lead_state_at (view_at s.views lead).lead_states j) + word_weight (slice_index s.words j)
 
 abbrev pub unfit_at : Plan → List Event → BoardState → ℕ → ℕ
@@ -153,6 +153,30 @@ module _ (plan : Plan) (past : List Event) (lead i : ℕ) (s next : BoardState) 
       less_sum (closed_places plan past s) (closed_places plan past next) (unfit_claims plan past s) (unfit_claims plan past next) (unfit_at plan past s i)
       (unfit_count (is_usable_after plan past) n) (closed-after plan past lead i s next old new n c) (claims-after plan past lead i s next old new n c) less
 
+-- the measure is the same where both numbers are, with the same list
+pub same_measure : (plan : Plan) (readings : Readings) (list : List Event) (lead : ℕ) (s next : BoardState)
+    → closed_places plan (reverse list) next + unfit_claims plan (reverse list) next ≡ closed_places plan (reverse list) s + unfit_claims plan (reverse list) s
+    → requests_weight plan lead next + seats_weight next ≡ requests_weight plan lead s + seats_weight s
+    → measure_of plan readings.list list lead next ≡ measure_of plan readings.list list lead s
+same_measure plan readings list lead s next unfit weight = λ x. record { events = remaining plan readings.list (reverse list); unfit = unfit x; weight = weight x }
+
+-- numbers
+same_both : (r r' q q' a a' d d' : ℕ) → r' + a ≡ r + a' → q' + d ≡ q + d' → a' ≡ a → d' ≡ d → r' + q' ≡ r + q
+same_both r r' q q' a a' d d' requests seats first second = omega (arith, requests, seats, first, second)
+
+module _ (plan : Plan) (readings : Readings) (list : List Event) (lead i : ℕ) (s next : BoardState) (old new : LeadState) (n : ℕ) (c : ChangesAt plan lead i s next old new n) where
+  pub level-at : (d d' : ℕ) → seats_weight next + d ≡ seats_weight s + d' → d' ≡ d
+      → unfit_count (is_usable_after plan (reverse list)) n ≡ unfit_count (is_usable_after plan (reverse list)) (slice_index s.words i)
+      → lead_state_weight new + word_weight n ≡ lead_state_weight old + word_weight (slice_index s.words i)
+      → measure_of plan readings.list list lead next ≡ measure_of plan readings.list list lead s
+  level-at d d' seats same fit equal =
+      same_measure plan readings list lead s next
+      (same_sum (closed_places plan (reverse list) s) (closed_places plan (reverse list) next) (unfit_claims plan (reverse list) s) (unfit_claims plan (reverse list) next)
+      (unfit_at plan (reverse list) s i) (unfit_count (is_usable_after plan (reverse list)) n) (closed-after plan (reverse list) lead i s next old new n c)
+      (claims-after plan (reverse list) lead i s next old new n c) fit)
+      (same_both (requests_weight plan lead s) (requests_weight plan lead next) (seats_weight s) (seats_weight next) (lead_state_weight old + word_weight (slice_index s.words i))
+      (lead_state_weight new + word_weight n) d d' (requests-after plan (reverse list) lead i s next old new n c) seats equal same)
+
 -- ---- a step that leaves the word as it finds it, and all lead states
 
 -- what all requests weigh, by the lead states and the words
@@ -173,12 +197,12 @@ module _ (plan : Plan) (s : BoardState) (seat i : ℕ) (cs : List (ℕ × Slot))
       λ x. closed_places plan past (record s { words = same_words x }) + unfit_claims plan past (record s { words = same_words x })
 
 -- numbers
-kept_sum : (r r' q q' d d' : ℕ) → r' ≡ r → q' + d ≡ q + d' → d' ≡ d → r' + q' ≡ r + q
+pub kept_sum : (r r' q q' d d' : ℕ) → r' ≡ r → q' + d ≡ q + d' → d' ≡ d → r' + q' ≡ r + q
 kept_sum r r' q q' d d' requests seats same = omega (arith, requests, seats, same)
 
 -- where the seat does what it did, the measure is the same
 pub measure_kept : (plan : Plan) (readings : Readings) (list : List Event) (lead : ℕ) (s : BoardState) (seat i : ℕ) (me : Me Slot View) (w : View) (act : Act Slot)
-    → get_elem? s.views seat ≡ some me.0 → w.lead_states ≡ me.0.lead_states → w.doing ≡ me.0.doing
+    → get_elem? s.views seat ≡ some me.0 → w.lead_states ≡ me.0.lead_states → doing_weight w.doing ≡ doing_weight me.0.doing
     → measure_of plan readings.list list lead (stepped s i (slice_index s.words i) seat me.1 w act) ≡ measure_of plan readings.list list lead s
 measure_kept plan readings list lead s seat i me w act at states doing =
     let next : BoardState = stepped s i (slice_index s.words i) seat me.1 w act in
@@ -187,7 +211,7 @@ measure_kept plan readings list lead s seat i me w act at states doing =
     unfit-kept plan s seat i me.1 me.0 w act at (reverse list) in
     let weight : requests_weight plan lead next + seats_weight next ≡ requests_weight plan lead s + seats_weight s =
     kept_sum (requests_weight plan lead s) (requests_weight plan lead next) (seats_weight s) (seats_weight next) (doing_weight me.0.doing) (doing_weight w.doing)
-    (requests-kept plan s seat i me.1 me.0 w act at lead states) (seats-after s i (slice_index s.words i) seat me.1 me.0 w act here.0 here.1) (ap doing_weight doing) in
+    (requests-kept plan s seat i me.1 me.0 w act at lead states) (seats-after s i (slice_index s.words i) seat me.1 me.0 w act here.0 here.1) doing in
     λ x. record { events = remaining plan readings.list (reverse list); unfit = unfit x; weight = weight x }
 
 -- ---- a step of the lead's on the word of a request, by which it knows another lead state

@@ -1,5 +1,5 @@
 -- Each step of a run with workers makes the measure less, and no measure becomes less for ever.
-use Rattle.std.specs.Prelude.{◌≡◌, ◌∷◌, ◌++◌, [], ℕ, suc, Bool, List, Option, reverse, slice_index, IsTrue}
+use Rattle.std.specs.Prelude.{◌≡◌, ◌∷◌, ◌++◌, [], ℕ, suc, Bool, List, Option, reverse, slice_index, IsFalse, IsTrue}
 use mathlib.Core.Option.{some}
 use lib.ListN.{get_elem?}
 use Rattle.atomic_table.specs.Table.{Act, Me, stepped}
@@ -9,19 +9,20 @@ use Rattle.conc_types.specs.declared.event.RequestId.{RequestId}
 use Rattle.conc_types.specs.declared.plan.Plan.{Plan}
 use Rattle.conc_types.specs.declared.script.Readings.{Readings}
 use Rattle.conc_board.specs.Permits.{SitsAt}
+use Rattle.conc_board.specs.Seats.{lead_state_of}
 use Rattle.conc_board.specs.declared.lead.Lead.{Lead}
 use Rattle.conc_pool_seats.specs.LeadStates.{lead_state_in}
 use Rattle.conc_pool_seats.specs.Rule.{BoardState, Keep}
 use Rattle.conc_pool_seats.specs.Steps.{Slot}
-use Rattle.conc_pool_seats.specs.Words.{IsPlace, IsRequest, place_word}
-use Rattle.conc_pool_seats.specs.declared.views.LeadState.TheVariants.{Got}
+use Rattle.conc_pool_seats.specs.Words.{IsPlace, IsRequest, place_word, running}
+use Rattle.conc_pool_seats.specs.declared.views.LeadState.TheVariants.{Gone, Got}
 use Rattle.conc_pool_seats.specs.declared.views.View.{View}
-use Rattle.conc_run_progress.specs.Boards.{is_usable_after}
+use Rattle.conc_run_progress.specs.Boards.{is_usable_after, word_of}
 use Rattle.conc_run_progress.specs.HandMoves.{HandMove}
 use Rattle.conc_run_progress.specs.LeadMoves.{LeadMove}
 use Rattle.conc_run_progress.specs.Logs.{CanLog}
-use Rattle.conc_run_progress.specs.Measure.{IsLess, Measure, measure_of}
-use Rattle.conc_run_progress.specs.Moves.{HandLeaves, LeadLeaves, WritesDone}
+use Rattle.conc_run_progress.specs.Measure.{IsLess, Measure, doing_weight, measure_of}
+use Rattle.conc_run_progress.specs.Moves.{ClosesTo, HandLeaves, LeadLeaves, StopsTo, WritesDone}
 
 -- an event that the resolver logs by itself makes it less, whatever the board is then
 abbrev pub LoggingMakesItLess : Type 0
@@ -57,13 +58,26 @@ HandMovesMakeItLess =
     → SitsAt plan s lead → OpensOnlyWhatIsUsable plan (reverse list) s → HandLeaves plan s hand move next
     → IsLess (measure_of plan readings.list list lead.seat.id next) (measure_of plan readings.list list lead.seat.id s)
 
--- A step of any seat that leaves the word as it finds it leaves the measure, where the seat then knows the same lead states and does what it did. So it is with a look at
+-- A step of any seat that leaves the word as it finds it leaves the measure, where the seat then knows the same lead states and does what it did, the stop sign aside. So it is with a look at
 -- a request that nobody claims, a claim that misses, and a poll of a claim that is not answered.
 abbrev pub FindingNothingLeavesIt : Type 0
 FindingNothingLeavesIt =
     (plan : Plan) (readings : Readings) (list : List Event) (lead : ℕ) (s : BoardState) (seat word : ℕ) (me : Me Slot View) (view : View) (act : Act Slot)
-    → get_elem? s.views seat ≡ some me.0 → view.lead_states ≡ me.0.lead_states → view.doing ≡ me.0.doing
+    → get_elem? s.views seat ≡ some me.0 → view.lead_states ≡ me.0.lead_states → doing_weight view.doing ≡ doing_weight me.0.doing
     → measure_of plan readings.list list lead (stepped s word (slice_index s.words word) seat me.1 view act) ≡ measure_of plan readings.list list lead s
+
+-- So does a stop that wins, and the close of a place that may not be used.
+abbrev pub StoppingLeavesIt : Type 0
+StoppingLeavesIt =
+    (plan : Plan) (readings : Readings) (list : List Event) (lead : Lead) (s next : BoardState) (r : RequestId) (p : PlaceId) (marked : Bool)
+    → SitsAt plan s lead → IsRequest plan r → lead_state_of lead r ≡ Gone p marked → word_of s r ≡ running p → StopsTo plan lead s r p next
+    → measure_of plan readings.list list lead.seat.id next ≡ measure_of plan readings.list list lead.seat.id s
+
+abbrev pub ClosingLeavesIt : Type 0
+ClosingLeavesIt =
+    (plan : Plan) (readings : Readings) (list : List Event) (lead : Lead) (s next : BoardState) (p : PlaceId)
+    → SitsAt plan s lead → IsPlace plan p → IsFalse (is_usable_after plan (reverse list) p) → ClosesTo plan lead s p next
+    → measure_of plan readings.list list lead.seat.id next ≡ measure_of plan readings.list list lead.seat.id s
 
 -- no measure becomes less for ever
 abbrev pub NoMeasureFallsForEver : Type 0

@@ -12,8 +12,8 @@ use Rattle.conc_types.specs.declared.plan.Plan.{Plan}
 use Rattle.conc_types.specs.declared.script.Reading.{Reading}
 use Rattle.conc_board.specs.declared.lead.Lead.{Lead}
 use Rattle.conc_pool_seats.specs.Rule.{BoardState}
-use Rattle.conc_pool_seats.specs.Steps.{Slot, StepLeaves, back_leaves, claim_leaves, clear_leaves, got_leaves, let_out_leaves, look_leaves, poll_leaves, post_leaves, switch_leaves}
-use Rattle.conc_pool_seats.specs.Words.{claimed, count_of_requests, done, ended, idle, place_word, released, request_word}
+use Rattle.conc_pool_seats.specs.Steps.{Slot, StepLeaves, back_leaves, claim_leaves, clear_leaves, got_leaves, let_out_leaves, look_leaves, poll_leaves, post_leaves, stop_leaves, switch_leaves}
+use Rattle.conc_pool_seats.specs.Words.{claimed, count_of_requests, done, ended, idle, place_word, released, request_word, running, stopping}
 use Rattle.conc_pool_seats.specs.declared.views.View.{View}
 use Rattle.conc_run_progress.specs.Boards.{word_of}
 use Rattle.conc_run_progress.specs.HandMoves.{HandMove, claims, polls, posts}
@@ -75,6 +75,16 @@ LeadLeaves plan readings list kept lead s (lets_out can) list' next = (list' ≡
 LeadLeaves plan readings list kept lead s (sees can) list' next = (list' ≡ list) × SeesTo plan lead s can next
 LeadLeaves plan readings list kept lead s (answers can) list' next = AnswersTo plan readings list kept lead s can.request can.place can.answer list' next
 LeadLeaves plan readings list kept lead s (collects can) list' next = (list' ≡ list) × GetsTo plan list kept lead s can next
+
+-- ---- what else the lead does, by what an event means for the board
+
+-- it tells a request that runs at a place to stop, and closes a place
+abbrev pub StopsTo : Plan → Lead → BoardState → RequestId → PlaceId → BoardState → Type 0
+StopsTo plan lead s r p next =
+    MakesStep s lead.seat.id lead.seat.me (step (count_of_requests plan) (request_word r) (running p) (stopping p) none) (stopping p) stop_leaves next
+
+abbrev pub ClosesTo : Plan → Lead → BoardState → PlaceId → BoardState → Type 0
+ClosesTo plan lead s p next = LeadSteps plan lead s (place_word plan p) 0 0 switch_leaves next
 
 -- ---- what a move of a hand leaves: a board, with the same list
 

@@ -1,6 +1,7 @@
 use Rattle.conc_run_progress.proofs.Falls.{none_falls}
 use Rattle.conc_run_progress.proofs.HandLess.{hand_move_less}
 use Rattle.conc_run_progress.proofs.LeadLess.{done_less, lead_move_less}
+use Rattle.conc_run_progress.proofs.Level.{close_level, stop_level}
 use Rattle.conc_run_progress.proofs.Lighter.{measure_kept}
 use Rattle.conc_run_progress.proofs.Logged.{logging_less}
 use Rattle.conc_run_progress.proofs.laws.each_step_makes_the_measure_less.Goals as goal
@@ -22,3 +23,9 @@ returns-clause-done c = done_less
 
 pub returns-clause-still : goal.returns-clause-still
 returns-clause-still c = measure_kept
+
+pub returns-clause-stop : goal.returns-clause-stop
+returns-clause-stop c = stop_level
+
+pub returns-clause-close : goal.returns-clause-close
+returns-clause-close c = close_level
