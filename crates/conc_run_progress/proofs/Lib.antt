@@ -13,3 +13,4 @@ pub mod LeadLess
 pub mod HandLess
 pub mod Falls
 pub mod Level
+pub mod Made

@@ -7,3 +7,4 @@ pub mod Progress
 pub mod Measure
 pub mod Moves
 pub mod EachStep
+pub mod Made

@@ -1,6 +1,7 @@
 //! Laws on what can be done next in a run with workers, and on what has the go in it. Each function here has an empty
 //! body; its contract is the law.
 ghost use Rattle.conc_run_progress.specs.EachStep.{ClosingLeavesIt, FindingNothingLeavesIt, HandMovesMakeItLess, LeadMovesMakeItLess, LoggingMakesItLess, NoMeasureFallsForEver, StoppingLeavesIt, WritingDoneMakesItLess};
+ghost use Rattle.conc_run_progress.specs.Made.{HandMovesCanBeMade, LeadMovesCanBeMade};
 ghost use Rattle.conc_run_progress.specs.Progress.{NoDeskIsDead, NoStateIsDead};
 ghost use Rattle.conc_run_progress.specs.Runs.{WhatRunsHasTheGoAfterACall, WhatRunsHasTheGoAfterEachEvent, WhatRunsHasTheGoAtTheBeginning, WhatRunsHasTheGoOnceAnEndIsKept, WhatRunsHasTheGoWithTheSameLeadStates};
 
@@ -15,6 +16,13 @@ pub fn no_state_is_dead()
 /// knows goes with it.
 pub fn no_desk_is_dead()
     ensures { NoDeskIsDead }
+{}
+
+/// Each of these moves of the lead's and of a hand's can be made: the rule of the board allows the step that makes it, and
+/// holds after it. Of a collect this is said of the first of its two steps.
+pub fn each_move_can_be_made()
+    ensures lead { LeadMovesCanBeMade }
+    ensures hand { HandMovesCanBeMade }
 {}
 
 /// There is a measure of a moment which each step that `no_state_is_dead` speaks of makes less: an event that the resolver
