@@ -58,8 +58,8 @@ HandMovesMakeItLess =
     → SitsAt plan s lead → OpensOnlyWhatIsUsable plan (reverse list) s → HandLeaves plan s hand move next
     → IsLess (measure_of plan readings.list list lead.seat.id next) (measure_of plan readings.list list lead.seat.id s)
 
--- A step of any seat that leaves the word as it finds it leaves the measure, where the seat then knows the same lead states and does what it did, the stop sign aside. So it is with a look at
--- a request that nobody claims, a claim that misses, and a poll of a claim that is not answered.
+-- A step of any seat that leaves the word as it finds it leaves the measure, where the seat then knows the same lead states and does what it did, the stop
+-- sign aside. So it is with a look at a request that nobody claims, a claim that misses, and a poll of a claim that is not answered.
 abbrev pub FindingNothingLeavesIt : Type 0
 FindingNothingLeavesIt =
     (plan : Plan) (readings : Readings) (list : List Event) (lead : ℕ) (s : BoardState) (seat word : ℕ) (me : Me Slot View) (view : View) (act : Act Slot)

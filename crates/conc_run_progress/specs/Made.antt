@@ -1,4 +1,5 @@
--- Each move can be made: the rule of the board allows a step as the move has it, and holds of what it leaves.
+-- Each move can be made: the rule of the board allows a step as the move has it, and holds of what it leaves. A board does not say which slots a hand has: here it
+-- has what its step asks for.
 use Rattle.std.specs.Prelude.{ℕ, List, Option}
 use Rattle.conc_types.specs.declared.event.Event.{Event}
 use Rattle.conc_types.specs.declared.plan.Plan.{Plan}

@@ -18,8 +18,9 @@ pub fn no_desk_is_dead()
     ensures { NoDeskIsDead }
 {}
 
-/// Each of these moves of the lead's and of a hand's can be made: the rule of the board allows the step that makes it, and
-/// holds after it. Of a collect this is said of the first of its two steps.
+/// Each move that `no_state_is_dead` speaks of can be made, the lead's and a hand's: the rule of the board allows the step
+/// that makes it, and holds after it. Of a collect this is said of the first of its two steps. An answer by which a request
+/// starts is an event of the list here: the law does not speak of the go that follows it on the board.
 pub fn each_move_can_be_made()
     ensures lead { LeadMovesCanBeMade }
     ensures hand { HandMovesCanBeMade }
