@@ -41,7 +41,7 @@ pub end_no_claim : (p q : PlaceId) → q.index < 64 → ended p ≡ claimed q �
 end_no_claim p q few e = omega arith
 
 -- with the stop sign or without
-runs_there : (stop : Bool) (p : PlaceId) (n : ℕ) → Runs stop p n → (n ≡ running p) ⊎ (n ≡ stopping p)
+pub runs_there : (stop : Bool) (p : PlaceId) (n : ℕ) → Runs stop p n → (n ≡ running p) ⊎ (n ≡ stopping p)
 runs_there true p n h = inr h
 runs_there false p n h = h
 

@@ -6,3 +6,11 @@ pub mod Claims
 pub mod Served
 pub mod Alive
 pub mod Desks
+pub mod Below
+pub mod Lighter
+pub mod Logged
+pub mod LeadLess
+pub mod HandLess
+pub mod Falls
+pub mod Level
+pub mod Made

@@ -4,3 +4,7 @@ pub mod Logs
 pub mod LeadMoves
 pub mod HandMoves
 pub mod Progress
+pub mod Measure
+pub mod Moves
+pub mod EachStep
+pub mod Made

@@ -1,5 +1,7 @@
 //! Laws on what can be done next in a run with workers, and on what has the go in it. Each function here has an empty
 //! body; its contract is the law.
+ghost use Rattle.conc_run_progress.specs.EachStep.{ClosingLeavesIt, FindingNothingLeavesIt, HandMovesMakeItLess, LeadMovesMakeItLess, LoggingMakesItLess, NoMeasureFallsForEver, StoppingLeavesIt, WritingDoneMakesItLess};
+ghost use Rattle.conc_run_progress.specs.Made.{HandMovesCanBeMade, LeadMovesCanBeMade};
 ghost use Rattle.conc_run_progress.specs.Progress.{NoDeskIsDead, NoStateIsDead};
 ghost use Rattle.conc_run_progress.specs.Runs.{WhatRunsHasTheGoAfterACall, WhatRunsHasTheGoAfterEachEvent, WhatRunsHasTheGoAtTheBeginning, WhatRunsHasTheGoOnceAnEndIsKept, WhatRunsHasTheGoWithTheSameLeadStates};
 
@@ -14,6 +16,37 @@ pub fn no_state_is_dead()
 /// knows goes with it.
 pub fn no_desk_is_dead()
     ensures { NoDeskIsDead }
+{}
+
+/// Each move that `no_state_is_dead` speaks of can be made, the lead's and a hand's: the rule of the board allows the step
+/// that makes it, and holds after it. Of a collect this is said of the first of its two steps. An answer by which a request
+/// starts is an event of the list here: the law does not speak of the go that follows it on the board.
+pub fn each_move_can_be_made()
+    ensures lead { LeadMovesCanBeMade }
+    ensures hand { HandMovesCanBeMade }
+{}
+
+/// There is a measure of a moment which each step that `no_state_is_dead` speaks of makes less: an event that the resolver
+/// logs, a move of the lead's, and a move of a hand's while no place is open that may not be used. It has three numbers, of
+/// which the first counts most: how many events the life still has at most; how many places may be used and are closed,
+/// with the requests that are claimed by places which may not be used; and how far the requests and the hands are from what
+/// they do last. A step that finds nothing new leaves it, and so do a stop and the close of a place that may not be used. No
+/// measure becomes less for ever: so a run makes only so many of the steps that make it less, whatever steps that leave it
+/// stand between them.
+///
+/// A move is given by the step on the board that makes it, as the rule of the board has it. What an event means for the
+/// board belongs to the event, also where that withdraws a request. A claim is a move here while its place is open: the law
+/// does not count one whose place was closed since the hand looked at it. It says nothing of time: not that a thread gets
+/// the processor, nor that a bell wakes who waits for it, which is trusted.
+pub fn each_step_makes_the_measure_less()
+    ensures log { LoggingMakesItLess }
+    ensures lead { LeadMovesMakeItLess }
+    ensures done { WritingDoneMakesItLess }
+    ensures hand { HandMovesMakeItLess }
+    ensures still { FindingNothingLeavesIt }
+    ensures stop { StoppingLeavesIt }
+    ensures close { ClosingLeavesIt }
+    ensures ends { NoMeasureFallsForEver }
 {}
 
 /// Each request that runs since a start of this life has the go on the board, at the place where it runs. It is so

@@ -5,6 +5,6 @@
 mod laws;
 
 pub use laws::{
-    no_desk_is_dead, no_state_is_dead, what_runs_has_the_go_after_each_event,
-    what_runs_has_the_go_between_events,
+    each_move_can_be_made, each_step_makes_the_measure_less, no_desk_is_dead, no_state_is_dead,
+    what_runs_has_the_go_after_each_event, what_runs_has_the_go_between_events,
 };
