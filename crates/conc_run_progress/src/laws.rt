@@ -26,18 +26,18 @@ pub fn each_move_can_be_made()
     ensures hand { HandMovesCanBeMade }
 {}
 
-/// There is a measure of a moment which each step that `no_state_is_dead` speaks of makes less: an event that the resolver
-/// logs, a move of the lead's, and a move of a hand's while no place is open that may not be used. It has three numbers, of
-/// which the first counts most: how many events the life still has at most; how many places may be used and are closed,
-/// with the requests that are claimed by places which may not be used; and how far the requests and the hands are from what
-/// they do last. A step that finds nothing new leaves it, and so do a stop and the close of a place that may not be used. No
-/// measure becomes less for ever: so a run makes only so many of the steps that make it less, whatever steps that leave it
-/// stand between them.
+/// A moment of a run has a measure, and each step that `no_state_is_dead` speaks of makes it less: an event that the resolver
+/// logs, a move of the lead, and a move of a hand while no place is open that may not be used. It has three numbers, of
+/// which the first counts most: how many events the life can still have; how many places may be used but are closed,
+/// together with the requests that are claimed by places that may not be used; and how far the requests and the hands are from
+/// the last thing that they do. A step that finds nothing new leaves the measure as it is, and so do a stop and the close of a
+/// place that may not be used. No measure can become less for ever, so a run makes only finitely many steps that make it
+/// less, whatever other steps come between them.
 ///
 /// A move is given by the step on the board that makes it, as the rule of the board has it. What an event means for the
-/// board belongs to the event, also where that withdraws a request. A claim is a move here while its place is open: the law
-/// does not count one whose place was closed since the hand looked at it. It says nothing of time: not that a thread gets
-/// the processor, nor that a bell wakes who waits for it, which is trusted.
+/// board belongs to the event, also where that withdraws a request. A claim counts as a move only while its place is open: the law
+/// does not count one whose place was closed after the hand looked at it. It says nothing about time: not that a thread gets
+/// the processor, nor that a bell wakes whoever waits for it, which is trusted.
 pub fn each_step_makes_the_measure_less()
     ensures log { LoggingMakesItLess }
     ensures lead { LeadMovesMakeItLess }
