@@ -33,6 +33,10 @@ IsFree board places (Some hand) = IsHandOf board hand × (doing_of hand ≡ Idle
 abbrev pub IsFreeMember : Board → CrewMember → Type 0
 IsFreeMember board worker = IsFree board worker.places.items worker.hand
 
+-- its hand was taken in
+abbrev pub IsTakenIn : CrewMember → Type 0
+IsTakenIn worker = worker.hand ≡ None
+
 -- its pass takes from these lanes
 abbrev pub HasPass : Lanes → CrewMember → Type 0
 HasPass lanes worker = IsHandPassOf lanes worker.pass
