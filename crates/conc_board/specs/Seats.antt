@@ -209,6 +209,7 @@ pub record IsSplitOff (board : Board) (places : List PlaceId) (old new : Lead) (
   pub left : places_of_lead new ≡ without (places_of_lead old) places
   pub found : found_by_lead new ≡ found_by_lead old
   pub switches : SameSwitches old new
+  pub posts : posts_of_lead new ≡ posts_of_lead old
   pub hand : IsHandOf board made
   pub idle : doing_of made ≡ Idle
   pub passed : places_of_hand made ≡ places

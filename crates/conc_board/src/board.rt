@@ -41,7 +41,7 @@ pub struct Board {
 }
 
 impl Board {
-    ghost use Rattle.conc_board.specs.Seats.{doing_of, found_by_hand, found_by_lead, HasAllPlaces, HasSetNothing, IsHandOf, IsLeadOf, lead_state_of, plan_of, places_of_hand, places_of_lead, SameLeadStates, SameSwitches, IsSplitOff};
+    ghost use Rattle.conc_board.specs.Seats.{doing_of, found_by_hand, found_by_lead, HasAllPlaces, HasSetNothing, IsHandOf, IsLeadOf, lead_state_of, plan_of, places_of_hand, places_of_lead, posts_of_lead, SameLeadStates, SameSwitches, IsSplitOff};
 
     /// A board on which nothing is let out, and each place is closed. The lead has all places.
     pub fn new(alloc: Global, plan: &Plan) -> Result<(Board, Lead), NoMemory>
@@ -51,6 +51,7 @@ impl Board {
             (λ made. (r : RequestId) → lead_state_of made.1 r ≡ lead_state.NotLet) }
         ensures places { IfOk result (λ made. HasAllPlaces made.0 made.1) }
         ensures found { IfOk result (λ made. found_by_lead made.1 ≡ []) }
+        ensures posts { IfOk result (λ made. posts_of_lead made.1 ≡ []) }
         ensures set { IfOk result (λ made. HasSetNothing made.1) }
     {
         let requests = plan.requests.len();
@@ -100,6 +101,7 @@ impl Board {
         ensures places { places_of_lead lead.new ≡ places_of_hand hand ++ places_of_lead lead.old }
         ensures found { found_by_lead lead.new ≡ found_by_lead lead.old }
         ensures switches { SameSwitches lead.old lead.new }
+        ensures posts { posts_of_lead lead.new ≡ posts_of_lead lead.old }
     {
         let Hand { seat } = hand;
         self.table.shared.join_seat::<TakesIn>(&mut lead.seat, seat);

@@ -32,7 +32,7 @@ abbrev pub with_stamp_of : Option Event → ℕ → ℕ → List ℕ → List �
 with_stamp_of (Some (event.Command n)) k stamp image = written (offset_behind k + 12) (to_be_bytes w64 stamp) image
 with_stamp_of e k stamp image = image
 
--- the image, where each command among so many of the events has its stamp in its record
+-- the image with the stamps of the commands among the first events, each stamp in the record of its command
 abbrev pub with_stamps : ℕ → List Event → List ℕ → List ℕ → List ℕ
 with_stamps zero events stamps image = image
 with_stamps (suc k) events stamps image =

@@ -1,5 +1,5 @@
 -- How a run ended over which a life was begun, with workers or without.
-use Rattle.std.proofs.Common.{◌≡◌, ◌≢◌, ◌⊎◌, inl, inr, ⊎_elim, ℕ, List, Result, Ok, Err, IfSome, refl, sym, ◌∙◌, ap, subst}
+use Rattle.std.proofs.Common.{◌≡◌, ◌≢◌, ◌⊎◌, inl, inr, ⊎_elim, ℕ, List, Option, None, Some, Result, Ok, Err, IfSome, refl, sym, ◌∙◌, ap, subst}
 use Rattle.std.specs.Prelude.{IsErrOf, OnOk}
 use Rattle.conc_types.specs.declared.event.Event.{Event}
 use Rattle.conc_types.specs.declared.plan.Plan.{Plan}
@@ -13,7 +13,9 @@ use Rattle.conc_base_law.specs.Alone.{opening}
 use Rattle.conc_base_law.specs.Law.{Finished, Lawful, LawfulSoFar}
 use Rattle.conc_run_alone.specs.Runs.{LacksMemory}
 use Rattle.conc_run_alone.proofs.Following.{follows-none}
+use Rattle.conc_run_workers.specs.Pools.{HasLackedReport}
 use Rattle.conc_run_workers.specs.Runs.{AwaitsReport}
+use Rattle.conc_run_workers.specs.declared.running.Pool.{Pool}
 use Rattle.conc_run_open.specs.Examined.{IsExamined, WasExamined}
 use Rattle.conc_run_open.specs.Opening.{IsBegun}
 use Rattle.conc_run_open.specs.declared.examining.Examined.{Examined}
@@ -64,6 +66,13 @@ ran-alone none went_on alone journal_fault spool_fault memory sound = record {
   memory_beside = λ some is. absurd (some none);
   sound = sound;
 }
+
+-- where one with workers found no memory
+pub beside-short : {plan : Plan} {first last : List Event} {Untold : Type 0} (pool : Option Pool) → (last ≡ first) ⊎ (HasLackedReport plan last pool ⊎ Untold) → (last ≡ first) ⊎ (AwaitsReport plan last ⊎ Untold)
+beside-short pool (inl same) = inl same
+beside-short pool (inr (inr untold)) = inr (inr untold)
+beside-short (Some pool) (inr (inl lacks)) = inr (inl lacks.awaits)
+beside-short None (inr (inl none)) = absurd none
 
 -- and one with workers
 pub ran-beside : {A : Type 0} {threads : ℕ} {untold : List Event → Type 0} {d : Disks} {answer : Result A RunFail} {old new : Work} → threads ≢ 0 → WentOn (plan_in old) (readings_in old) d old new

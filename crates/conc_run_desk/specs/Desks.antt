@@ -11,11 +11,13 @@ use Rattle.conc_base_law.specs.Places.{is_usable}
 use Rattle.conc_base_law.specs.State.{now}
 use Rattle.conc_base_law.specs.Words.{Has}
 use Rattle.conc_board.specs.declared.board.Board.{Board}
+use Rattle.conc_board.specs.declared.lead.Lead.{Lead}
 use Rattle.conc_board.specs.Seats.{SetsFlag, lead_state_of, plan_of, switch_of}
 use Rattle.conc_pool_seats.specs.declared.views.LeadState.{LeadState}
 use Rattle.conc_pool_seats.specs.Words.{IsPlace, place_word}
 use Rattle.conc_run_steps.specs.Steps.{plan_in}
 use Rattle.conc_run_state.specs.Works.{list_in}
+use Rattle.conc_run_state.specs.declared.work.Work.{Work}
 use Rattle.conc_run_desk.specs.Following.{SameBut}
 use Rattle.conc_run_desk.specs.State.{DeskState}
 use Rattle.conc_run_desk.specs.Ties.{WaitsToStart}
@@ -61,18 +63,25 @@ pub record SwitchesFlag (board : Board) (word value : ℕ) (old new : DeskState)
 
 -- ---- open places
 
--- the place may be used at the last reading
+-- the place may be used at the last reading of this work's list, or of the desk's
+abbrev pub is_usable_in : Work → PlaceId → Bool
+is_usable_in work p = some_and (λ t. is_usable (plan_in work) t p) (now (reverse (list_in work)))
+
 abbrev pub is_usable_at : DeskState → PlaceId → Bool
-is_usable_at desk p = some_and (λ t. is_usable (plan_at desk) t p) (now (reverse (list_at desk)))
+is_usable_at desk p = is_usable_in desk.work p
 
 -- what the word of a place holds that is open, or closed
 abbrev pub place_value : Bool → ℕ
 place_value true = 1
 place_value false = 0
 
--- each place of the plan is open exactly where it may be used at the last reading
-pub record OpensWhatIsUsable (board : Board) (desk : DeskState) : Type 0 where
-  pub each : (p : PlaceId) → IsPlace (plan_at desk) p → switch_of desk.lead (place_word (plan_of board) p) ≡ place_value (is_usable_at desk p)
+-- the lead has each place of the plan open exactly where it may be used at the last reading
+pub record HasOpenWhatIsUsable (board : Board) (lead : Lead) (work : Work) : Type 0 where
+  pub each : (p : PlaceId) → IsPlace (plan_in work) p → switch_of lead (place_word (plan_of board) p) ≡ place_value (is_usable_in work p)
+
+-- so has that of the desk, for the desk's list
+abbrev pub OpensWhatIsUsable : Board → DeskState → Type 0
+OpensWhatIsUsable board desk = HasOpenWhatIsUsable board desk.lead desk.work
 
 -- a call on one request of the board, and on nothing else
 pub record MovesOne (board : Board) (r : RequestId) (old new : DeskState) : Type 0 where

@@ -22,8 +22,8 @@ pub fn what_is_on_the_board_is_live()
 {}
 
 /// A worker has the permit for a request at a place only while the request runs there in the list, and no two
-/// workers ever have permits for requests that exclude each other. So no two reports of such requests are made
-/// at once.
+/// workers ever have permits for requests that exclude each other. So two reports of such requests are never made
+/// at the same time.
 pub fn a_permit_is_a_run()
     // What has the go runs: between any two calls of a desk, and within a call once the event is recorded.
     ensures between_calls { GoRunsBetweenCalls }

@@ -20,7 +20,7 @@ below_both a b c first second = omega (arith, first, second)
 abbrev NoneWithEvents : ℕ → Type 0
 NoneWithEvents e = (chain : ℕ → Measure) → Falls chain → (chain 0).events < e → ⊥
 
--- nor, with so many events, with little that is unfit
+-- nor while the number of events stays, and the number of what is unfit is small
 abbrev NoneUnfit : ℕ → ℕ → Type 0
 NoneUnfit e u = (chain : ℕ → Measure) → Falls chain → (chain 0).events ≡ e → (chain 0).unfit < u → ⊥
 

@@ -13,7 +13,7 @@ abbrev pub stamp_for : Plan → Event → ℕ
 stamp_for plan (event.Command number) = unwrap_or (stamp plan number) 0
 stamp_for plan e = 0
 
--- The second image is the first with the records of these events behind so many others: each behind an open gate, which is a 1, with
+-- The second image is the first with the records of these events, written after this many others: each behind an open gate, which is a 1, with
 -- its stamp where it is a command's, and behind the last one a closed gate.
 abbrev pub HasRecords : Plan → ℕ → List Event → List ℕ → List ℕ → Type 0
 HasRecords plan records [] old new = new ≡ old

@@ -43,7 +43,7 @@ with_look kept s = if is_longer kept s then kept ++ s ∷ [] else kept
 abbrev pub with_early_look : List Snapshot → Snapshot → List Snapshot
 with_early_look kept s = if nat_lt (length kept) 63 then with_look kept s else kept
 
--- what is kept at last of these and of so many looks before the end, one after the other
+-- what is kept in the end of what was kept before and of these looks, taken one after the other
 abbrev pub kept_after : List Snapshot → List Snapshot → List Snapshot
 kept_after kept [] = kept
 kept_after kept (s ∷ looks) = kept_after (with_early_look kept s) looks

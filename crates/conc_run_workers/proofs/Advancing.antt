@@ -19,10 +19,10 @@ use Rattle.conc_run_steps.specs.Going.{IsUnderway, WentOn}
 use Rattle.conc_run_steps.specs.Steps.{IsFinished, plan_in, readings_in}
 use Rattle.conc_run_steps.specs.Told.{IsTold, IsUntold}
 use Rattle.conc_run_steps.proofs.Underway.{by-first, underway-more, underway-still, went-further, went-still}
-use Rattle.conc_run_desk.specs.Desks.{MovesOne, list_at, plan_at}
+use Rattle.conc_run_desk.specs.Desks.{MovesOne, OpensWhatIsUsable, list_at, plan_at}
 use Rattle.conc_run_desk.specs.State.{DeskState}
-use Rattle.conc_run_workers.specs.Resolving.{Advances, Concludes, disks_between, IsAtWork, IsDismissed, IsShortOfMemory, LacksReport, MovesAt, Resolves, Situation, StaysAt}
-use Rattle.conc_run_workers.specs.Runs.{AwaitsReport}
+use Rattle.conc_run_workers.specs.Resolving.{Advances, Concludes, disks_between, IsAtWork, IsDismissed, IsShortOfMemory, MovesAt, Resolves, Situation, StaysAt}
+use Rattle.conc_run_workers.specs.Runs.{LacksReport}
 use Rattle.conc_run_workers.proofs.Awaiting.{lacks-still}
 
 -- the same, but for the desk
@@ -148,8 +148,8 @@ stays-moves moves = record { at = moves.at; same = moves.same; places = moves.ot
 -- ---- what a whole run comes to
 
 -- one that goes on, by what its steps came to
-pub concludes-begun : (board : Board) (old new : Situation) (answer : Result Unit RunFail) → Resolves board answer old new → OnOk answer (IsFinished new.desk.work) → IsDismissed board new.desk.lead → Concludes board answer old new
-concludes-begun board old new (Ok x) h is_finished dismissed =
+pub concludes-begun : (board : Board) (old new : Situation) (answer : Result Unit RunFail) → Resolves board answer old new → OnOk answer (IsFinished new.desk.work) → OnOk answer (OpensWhatIsUsable board new.desk) → IsDismissed board new.desk.lead → Concludes board answer old new
+concludes-begun board old new (Ok x) h is_finished opens dismissed =
     let went = h.under.went in record {
       at = h.at;
       places = h.places;
@@ -161,9 +161,10 @@ concludes-begun board old new (Ok x) h is_finished dismissed =
       stops = λ is. cc;
       memory = λ is. cc;
       sound = λ none. h.under.state;
+      opens = opens;
       dismissed = dismissed;
     }
-concludes-begun board old new (Err fail) h is_finished dismissed = record {
+concludes-begun board old new (Err fail) h is_finished opens dismissed = record {
   at = h.at;
   places = h.places;
   went = h.went;
@@ -174,14 +175,15 @@ concludes-begun board old new (Err fail) h is_finished dismissed = record {
   stops = λ is. h.stops (let e : fail ≡ run_fail.SpoolFault = cc in e);
   memory = λ is. h.memory (let e : fail ≡ run_fail.NoMemory = cc in e);
   sound = λ none. h.sound (λ is. none (ap (λ e. Err e) is));
+  opens = opens;
   dismissed = dismissed;
 }
 
 -- where a whole run found no memory, by its plan at the beginning
-pub short-awaits : (old new : Situation) → WentOn (plan_at old.desk) (readings_in old.desk.work) (disks_between old new) old.desk.work new.desk.work → IsShortOfMemory new
-    → AwaitsReport (plan_at old.desk) (list_at new.desk) ⊎ ((new.may_lack ≡ true) × IsUntold new.told (list_at new.desk))
-short-awaits old new went (inr untold) = inr untold
-short-awaits old new went (inl lacks) = inl (by-first old.desk.work new.desk.work (disks_between old new) went (λ plan readings. AwaitsReport plan (list_in new.desk.work)) lacks.awaits)
+pub short-first : (old new : Situation) → WentOn (plan_at old.desk) (readings_in old.desk.work) (disks_between old new) old.desk.work new.desk.work → IsShortOfMemory new
+    → LacksReport (plan_at old.desk) (list_at new.desk) new.desk.lead ⊎ ((new.may_lack ≡ true) × IsUntold new.told (list_at new.desk))
+short-first old new went (inr untold) = inr untold
+short-first old new went (inl lacks) = inl (by-first old.desk.work new.desk.work (disks_between old new) went (λ plan readings. LacksReport plan (list_in new.desk.work) new.desk.lead) lacks)
 
 -- a history that is finished is so after a step on the board alone
 pub finished-still : {T : Type 0} {board : Board} {mid new : DeskState} (answer : Result T RunFail) → OnOk answer (IsFinished mid.work) → MovesAt board mid new → OnOk answer (IsFinished new.work)

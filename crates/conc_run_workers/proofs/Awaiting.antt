@@ -28,8 +28,7 @@ use Rattle.conc_run_desk.specs.State.{DeskState}
 use Rattle.conc_run_desk.specs.declared.keeping.KeepFail.TheVariants as fails
 use Rattle.conc_run_desk.proofs.Ends.{left_in}
 use Rattle.conc_run_desk.specs.Ties.{LeadStatesGoWith}
-use Rattle.conc_run_workers.specs.Resolving.{LacksReport}
-use Rattle.conc_run_workers.specs.Runs.{AwaitsReport}
+use Rattle.conc_run_workers.specs.Runs.{AwaitsReport, LacksReport}
 use Rattle.conc_run_workers.proofs.Crews.{has-last}
 
 -- what was left for it is that
@@ -65,23 +64,24 @@ awaits board old new r is named tied taken =
 
 -- so the desk lacks its report then
 pub lacks : (board : Board) (old new : DeskState) (r : RequestId) → board_plan board ≡ plan_at old → IsRequest (board_plan board) r → LeadStatesGoWith (plan_at old) (reverse (list_at old)) old.lead
-    → SameList old new → IsTaken board r (Err fails.NoMemory) old new → LacksReport new
+    → SameList old new → IsTaken board r (Err fails.NoMemory) old new → LacksReport (plan_at new) (list_at new) new.lead
 lacks board old new r is named tied same taken =
     let waits = awaits board old new r is named tied taken in
     let none = is-none (must_stop_at old r) taken.posted taken.answers in
     let last : Has (posts_of_lead new.lead) (request_word r, NoMemory) =
     subst (λ (l : List (ℕ × Posted)). Has l (request_word r, NoMemory)) (sym (taken.taken ∙ ap (λ (p : Posted). posts_of_lead old.lead ++ (request_word r, p) ∷ []) none)) (has-last (posts_of_lead old.lead) (request_word r, NoMemory)) in
-    subst (λ (z : Plan × List Event). (w : AwaitsReport z.0 z.1) × Has (posts_of_lead new.lead) (request_word w.req.number, NoMemory) → LacksReport new)
+    subst (λ (z : Plan × List Event). (w : AwaitsReport z.0 z.1) × Has (posts_of_lead new.lead) (request_word w.req.number, NoMemory) → LacksReport z.0 z.1 new.lead)
     (λ i. (ap (λ (m : Machine). plan_of m) same.machine i, ap (λ (j : Journal). list_of j) same.journal i))
     (λ both. record { awaits = both.0; handed = both.1 })
     (waits.0, subst (λ (z : RequestId). Has (posts_of_lead new.lead) (request_word z, NoMemory)) (sym waits.1) last)
 
 -- it lacks it still after a step on the board alone
-pub lacks-still : (old new : DeskState) → new.work ≡ old.work → TakesMore old.lead new.lead → LacksReport old → LacksReport new
+pub lacks-still : (old new : DeskState) → new.work ≡ old.work → TakesMore old.lead new.lead → LacksReport (plan_at old) (list_at old) old.lead → LacksReport (plan_at new) (list_at new) new.lead
 lacks-still old new same posts lacks =
-    subst (λ (w : Work). (a : AwaitsReport (plan_in w) (list_in w)) × Has (posts_of_lead new.lead) (request_word a.req.number, NoMemory) → LacksReport new) same
-    (λ both. record { awaits = both.0; handed = both.1 })
-    (lacks.awaits, subst (λ (l : List (ℕ × Posted)). Has l (request_word lacks.awaits.req.number, NoMemory)) (sym posts.1) (has-front (posts_of_lead old.lead) posts.0 (request_word lacks.awaits.req.number, NoMemory) lacks.handed))
+    subst (λ (w : Work). LacksReport (plan_in w) (list_in w) new.lead) (sym same) (record {
+      awaits = lacks.awaits;
+      handed = subst (λ (l : List (ℕ × Posted)). Has l (request_word lacks.awaits.req.number, NoMemory)) (sym posts.1) (has-front (posts_of_lead old.lead) posts.0 (request_word lacks.awaits.req.number, NoMemory) lacks.handed);
+    })
   where
     has-front : {T : Type 0} (xs ys : List T) (x : T) → Has xs x → Has (xs ++ ys) x
     has-front [] ys x has = absurd has

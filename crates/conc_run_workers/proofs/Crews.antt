@@ -133,9 +133,13 @@ pub some-item : {T : Type 0} (xs : List T) → 0 < length xs → T
 some-item [] some = absurd (omega arith)
 some-item (x ∷ xs) some = x
 
-pub take-front : {T : Type 0} (xs zs : List T) → take (length xs) (xs ++ zs) ≡ xs
+take-front : {T : Type 0} (xs zs : List T) → take (length xs) (xs ++ zs) ≡ xs
 take-front [] zs = refl
 take-front (x ∷ xs) zs = ap (λ ys. x ∷ ys) (take-front xs zs)
+
+-- so many items from the front are the items
+pub front-whole : {T : Type 0} (xs zs : List T) (n : ℕ) → length xs ≡ n → xs ≡ take n (xs ++ zs)
+front-whole xs zs n count = sym (take-front xs zs) ∙ ap (λ (m : ℕ). take m (xs ++ zs)) count
 
 -- a worker with the places of one of those
 has-same : (ws us : List CrewMember) → length us ≡ length ws → ((i : ℕ) (d : CrewMember) → i < length ws → places_had (get_or us i d).hand ≡ places_had (get_or ws i d).hand)

@@ -7,6 +7,7 @@ pub mod Filled
 pub mod Kept
 pub mod Opening
 pub mod Outcomes
+pub mod Pools
 pub mod PutWaiting
 pub mod Quiet
 pub mod Stepping

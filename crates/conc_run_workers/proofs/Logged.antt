@@ -37,7 +37,8 @@ use Rattle.conc_run_desk.specs.Desks.{IsAt, list_at, plan_at}
 use Rattle.conc_run_desk.specs.Keeping.{SameList}
 use Rattle.conc_run_desk.specs.Logging.{IsLogged, IsUnlogged}
 use Rattle.conc_run_desk.specs.State.{DeskState}
-use Rattle.conc_run_workers.specs.Resolving.{Advances, Halts, IsAtWork, LacksReport, Resolves, Situation}
+use Rattle.conc_run_workers.specs.Resolving.{Advances, Halts, IsAtWork, Resolves, Situation}
+use Rattle.conc_run_workers.specs.Runs.{LacksReport}
 use Rattle.conc_run_steps.specs.Told.{IsTold}
 use Rattle.conc_run_steps.proofs.Telling.{next-of, told-more, untold}
 
@@ -217,7 +218,7 @@ module _ (board : Board) (before : Situation) (new : DeskState) (spool' : DiskSt
   }
 
   -- its report had found no memory
-  pub halts-memory : LacksReport new → Halts board run_fail.NoMemory before (with_spool before new spool')
+  pub halts-memory : LacksReport (plan_at new) (list_at new) new.lead → Halts board run_fail.NoMemory before (with_spool before new spool')
   halts-memory lacks = record {
     at = at;
     places = same_places;

@@ -1,5 +1,5 @@
 -- Which places are open, after a step that opens and closes none.
-use Rattle.std.proofs.Common.{◌≡◌, List, [], ◌∷◌, reverse, Option, None, Some, true, refl, sym, ◌∙◌, ap, subst}
+use Rattle.std.proofs.Common.{◌≡◌, List, Result, Ok, Err, OnOk, [], ◌∷◌, reverse, Option, None, Some, true, refl, sym, ◌∙◌, ap, subst}
 use Rattle.std.specs.Option.{option_or}
 use Rattle.conc_types.specs.declared.event.Event.{Event}
 use Rattle.conc_types.specs.declared.event.Event.TheVariants as event
@@ -24,14 +24,15 @@ use Rattle.conc_journal.specs.Journals.{list_of}
 use Rattle.conc_journal.specs.declared.journal.Journal.{Journal}
 use Rattle.conc_run_state.specs.Machines.{Machine, plan_of as plan_of_machine}
 use Rattle.conc_run_state.specs.Works.{list_in}
+use Rattle.conc_run_state.specs.declared.error.RunFail.{RunFail}
 use Rattle.conc_run_state.specs.declared.work.Work.{Work}
 use Rattle.conc_run_steps.specs.Steps.{plan_in}
-use Rattle.conc_run_desk.specs.Desks.{OpensWhatIsUsable, list_at, place_value, plan_at}
+use Rattle.conc_run_desk.specs.Desks.{OpensWhatIsUsable, is_usable_in, list_at, place_value, plan_at}
 use Rattle.conc_run_desk.specs.Keeping.{end_in, SameList}
 use Rattle.conc_run_desk.specs.State.{DeskState}
 use Rattle.conc_run_desk.proofs.Ends.{ends_it}
 use Rattle.conc_run_workers.specs.Filling.{Adds}
-use Rattle.conc_run_workers.specs.Resolving.{StaysAt}
+use Rattle.conc_run_workers.specs.Resolving.{MovesAt, SameOpen, StaysAt}
 
 -- an event that is no tick leaves the last reading
 now-same : (e : Event) (past : List Event) → tick_of e ≡ None → now (e ∷ past) ≡ now past
@@ -49,6 +50,18 @@ opens-by board old new plan same switches opens = record {
 pub opens-stays : {board other : Board} {old new : DeskState} → StaysAt other old new → OpensWhatIsUsable board old → OpensWhatIsUsable board new
 opens-stays {board} {other} {old} {new} stays opens =
     opens-by board old new (ap (λ (w : Work). plan_in w) stays.same.work) (ap (λ (w : Work). now (reverse (list_in w))) stays.same.work) stays.switches opens
+
+-- after one that opens and closes no place
+opens-same : {board : Board} {old new : DeskState} → MovesAt board old new → SameOpen board old.lead new.lead → OpensWhatIsUsable board old → OpensWhatIsUsable board new
+opens-same moves same opens = record {
+  each = λ p near. same.each p (subst (λ (q : Plan). IsPlace q p) (sym moves.at.plan) near)
+      ∙ (opens.each p (subst (λ (w : Work). IsPlace (plan_in w) p) moves.same.work near)
+      ∙ ap (λ (w : Work). place_value (is_usable_in w p)) (sym moves.same.work));
+}
+
+pub opens-still : {T : Type 0} {board : Board} {old new : DeskState} (answer : Result T RunFail) → MovesAt board old new → SameOpen board old.lead new.lead → OnOk answer (OpensWhatIsUsable board old) → OnOk answer (OpensWhatIsUsable board new)
+opens-still (Ok x) moves same opens = opens-same moves same opens
+opens-still (Err fail) moves same opens = tt
 
 -- after an event that is no tick
 pub opens-added : {board : Board} {old new : DeskState} (e : Event) → tick_of e ≡ None → Adds old new (e ∷ []) → SameSwitches old.lead new.lead → OpensWhatIsUsable board old → OpensWhatIsUsable board new

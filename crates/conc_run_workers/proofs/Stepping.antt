@@ -21,7 +21,7 @@ use Rattle.conc_run_workers.specs.Resolving.{Advances, Concludes, Dismisses, IsA
 use Rattle.conc_run_workers.specs.Resolvers.{HasDirected, HasNotBegun, Logs, MayBegin, SameLoans, situation, MayStep, Steps, Went}
 use Rattle.conc_run_workers.proofs.Advancing.{after, at-work, begins, concludes-begun, finished-still, moves-at, ok-still, still, then-still}
 use Rattle.conc_run_workers.proofs.Filled.{filled-let, filled-still, fills-after, fills-none, fills-quiet, fills-still, partly-event}
-use Rattle.conc_run_workers.proofs.Opening.{opens-added, opens-stays}
+use Rattle.conc_run_workers.proofs.Opening.{opens-added, opens-stays, opens-still}
 use Rattle.conc_run_workers.proofs.Quiet.{quiet-event, quiet-one}
 
 -- what a resolver borrows: what the threads share, and by name what it may change
@@ -234,7 +234,7 @@ module _ {D E T : Type 0} {d : DiskGhosts D} {e : DiskGhosts E} {t : TellerGhost
         loans = loans-after steps.loans loans;
         concludes = subst (λ (z : D × E × T × Hints). Concludes old.shared.now.board answer (situation d e t old)
             (record { desk = new.desk.now; journal = d.state z.0; spool = e.state z.1; told = t.list z.2; takes = t.takes z.2; may_lack = t.may_lack z.2 })) (sym same)
-            (concludes-begun old.shared.now.board (situation d e t old) _ answer (then-still old.shared.now.board (situation d e t old) (situation d e t mid) new.desk.now answer steps.resolves stays ends.posts) (finished-still answer is_finished stays) ends.dismissed);
+            (concludes-begun old.shared.now.board (situation d e t old) _ answer (then-still old.shared.now.board (situation d e t old) (situation d e t mid) new.desk.now answer steps.resolves stays ends.posts) (finished-still answer is_finished stays) (opens-still answer stays ends.open steps.opens) ends.dismissed);
         fills = subst (λ (z : D × E × T × Hints). Fills old.shared.now.lanes answer old.desk.now new.desk.now z.3.pass) (sym same)
             (fills-still old.shared.now.lanes old.desk.now mid.desk.now new.desk.now mid.hints.now.pass answer steps.fills stays.same);
       }

@@ -33,6 +33,10 @@ IsFree board places (Some hand) = IsHandOf board hand × (doing_of hand ≡ Idle
 abbrev pub IsFreeMember : Board → CrewMember → Type 0
 IsFreeMember board worker = IsFree board worker.places.items worker.hand
 
+-- its hand was taken in
+abbrev pub IsTakenIn : CrewMember → Type 0
+IsTakenIn worker = worker.hand ≡ None
+
 -- its pass takes from these lanes
 abbrev pub HasPass : Lanes → CrewMember → Type 0
 HasPass lanes worker = IsHandPassOf lanes worker.pass
@@ -78,8 +82,8 @@ HaveServed shared before after = All (IsFreeMember shared.board) after × SamePl
 
 -- ---- the crew of a run
 
--- there are some workers, no more than so many threads, and no more than there are places, where there are any; and the places of the
--- plan are dealt among them
+-- there is at least one worker; there are no more than these threads, and no more than the places of the plan, if it has any; and the places
+-- are dealt among them
 pub record IsCrewFor (plan : Plan) (threads : ℕ) (crew : List CrewMember) : Type 0 where
   pub some : 0 < length crew
   pub few : length crew ≤ threads

@@ -1,18 +1,17 @@
 -- What a step of the resolver takes and leaves.
 use Rattle.std.specs.Prelude.{◌≡◌, ◌⊎◌, Bool, List, Option, None, Result, Ok, Err, IsFalse, IsTrue, OnOk}
 use Rattle.conc_types.specs.declared.event.Event.{Event}
+use Rattle.conc_types.specs.declared.event.PlaceId.{PlaceId}
 use Rattle.conc_types.specs.declared.event.RequestId.{RequestId}
 use Rattle.conc_base_law.specs.Law.{Finished}
-use Rattle.conc_base_law.specs.Words.{Has}
 use Rattle.conc_outside.specs.Counts.{Rose}
 use Rattle.conc_disk.specs.Disk.{DiskState}
 use Rattle.conc_journal.specs.Journals.{state_of}
 use Rattle.conc_board.specs.declared.board.Board.{Board}
-use Rattle.conc_board.specs.Seats.{HasTold, SameSwitches, TakesMore, lead_state_of, places_of_lead, plan_of, posts_of_lead}
+use Rattle.conc_board.specs.Seats.{HasTold, SameSwitches, TakesMore, lead_state_of, places_of_lead, plan_of, switch_of}
 use Rattle.conc_board.specs.declared.lead.Lead.{Lead}
 use Rattle.conc_pool_seats.specs.LeadStates.{IsLet}
-use Rattle.conc_pool_seats.specs.Words.{IsRequest, request_word}
-use Rattle.conc_pool_seats.specs.declared.posted.Posted.TheVariants.{NoMemory}
+use Rattle.conc_pool_seats.specs.Words.{IsPlace, IsRequest, place_word}
 use Rattle.conc_run_state.specs.Disks.{Disks, disks}
 use Rattle.conc_run_state.specs.declared.error.RunFail.{RunFail}
 use Rattle.conc_run_state.specs.declared.error.RunFail.TheVariants as run_fail
@@ -20,7 +19,7 @@ use Rattle.conc_run_steps.specs.Going.{IsUnderway, WentOn}
 use Rattle.conc_run_steps.specs.Steps.{IsReady, readings_in}
 use Rattle.conc_run_desk.specs.Desks.{IsAt, list_at, OpensWhatIsUsable, plan_at, SameWork}
 use Rattle.conc_run_desk.specs.State.{DeskState}
-use Rattle.conc_run_workers.specs.Runs.{AwaitsReport}
+use Rattle.conc_run_workers.specs.Runs.{LacksReport}
 use Rattle.conc_run_steps.specs.Told.{IsTold, IsUntold}
 
 -- What stands at one moment of a run: the desk, its two disks, and of the teller what it was told, what it takes, and whether it may
@@ -69,10 +68,15 @@ pub record IsDismissed (board : Board) (lead : Lead) : Type 0 where
   pub none_let : (r : RequestId) → IsRequest (plan_of board) r → IsLet (lead_state_of lead r) → ⊥
   pub told : HasTold board lead
 
--- a step on the board alone that comes to this
+-- each place is open or closed as it was
+pub record SameOpen (board : Board) (old new : Lead) : Type 0 where
+  pub each : (p : PlaceId) → IsPlace (plan_of board) p → switch_of new (place_word (plan_of board) p) ≡ switch_of old (place_word (plan_of board) p)
+
+-- a step on the board alone that comes to this, and opens and closes no place
 pub record Dismisses (board : Board) (old new : DeskState) : Type 0 where
   pub moves : MovesAt board old new
   pub posts : TakesMore old.lead new.lead
+  pub open : SameOpen board old.lead new.lead
   pub dismissed : IsDismissed board new.lead
 
 -- from one moment between two events the run went on to another
@@ -84,14 +88,9 @@ pub record Advances (board : Board) (before after : Situation) : Type 0 where
   pub sound : IsFalse after.desk.failed
   pub is_told : IsTold after.told after.takes (plan_at after.desk) (list_at after.desk)
 
--- a request runs after the desk's list and need not stop, and the lead was handed that its report found no memory
-pub record LacksReport (desk : DeskState) : Type 0 where
-  pub awaits : AwaitsReport (plan_at desk) (list_at desk)
-  pub handed : Has (posts_of_lead desk.lead) (request_word awaits.req.number, NoMemory)
-
 -- where a run that found no memory stands: a report found none, or the last event was not told, by a teller that may find none
 abbrev pub IsShortOfMemory : Situation → Type 0
-IsShortOfMemory s = LacksReport s.desk ⊎ (IsTrue s.may_lack × IsUntold s.told (list_at s.desk))
+IsShortOfMemory s = LacksReport (plan_at s.desk) (list_at s.desk) s.desk.lead ⊎ (IsTrue s.may_lack × IsUntold s.told (list_at s.desk))
 
 -- The run ended before its history was finished. But for a fault of the journal's disk no append met one. After a fault of the
 -- spool's disk the desk takes no event more.
@@ -110,7 +109,8 @@ abbrev pub Resolves : {T : Type 0} → Board → Result T RunFail → Situation 
 Resolves board (Ok x) before after = Advances board before after
 Resolves board (Err fail) before after = Halts board fail before after
 
--- What a whole run comes to, by its answer. However it ends, nothing more is let out, and the hands are told so.
+-- What a whole run comes to, by its answer. Where it finished its history the places are open that may be used. However it ends,
+-- nothing more is let out, and the hands are told so.
 pub record Concludes (board : Board) (answer : Result Unit RunFail) (before after : Situation) : Type 0 where
   pub at : IsAt board after.desk
   pub places : places_of_lead after.desk.lead ≡ places_of_lead before.desk.lead
@@ -122,4 +122,5 @@ pub record Concludes (board : Board) (answer : Result Unit RunFail) (before afte
   pub stops : answer ≡ Err run_fail.SpoolFault → IsTrue after.desk.failed
   pub memory : answer ≡ Err run_fail.NoMemory → IsShortOfMemory after
   pub sound : (answer ≡ Err run_fail.JournalFault → ⊥) → state_of after.desk.work.journal ≡ state_of before.desk.work.journal
+  pub opens : OnOk answer (OpensWhatIsUsable board after.desk)
   pub dismissed : IsDismissed board after.desk.lead

@@ -1,11 +1,11 @@
 // The workers of a run: each has a hand at the board, a pass for the lanes, and places of its own.
 ghost use Rattle.std.specs.Prelude.{◌≡◌, ◌<◌, ◌≤◌, ℕ, All, IfOk, length, None, slice_index_or, vec_len};
 ghost use Rattle.conc_types.specs.declared.event.RequestId.{RequestId};
-ghost use Rattle.conc_board.specs.Seats.{HasAllPlaces, IsLeadOf, plan_of, SameLeadStates};
+ghost use Rattle.conc_board.specs.Seats.{HasAllPlaces, IsLeadOf, plan_of, posts_of_lead, SameLeadStates, SameSwitches};
 ghost use Rattle.conc_pool_lanes.specs.Lanes.{AreHandPasses};
 ghost use Rattle.conc_pool_lanes.specs.declared.lanes.Lanes.{Lanes};
 ghost use Rattle.conc_run_workers.specs.Resolving.{IsDismissed};
-ghost use Rattle.conc_run_workers.specs.Crews.{AreDealt, Covers, HasOnePlan, HasPass, HaveServed, IsFree, IsFreeMember, MayServe, places_had, SameLists, SamePasses};
+ghost use Rattle.conc_run_workers.specs.Crews.{AreDealt, Covers, HasOnePlan, HasPass, HaveServed, IsFree, IsFreeMember, IsTakenIn, MayServe, places_had, SameLists, SamePasses};
 
 use crate::arrivals::Arrivals;
 use conc_board::{Board, Hand, Lead};
@@ -154,6 +154,10 @@ pub(crate) fn take_in(board: &Board, lead: &mut Lead, crew: &mut [CrewMember])
     requires covers { Covers (plan_of board.now) lead.old crew.old }
     ensures lead { IsLeadOf board.now lead.new }
     ensures all { HasAllPlaces board.now lead.new }
+    ensures lead_states { SameLeadStates lead.old lead.new }
+    ensures switches { SameSwitches lead.old lead.new }
+    ensures posts { posts_of_lead lead.new ≡ posts_of_lead lead.old }
+    ensures taken_in { All IsTakenIn crew.new }
     ensures lists { SameLists crew.old crew.new }
 {
     for index in 0..crew.len() {

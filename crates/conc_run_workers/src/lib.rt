@@ -10,4 +10,4 @@ mod resolving;
 mod running;
 
 pub use crew::CrewMember;
-pub use running::{Ran, run_with_workers};
+pub use running::{Pool, Ran, run_with_workers};

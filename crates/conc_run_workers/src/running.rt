@@ -1,4 +1,4 @@
-ghost use Rattle.std.specs.Prelude.{◌≡◌, ◌⊎◌, ◌<◌, ◌≤◌, [], IfOk, IfSome, IsErrOf, IsSome, IsTrue, length, OnOk, replicate, Result};
+ghost use Rattle.std.specs.Prelude.{◌≡◌, ◌⊎◌, ◌<◌, ◌≤◌, [], Err, IfOk, IfSome, IsErrOf, IsSome, IsTrue, length, None, OnOk, replicate, Result};
 ghost use Rattle.conc_types.specs.declared.event.RequestId.{RequestId};
 ghost use Rattle.conc_pool_seats.specs.declared.views.LeadState.TheVariants as lead_state;
 ghost use Rattle.std.specs.Thread.{IsSync};
@@ -20,7 +20,7 @@ ghost use Rattle.conc_run_workers.specs.Resolvers.{HasWaited, IfEnded, IfTooFew,
 ghost use Rattle.conc_run_workers.specs.declared.running.Directed.{Directed};
 ghost use Rattle.conc_run_workers.specs.Resolving.{Concludes, IsAtWork};
 ghost use Rattle.conc_run_steps.specs.Told.{IsTold, IsUntold};
-ghost use Rattle.conc_run_workers.specs.Runs.{AwaitsReport};
+ghost use Rattle.conc_run_workers.specs.Pools.{HasLackedReport, HasOpened, IsShutDown};
 
 use crate::arrivals::Arrivals;
 use crate::boarding::{dismiss, put_waiting};
@@ -39,6 +39,17 @@ use std::alloc::Global;
 use std::sync::Wait;
 use std::thread::{Threads, join_mut};
 
+/// The workers of a run, and the board between them and the one that lets requests out.
+#[derive(Drop)]
+pub struct Pool {
+    /// The board.
+    pub board: Board,
+    /// Its lead, which was handed what the workers made.
+    pub lead: Lead,
+    /// The workers.
+    pub crew: Vec<CrewMember>,
+}
+
 /// What a run with workers gives back, however it ended.
 #[derive(Drop)]
 pub struct Ran<'p> {
@@ -46,10 +57,27 @@ pub struct Ran<'p> {
     pub work: Work<'p>,
     /// The pass that filled the lanes of the run. None only where the run found no memory.
     pub puts: Option<LeadPass>,
-    /// The workers of the run. None only where the run found no memory.
-    pub crew: Option<Vec<CrewMember>>,
+    /// The pool of the run, shut down. None only where the run found no memory.
+    pub pool: Option<Pool>,
     /// Whether the history is finished, or why it is not.
     pub answer: Result<(), RunFail>,
+}
+
+impl<'p> Ran<'p> {
+    // What a run gives back that found no memory before it began.
+    fn out_of_memory(work: Work<'p>) -> Ran<'p>
+        ensures work { result.work ≡ work.entry }
+        ensures puts { result.puts ≡ None }
+        ensures pool { result.pool ≡ None }
+        ensures answer { result.answer ≡ Err run_fail.NoMemory }
+    {
+        Ran {
+            work,
+            puts: None,
+            pool: None,
+            answer: Err(RunFail::NoMemory),
+        }
+    }
 }
 
 /// What comes of a run beside its workers.
@@ -282,9 +310,12 @@ pub fn run_with_workers<
     ensures puts { HasPuts (plan_in work.entry) (list_in work.entry) (list_in result.work)
         result.answer result.puts }
 
-    // Who served, and where.
-    ensures crew { IfSome result.crew (λ crew. IsCrewFor (plan_in work.entry) threads crew.items) }
-    ensures served { IsSome result.puts → IsSome result.crew }
+    // Who served, and where; and that no one is left at work.
+    ensures crew { IfSome result.pool (λ pool. IsCrewFor (plan_in work.entry) threads
+        pool.crew.items) }
+    ensures shut_down { IfSome result.pool (λ pool. IsShutDown (plan_in work.entry) pool) }
+    ensures opened { IfSome result.pool (λ pool. OnOk result.answer (HasOpened result.work pool)) }
+    ensures served { IsSome result.puts → IsSome result.pool }
 
     // Why it ends before.
     ensures journal_fault { IsErrOf result.answer run_fail.JournalFault
@@ -293,19 +324,14 @@ pub fn run_with_workers<
         → Rose (E.state spool.old).faults (E.state spool.new).faults }
     ensures memory { IsErrOf result.answer run_fail.NoMemory
         → (list_in result.work ≡ list_in work.entry)
-        ⊎ (AwaitsReport (plan_in work.entry) (list_in result.work)
+        ⊎ (HasLackedReport (plan_in work.entry) (list_in result.work) result.pool
         ⊎ (IsTrue (T.may_lack teller.new) × IsUntold (T.list teller.new) (list_in result.work))) }
     ensures sound { (IsErrOf result.answer run_fail.JournalFault → ⊥)
         → state_of result.work.journal ≡ state_of work.entry.journal }
 {
     let plan = work.machine.plan();
     let Ok(means) = prepare(alloc, plan, threads) else {
-        return Ran {
-            work,
-            puts: None,
-            crew: None,
-            answer: Err(RunFail::NoMemory),
-        };
+        return Ran::out_of_memory(work);
     };
     let Means {
         shared,
@@ -319,23 +345,23 @@ pub fn run_with_workers<
     let directed = shared.resolve_beside(&mut crew, &mut desk, journal, spool, teller, &mut hints);
     let (mut lead, work) = desk.into_parts();
     take_in(&shared.board, &mut lead, crew.members.as_mut_slice());
-    shared.board.close(lead);
+    let Shared { board, .. } = shared;
     let Hints { pass, .. } = hints;
     match directed {
         Directed::Ended(answer) => Ran {
             work,
             puts: Some(pass),
-            crew: Some(crew.members),
+            pool: Some(Pool {
+                board,
+                lead,
+                crew: crew.members,
+            }),
             answer,
         },
         Directed::TooFew(here) if here > 0 => {
+            board.close(lead);
             run_with_workers(rt, alloc, work, journal, spool, teller, gate, here)
         }
-        Directed::TooFew(_) => Ran {
-            work,
-            puts: None,
-            crew: None,
-            answer: Err(RunFail::NoMemory),
-        },
+        Directed::TooFew(_) => Ran::out_of_memory(work),
     }
 }

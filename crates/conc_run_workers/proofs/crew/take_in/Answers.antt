@@ -3,7 +3,7 @@ use Rattle.std.proofs.lemmas.List.{get_or_default}
 use mathlib.Core.Logic.{dite}
 use native.Mathlib.Decide.{ℕ_discrete}
 use Rattle.conc_board.specs.declared.lead.Lead.{Lead}
-use Rattle.conc_board.specs.Seats.{IsLeadOf, plan_of}
+use Rattle.conc_board.specs.Seats.{IsLeadOf, plan_of, posts_of_lead, SameLeadStates, SameSwitches}
 use Rattle.conc_run_workers.specs.Crews.{Covers, IsFreeMember}
 use Rattle.conc_run_workers.specs.declared.crew.CrewMember.{CrewMember}
 use Rattle.conc_run_workers.proofs.Crews.{covers-none, covers-taken, free-hand}
@@ -33,6 +33,9 @@ loop-index-preserved c =
     elim c.match-take.branch [
       | in-Some w ↦ record {
         lead = subst (λ (l : Lead). IsLeadOf board l) (sym w.lead-is) w.join.ensures.lead;
+        lead_states = subst (λ (l : Lead). SameLeadStates c.args.lead.now l) (sym w.lead-is) (record { each = λ r. w.join.ensures.lead_states.each r ∙ i.lead_states.each r });
+        switches = subst (λ (l : Lead). SameSwitches c.args.lead.now l) (sym w.lead-is) (record { each = λ word. w.join.ensures.switches.each word ∙ i.switches.each word });
+        posts = ap (λ (l : Lead). posts_of_lead l) w.lead-is ∙ (w.join.ensures.posts ∙ i.posts);
         all = refl;
         long = length-set ws k worker ∙ i.long;
         free = free;

@@ -1,5 +1,5 @@
 use Rattle.std.proofs.Common.{◌≡◌, ◌<◌, ◌≤◌, ℕ, None, length, slice_index_or}
-use Rattle.conc_board.specs.Seats.{IsLeadOf, plan_of}
+use Rattle.conc_board.specs.Seats.{IsLeadOf, plan_of, posts_of_lead, SameLeadStates, SameSwitches}
 use Rattle.conc_run_workers.specs.Crews.{Covers, IsFreeMember}
 use Rattle.conc_run_workers.specs.declared.crew.CrewMember.{CrewMember}
 use Rattle.conc_run_workers.proofs.crew.take_in.Given as goal
@@ -7,6 +7,9 @@ use Rattle.conc_run_workers.proofs.crew.take_in.Given as goal
 abbrev pub invariant-loop-index : goal.invariant-loop-index
 invariant-loop-index l = record {
   lead : IsLeadOf l.board l.lead;
+  lead_states : SameLeadStates l.initial.lead l.lead;
+  switches : SameSwitches l.initial.lead l.lead;
+  posts : posts_of_lead l.lead ≡ posts_of_lead l.initial.lead;
   all : l.index-end ≡ length l.initial.crew;
   long : length l.crew ≡ length l.initial.crew;
   free : (i : ℕ) (d : CrewMember) → l.index ≤ i → i < length l.initial.crew → IsFreeMember l.board (slice_index_or l.crew i d);

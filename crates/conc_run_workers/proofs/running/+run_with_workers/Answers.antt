@@ -1,13 +1,13 @@
 use Rattle.std.proofs.Common.{◌≡◌, ◌⊎◌, ◌++◌, ℕ, All, List, Some, inr, [], true, length, take, drop, sym, ◌∙◌, ap, subst, arith}
-use Rattle.std.specs.Prelude.{OnOk}
+use Rattle.std.specs.Prelude.{IfSome, OnOk}
 use Rattle.conc_types.specs.declared.plan.Plan.{Plan}
 use Rattle.conc_board.specs.declared.lead.Lead.{Lead}
-use Rattle.conc_board.specs.Seats.{places_of_lead, plan_of}
+use Rattle.conc_board.specs.Seats.{places_of_lead, plan_of, posts_of_lead, switch_of}
 use Rattle.conc_pool_seats.specs.Words.{count_of_requests, count_of_words}
 use Rattle.conc_disk.specs.Disk.{DiskState}
 use Rattle.conc_journal.specs.Journals.{state_of}
 use Rattle.conc_base_law.specs.Law.{Finished}
-use Rattle.conc_run_desk.specs.Desks.{IsAt}
+use Rattle.conc_run_desk.specs.Desks.{HasOpenWhatIsUsable, IsAt}
 use Rattle.conc_run_state.specs.Disks.{disks}
 use Rattle.conc_run_state.specs.Works.{list_in}
 use Rattle.conc_run_state.specs.declared.work.Work.{Work}
@@ -15,14 +15,17 @@ use Rattle.conc_run_steps.specs.Going.{WentOn}
 use Rattle.conc_run_steps.specs.Steps.{plan_in, readings_in}
 use Rattle.conc_run_steps.specs.Told.{IsTold, IsUntold}
 use Rattle.conc_run_steps.proofs.Underway.{went-still}
-use Rattle.conc_run_workers.specs.Crews.{Covers, IsCrewFor, IsFreeMember, SameLists}
+use Rattle.conc_run_workers.specs.Crews.{Covers, IsCrewFor, IsFreeMember, IsTakenIn, SameLists}
 use Rattle.conc_run_workers.specs.declared.crew.CrewMember.{CrewMember}
 use Rattle.conc_run_workers.specs.Resolvers.{standing}
 use Rattle.conc_run_workers.specs.Resolving.{IsDismissed}
-use Rattle.conc_run_workers.specs.Runs.{AwaitsReport}
-use Rattle.conc_run_workers.proofs.Advancing.{short-awaits}
+use Rattle.conc_run_workers.specs.Pools.{IsShutDown}
+use Rattle.conc_run_workers.specs.Runs.{LacksReport}
+use Rattle.conc_run_workers.specs.declared.running.Pool.{Pool}
+use Rattle.conc_run_workers.proofs.Advancing.{short-first}
+use Rattle.conc_run_workers.proofs.Pools.{dismissed-still, opened-still, short-by}
 use Rattle.conc_run_workers.proofs.Outcomes.{either-way}
-use Rattle.conc_run_workers.proofs.Crews.{covers-same, crew-same, crew-wider, if-some, lists-after, take-front}
+use Rattle.conc_run_workers.proofs.Crews.{covers-same, crew-same, crew-wider, front-whole, if-some, lists-after}
 use Rattle.conc_pool_lanes.specs.Puts.{lists_for}
 use Rattle.conc_pool_lanes.proofs.Lists.{lists_for-none}
 use Rattle.conc_run_workers.proofs.Filled.{puts-by}
@@ -30,7 +33,9 @@ use Rattle.conc_run_workers.proofs.running.+run_with_workers.Goals as goal
 
 pub returns-in_default-clause-went_on : goal.returns-in_default-clause-went_on
 returns-in_default-clause-went_on g t c =
-    went-still c.args.work (g.D.Disk.state c.args.journal.now) (g.E.Disk.state c.args.spool.now) c.requires.ready ((g.met.E.Disk g.world.𝓛 g.world.𝓜 g.world.𝓡 ((λ s x. x), (λ x. x), (λ x. x), λ x. x)).seen_is_left c.args.spool.now)
+    subst (λ (w : Work). WentOn (plan_in c.args.work) (readings_in c.args.work) (disks (g.D.Disk.state c.args.journal.now) (g.D.Disk.state c.args.journal.now) (g.E.Disk.state c.args.spool.now) (g.E.Disk.state c.args.spool.now)) c.args.work w)
+    (sym c.out_of_memory.ensures.work)
+    (went-still c.args.work (g.D.Disk.state c.args.journal.now) (g.E.Disk.state c.args.spool.now) c.requires.ready ((g.met.E.Disk g.world.𝓛 g.world.𝓜 g.world.𝓡 ((λ s x. x), (λ x. x), (λ x. x), λ x. x)).seen_is_left c.args.spool.now))
 
 -- ---- the lanes
 
@@ -105,12 +110,13 @@ returns-in-Ended-clause-spool_fault g t c = λ is.
 pub returns-in-Ended-clause-memory : goal.returns-in-Ended-clause-memory
 returns-in-Ended-clause-memory g t c = λ is.
     let ended = c.in-Ended.ensures.concludes in
-    let told = g.T.Teller.list c.resolve_beside-directed.new.teller in let lacks = g.T.Teller.may_lack c.resolve_beside-directed.new.teller in
-    subst (λ (z : Work × Work). (list_in z.1 ≡ list_in z.0) ⊎ (AwaitsReport (plan_in z.0) (list_in z.1) ⊎ ((lacks ≡ true) × IsUntold told (list_in z.1))))
+    let told = g.T.Teller.list c.resolve_beside-directed.new.teller in let lacks = g.T.Teller.may_lack c.resolve_beside-directed.new.teller in let lead = c.take_in.new.lead in
+    let kept : posts_of_lead lead ≡ posts_of_lead c.resolve_beside-directed.new.desk.lead = c.take_in.ensures.posts ∙ ap (λ z. posts_of_lead z.0) c.into_parts-lead.ensures.parts in
+    subst (λ (z : Work × Work). (list_in z.1 ≡ list_in z.0) ⊎ (LacksReport (plan_in z.0) (list_in z.1) lead ⊎ ((lacks ≡ true) × IsUntold told (list_in z.1))))
     (λ i. (c.new-desk.ensures.work i, sym (ap (λ z. z.1) c.into_parts-lead.ensures.parts) i))
-    (inr (short-awaits (standing g.D.Disk g.E.Disk g.T.Teller c.new-desk.result c.args.journal.now c.args.spool.now c.args.teller.now)
+    (inr (short-by kept (short-first (standing g.D.Disk g.E.Disk g.T.Teller c.new-desk.result c.args.journal.now c.args.spool.now c.args.teller.now)
     (standing g.D.Disk g.E.Disk g.T.Teller c.resolve_beside-directed.new.desk c.resolve_beside-directed.new.journal c.resolve_beside-directed.new.spool c.resolve_beside-directed.new.teller)
-    ended.went (ended.memory is)))
+    ended.went (ended.memory is))))
 
 pub returns-in-Ended-clause-sound : goal.returns-in-Ended-clause-sound
 returns-in-Ended-clause-sound g t c = λ none.
@@ -123,13 +129,31 @@ returns-in-Ended-clause-puts g t c =
     puts-by c.in-Ended.answer c.in-Ok.means.shared.lanes (plan_in c.args.work) (list_in c.args.work) c.resolve_beside-directed.new.desk c.resolve_beside-directed.new.hints.pass c.into_parts-lead.result.1
     (ap (λ z. z.1) c.into_parts-lead.ensures.parts) (c.in-Ok.ensures.one_plan.1 ∙ (c.in-Ok.ensures.plan ∙ c.plan-plan.ensures)) (left.begun_with ∙ c.new-desk.ensures.begun_with) left.filled
 
+pub returns-in-Ended-clause-shut_down : goal.returns-in-Ended-clause-shut_down
+returns-in-Ended-clause-shut_down g t c =
+    let made = c.take_in.ensures in let members = c.resolve_beside-directed.new.crew.members in let us = c.take_in.new.crew in
+    let lists : SameLists members.items us = subst (λ (l : List CrewMember). SameLists l us) c.as_mut_slice.ensures.value made.lists in
+    let front = front-whole us (drop (length us) members.items) members.len (omega (arith, lists.long, members.ok)) in record {
+      plan = sym c.in-Ok.ensures.one_plan.0 ∙ (c.in-Ok.ensures.plan ∙ c.plan-plan.ensures);
+      lead = made.lead;
+      dismissed = dismissed-still made.lead_states made.switches (subst (λ (l : Lead). IsDismissed c.in-Ok.means.shared.board l) (sym (ap (λ z. z.0) c.into_parts-lead.ensures.parts)) c.in-Ended.ensures.concludes.dismissed);
+      taken_in = subst (λ (l : List CrewMember). All IsTakenIn l) front made.taken_in;
+      places = made.all;
+    }
+
+pub returns-in-Ended-clause-opened : goal.returns-in-Ended-clause-opened
+returns-in-Ended-clause-opened g t c =
+    let ended = c.in-Ended.ensures.concludes in
+    subst (λ (w : Work). OnOk c.in-Ended.answer (HasOpenWhatIsUsable c.in-Ok.means.shared.board c.take_in.new.lead w)) (sym (ap (λ z. z.1) c.into_parts-lead.ensures.parts))
+    (opened-still c.in-Ended.answer (record { each = λ word. c.take_in.ensures.switches.each word ∙ ap (λ z. switch_of z.0 word) c.into_parts-lead.ensures.parts }) ended.opens)
+
 pub returns-in-Ended-clause-crew : goal.returns-in-Ended-clause-crew
 returns-in-Ended-clause-crew g t c =
     let members = c.resolve_beside-directed.new.crew.members in let us = c.take_in.new.crew in let ws = c.in-Ok.means.crew.items in
     let first : SameLists ws members.items = c.resolve_beside-directed.ensures.crew.2 in
     let second : SameLists members.items us = subst (λ (l : List CrewMember). SameLists l us) c.as_mut_slice.ensures.value c.take_in.ensures.lists in
     let count : length us ≡ members.len = omega (arith, second.long, members.ok) in
-    let front : us ≡ take members.len (us ++ drop (length us) members.items) = sym (take-front us (drop (length us) members.items)) ∙ ap (λ (n : ℕ). take n (us ++ drop (length us) members.items)) count in
+    let front = front-whole us (drop (length us) members.items) members.len count in
     subst (λ (l : List CrewMember). IsCrewFor (plan_in c.args.work) c.args.threads l) front
     (crew-same (plan_in c.args.work) c.args.threads ws us (lists-after ws members.items us first second)
     (subst (λ (p : Plan). IsCrewFor p c.args.threads ws) c.plan-plan.ensures c.in-Ok.ensures.crew_for))
@@ -138,10 +162,16 @@ pub returns-in-TooFew-clause-crew : goal.returns-in-TooFew-clause-crew
 returns-in-TooFew-clause-crew g t c =
     let waited = c.in-TooFew.ensures.waited in
     let same : c.into_parts-lead.result.1 ≡ c.args.work = ap (λ z. z.1) c.into_parts-lead.ensures.parts ∙ waited.0.dismisses.moves.same.work ∙ c.new-desk.ensures.work in
-    if-some _ _ c.run_with_workers.result.crew
-    (λ crew fits. crew-wider (plan_in c.args.work) c.in-TooFew.here c.args.threads crew.items (omega (arith, waited.0.fewer, c.in-Ok.ensures.expected))
-    (subst (λ (w : Work). IsCrewFor (plan_in w) c.in-TooFew.here crew.items) same fits))
+    if-some _ _ c.run_with_workers.result.pool
+    (λ pool fits. crew-wider (plan_in c.args.work) c.in-TooFew.here c.args.threads pool.crew.items (omega (arith, waited.0.fewer, c.in-Ok.ensures.expected))
+    (subst (λ (w : Work). IsCrewFor (plan_in w) c.in-TooFew.here pool.crew.items) same fits))
     c.run_with_workers.ensures.crew
+
+pub returns-in-TooFew-clause-shut_down : goal.returns-in-TooFew-clause-shut_down
+returns-in-TooFew-clause-shut_down g t c =
+    let waited = c.in-TooFew.ensures.waited in
+    let same : c.into_parts-lead.result.1 ≡ c.args.work = ap (λ z. z.1) c.into_parts-lead.ensures.parts ∙ waited.0.dismisses.moves.same.work ∙ c.new-desk.ensures.work in
+    subst (λ (w : Work). IfSome c.run_with_workers.result.pool (λ pool. IsShutDown (plan_in w) pool)) same c.run_with_workers.ensures.shut_down
 
 -- ---- where no worker came
 
@@ -151,4 +181,4 @@ returns-clause-went_on g t c =
     let same : c.into_parts-lead.result.1 ≡ c.args.work = ap (λ z. z.1) c.into_parts-lead.ensures.parts ∙ waited.0.dismisses.moves.same.work ∙ c.new-desk.ensures.work in
     let still = went-still c.args.work (g.D.Disk.state c.args.journal.now) (g.E.Disk.state c.args.spool.now) c.requires.ready ((g.met.E.Disk g.world.𝓛 g.world.𝓜 g.world.𝓡 ((λ s x. x), (λ x. x), (λ x. x), λ x. x)).seen_is_left c.args.spool.now) in
     subst (λ (z : DiskState × DiskState × Work). WentOn (plan_in c.args.work) (readings_in c.args.work) (disks (g.D.Disk.state c.args.journal.now) z.0 (g.E.Disk.state c.args.spool.now) z.1) c.args.work z.2)
-    (λ i. (g.D.Disk.state (sym waited.1 i), g.E.Disk.state (sym waited.2 i), sym same i)) still
+    (λ i. (g.D.Disk.state (sym waited.1 i), g.E.Disk.state (sym waited.2 i), sym (c.out_of_memory.ensures.work ∙ same) i)) still

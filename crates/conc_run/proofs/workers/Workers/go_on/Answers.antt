@@ -13,7 +13,7 @@ use Rattle.conc_run_steps.specs.Told.{IsTold}
 use Rattle.conc_run_steps.proofs.Coming.{lawful-past}
 use Rattle.conc_run_steps.proofs.Underway.{by-same}
 use Rattle.conc_run.specs.Telling.{LacksTelling}
-use Rattle.conc_run.proofs.Ended.{ended-err, ends-err, ends-ok, on-ok, own-ready, ran-alone, ran-as, ran-beside, ran-none}
+use Rattle.conc_run.proofs.Ended.{beside-short, ended-err, ends-err, ends-ok, on-ok, own-ready, ran-alone, ran-as, ran-beside, ran-none}
 use Rattle.conc_run.proofs.Failing.{rose-since}
 use Rattle.conc_run.proofs.Opened.{cut-begin}
 use Rattle.conc_run.proofs.Telling.{own-told, resume-next, resume-told, resume-untold}
@@ -133,7 +133,7 @@ returns-in_err-answer-clause-ends g c = λ before texts was.
     let untold = LacksTelling (g.T.Teller.may_lack with.new.teller) (g.T.Teller.list with.new.teller) in
     ends-err c.args.self.now.threads h journal spool c.in_ok-work.field-0.work with.result.work begun (c.lawful_is_lawful_so_far.ensures input.plan.now input.readings.now) was.untouched.spool was.untouched.spool_survives untold c.in_err-answer.field-0.0
     c.from_residual-in_err-answer.result p.0 p.1 p.2
-    (ran-as is (ran-beside (λ none. omega (arith, none, c.if-self-eq0.false)) made.went_on made.journal_fault made.spool_fault made.memory made.sound))
+    (ran-as is (ran-beside (λ none. omega (arith, none, c.if-self-eq0.false)) made.went_on made.journal_fault made.spool_fault (λ lacks. beside-short with.result.pool (made.memory lacks)) made.sound))
 
 pub returns-clause-ends : goal.returns-clause-ends
 returns-clause-ends g c = λ before texts was.
@@ -146,7 +146,7 @@ returns-clause-ends g c = λ before texts was.
     let begun = (c.in_ok-work.ensures.begins before texts was).begun in
     let untold = LacksTelling (g.T.Teller.may_lack with.new.teller) (g.T.Teller.list with.new.teller) in
     ends-ok c.args.self.now.threads h journal spool c.in_ok-work.field-0.work with.result.work begun (c.lawful_is_lawful_so_far.ensures input.plan.now input.readings.now) was.untouched.spool was.untouched.spool_survives untold c.in_ok-answer.field-0
-    (ran-as is (ran-beside (λ none. omega (arith, none, c.if-self-eq0.false)) made.went_on made.journal_fault made.spool_fault made.memory made.sound))
+    (ran-as is (ran-beside (λ none. omega (arith, none, c.if-self-eq0.false)) made.went_on made.journal_fault made.spool_fault (λ lacks. beside-short with.result.pool (made.memory lacks)) made.sound))
     (c.table_of_alone.ensures input.plan.now input.readings.now) (on-ok is made.finished)
 
 pub returns-clause-told : goal.returns-clause-told
