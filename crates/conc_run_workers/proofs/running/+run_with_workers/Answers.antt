@@ -134,9 +134,9 @@ returns-in-Ended-clause-shut_down g t c =
     let made = c.take_in.ensures in let members = c.resolve_beside-directed.new.crew.members in let us = c.take_in.new.crew in
     let lists : SameLists members.items us = subst (λ (l : List CrewMember). SameLists l us) c.as_mut_slice.ensures.value made.lists in
     let front = front-whole us (drop (length us) members.items) members.len (omega (arith, lists.long, members.ok)) in record {
-      plan = sym c.in-Ok.ensures.one_plan.0 ∙ (c.in-Ok.ensures.plan ∙ c.plan-plan.ensures);
+      made_for = sym c.in-Ok.ensures.one_plan.0 ∙ (c.in-Ok.ensures.plan ∙ c.plan-plan.ensures);
       lead = made.lead;
-      dismissed = dismissed-still made.lead_states made.switches (subst (λ (l : Lead). IsDismissed c.in-Ok.means.shared.board l) (sym (ap (λ z. z.0) c.into_parts-lead.ensures.parts)) c.in-Ended.ensures.concludes.dismissed);
+      dismissed = dismissed-still c.in-Ok.means.shared.board _ _ made.lead_states made.switches (subst (λ (l : Lead). IsDismissed c.in-Ok.means.shared.board l) (sym (ap (λ z. z.0) c.into_parts-lead.ensures.parts)) c.in-Ended.ensures.concludes.dismissed);
       taken_in = subst (λ (l : List CrewMember). All IsTakenIn l) front made.taken_in;
       places = made.all;
     }
@@ -145,7 +145,7 @@ pub returns-in-Ended-clause-opened : goal.returns-in-Ended-clause-opened
 returns-in-Ended-clause-opened g t c =
     let ended = c.in-Ended.ensures.concludes in
     subst (λ (w : Work). OnOk c.in-Ended.answer (HasOpenWhatIsUsable c.in-Ok.means.shared.board c.take_in.new.lead w)) (sym (ap (λ z. z.1) c.into_parts-lead.ensures.parts))
-    (opened-still c.in-Ended.answer (record { each = λ word. c.take_in.ensures.switches.each word ∙ ap (λ z. switch_of z.0 word) c.into_parts-lead.ensures.parts }) ended.opens)
+    (opened-still c.in-Ok.means.shared.board _ _ _ c.in-Ended.answer (record { each = λ word. c.take_in.ensures.switches.each word ∙ ap (λ z. switch_of z.0 word) c.into_parts-lead.ensures.parts }) ended.opens)
 
 pub returns-in-Ended-clause-crew : goal.returns-in-Ended-clause-crew
 returns-in-Ended-clause-crew g t c =
