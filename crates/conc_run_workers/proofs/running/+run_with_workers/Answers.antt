@@ -181,4 +181,4 @@ returns-clause-went_on g t c =
     let same : c.into_parts-lead.result.1 ≡ c.args.work = ap (λ z. z.1) c.into_parts-lead.ensures.parts ∙ waited.0.dismisses.moves.same.work ∙ c.new-desk.ensures.work in
     let still = went-still c.args.work (g.D.Disk.state c.args.journal.now) (g.E.Disk.state c.args.spool.now) c.requires.ready ((g.met.E.Disk g.world.𝓛 g.world.𝓜 g.world.𝓡 ((λ s x. x), (λ x. x), (λ x. x), λ x. x)).seen_is_left c.args.spool.now) in
     subst (λ (z : DiskState × DiskState × Work). WentOn (plan_in c.args.work) (readings_in c.args.work) (disks (g.D.Disk.state c.args.journal.now) z.0 (g.E.Disk.state c.args.spool.now) z.1) c.args.work z.2)
-    (λ i. (g.D.Disk.state (sym waited.1 i), g.E.Disk.state (sym waited.2 i), sym (c.out_of_memory.ensures.work ∙ same) i)) still
+    (λ i. (g.D.Disk.state (sym waited.1 i), g.E.Disk.state (sym waited.2 i), sym (c.out_of_memory-in-TooFew-2.ensures.work ∙ same) i)) still
