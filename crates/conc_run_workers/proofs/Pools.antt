@@ -1,5 +1,5 @@
 -- The lead of a pool, after it has taken in the hands of the workers.
-use Rattle.std.proofs.Common.{◌≡◌, ◌⊎◌, List, Bool, true, Option, Result, Ok, Err, inl, inr, sym, ◌∙◌, subst, ℕ}
+use Rattle.std.proofs.Common.{◌≡◌, ◌⊎◌, List, Result, Ok, Err, inl, inr, sym, ◌∙◌, subst, ℕ}
 use Rattle.std.specs.Prelude.{OnOk}
 use Rattle.conc_types.specs.declared.event.Event.{Event}
 use Rattle.conc_types.specs.declared.plan.Plan.{Plan}

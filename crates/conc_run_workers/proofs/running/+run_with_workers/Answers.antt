@@ -1,4 +1,4 @@
-use Rattle.std.proofs.Common.{◌≡◌, ◌⊎◌, ◌++◌, ℕ, All, List, Some, inr, [], true, length, take, drop, sym, ◌∙◌, ap, subst, arith}
+use Rattle.std.proofs.Common.{◌≡◌, ◌⊎◌, All, List, Some, inr, [], true, length, drop, sym, ◌∙◌, ap, subst, arith}
 use Rattle.std.specs.Prelude.{IfSome, OnOk}
 use Rattle.conc_types.specs.declared.plan.Plan.{Plan}
 use Rattle.conc_board.specs.declared.lead.Lead.{Lead}
@@ -21,7 +21,6 @@ use Rattle.conc_run_workers.specs.Resolvers.{standing}
 use Rattle.conc_run_workers.specs.Resolving.{IsDismissed}
 use Rattle.conc_run_workers.specs.Pools.{IsShutDown}
 use Rattle.conc_run_workers.specs.Runs.{LacksReport}
-use Rattle.conc_run_workers.specs.declared.running.Pool.{Pool}
 use Rattle.conc_run_workers.proofs.Advancing.{short-first}
 use Rattle.conc_run_workers.proofs.Pools.{dismissed-still, opened-still, short-by}
 use Rattle.conc_run_workers.proofs.Outcomes.{either-way}
