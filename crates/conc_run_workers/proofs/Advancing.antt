@@ -18,7 +18,7 @@ use Rattle.conc_run_state.specs.declared.work.Work.{Work}
 use Rattle.conc_run_steps.specs.Going.{IsUnderway, WentOn}
 use Rattle.conc_run_steps.specs.Steps.{IsFinished, plan_in, readings_in}
 use Rattle.conc_run_steps.specs.Told.{IsTold, IsUntold}
-use Rattle.conc_run_steps.proofs.Underway.{by-first, underway-more, underway-still, went-further, went-still}
+use Rattle.conc_run_steps.proofs.Underway.{by-first, underway-more, underway-still, went-further}
 use Rattle.conc_run_desk.specs.Desks.{MovesOne, OpensWhatIsUsable, list_at, plan_at}
 use Rattle.conc_run_desk.specs.State.{DeskState}
 use Rattle.conc_run_workers.specs.Resolving.{Advances, Concludes, disks_between, IsAtWork, IsDismissed, IsShortOfMemory, MovesAt, Resolves, Situation, StaysAt}

@@ -70,10 +70,9 @@ lacks board old new r is named tied same taken =
     let none = is-none (must_stop_at old r) taken.posted taken.answers in
     let last : Has (posts_of_lead new.lead) (request_word r, NoMemory) =
     subst (λ (l : List (ℕ × Posted)). Has l (request_word r, NoMemory)) (sym (taken.taken ∙ ap (λ (p : Posted). posts_of_lead old.lead ++ (request_word r, p) ∷ []) none)) (has-last (posts_of_lead old.lead) (request_word r, NoMemory)) in
-    subst (λ (z : Plan × List Event). (w : AwaitsReport z.0 z.1) × Has (posts_of_lead new.lead) (request_word w.req.number, NoMemory) → LacksReport z.0 z.1 new.lead)
-    (λ i. (ap (λ (m : Machine). plan_of m) same.machine i, ap (λ (j : Journal). list_of j) same.journal i))
-    (λ both. record { awaits = both.0; handed = both.1 })
-    (waits.0, subst (λ (z : RequestId). Has (posts_of_lead new.lead) (request_word z, NoMemory)) (sym waits.1) last)
+    subst (λ (z : Plan × List Event). LacksReport z.0 z.1 new.lead)
+    (λ i. (ap (λ (m : Machine). plan_of m) (sym same.machine) i, ap (λ (j : Journal). list_of j) (sym same.journal) i))
+    (record { awaits = waits.0; handed = subst (λ (z : RequestId). Has (posts_of_lead new.lead) (request_word z, NoMemory)) (sym waits.1) last })
 
 -- it lacks it still after a step on the board alone
 pub lacks-still : (old new : DeskState) → new.work ≡ old.work → TakesMore old.lead new.lead → LacksReport (plan_at old) (list_at old) old.lead → LacksReport (plan_at new) (list_at new) new.lead

@@ -1,5 +1,5 @@
 -- The lead of a pool, after it has taken in the hands of the workers.
-use Rattle.std.proofs.Common.{◌≡◌, ◌⊎◌, List, Bool, true, Option, Result, Ok, Err, inl, inr, sym, ◌∙◌, subst, ℕ}
+use Rattle.std.proofs.Common.{◌≡◌, ◌⊎◌, List, Result, Ok, Err, inl, inr, sym, ◌∙◌, subst, ℕ}
 use Rattle.std.specs.Prelude.{OnOk}
 use Rattle.conc_types.specs.declared.event.Event.{Event}
 use Rattle.conc_types.specs.declared.plan.Plan.{Plan}
@@ -18,16 +18,16 @@ use Rattle.conc_run_workers.specs.Resolving.{IsDismissed}
 use Rattle.conc_run_workers.specs.Runs.{LacksReport}
 
 -- nothing is let out still, and the workers were told
-pub dismissed-still : {board : Board} {old new : Lead} → SameLeadStates old new → SameSwitches old new → IsDismissed board old → IsDismissed board new
-dismissed-still same switches dismissed = record {
+pub dismissed-still : (board : Board) (old new : Lead) → SameLeadStates old new → SameSwitches old new → IsDismissed board old → IsDismissed board new
+dismissed-still board old new same switches dismissed = record {
   none_let = λ r named is. dismissed.none_let r named (subst IsLet (same.each r) is);
   told = switches.each _ ∙ dismissed.told;
 }
 
 -- the same places are open
-pub opened-still : {T : Type 0} {board : Board} {old new : Lead} {work : Work} (answer : Result T RunFail) → SameSwitches old new → OnOk answer (HasOpenWhatIsUsable board old work) → OnOk answer (HasOpenWhatIsUsable board new work)
-opened-still (Ok x) switches opens = record { each = λ p near. switches.each _ ∙ opens.each p near }
-opened-still (Err fail) switches opens = tt
+pub opened-still : {T : Type 0} (board : Board) (old new : Lead) (work : Work) (answer : Result T RunFail) → SameSwitches old new → OnOk answer (HasOpenWhatIsUsable board old work) → OnOk answer (HasOpenWhatIsUsable board new work)
+opened-still board old new work (Ok x) switches opens = record { each = λ p near. switches.each _ ∙ opens.each p near }
+opened-still board old new work (Err fail) switches opens = tt
 
 -- it was handed the same
 pub short-by : {plan : Plan} {list : List Event} {old new : Lead} {Untold : Type 0} → posts_of_lead new ≡ posts_of_lead old → LacksReport plan list old ⊎ Untold → LacksReport plan list new ⊎ Untold

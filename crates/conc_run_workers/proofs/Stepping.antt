@@ -234,7 +234,7 @@ module _ {D E T : Type 0} {d : DiskGhosts D} {e : DiskGhosts E} {t : TellerGhost
         loans = loans-after steps.loans loans;
         concludes = subst (λ (z : D × E × T × Hints). Concludes old.shared.now.board answer (situation d e t old)
             (record { desk = new.desk.now; journal = d.state z.0; spool = e.state z.1; told = t.list z.2; takes = t.takes z.2; may_lack = t.may_lack z.2 })) (sym same)
-            (concludes-begun old.shared.now.board (situation d e t old) _ answer (then-still old.shared.now.board (situation d e t old) (situation d e t mid) new.desk.now answer steps.resolves stays ends.posts) (finished-still answer is_finished stays) (opens-still answer stays ends.open steps.opens) ends.dismissed);
+            (concludes-begun old.shared.now.board (situation d e t old) _ answer (then-still old.shared.now.board (situation d e t old) (situation d e t mid) new.desk.now answer steps.resolves stays ends.posts) (finished-still answer is_finished stays) (opens-still answer stays ends.same_open steps.opens) ends.dismissed);
         fills = subst (λ (z : D × E × T × Hints). Fills old.shared.now.lanes answer old.desk.now new.desk.now z.3.pass) (sym same)
             (fills-still old.shared.now.lanes old.desk.now mid.desk.now new.desk.now mid.hints.now.pass answer steps.fills stays.same);
       }

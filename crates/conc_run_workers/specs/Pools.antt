@@ -13,7 +13,7 @@ use Rattle.conc_run_workers.specs.declared.running.Pool.{Pool}
 -- The pool was made for this plan. Nothing is let out on its board, the workers were told that there is no more to come, and each
 -- came back: the lead has taken in its hand, and has all places.
 pub record IsShutDown (plan : Plan) (pool : Pool) : Type 0 where
-  pub plan : plan_of pool.board ≡ plan
+  pub made_for : plan_of pool.board ≡ plan
   pub lead : IsLeadOf pool.board pool.lead
   pub dismissed : IsDismissed pool.board pool.lead
   pub taken_in : All IsTakenIn pool.crew.items

@@ -76,7 +76,7 @@ pub record SameOpen (board : Board) (old new : Lead) : Type 0 where
 pub record Dismisses (board : Board) (old new : DeskState) : Type 0 where
   pub moves : MovesAt board old new
   pub posts : TakesMore old.lead new.lead
-  pub open : SameOpen board old.lead new.lead
+  pub same_open : SameOpen board old.lead new.lead
   pub dismissed : IsDismissed board new.lead
 
 -- from one moment between two events the run went on to another

@@ -1,4 +1,4 @@
-use Rattle.std.proofs.Common.{◌≡◌, ℕ, ◌<◌}
+use Rattle.std.proofs.Common.{◌≡◌, ◌<◌}
 use Rattle.conc_types.specs.declared.event.PlaceId.{PlaceId}
 use Rattle.conc_base_law.specs.Places.{count_of_places}
 use Rattle.conc_board.specs.Seats.{plan_of, switch_of}

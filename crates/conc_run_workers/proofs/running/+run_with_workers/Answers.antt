@@ -1,4 +1,4 @@
-use Rattle.std.proofs.Common.{◌≡◌, ◌⊎◌, ◌++◌, ℕ, All, List, Some, inr, [], true, length, take, drop, sym, ◌∙◌, ap, subst, arith}
+use Rattle.std.proofs.Common.{◌≡◌, ◌⊎◌, All, List, Some, inr, [], true, length, drop, sym, ◌∙◌, ap, subst, arith}
 use Rattle.std.specs.Prelude.{IfSome, OnOk}
 use Rattle.conc_types.specs.declared.plan.Plan.{Plan}
 use Rattle.conc_board.specs.declared.lead.Lead.{Lead}
@@ -21,7 +21,6 @@ use Rattle.conc_run_workers.specs.Resolvers.{standing}
 use Rattle.conc_run_workers.specs.Resolving.{IsDismissed}
 use Rattle.conc_run_workers.specs.Pools.{IsShutDown}
 use Rattle.conc_run_workers.specs.Runs.{LacksReport}
-use Rattle.conc_run_workers.specs.declared.running.Pool.{Pool}
 use Rattle.conc_run_workers.proofs.Advancing.{short-first}
 use Rattle.conc_run_workers.proofs.Pools.{dismissed-still, opened-still, short-by}
 use Rattle.conc_run_workers.proofs.Outcomes.{either-way}
@@ -134,9 +133,9 @@ returns-in-Ended-clause-shut_down g t c =
     let made = c.take_in.ensures in let members = c.resolve_beside-directed.new.crew.members in let us = c.take_in.new.crew in
     let lists : SameLists members.items us = subst (λ (l : List CrewMember). SameLists l us) c.as_mut_slice.ensures.value made.lists in
     let front = front-whole us (drop (length us) members.items) members.len (omega (arith, lists.long, members.ok)) in record {
-      plan = sym c.in-Ok.ensures.one_plan.0 ∙ (c.in-Ok.ensures.plan ∙ c.plan-plan.ensures);
+      made_for = sym c.in-Ok.ensures.one_plan.0 ∙ (c.in-Ok.ensures.plan ∙ c.plan-plan.ensures);
       lead = made.lead;
-      dismissed = dismissed-still made.lead_states made.switches (subst (λ (l : Lead). IsDismissed c.in-Ok.means.shared.board l) (sym (ap (λ z. z.0) c.into_parts-lead.ensures.parts)) c.in-Ended.ensures.concludes.dismissed);
+      dismissed = dismissed-still c.in-Ok.means.shared.board _ _ made.lead_states made.switches (subst (λ (l : Lead). IsDismissed c.in-Ok.means.shared.board l) (sym (ap (λ z. z.0) c.into_parts-lead.ensures.parts)) c.in-Ended.ensures.concludes.dismissed);
       taken_in = subst (λ (l : List CrewMember). All IsTakenIn l) front made.taken_in;
       places = made.all;
     }
@@ -145,7 +144,7 @@ pub returns-in-Ended-clause-opened : goal.returns-in-Ended-clause-opened
 returns-in-Ended-clause-opened g t c =
     let ended = c.in-Ended.ensures.concludes in
     subst (λ (w : Work). OnOk c.in-Ended.answer (HasOpenWhatIsUsable c.in-Ok.means.shared.board c.take_in.new.lead w)) (sym (ap (λ z. z.1) c.into_parts-lead.ensures.parts))
-    (opened-still c.in-Ended.answer (record { each = λ word. c.take_in.ensures.switches.each word ∙ ap (λ z. switch_of z.0 word) c.into_parts-lead.ensures.parts }) ended.opens)
+    (opened-still c.in-Ok.means.shared.board _ _ _ c.in-Ended.answer (record { each = λ word. c.take_in.ensures.switches.each word ∙ ap (λ z. switch_of z.0 word) c.into_parts-lead.ensures.parts }) ended.opens)
 
 pub returns-in-Ended-clause-crew : goal.returns-in-Ended-clause-crew
 returns-in-Ended-clause-crew g t c =
@@ -181,4 +180,4 @@ returns-clause-went_on g t c =
     let same : c.into_parts-lead.result.1 ≡ c.args.work = ap (λ z. z.1) c.into_parts-lead.ensures.parts ∙ waited.0.dismisses.moves.same.work ∙ c.new-desk.ensures.work in
     let still = went-still c.args.work (g.D.Disk.state c.args.journal.now) (g.E.Disk.state c.args.spool.now) c.requires.ready ((g.met.E.Disk g.world.𝓛 g.world.𝓜 g.world.𝓡 ((λ s x. x), (λ x. x), (λ x. x), λ x. x)).seen_is_left c.args.spool.now) in
     subst (λ (z : DiskState × DiskState × Work). WentOn (plan_in c.args.work) (readings_in c.args.work) (disks (g.D.Disk.state c.args.journal.now) z.0 (g.E.Disk.state c.args.spool.now) z.1) c.args.work z.2)
-    (λ i. (g.D.Disk.state (sym waited.1 i), g.E.Disk.state (sym waited.2 i), sym (c.out_of_memory.ensures.work ∙ same) i)) still
+    (λ i. (g.D.Disk.state (sym waited.1 i), g.E.Disk.state (sym waited.2 i), sym (c.out_of_memory-in-TooFew-2.ensures.work ∙ same) i)) still
