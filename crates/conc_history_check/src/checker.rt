@@ -1,4 +1,4 @@
-ghost use Rattle.std.specs.Prelude.{◌≡◌, ◌↔◌, ℕ, ◌≤◌, List, IfNone, IfOk, IsTrue, MatchOption, length, reverse, Err};
+ghost use Rattle.std.specs.Prelude.{◌≡◌, ◌↔◌, ℕ, ◌≤◌, [], List, IfNone, IfOk, IsTrue, MatchOption, length, reverse, Err};
 ghost use Rattle.conc_types.specs.declared.event.Event.{Event};
 ghost use Rattle.conc_base_law.specs.Law.{Finished, Lawful};
 ghost use Rattle.conc_types.specs.declared.error.CheckFail.TheVariants.{Unlawful as unlawful_at};

@@ -7,6 +7,6 @@ use Rattle.conc_history_check.proofs.findings.Findings.new.Goals as goal
 pub returns : goal.returns
 unfolding earlier_lives last_life ticks now
 returns c = record {
-  taken = record { state = c.in_ok-begin.ensures; earlier = refl; ticks = refl };
+  taken = record { state = c.in_ok-state.ensures; earlier = refl; ticks = refl };
   live = c.note_live.ensures;
 }
