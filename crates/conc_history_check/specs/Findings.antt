@@ -1,5 +1,5 @@
 -- What is read of the events before a position.
-use Rattle.std.specs.Prelude.{◌≡◌, ◌+◌, ℕ, List, Option, length}
+use Rattle.std.specs.Prelude.{◌≡◌, ◌+◌, ℕ, List, Option}
 use Rattle.conc_types.specs.declared.event.Event.{Event}
 use Rattle.conc_types.specs.declared.event.Event.TheVariants as event
 use Rattle.conc_types.specs.declared.event.Moment.{Moment}

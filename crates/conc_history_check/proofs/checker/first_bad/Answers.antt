@@ -18,7 +18,7 @@ read-requires-clause-few c =
 pub loop-i-preserved : goal.loop-i-preserved
 loop-i-preserved c =
     let i = c.loop-i.i in let events = c.args.events.now in
-    let within : i < length events = omega (arith, c.loop-i-test.true, c.len-i-end.ensures) in
+    let within : i < length events = omega (arith, c.loop-i-test.true) in
     let at : slice_get events i ≡ Some c.index-events-i.result = slice_get_read _ _ i c.index-events-i.result refl within c.index-events-i.is in (
       read_more c.args.plan.now c.args.prepared.now events i c.index-events-i.result _ at (c.read.ensures _ c.loop-i.invariant.0),
       lawful_more c.args.plan.now c.args.readings.now.list events i c.loop-i.invariant.1 (sym c.is_lawful_at.ensures ∙ c.if-not-is_lawful_at.false),

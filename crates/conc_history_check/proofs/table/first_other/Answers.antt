@@ -1,4 +1,4 @@
-use Rattle.std.proofs.Common.{◌<◌, length, arith}
+use Rattle.std.proofs.Common.{arith}
 use Rattle.conc_history_check.proofs.Comparing.{agrees_end, agrees_more, agrees_until}
 use Rattle.conc_history_check.proofs.table.first_other.Goals as goal
 
