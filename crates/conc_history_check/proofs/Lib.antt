@@ -10,6 +10,9 @@ pub mod FirstStep
 pub mod Places
 pub mod NoneLeft
 pub mod AtIndex
-pub mod AllDone
+pub mod Due
+pub mod Quiet
+pub mod Skips
+pub mod Undone
 pub mod Comparing
 pub mod Offsets

@@ -2,6 +2,12 @@
 use Rattle.std.specs.Prelude.{Bool, false, not, ◌&&◌, Option, None, Some}
 use Rattle.conc_types.specs.declared.facts.Facts.{Facts}
 use Rattle.conc_base_law.specs.State.{is_completed, is_live}
+use Rattle.conc_history_check.specs.Steps.{is_left}
+
+-- it was left running at the stop of the system
+abbrev pub left_at : Option Facts → Bool
+left_at None = false
+left_at (Some own) = is_left own
 
 -- it is live
 abbrev pub live_at : Option Facts → Bool

@@ -56,13 +56,15 @@ fn is_finished(
         prepared,
         state: &findings.state,
         live: &findings.live,
+        active: findings.active,
+        undone: findings.undone,
     };
     is_at_rest(position) && next_reading(plan, readings, findings).is_none()
 }
 
 /// Whether a history is finished, where it is lawful; else the first position, from 1, whose event may
-/// not stand there. The events are read in one pass; for each of them the requests of the plan are looked
-/// through.
+/// not stand there. The events are read in one pass; for each of them the requests are looked through that
+/// may be active.
 pub fn check(
     alloc: Global,
     plan: &Plan,

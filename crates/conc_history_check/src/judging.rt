@@ -3,7 +3,7 @@ ghost use Rattle.std.specs.List.{list_any, range_with_len};
 ghost use Rattle.conc_base_law.specs.Next as spec;
 ghost use Rattle.conc_base_law.specs.Next.{may_start_somewhere};
 ghost use Rattle.conc_history_check.specs.Starts.{one_may_start};
-ghost use Rattle.conc_history_check.specs.Live.{AreNoted};
+ghost use Rattle.conc_history_check.specs.Kept.{IsKept};
 ghost use Rattle.conc_history_check.specs.Prepared.{IsPrepared};
 
 use crate::forcing::forced;
@@ -55,7 +55,7 @@ fn one_may_start_somewhere(plan: &Plan, state: &State) -> bool
 #[tactic(auto, unfolding(conc_base_law::specs::Next::is_at_rest))]
 pub(crate) fn is_at_rest(position: Position<'_>) -> bool
     requires prepared { IsPrepared position.plan.now position.prepared.now }
-    requires live { AreNoted position }
+    requires kept { IsKept position }
     ensures { result ≡ spec.is_at_rest position.entry.plan.now position.entry.state.now }
 {
     forced(position).is_none()
@@ -66,7 +66,7 @@ pub(crate) fn is_at_rest(position: Position<'_>) -> bool
 #[tactic(auto, unfolding(conc_base_law::specs::Next::may_take))]
 fn may_take(position: Position<'_>, reading: Reading) -> bool
     requires prepared { IsPrepared position.plan.now position.prepared.now }
-    requires live { AreNoted position }
+    requires kept { IsKept position }
     ensures { result ≡ spec.may_take position.entry.plan.now position.entry.state.now reading }
 {
     reading.early || is_at_rest(position)
@@ -77,7 +77,7 @@ fn may_take(position: Position<'_>, reading: Reading) -> bool
 #[tactic(auto, unfolding(conc_base_law::specs::Next::may_tick))]
 fn may_tick(position: Position<'_>, next: Option<Option<Reading>>, t: Moment) -> bool
     requires prepared { IsPrepared position.plan.now position.prepared.now }
-    requires live { AreNoted position }
+    requires kept { IsKept position }
     ensures { result ≡ spec.may_tick position.entry.plan.now position.entry.state.now next t }
 {
     match next {
@@ -92,7 +92,7 @@ fn may_tick(position: Position<'_>, next: Option<Option<Reading>>, t: Moment) ->
 #[tactic(auto, unfolding(conc_base_law::specs::Next::is_allowed))]
 fn is_allowed(position: Position<'_>, next: Option<Option<Reading>>, e: Event) -> bool
     requires prepared { IsPrepared position.plan.now position.prepared.now }
-    requires live { AreNoted position }
+    requires kept { IsKept position }
     ensures { result ≡ spec.is_allowed position.entry.plan.now position.entry.state.now next e }
 {
     match e {
@@ -117,7 +117,7 @@ fn is_allowed(position: Position<'_>, next: Option<Option<Reading>>, e: Event) -
 #[tactic(auto, unfolding(conc_base_law::specs::Next::may_come))]
 pub(crate) fn may_come(position: Position<'_>, next: Option<Option<Reading>>, e: Event) -> bool
     requires prepared { IsPrepared position.plan.now position.prepared.now }
-    requires live { AreNoted position }
+    requires kept { IsKept position }
     ensures { result ≡ spec.may_come position.entry.plan.now position.entry.state.now next e }
 {
     if is_resume(e) {

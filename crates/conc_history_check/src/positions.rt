@@ -67,6 +67,8 @@ pub(crate) fn is_lawful_at(
         prepared,
         state: &findings.state,
         live: &findings.live,
+        active: findings.active,
+        undone: findings.undone,
     };
     may_come(position, next, e)
 }

@@ -9,4 +9,6 @@ unfolding earlier_lives last_life ticks now
 returns c = record {
   taken = record { state = c.in_ok-state.ensures; earlier = refl; ticks = refl };
   live = c.note_live.ensures;
+  active = c.note_live.requires;
+  undone = c.first_undone.ensures;
 }
