@@ -87,5 +87,8 @@ pub forced-at : (plan : Plan) (s : State) (place : ℕ) → IsFirstUndone s plac
     → forced_command plan s ≡ option_and_then (λ order. then_some (is_due s (place + 1, order)) (event.Command (place + 1))) (slice_get plan.script.commands place)
 unfolding forced_command
 forced-at plan s place undone =
-    ap (λ o. option_map (λ (order : ℕ × Order). event.Command order.0) o) (due-from s plan.setup 1 0 0 plan.script.commands place plan.commands undone.before undone.here)
-    ∙ command-of s (place + 1) (slice_get plan.script.commands place)
+    let found = due-from s plan.setup 1 0 0 plan.script.commands place plan.commands
+    (λ k less. ap (done_at s) (omega arith) ∙ undone.before k less) (ap (done_at s) (omega arith) ∙ undone.here) in
+    ap (λ o. option_map (λ (order : ℕ × Order). event.Command order.0) o) found
+    ∙ (command-of s (0 + place + 1) (slice_get plan.script.commands place)
+    ∙ ap (λ j. option_and_then (λ order. then_some (is_due s (j, order)) (event.Command j)) (slice_get plan.script.commands place)) (omega arith))

@@ -2,6 +2,7 @@
 use Rattle.std.proofs.Common.{◌≡◌, ◌⊎◌, inl, inr, ℕ, zero, suc, ◌+◌, ◌<◌, ◌≤◌, Bool, true, false, not, ◌&&◌, ◌||◌, List, [], ◌∷◌, length, Option, None, Some, refl, sym, ◌∙◌, ap, subst, arith}
 use Rattle.std.specs.Prelude.{IsFalse, IsTrue, is_some, slice_get}
 use Rattle.std.proofs.lemmas.Bool.{both_ways, cases_Bool, cases_lt}
+use Rattle.std.proofs.lemmas.List.{length-map}
 use Rattle.conc_types.specs.declared.event.Event.{Event}
 use Rattle.conc_types.specs.declared.facts.Facts.{Facts}
 use Rattle.conc_types.specs.declared.facts.State.{State}
@@ -13,7 +14,9 @@ use Rattle.conc_event_reach.specs.Reach.{IsCover}
 use Rattle.conc_event_reach.specs.Spans.{LeavesOthers, is_within}
 use Rattle.conc_event_reach.specs.declared.span.Span.{Span}
 use Rattle.conc_event_reach.proofs.Within.{bounds_within, within-bounds}
-use Rattle.conc_history_check.specs.Active.{AreQuiet, IsOutside, quiet_at}
+use Rattle.conc_base_law.specs.Facts.{facts_of}
+use Rattle.conc_base_law.specs.State.{state}
+use Rattle.conc_history_check.specs.Active.{AreQuiet, IsActive, IsOutside, quiet_at}
 use Rattle.conc_history_check.specs.At.{left_at, live_at, open_at, waits_at}
 
 -- ---- outside of a span
@@ -42,6 +45,25 @@ outside-part i part span holds off = elim (cases_Bool (is_within i part)) [
   | inl on ↦ absurd (both_ways _ off (holds on))
   | inr none ↦ none
 ]
+
+-- the span of all requests is right
+beyond : {T : Type 0} (xs : List T) (i : ℕ) → length xs ≤ i → slice_get xs i ≡ None
+beyond [] i past = refl
+beyond (x ∷ xs) zero past = absurd (omega (arith, past))
+beyond (x ∷ xs) (suc i) past = beyond xs i (omega (arith, past))
+
+pub active-whole : (plan : Plan) (past : List Event) (s : State) (span : Span) → s ≡ state plan past → span.from ≡ 0 → length plan.requests ≤ span.to → span.to ≤ length plan.requests → IsActive plan s span
+unfolding state
+active-whole plan past s span is from least most =
+    let long : length s.facts ≡ length plan.requests = ap (λ (t : State). length t.facts) is ∙ length-map plan.requests (facts_of plan past) in record {
+      quiet = λ i outside. ap quiet_at (beyond s.facts i (by i long outside));
+      ordered = omega (arith, from);
+      inside = most;
+    }
+  where
+    by : (i : ℕ) → length s.facts ≡ length plan.requests → (i < span.from) ⊎ (span.to ≤ i) → length s.facts ≤ i
+    by i long (inl before) = absurd (omega (arith, before, from))
+    by i long (inr behind) = omega (arith, behind, long, least)
 
 -- ---- after an event
 

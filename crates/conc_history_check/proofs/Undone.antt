@@ -1,5 +1,5 @@
 -- Commands that are done stay done.
-use Rattle.std.proofs.Common.{◌≡◌, ◌⊎◌, inl, inr, ℕ, zero, suc, ◌+◌, ◌-◌, ◌<◌, Bool, true, false, ◌&&◌, nat_lt, nat_le, List, [], ◌∷◌, length, Option, None, Some, refl, sym, ◌∙◌, ap, subst, arith}
+use Rattle.std.proofs.Common.{◌≡◌, ◌⊎◌, inl, inr, ℕ, zero, suc, ◌+◌, ◌-◌, ◌<◌, ◌≤◌, Bool, true, false, ◌&&◌, nat_lt, nat_le, List, [], ◌∷◌, length, Option, None, Some, refl, sym, ◌∙◌, ap, subst, arith}
 use Rattle.std.specs.Prelude.{if◌then◌else◌, slice_get, slice_set, unwrap_or}
 use Rattle.std.proofs.lemmas.Bool.{cases_eq}
 use Rattle.conc_types.specs.declared.event.Event.{Event}
@@ -35,11 +35,11 @@ pub done-after : (plan : Plan) (e : Event) (old new : State) (place : ℕ) → A
 done-after plan e old new place before after = λ k less.
     ap (λ (l : List Bool). unwrap_or (slice_get l k) false) after.done ∙ done-kept old.done e k (before k less)
 
--- a command that is done is one of the flags
-pub done-within : (flags : List Bool) (k : ℕ) → unwrap_or (slice_get flags k) false ≡ true → k < length flags
-done-within [] k is = cc
-done-within (b ∷ flags) zero is = omega arith
-done-within (b ∷ flags) (suc k) is = let less = done-within flags k is in omega (arith, less)
+-- behind the last command none is done
+pub done-beyond : (flags : List Bool) (k : ℕ) → length flags ≤ k → unwrap_or (slice_get flags k) false ≡ false
+done-beyond [] k past = refl
+done-beyond (b ∷ flags) zero past = absurd (omega (arith, past))
+done-beyond (b ∷ flags) (suc k) past = done-beyond flags k (omega (arith, past))
 
 -- one more is done
 pub done-more : (s : State) (place : ℕ) → AreDoneBefore s place → done_at s place ≡ true → AreDoneBefore s (place + 1)

@@ -54,7 +54,7 @@ pub(crate) fn first_undone(state: &State, from: usize) -> usize
     ensures { IsFirstUndone state.now result }
 {
     let mut place = from;
-    while is_done_at(state, place) {
+    while place < state.done.len() && is_done_at(state, place) {
         place += 1;
     }
     place

@@ -1,5 +1,8 @@
-ghost use Rattle.std.specs.Prelude.{◌≡◌, ◌<◌, Some, length, slice_get};
+ghost use Rattle.std.specs.Prelude.{◌≡◌, ◌+◌, ◌<◌, Some, length, slice_get};
+ghost use Rattle.std.specs.Bool.{then_some};
 ghost use Rattle.std.specs.List.{list_any};
+ghost use Rattle.std.specs.Option.{option_and_then};
+ghost use Rattle.conc_types.specs.declared.event.Event.TheVariants.{Command as command};
 ghost use Rattle.conc_types.specs.declared.plan.Req.{Req};
 ghost use Rattle.conc_base_law.specs.Next as next_spec;
 ghost use Rattle.conc_event_reach.specs.Spans.{AreSpans};
@@ -59,18 +62,27 @@ fn due_interrupt(plan: &Plan, state: &State, active: Span) -> Option<Event>
 
 // ---- commands
 
-// The command that is forced, if one is due: the first that is not done, where its moment has come.
-fn due_command(plan: &Plan, state: &State, undone: usize) -> Option<Event>
-    requires { IsFirstUndone state.now undone }
-    ensures { result ≡ next_spec.forced_command plan.now state.now }
+// The command at a place, from 0, if it is due.
+fn due_at(plan: &Plan, state: &State, place: usize) -> Option<Event>
+    ensures { result ≡ option_and_then
+        (λ order. then_some (next_spec.is_due state.now (place + 1, order)) (command (place + 1)))
+        (slice_get plan.now.script.commands place) }
 {
-    let order = plan.script.commands.as_slice().get(undone)?;
-    let number = undone as u32 + 1;
+    let order = plan.script.commands.as_slice().get(place)?;
+    let number = place as u32 + 1;
     if is_due(state, number, order) {
         Some(Event::Command { number })
     } else {
         None
     }
+}
+
+// The command that is forced, if one is due: the first that is not done, where its moment has come.
+fn due_command(plan: &Plan, state: &State, undone: usize) -> Option<Event>
+    requires { IsFirstUndone state.now undone }
+    ensures { result ≡ next_spec.forced_command plan.now state.now }
+{
+    due_at(plan, state, undone)
 }
 
 // ---- steps of sets
