@@ -1,6 +1,5 @@
-//! The judge of a history. Each event is judged by what the events before it say, read anew from the
-//! first of them for each position: nothing that one position says is kept for the next. The judge of a history's text, with its
-//! table, stands on it.
+//! The judge of a history. Each event is judged by what the events before it say, of which the state and some of what follows from it
+//! are kept from one position to the next. The judge of a history's text, with its table, stands on it.
 #![tactic(auto)]
 
 mod checker;
