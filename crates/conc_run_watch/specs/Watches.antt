@@ -1,5 +1,5 @@
 -- What a watcher keeps of its looks.
-use Rattle.std.specs.Prelude.{◌≡◌, ◌<◌, ◌≤◌, ◌-◌, ◌++◌, ◌∷◌, [], Bool, true, List, All, AllPairs, length, nat_lt, slice_get, slice_index_or, take, if◌then◌else◌}
+use Rattle.std.specs.Prelude.{◌≡◌, ◌<◌, ◌≤◌, ◌-◌, ◌++◌, ◌∷◌, [], Bool, true, List, All, AllPairs, length, nat_lt, slice_get, slice_index_or, take, if◌then◌else◌, ℕ}
 use Rattle.std.specs.Option.{option_map_or}
 use Rattle.conc_types.specs.declared.event.Event.{Event}
 use Rattle.conc_types.specs.declared.plan.Plan.{Plan}

@@ -7,7 +7,7 @@ use Rattle.conc_types.specs.Decimals.{decimal_value}
 use Rattle.conc_types.specs.Words.{is_between}
 use Rattle.conc_top_words.specs.declared.command.Command.{Command}
 use Rattle.conc_top_words.specs.declared.command.Command.TheVariants as command
-use Rattle.conc_top_words.specs.Words.{AreWithin, check_of, command_named, command_of, file_pair, is, is_file, make_of, number_between, output_of, plan_of, run_among, run_said, Said, said, size_of, status_of, threads_of, watchers_of}
+use Rattle.conc_top_words.specs.Words.{AreWithin, check_of, command_named, command_of, file_pair, is, is_file, make_of, number_between, output_of, repeat_of, plan_of, run_among, run_said, Said, said, size_of, status_of, threads_of, watchers_of}
 
 abbrev IsWithin : Option Command → Type 0
 IsWithin command = IfSome command AreWithin
@@ -115,6 +115,11 @@ make-within (a ∷ []) = tt
 make-within (a ∷ b ∷ []) = make-by (decimal_value a) b
 make-within (a ∷ b ∷ c ∷ words) = tt
 
+repeat-within : (words : List (List ℕ)) → IsWithin (repeat_of words)
+repeat-within [] = tt
+repeat-within (a ∷ []) = then-within _ (command.Repeat a) tt
+repeat-within (a ∷ b ∷ words) = tt
+
 -- ---- all commands
 
 either-within : (b : Bool) (x y : Option Command) → IsWithin x → IsWithin y → IsWithin (if b then x else y)
@@ -129,7 +134,8 @@ named-within name words =
     (either-within (is (codes "check") name) _ _ (check-within words)
     (either-within (is (codes "status") name) _ _ (status-within words)
     (either-within (is (codes "output") name) _ _ (output-within words)
-    (either-within (is (codes "make") name) (make_of words) None (make-within words) tt)))))
+    (either-within (is (codes "make") name) _ _ (make-within words)
+    (either-within (is (codes "repeat") name) (repeat_of words) None (repeat-within words) tt))))))
 
 -- the numbers of each command that words give
 pub command-within : (words : List (List ℕ)) → IsWithin (command_of words)
