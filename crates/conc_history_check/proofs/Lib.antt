@@ -10,9 +10,11 @@ pub mod FirstStep
 pub mod Places
 pub mod NoneLeft
 pub mod AtIndex
+pub mod Anys
 pub mod Due
 pub mod Quiet
 pub mod Skips
+pub mod Starting
 pub mod Undone
 pub mod Comparing
 pub mod Offsets

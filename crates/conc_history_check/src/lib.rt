@@ -16,6 +16,7 @@ mod position;
 mod positions;
 mod prepared;
 mod readings;
+mod starts;
 mod table;
 mod verdict;
 
