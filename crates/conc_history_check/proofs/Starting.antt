@@ -78,7 +78,7 @@ quiet-here place (Some own) is = not-here place own.place (not-running (own.let_
 
 module _ (plan : Plan) (s : State) (span : Span) (active : IsActive plan s span) (test : Req → Bool)
     (none : (i : ℕ) (r : Req) → slice_get plan.requests i ≡ Some r → quiet_at (slice_get s.facts i) ≡ true → test r ≡ false) where
-  Same : ℕ → Type 0
+  abbrev Same : ℕ → Type 0
   Same i = list_any test (drop i plan.requests) ≡ list_any test plan.requests
 
   skip : (i : ℕ) → i < length plan.requests → quiet_at (slice_get s.facts i) ≡ true → Same i → Same (i + 1)

@@ -113,9 +113,13 @@ fn one_may_start_at(position: Position<'_>, place: PlaceId) -> bool
     requires { IsKept position }
     ensures { result ≡ spec.one_may_start position.entry.plan.now position.entry.state.now place }
 {
-    is_usable_now(position.plan, position.state, place)
-        && !is_taken(position, place)
-        && one_may_start(position, place)
+    if !is_usable_now(position.plan, position.state, place) {
+        return false;
+    }
+    if is_taken(position, place) {
+        return false;
+    }
+    one_may_start(position, place)
 }
 
 // Whether a request may start at one of so many places from an index on.
