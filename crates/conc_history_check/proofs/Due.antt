@@ -1,5 +1,5 @@
 -- The first command that is not done is the first that is due, where one is.
-use Rattle.std.proofs.Common.{◌≡◌, ℕ, zero, suc, ◌+◌, ◌<◌, ◌≤◌, Bool, true, false, not, ◌&&◌, List, [], ◌∷◌, Option, None, Some, refl, sym, ◌∙◌, ap, inl, inr, arith}
+use Rattle.std.proofs.Common.{◌≡◌, ℕ, zero, suc, ◌+◌, ◌<◌, ◌≤◌, Bool, true, false, not, List, [], ◌∷◌, Option, None, Some, refl, ◌∙◌, ap, inl, inr, arith}
 use Rattle.std.specs.Prelude.{nat_le, slice_get, unwrap_or}
 use Rattle.std.specs.Bool.{then_some}
 use Rattle.std.specs.List.{enumerate_from, find}

@@ -1,6 +1,6 @@
 -- What is forced, looked for in turn: an interrupt by facts alone, and the step of the first open set that has one, among some requests.
-use Rattle.std.specs.Prelude.{Bool, not, ◌&&◌, ◌==◌, List, length, Option, None, if◌then◌else◌}
-use Rattle.std.specs.List.{find, list_all}
+use Rattle.std.specs.Prelude.{Bool, not, ◌&&◌, List, Option, None, if◌then◌else◌}
+use Rattle.std.specs.List.{find}
 use Rattle.std.specs.Option.{option_and_then}
 use Rattle.conc_types.specs.declared.event.Event.{Event}
 use Rattle.conc_types.specs.declared.facts.Facts.{Facts}

@@ -1,4 +1,4 @@
-use Rattle.std.proofs.Common.{◌+◌, length, inl, inr, arith}
+use Rattle.std.proofs.Common.{length, inl, inr, arith}
 use Rattle.conc_history_check.specs.Live.{AreLiveTo}
 use Rattle.conc_history_check.proofs.Noted.{live-fewer, live-quiet, live_none}
 use Rattle.conc_history_check.proofs.Skips.{skips, skips-past}
