@@ -113,10 +113,10 @@ fn run_plainly<'p, D: Disk, E: Disk>(
 fn run_input<'p, Rt: Threads + Wait + Sync, D: Disk + Send, E: Disk + Send, G: Gate + Sync>(
     rt: &Rt,
     alloc: Global,
-    input: &Input<'p>,
-    stores: &mut Stores<'_, D, E>,
     workers: &Workers<'_, G>,
     watchers: u32,
+    input: &Input<'p>,
+    stores: &mut Stores<'_, D, E>,
 ) -> Result<Watched<'p>, HistoryFail>
     requires few { watchers ≤ 8 }
     ensures stores { SameStores stores.old stores.new }
@@ -196,7 +196,7 @@ impl<F: Shelf, O: Sink> Context<'_, F, O> {
         let (accepted, readings) = accept_timed(self.alloc, self.shelf, clock, &pace, files)?;
         let accepted = accepted.with_columns(self.alloc, &pace);
         let input = input_of(&accepted, &readings);
-        let ended = run_input(rt, self.alloc, &input, stores, workers, watchers);
+        let ended = run_input(rt, self.alloc, workers, watchers, &input, stores);
         print_ended(self.alloc, &input, stores, ended, self.out)
     }
 }
