@@ -1,8 +1,5 @@
 ghost use Rattle.std.specs.Prelude.{◌≡◌};
-ghost use Rattle.conc_edge_clock.specs.Clocks.{ClockState};
 ghost use Rattle.conc_outside.specs.Files.{IsLater};
-ghost use Rattle.conc_top.specs.Answers.{AnswersRepeat};
-ghost use Rattle.conc_top.specs.Contexts.{Continues, around_by};
 ghost use Rattle.conc_top.specs.Printing.{sunk};
 ghost use Rattle.conc_top.specs.Repeats.{RepeatEnds};
 ghost use Rattle.conc_top.specs.Ways.{exit_of};
@@ -46,6 +43,10 @@ fn expand_and_print<F: Shelf, O: Sink>(
 }
 
 impl<F: Shelf, O: Sink> Context<'_, F, O> {
+    ghost use Rattle.conc_top.specs.Contexts.{Continues, around_by};
+    ghost use Rattle.conc_top.specs.Answers.{AnswersRepeat};
+    ghost use Rattle.conc_edge_clock.specs.Clocks.{ClockState};
+
     /// Prints the script to which the file of repeats with this name expands.
     pub(crate) fn expand_file(&mut self, repeats: Name) -> Result<(), Exit>
         ensures continues { Continues F.Shelf self.old self.new }
