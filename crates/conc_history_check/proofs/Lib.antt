@@ -8,6 +8,7 @@ pub mod Turns
 pub mod Runnable
 pub mod FirstStep
 pub mod Places
+pub mod LastLives
 pub mod NoneLeft
 pub mod AtIndex
 pub mod Anys
