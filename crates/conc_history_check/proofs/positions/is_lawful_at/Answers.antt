@@ -1,4 +1,4 @@
-use Rattle.std.proofs.Common.{◌≡◌, ◌+◌, Some, add-one, refl, reverse, take, slice_get, ◌∙◌}
+use Rattle.std.proofs.Common.{◌≡◌, Some, add-one, refl, reverse, take, slice_get, ◌∙◌}
 use Rattle.std.proofs.lemmas.Option.{slice_get_read}
 use Rattle.conc_history_check.proofs.EachPosition.{lawful_here, lawful_without}
 use Rattle.conc_history_check.proofs.positions.is_lawful_at.Goals as goal
