@@ -1,7 +1,8 @@
-ghost use Rattle.std.specs.Prelude.{◌≡◌, ◌<◌, ◌++◌, ◌∷◌, All, length, map, IfOk};
+ghost use Rattle.std.specs.Prelude.{◌≡◌, ◌<◌, ◌++◌, ◌∷◌, All, length, map, IfOk, OnOk};
 ghost use Rattle.csv.specs.Writing.{default_writer, row_text};
 ghost use Rattle.conc_repeat.specs.Kept.{line_by, line_kept, words_in};
 ghost use Rattle.conc_repeat.specs.Script.{script_header, text_of};
+ghost use Rattle.conc_repeat.specs.Written.{bytes_of, IsReady};
 
 use crate::dues::Due;
 use crate::lines::Lines;
@@ -10,11 +11,14 @@ use conc_time::put_moment;
 use conc_types::{Moment, NoMemory};
 use std::alloc::Global;
 
-// The header of a script.
-fn header(alloc: Global) -> Result<Lines, NoMemory>
-    ensures { IfOk result (λ lines. lines ≡ row_text default_writer script_header) }
+// Writes the header of a script.
+fn put_header(lines: &mut Lines) -> Result<(), NoMemory>
+    requires { IsReady lines.old }
+    ensures ready { OnOk result (IsReady lines.new) }
+    ensures bytes { OnOk result (bytes_of lines.new
+        ≡ bytes_of lines.old ++ row_text default_writer script_header) }
 {
-    Lines::new(alloc).with(&[
+    lines.push(&[
         b"at".as_slice(),
         b"do".as_slice(),
         b"what".as_slice(),
@@ -26,19 +30,21 @@ fn header(alloc: Global) -> Result<Lines, NoMemory>
     ])
 }
 
-// The same lines, and behind them the submission of a series at a moment.
-fn with_submission(
+// Writes the submission of a series at a moment.
+fn put_submission(
     alloc: Global,
-    lines: Lines,
+    lines: &mut Lines,
     at: Moment,
     series: &Series,
-) -> Result<Lines, NoMemory>
-    ensures { IfOk result (λ more. more
-        ≡ lines ++ row_text default_writer (line_by at (words_in series.now))) }
+) -> Result<(), NoMemory>
+    requires { IsReady lines.old }
+    ensures ready { OnOk result (IsReady lines.new) }
+    ensures bytes { OnOk result (bytes_of lines.new
+        ≡ bytes_of lines.old ++ row_text default_writer (line_by at (words_in series.now))) }
 {
     let mut moment = Vec::new(alloc);
     put_moment(&mut moment, at)?;
-    lines.with(&[
+    lines.push(&[
         moment.as_slice(),
         b"submit".as_slice(),
         series.what.as_slice(),
@@ -56,9 +62,10 @@ pub(crate) fn script_bytes(alloc: Global, all: &[Series], dues: &[Due]) -> Resul
     ensures { IfOk result (λ script. script.items
         ≡ text_of (script_header ∷ map (line_kept all.now) dues.now)) }
 {
-    let mut lines = header(alloc)?;
+    let mut lines = Lines::new(alloc);
+    put_header(&mut lines)?;
     for due in dues {
-        lines = with_submission(alloc, lines, due.at, &all[due.series])?;
+        put_submission(alloc, &mut lines, due.at, &all[due.series])?;
     }
     lines.into_bytes()
 }
