@@ -1,6 +1,4 @@
-pub mod Active
 pub mod At
-pub mod Kept
 pub mod Positions
 pub mod Prepared
 pub mod Live

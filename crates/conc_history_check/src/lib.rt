@@ -2,7 +2,6 @@
 //! are kept from one position to the next. The judge of a history's text, with its table, stands on it.
 #![tactic(auto)]
 
-mod active;
 mod checker;
 mod findings;
 mod forcing;
@@ -16,7 +15,6 @@ mod position;
 mod positions;
 mod prepared;
 mod readings;
-mod starts;
 mod table;
 mod verdict;
 
