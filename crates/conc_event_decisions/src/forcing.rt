@@ -1,6 +1,6 @@
-ghost use Rattle.std.specs.Prelude.{◌≡◌, ◌+◌, ◌<◌, ◌^◌, length, unwrap_or, false};
-ghost use Rattle.std.specs.List.{enumerate_from, find, list_any};
-ghost use Rattle.std.specs.Option.{option_copied, option_map};
+ghost use Rattle.std.specs.Prelude.{◌≡◌, unwrap_or, false};
+ghost use Rattle.std.specs.List.{find, list_any};
+ghost use Rattle.std.specs.Option.{option_copied};
 ghost use Rattle.conc_types.specs.Words as words_spec;
 ghost use Rattle.conc_base_law.specs.Next as next_spec;
 ghost use Rattle.conc_event_decisions.specs.Members.{AreMembers};
@@ -57,30 +57,6 @@ pub fn is_due(state: &State, number: u32, order: &Order) -> bool
     ensures { result ≡ next_spec.is_due state.now (number, order.now) }
 {
     !is_done(state, number) && has_come(state.time, order.at)
-}
-
-// The number of the first command that is due, of those from this number on.
-fn first_due(state: &State, orders: &[Order], number: u32) -> Option<u32>
-    requires { number + length orders.now < 2 ^ 32 }
-    ensures { result ≡ option_map (λ order. order.0)
-        (find (next_spec.is_due state.now) (enumerate_from number orders.now)) }
-{
-    match orders.split_first() {
-        None => None,
-        Some((order, _)) if is_due(state, number, order) => Some(number),
-        Some((_, rest)) => first_due(state, rest, number + 1),
-    }
-}
-
-/// The command that is forced, if one is due.
-#[tactic(auto, unfolding(conc_base_law::specs::Next::forced_command))]
-pub fn forced_command(plan: &Plan, state: &State) -> Option<Event>
-    ensures { result ≡ next_spec.forced_command plan.now state.now }
-{
-    match first_due(state, plan.script.commands.as_slice(), 1) {
-        Some(number) => Some(Event::Command { number }),
-        None => None,
-    }
 }
 
 // ---- steps of sets

@@ -11,32 +11,6 @@ use conc_types::{Extent, Outcome, PlaceId, Plan, Req, RequestId, State};
 
 // ---- starts
 
-#[tactic(auto, unfolding(conc_base_law::specs::Next::runs_at))]
-fn runs_at(state: &State, place: PlaceId, r: &Req) -> bool
-    ensures { result ≡ next_spec.runs_at state.now place r.now }
-{
-    match facts_at(state, r).place {
-        Some(p) => p.index == place.index,
-        None => false,
-    }
-}
-
-fn is_taken(plan: &Plan, state: &State, place: PlaceId) -> bool
-    ensures { result ≡ list_any (next_spec.runs_at state.now place) plan.now.requests }
-{
-    plan.requests
-        .as_slice()
-        .iter()
-        .any(|r| runs_at(state, place, r))
-}
-
-#[tactic(auto, unfolding(conc_base_law::specs::Next::is_vacant))]
-fn is_vacant(plan: &Plan, state: &State, place: PlaceId) -> bool
-    ensures { result ≡ next_spec.is_vacant plan.now state.now place }
-{
-    !is_taken(plan, state, place)
-}
-
 /// Whether the place is usable at the last tick.
 pub fn is_usable_now(plan: &Plan, state: &State, place: PlaceId) -> bool
     ensures { result ≡ some_and (λ t. places_spec.is_usable plan.now t place) state.now.time }
@@ -45,20 +19,6 @@ pub fn is_usable_now(plan: &Plan, state: &State, place: PlaceId) -> bool
         Some(t) => is_usable(plan, t, place),
         None => false,
     }
-}
-
-/// Whether `r` may start at the place: it is let and does not run, the manager of the place admits
-/// it, the place is usable at the last tick, and no request runs there.
-#[tactic(auto, unfolding(conc_base_law::specs::Next::may_start))]
-pub fn may_start(plan: &Plan, state: &State, r: &Req, place: PlaceId) -> bool
-    ensures { result ≡ next_spec.may_start plan.now state.now r.now place }
-{
-    let facts = facts_at(state, r);
-    facts.let_out
-        && !is_running(facts)
-        && is_admitted_at(plan, place, r)
-        && is_usable_now(plan, state, place)
-        && is_vacant(plan, state, place)
 }
 
 // ---- ends
@@ -106,29 +66,6 @@ pub fn runs_somewhere(state: &State, r: &Req) -> bool
     ensures { result ≡ next_spec.runs_somewhere state.now r.now }
 {
     is_running(facts_at(state, r))
-}
-
-/// Whether a request runs.
-pub fn one_runs(plan: &Plan, state: &State) -> bool
-    ensures { result ≡ list_any (next_spec.runs_somewhere state.now) plan.now.requests }
-{
-    plan.requests
-        .as_slice()
-        .iter()
-        .any(|r| runs_somewhere(state, r))
-}
-
-// ---- any event
-
-/// Whether the plan has this request, and it may start at the place.
-pub fn may_start_by_id(plan: &Plan, state: &State, id: RequestId, place: PlaceId) -> bool
-    ensures { result ≡ some_and (λ q. next_spec.may_start plan.now state.now q place)
-        (plans_spec.request plan.now id) }
-{
-    match plan.request(id) {
-        Some(r) => may_start(plan, state, r, place),
-        None => false,
-    }
 }
 
 /// Whether the plan has this request, and it may end so.

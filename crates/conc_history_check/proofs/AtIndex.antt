@@ -15,7 +15,7 @@ use Rattle.conc_history_check.specs.At.{live_at, open_at, waits_at}
 use Rattle.conc_history_check.specs.Steps.{own_step}
 
 -- what is read at the index is what is found by the number
-at-number : (plan : Plan) (s : State) (i : ℕ) (r : Req) → slice_get plan.requests i ≡ Some r → numbered s.facts r.number.number ≡ slice_get s.facts i
+pub at-number : (plan : Plan) (s : State) (i : ℕ) (r : Req) → slice_get plan.requests i ≡ Some r → numbered s.facts r.number.number ≡ slice_get s.facts i
 at-number plan s i r at =
     let number : r.number.number ≡ i + 1 = (request_at_place plan i r at).0 in
     numbered-at s.facts r.number.number i (omega (arith, number))

@@ -1,6 +1,7 @@
 -- The step of the first open set that has one, one request after the other.
 use Rattle.std.proofs.Common.{◌≡◌, ℕ, zero, suc, ◌+◌, ◌<◌, ◌≤◌, Bool, true, false, List, [], ◌∷◌, length, get_or, drop, Option, None, Some, refl, sym, ◌∙◌, ap, add-one, arith}
-use Rattle.std.specs.Prelude.{is_some, if◌then◌else◌}
+use Rattle.std.specs.Prelude.{is_some, if◌then◌else◌, slice_get}
+use Rattle.std.proofs.lemmas.Option.{get_or_from_slice_get}
 use Rattle.conc_types.specs.declared.event.Event.{Event}
 use Rattle.conc_types.specs.declared.facts.State.{State}
 use Rattle.conc_types.specs.declared.plan.Plan.{Plan}
@@ -8,7 +9,11 @@ use Rattle.conc_types.specs.declared.plan.Req.{Req}
 use Rattle.conc_base_law.specs.Next.{has_step}
 use Rattle.conc_base_law.specs.Stages.{set_step}
 use Rattle.conc_base_law.specs.State.{facts_at}
+use Rattle.conc_base_law.proofs.Positions.{slice_get-some}
+use Rattle.conc_history_check.specs.Active.{quiet_at}
 use Rattle.conc_history_check.specs.Steps.{own_step, step_among}
+use Rattle.conc_history_check.proofs.AtIndex.{step-index}
+use Rattle.conc_history_check.proofs.Quiet.{quiet-open}
 
 -- a request has a step where its own one is there, and that is it
 own-step : (plan : Plan) (s : State) (r : Req) (rs : List Req) (o : Option Event) → own_step plan s r ≡ o
@@ -43,3 +48,9 @@ step-none plan s [] zero h = refl
 step-none plan s [] (suc k) h = refl
 step-none plan s (x ∷ xs) zero h = absurd (omega arith)
 step-none plan s (x ∷ xs) (suc k) h = step-none plan s xs k (omega arith)
+
+-- where the request at an index is quiet, a later one has it
+pub step-quiet : (plan : Plan) (s : State) (i : ℕ) → i < length plan.requests → quiet_at (slice_get s.facts i) ≡ true → step_among plan s (drop i plan.requests) ≡ step_among plan s (drop (i + 1) plan.requests)
+step-quiet plan s i within quiet =
+    let w : (r : Req) × (slice_get plan.requests i ≡ Some r) = slice_get-some plan.requests i within in
+    step-later plan s plan.requests i w.0 within (sym (get_or_from_slice_get plan.requests i w.0 w.0 w.1)) (step-index plan s i w.0 w.1 (quiet-open (slice_get s.facts i) quiet))

@@ -8,8 +8,14 @@ pub mod Turns
 pub mod Runnable
 pub mod FirstStep
 pub mod Places
+pub mod LastLives
 pub mod NoneLeft
 pub mod AtIndex
-pub mod AllDone
+pub mod Anys
+pub mod Due
+pub mod Quiet
+pub mod Skips
+pub mod Starting
+pub mod Undone
 pub mod Comparing
 pub mod Offsets

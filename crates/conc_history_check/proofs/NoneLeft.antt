@@ -1,5 +1,5 @@
 -- Where no facts are those of a request that ran at the stop, no interrupt is due.
-use Rattle.std.proofs.Common.{◌≡◌, ℕ, zero, suc, ◌-◌, ◌==◌, Bool, true, false, List, [], ◌∷◌, Option, None, Some, refl, sym, ◌∙◌, ap}
+use Rattle.std.proofs.Common.{◌≡◌, ℕ, zero, suc, ◌-◌, ◌==◌, ◌||◌, Bool, true, false, List, [], ◌∷◌, Option, None, Some, refl, sym, ◌∙◌, ap}
 use Rattle.std.specs.Prelude.{slice_get, if◌then◌else◌, unwrap_or}
 use Rattle.std.specs.List.{find, list_any}
 use Rattle.std.specs.Option.{option_map}
@@ -12,6 +12,7 @@ use Rattle.conc_types.specs.declared.plan.Req.{Req}
 use Rattle.conc_types.specs.Words.{numbered}
 use Rattle.conc_base_law.specs.Next.{forced_interrupt, is_left_running}
 use Rattle.conc_base_law.specs.State.{facts_at, no_facts}
+use Rattle.conc_history_check.specs.At.{left_at}
 use Rattle.conc_history_check.specs.Steps.{is_left}
 
 -- none of a list passes, so none that it has at an index
@@ -31,6 +32,20 @@ not-left facts n h = by (n == 0) (slice_get facts (n - 1)) refl where
 find-never : {T : Type 0} (test : T → Bool) (xs : List T) → ((x : T) → test x ≡ false) → find test xs ≡ None
 find-never test [] h = refl
 find-never test (x ∷ xs) h = rw (h x) (find-never test xs h)
+
+-- no facts are those of such a request
+pub none-left : (facts : List Facts) → ((k : ℕ) → left_at (slice_get facts k) ≡ false) → list_any is_left facts ≡ false
+none-left [] none = refl
+none-left (own ∷ facts) none = rw (none 0, none-left facts (λ k. none (suc k))) refl
+
+-- some are
+pub one-left : (facts : List Facts) (k : ℕ) → left_at (slice_get facts k) ≡ true → list_any is_left facts ≡ true
+one-left [] k is = cc
+one-left (own ∷ facts) zero is = rw is refl
+one-left (own ∷ facts) (suc k) is = or_later (is_left own) (list_any is_left facts) (one-left facts k is) where
+  or_later : (a b : Bool) → b ≡ true → (a || b) ≡ true
+  or_later true b h = refl
+  or_later false b h = h
 
 pub interrupt-none : (plan : Plan) (s : State) → list_any is_left s.facts ≡ false → forced_interrupt plan s ≡ None
 unfolding forced_interrupt is_left_running facts_at

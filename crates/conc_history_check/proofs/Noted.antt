@@ -1,5 +1,5 @@
 -- Noting a live request of each class, one request after the other.
-use Rattle.std.proofs.Common.{◌≡◌, ◌⊎◌, ℕ, zero, suc, ◌<◌, true, false, List, [], ◌∷◌, length, map, Option, None, Some, refl, sym, ◌∙◌, ap, subst, inl, inr, arith}
+use Rattle.std.proofs.Common.{◌≡◌, ◌⊎◌, ℕ, zero, suc, ◌+◌, ◌<◌, ◌≤◌, true, false, List, [], ◌∷◌, length, map, Option, None, Some, refl, sym, ◌∙◌, ap, subst, inl, inr, arith}
 use Rattle.std.specs.Prelude.{slice_get, slice_set, is_some}
 use Rattle.std.specs.Option.{option_flatten}
 use Rattle.std.proofs.lemmas.Bool.{both_ways, cases_eq}
@@ -14,7 +14,11 @@ use Rattle.conc_base_law.proofs.Numbering.{numbered_plan}
 use Rattle.conc_event_queue.proofs.Maps.{request_at_place, slice_get-set_other, slice_get-set_same}
 use Rattle.conc_event_classes.specs.Classes.{class_at}
 use Rattle.conc_event_classes.specs.declared.classes.Classes.{Classes}
+use Rattle.conc_base_law.proofs.Positions.{slice_get-some}
+use Rattle.conc_history_check.specs.Active.{quiet_at}
 use Rattle.conc_history_check.specs.Live.{AreLiveTo, IsLiveOf, noted}
+use Rattle.conc_history_check.proofs.AtIndex.{live-index}
+use Rattle.conc_history_check.proofs.Quiet.{quiet-live}
 
 -- nothing is noted in a list that is cleared
 noted-cleared : (live : List (Option RequestId)) (c : ℕ) → noted (map (λ (own : Option RequestId). None) live) c ≡ None
@@ -83,4 +87,22 @@ live-next plan classes s n q live at is within are = record {
         subst (λ z. IsLiveOf plan classes s c z) id_is (q, numbered_plan plan q (request_at_place plan n q at).1, is, sym one)
     | inr other ↦ are.own c id (sym (noted-other live (class_at classes q) c q.number other) ∙ h)
   ];
+}
+
+-- ---- quiet requests
+
+pub live-quiet : (plan : Plan) (classes : Classes) (s : State) (i : ℕ) (live : List (Option RequestId)) → i < length plan.requests → quiet_at (slice_get s.facts i) ≡ true
+    → AreLiveTo plan classes s i live → AreLiveTo plan classes s (i + 1) live
+live-quiet plan classes s i live within quiet are =
+    let w : (q : Req) × (slice_get plan.requests i ≡ Some q) = slice_get-some plan.requests i within in
+    let next : suc i ≡ i + 1 = omega arith in
+    subst (λ n. AreLiveTo plan classes s n live) next
+    (live-not plan classes s i w.0 live w.1 (sym (live-index plan s i w.0 w.1) ∙ quiet-live (slice_get s.facts i) quiet) are)
+
+-- what is right for some requests is so for fewer
+pub live-fewer : (plan : Plan) (classes : Classes) (s : State) (few many : ℕ) (live : List (Option RequestId)) → few ≤ many → AreLiveTo plan classes s many live → AreLiveTo plan classes s few live
+live-fewer plan classes s few many live le are = record {
+  size = are.size;
+  known = λ k q below at lives. are.known k q (omega (arith, below, le)) at lives;
+  own = are.own;
 }

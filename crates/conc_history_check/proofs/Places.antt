@@ -8,7 +8,7 @@ use Rattle.conc_types.specs.declared.plan.Plan.{Plan}
 use Rattle.conc_types.specs.declared.plan.Req.{Req}
 use Rattle.conc_types.specs.Words.{some_and}
 use Rattle.conc_base_law.specs.Managers.{admits}
-use Rattle.conc_base_law.specs.Next.{is_vacant, may_start, may_start_somewhere}
+use Rattle.conc_base_law.specs.Next.{is_vacant, may_start, may_start_somewhere, runs_at}
 use Rattle.conc_base_law.specs.Places.{all_places, is_usable, place_of}
 use Rattle.conc_base_law.specs.State.{facts_at, is_running}
 
@@ -55,4 +55,16 @@ unusable plan s place h =
     (and_right (not (is_running (facts_at s r))) _
     (and_right (some_and (λ p. admits p.manager r) (place_of plan place)) _
     (and_left (some_and (λ t. is_usable plan t place) s.time) (is_vacant plan s place) h))))
+    ∙ any-never plan.requests
+
+-- nor at one where a request runs
+pub occupied : (plan : Plan) (s : State) (place : PlaceId) → list_any (runs_at s place) plan.requests ≡ true
+    → list_any (λ r. may_start plan s r place) plan.requests ≡ false
+unfolding may_start is_vacant
+occupied plan s place h =
+    any-alike (λ r. may_start plan s r place) (λ (r : Req). false) plan.requests
+    (λ r. and_right (facts_at s r).let_out _
+    (and_right (not (is_running (facts_at s r))) _
+    (and_right (some_and (λ p. admits p.manager r) (place_of plan place)) _
+    (and_right (some_and (λ t. is_usable plan t place) s.time) _ (ap not h)))))
     ∙ any-never plan.requests

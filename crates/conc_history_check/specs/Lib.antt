@@ -1,4 +1,6 @@
+pub mod Active
 pub mod At
+pub mod Kept
 pub mod Positions
 pub mod Prepared
 pub mod Live

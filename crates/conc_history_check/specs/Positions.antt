@@ -1,5 +1,5 @@
 -- What is lawful at a position of a history.
-use Rattle.std.specs.Prelude.{◌↔◌, ℕ, ◌-◌, ◌<◌, ◌≤◌, Bool, if◌then◌else◌, IsFalse, IsTrue, List, drop, length, reverse, take, Option, None, Some}
+use Rattle.std.specs.Prelude.{◌≡◌, ◌↔◌, ℕ, ◌-◌, ◌<◌, ◌≤◌, Bool, if◌then◌else◌, nat_lt, IsFalse, IsTrue, List, drop, length, reverse, take, Option, None, Some}
 use Rattle.std.specs.List.{list_any}
 use Rattle.conc_types.specs.declared.event.Event.{Event}
 use Rattle.conc_types.specs.declared.plan.Plan.{Plan}
@@ -11,6 +11,10 @@ use Rattle.conc_base_law.specs.Law.{Lawful, may_follow}
 -- the readings that are known where these events come later: none where one of them begins another life
 unfoldable pub known_before : List Reading → List Event → Option (List Reading)
 known_before readings later = if list_any is_resume later then None else Some readings
+
+-- so many events stand before the last life, with its resume: a resume comes behind each of them but the last, and behind no other
+abbrev pub AreBeforeLastLife : List Event → ℕ → Type 0
+AreBeforeLastLife history count = (k : ℕ) → list_any is_resume (drop k history) ≡ nat_lt k count
 
 -- the event at the position, from 1, may follow those before it
 unfoldable pub is_lawful_at : Plan → List Reading → List Event → ℕ → Bool

@@ -1,6 +1,6 @@
--- What is forced, looked for in turn: an interrupt by facts alone, a command by flags alone, and the step of the first open set that has one, among some requests.
-use Rattle.std.specs.Prelude.{Bool, not, ◌&&◌, ◌==◌, List, length, Option, None, if◌then◌else◌}
-use Rattle.std.specs.List.{find, list_all}
+-- What is forced, looked for in turn: an interrupt by facts alone, and the step of the first open set that has one, among some requests.
+use Rattle.std.specs.Prelude.{Bool, not, ◌&&◌, List, Option, None, if◌then◌else◌}
+use Rattle.std.specs.List.{find}
 use Rattle.std.specs.Option.{option_and_then}
 use Rattle.conc_types.specs.declared.event.Event.{Event}
 use Rattle.conc_types.specs.declared.facts.Facts.{Facts}
@@ -14,10 +14,6 @@ use Rattle.conc_base_law.specs.State.{facts_at, is_running}
 -- a request with these facts ran at the stop of the system
 abbrev pub is_left : Facts → Bool
 is_left own = is_running own && not own.started
-
--- all commands of the plan are done
-abbrev pub all_done : Plan → State → Bool
-all_done plan s = (length s.done == length plan.script.commands) && list_all (λ flag. flag) s.done
 
 -- the step of a request, if it is an open set that has one
 unfoldable pub own_step : Plan → State → Req → Option Event

@@ -9,7 +9,7 @@ ghost use Rattle.conc_history_check.specs.Prepared.{IsPrepared};
 use crate::findings::Findings;
 use crate::judging::is_at_rest;
 use crate::position::Position;
-use crate::positions::is_lawful_at;
+use crate::positions::{LastLife, count_before, is_lawful_at};
 use crate::prepared::Prepared;
 use crate::readings::next_reading;
 use conc_types::{CheckFail, Event, Plan, Readings};
@@ -30,8 +30,12 @@ fn first_bad(
         (IsFirstBad plan.now readings.now.list events.now) }
     ensures read { IfNone result (AreFindings plan.now prepared.now (reverse events.now) findings.new) }
 {
+    let life = LastLife {
+        readings,
+        before: count_before(events),
+    };
     for i in 0..events.len() {
-        if !is_lawful_at(plan, prepared, readings, findings, events, i) {
+        if !is_lawful_at(plan, prepared, life, findings, events, i) {
             return Some(i as u64 + 1);
         }
         findings.read(plan, prepared, &events[i]);
@@ -56,13 +60,15 @@ fn is_finished(
         prepared,
         state: &findings.state,
         live: &findings.live,
+        active: findings.active,
+        undone: findings.undone,
     };
     is_at_rest(position) && next_reading(plan, readings, findings).is_none()
 }
 
 /// Whether a history is finished, where it is lawful; else the first position, from 1, whose event may
-/// not stand there. The events are read in one pass; for each of them the requests of the plan are looked
-/// through.
+/// not stand there. The events are read in one pass; for each of them the requests are looked through that
+/// may be active.
 pub fn check(
     alloc: Global,
     plan: &Plan,

@@ -1,11 +1,15 @@
 ghost use Rattle.std.specs.Prelude.{◌≡◌, ◌∷◌, ◌+◌, ◌<◌, ◌^◌, [], IfOk, List, length};
 ghost use Rattle.conc_types.specs.declared.event.Event.{Event};
+ghost use Rattle.conc_event_effects.specs.Advance.{IsAfter};
+ghost use Rattle.conc_history_check.specs.Active.{IsActive, IsFirstUndone};
 ghost use Rattle.conc_history_check.specs.Findings.{AreFindings, HasTaken, earlier_after, ticks_after};
 ghost use Rattle.conc_history_check.specs.Prepared.{IsPrepared};
 
+use crate::active::{first_undone, narrowed};
 use crate::live::{note_live, room_for_live};
 use crate::prepared::Prepared;
 use conc_event_effects::begin;
+use conc_event_reach::Span;
 use conc_history_replay::take_in;
 use conc_types::{Event, Moment, NoMemory, Plan, RequestId, Seq, State};
 use std::alloc::Global;
@@ -20,6 +24,10 @@ pub(crate) struct Findings {
     pub ticks: usize,
     /// For each class a live request of it, or none where it has none.
     pub live: Seq<Option<RequestId>>,
+    /// Where requests may be active: each other one is quiet.
+    pub active: Span,
+    /// The place of the first command that is not done, from 0.
+    pub undone: usize,
 }
 
 impl Findings {
@@ -30,12 +38,18 @@ impl Findings {
     {
         let state = begin(alloc, plan)?;
         let mut live = room_for_live(alloc, &prepared.classes)?;
-        note_live(plan, &prepared.classes, &state, &mut live);
+        let active = Span {
+            from: 0,
+            to: plan.requests.len(),
+        };
+        note_live(plan, &prepared.classes, &state, active, &mut live);
         Ok(Findings {
+            undone: first_undone(&state, 0),
             state,
             earlier: None,
             ticks: 0,
             live,
+            active,
         })
     }
 
@@ -48,6 +62,7 @@ impl Findings {
         ensures ticks { self.new.ticks ≡ ticks_after self.old.ticks e.now }
         ensures state { self.new.state ≡ self.old.state }
         ensures live { self.new.live ≡ self.old.live }
+        ensures undone { self.new.undone ≡ self.old.undone }
     {
         match *e {
             Event::Tick { .. } => self.ticks += 1,
@@ -66,21 +81,34 @@ impl Findings {
         requires few { self.old.ticks + 1 < 2 ^ 64 }
         ensures read { (past : List Event) → HasTaken plan.now past self.old
             → HasTaken plan.now (e.now ∷ past) self.new }
+        ensures after { IsAfter plan.now self.old.state self.new.state e.now }
         ensures live { self.new.live ≡ self.old.live }
+        ensures undone { self.new.undone ≡ self.old.undone }
     {
         self.note_life(e);
         take_in(plan, &prepared.spans, &prepared.entries, &mut self.state, e);
     }
 
-    /// Reads one more event, and notes what is live behind it. It takes no memory.
+    /// Reads one more event, and keeps what stands behind it. It takes no memory.
     pub fn read(&mut self, plan: &Plan, prepared: &Prepared, e: &Event)
         requires prepared { IsPrepared plan.now prepared.now }
         requires few { self.old.ticks + 1 < 2 ^ 64 }
         requires room { length self.old.live ≡ length prepared.now.classes.sizes }
+        requires active { IsActive plan.now self.old.state self.old.active }
+        requires undone { IsFirstUndone self.old.state self.old.undone }
         ensures { (past : List Event) → AreFindings plan.now prepared.now past self.old
             → AreFindings plan.now prepared.now (e.now ∷ past) self.new }
     {
+        let touched = self.active.cover(prepared.spans.reach(plan, *e));
         self.take_in(plan, prepared, e);
-        note_live(plan, &prepared.classes, &self.state, &mut self.live);
+        self.active = narrowed(plan, &self.state, touched);
+        self.undone = first_undone(&self.state, self.undone);
+        note_live(
+            plan,
+            &prepared.classes,
+            &self.state,
+            self.active,
+            &mut self.live,
+        );
     }
 }

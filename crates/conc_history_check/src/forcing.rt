@@ -1,17 +1,21 @@
-ghost use Rattle.std.specs.Prelude.{◌≡◌, ◌<◌, Some, length, slice_get};
-ghost use Rattle.std.specs.List.{list_all, list_any};
+ghost use Rattle.std.specs.Prelude.{◌≡◌, ◌+◌, ◌<◌, Some, length, slice_get};
+ghost use Rattle.std.specs.Bool.{then_some};
+ghost use Rattle.std.specs.List.{list_any};
+ghost use Rattle.std.specs.Option.{option_and_then};
+ghost use Rattle.conc_types.specs.declared.event.Event.TheVariants.{Command as command};
 ghost use Rattle.conc_types.specs.declared.plan.Req.{Req};
 ghost use Rattle.conc_base_law.specs.Next as next_spec;
 ghost use Rattle.conc_event_reach.specs.Spans.{AreSpans};
 ghost use Rattle.conc_history_check.specs.At as at_spec;
-ghost use Rattle.conc_history_check.specs.Live.{AreNoted};
+ghost use Rattle.conc_history_check.specs.Active.{IsActive, IsFirstUndone};
+ghost use Rattle.conc_history_check.specs.Kept.{IsKept};
 ghost use Rattle.conc_history_check.specs.Prepared.{IsPrepared};
 ghost use Rattle.conc_history_check.specs.Steps as steps_spec;
 
 use crate::lets::forced_let;
 use crate::position::Position;
-use conc_event_decisions::{facts_at, forced_command, forced_interrupt, set_step};
-use conc_event_reach::Spans;
+use conc_event_decisions::{facts_at, forced_interrupt, is_due, set_step};
+use conc_event_reach::{Span, Spans};
 use conc_types::{Event, Facts, Plan, Req, State};
 
 // ---- interrupts
@@ -23,17 +27,34 @@ fn is_left(own: Facts) -> bool
     own.place.is_some() && !own.started
 }
 
-fn one_is_left(facts: &[Facts]) -> bool
-    ensures { result ≡ list_any steps_spec.is_left facts.now }
+// Whether the request at an index ran then. Its facts stand at the same index.
+fn is_left_at(state: &State, i: usize) -> bool
+    ensures { result ≡ at_spec.left_at (slice_get state.now.facts i) }
 {
-    facts.iter().any(|own| is_left(*own))
+    match state.facts.as_slice().get(i) {
+        Some(own) => is_left(*own),
+        None => false,
+    }
+}
+
+fn one_is_left(_plan: &Plan, state: &State, active: Span) -> bool
+    requires { IsActive _plan.now state.now active }
+    ensures { result ≡ list_any steps_spec.is_left state.now.facts }
+{
+    for i in active.from..active.to {
+        if is_left_at(state, i) {
+            return true;
+        }
+    }
+    false
 }
 
 // The interrupt that is forced, if one is due. It looks for its request only where there is one.
-fn due_interrupt(plan: &Plan, state: &State) -> Option<Event>
+fn due_interrupt(plan: &Plan, state: &State, active: Span) -> Option<Event>
+    requires { IsActive plan.now state.now active }
     ensures { result ≡ next_spec.forced_interrupt plan.now state.now }
 {
-    if one_is_left(state.facts.as_slice()) {
+    if one_is_left(plan, state, active) {
         return forced_interrupt(plan, state);
     }
     None
@@ -41,27 +62,27 @@ fn due_interrupt(plan: &Plan, state: &State) -> Option<Event>
 
 // ---- commands
 
-fn all_set(flags: &[bool]) -> bool
-    ensures { result ≡ list_all (λ flag. flag) flags.now }
+// The command at a place, from 0, if it is due.
+fn due_at(plan: &Plan, state: &State, place: usize) -> Option<Event>
+    ensures { result ≡ option_and_then
+        (λ order. then_some (next_spec.is_due state.now (place + 1, order)) (command (place + 1)))
+        (slice_get plan.now.script.commands place) }
 {
-    flags.iter().all(|flag| *flag)
+    let order = plan.script.commands.as_slice().get(place)?;
+    let number = place as u32 + 1;
+    if is_due(state, number, order) {
+        Some(Event::Command { number })
+    } else {
+        None
+    }
 }
 
-fn all_done(plan: &Plan, state: &State) -> bool
-    ensures { result ≡ steps_spec.all_done plan.now state.now }
-{
-    let done = state.done.as_slice();
-    done.len() == plan.script.commands.len() && all_set(done)
-}
-
-// The command that is forced, if one is due. It looks for it only where not all are done.
-fn due_command(plan: &Plan, state: &State) -> Option<Event>
+// The command that is forced, if one is due: the first that is not done, where its moment has come.
+fn due_command(plan: &Plan, state: &State, undone: usize) -> Option<Event>
+    requires { IsFirstUndone state.now undone }
     ensures { result ≡ next_spec.forced_command plan.now state.now }
 {
-    if all_done(plan, state) {
-        return None;
-    }
-    forced_command(plan, state)
+    due_at(plan, state, undone)
 }
 
 // ---- steps of sets
@@ -103,11 +124,12 @@ fn own_step_at(plan: &Plan, spans: &Spans, state: &State, i: usize) -> Option<Ev
 }
 
 #[tactic(auto, unfolding(conc_base_law::specs::Next::forced_step, crate::specs::Steps::step_among))]
-fn forced_step(plan: &Plan, spans: &Spans, state: &State) -> Option<Event>
-    requires { AreSpans plan.now spans.now }
+fn forced_step(plan: &Plan, spans: &Spans, state: &State, active: Span) -> Option<Event>
+    requires spans { AreSpans plan.now spans.now }
+    requires active { IsActive plan.now state.now active }
     ensures { result ≡ next_spec.forced_step plan.now state.now }
 {
-    for i in 0..plan.requests.len() {
+    for i in active.from..active.to {
         match own_step_at(plan, spans, state, i) {
             Some(e) => return Some(e),
             None => {}
@@ -122,16 +144,24 @@ fn forced_step(plan: &Plan, spans: &Spans, state: &State) -> Option<Event>
 #[tactic(auto, unfolding(conc_base_law::specs::Next::forced))]
 pub(crate) fn forced(position: Position<'_>) -> Option<Event>
     requires prepared { IsPrepared position.plan.now position.prepared.now }
-    requires live { AreNoted position }
+    requires kept { IsKept position }
     ensures { result ≡ next_spec.forced position.entry.plan.now position.entry.state.now }
 {
-    if let Some(e) = due_interrupt(position.plan, position.state) {
+    let Position {
+        plan,
+        prepared,
+        state,
+        active,
+        undone,
+        ..
+    } = position;
+    if let Some(e) = due_interrupt(plan, state, active) {
         return Some(e);
     }
-    if let Some(e) = due_command(position.plan, position.state) {
+    if let Some(e) = due_command(plan, state, undone) {
         return Some(e);
     }
-    if let Some(e) = forced_step(position.plan, &position.prepared.spans, position.state) {
+    if let Some(e) = forced_step(plan, &prepared.spans, state, active) {
         return Some(e);
     }
     forced_let(position)

@@ -1,72 +1,31 @@
-ghost use Rattle.std.specs.Prelude.{◌≡◌, ◌+◌, ◌<◌, ◌^◌, map};
-ghost use Rattle.std.specs.List.{list_any, range_with_len};
+ghost use Rattle.std.specs.Prelude.{◌≡◌};
 ghost use Rattle.conc_base_law.specs.Next as spec;
-ghost use Rattle.conc_base_law.specs.Next.{may_start_somewhere};
-ghost use Rattle.conc_history_check.specs.Starts.{one_may_start};
-ghost use Rattle.conc_history_check.specs.Live.{AreNoted};
+ghost use Rattle.conc_history_check.specs.Kept.{IsKept};
 ghost use Rattle.conc_history_check.specs.Prepared.{IsPrepared};
 
 use crate::forcing::forced;
 use crate::position::Position;
-use conc_event_decisions::{
-    is_not_earlier, is_same_event, is_usable_now, may_end_by_id, may_start, may_start_by_id,
-    one_runs,
-};
+use crate::starts::{may_start_by_id, one_may_start_somewhere, one_runs};
+use conc_event_decisions::{is_not_earlier, is_same_event, may_end_by_id};
 use conc_rules::is_resume;
-use conc_time::place_count;
-use conc_types::{Event, Moment, PlaceId, Plan, Reading, State};
+use conc_types::{Event, Moment, Reading};
 
 // ---- rest
-
-fn one_may_start(plan: &Plan, state: &State, place: PlaceId) -> bool
-    ensures { result ≡ one_may_start plan.now state.now place }
-{
-    plan.requests
-        .as_slice()
-        .iter()
-        .any(|r| may_start(plan, state, r, place))
-}
-
-// Whether a request may start at the place. It looks at the requests only where the place is usable.
-fn one_may_start_at(plan: &Plan, state: &State, place: PlaceId) -> bool
-    ensures { result ≡ one_may_start plan.now state.now place }
-{
-    is_usable_now(plan, state, place) && one_may_start(plan, state, place)
-}
-
-// Whether a request may start at one of so many places from an index on.
-fn one_may_start_among(plan: &Plan, state: &State, from: u32, count: u32) -> bool
-    requires { from + count < 2 ^ 32 }
-    ensures { result ≡ list_any (one_may_start plan.now state.now)
-        (map (λ index. record { index = index }) (range_with_len from count)) }
-{
-    count > 0
-        && (one_may_start_at(plan, state, PlaceId { index: from })
-            || one_may_start_among(plan, state, from + 1, count - 1))
-}
-
-fn one_may_start_somewhere(plan: &Plan, state: &State) -> bool
-    ensures { result ≡ list_any (may_start_somewhere plan.now state.now) plan.now.requests }
-{
-    one_may_start_among(plan, state, 0, place_count(plan))
-}
 
 /// Whether the system is at rest: nothing is forced, no request runs, and none may start.
 #[tactic(auto, unfolding(conc_base_law::specs::Next::is_at_rest))]
 pub(crate) fn is_at_rest(position: Position<'_>) -> bool
     requires prepared { IsPrepared position.plan.now position.prepared.now }
-    requires live { AreNoted position }
+    requires kept { IsKept position }
     ensures { result ≡ spec.is_at_rest position.entry.plan.now position.entry.state.now }
 {
-    forced(position).is_none()
-        && !one_runs(position.plan, position.state)
-        && !one_may_start_somewhere(position.plan, position.state)
+    forced(position).is_none() && !one_runs(position) && !one_may_start_somewhere(position)
 }
 
 #[tactic(auto, unfolding(conc_base_law::specs::Next::may_take))]
 fn may_take(position: Position<'_>, reading: Reading) -> bool
     requires prepared { IsPrepared position.plan.now position.prepared.now }
-    requires live { AreNoted position }
+    requires kept { IsKept position }
     ensures { result ≡ spec.may_take position.entry.plan.now position.entry.state.now reading }
 {
     reading.early || is_at_rest(position)
@@ -77,7 +36,7 @@ fn may_take(position: Position<'_>, reading: Reading) -> bool
 #[tactic(auto, unfolding(conc_base_law::specs::Next::may_tick))]
 fn may_tick(position: Position<'_>, next: Option<Option<Reading>>, t: Moment) -> bool
     requires prepared { IsPrepared position.plan.now position.prepared.now }
-    requires live { AreNoted position }
+    requires kept { IsKept position }
     ensures { result ≡ spec.may_tick position.entry.plan.now position.entry.state.now next t }
 {
     match next {
@@ -92,16 +51,11 @@ fn may_tick(position: Position<'_>, next: Option<Option<Reading>>, t: Moment) ->
 #[tactic(auto, unfolding(conc_base_law::specs::Next::is_allowed))]
 fn is_allowed(position: Position<'_>, next: Option<Option<Reading>>, e: Event) -> bool
     requires prepared { IsPrepared position.plan.now position.prepared.now }
-    requires live { AreNoted position }
+    requires kept { IsKept position }
     ensures { result ≡ spec.is_allowed position.entry.plan.now position.entry.state.now next e }
 {
     match e {
-        Event::Started { request, place } => may_start_by_id(
-            position.plan,
-            position.state,
-            request,
-            place,
-        ),
+        Event::Started { request, place } => may_start_by_id(position, request, place),
         Event::Ended {
             request,
             outcome,
@@ -117,7 +71,7 @@ fn is_allowed(position: Position<'_>, next: Option<Option<Reading>>, e: Event) -
 #[tactic(auto, unfolding(conc_base_law::specs::Next::may_come))]
 pub(crate) fn may_come(position: Position<'_>, next: Option<Option<Reading>>, e: Event) -> bool
     requires prepared { IsPrepared position.plan.now position.prepared.now }
-    requires live { AreNoted position }
+    requires kept { IsKept position }
     ensures { result ≡ spec.may_come position.entry.plan.now position.entry.state.now next e }
 {
     if is_resume(e) {

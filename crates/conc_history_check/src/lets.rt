@@ -9,6 +9,7 @@ ghost use Rattle.conc_event_queue.specs.Least.{least, lesser};
 ghost use Rattle.conc_event_queue.specs.Turns as turns_spec;
 ghost use Rattle.conc_history_check.specs.At as at_spec;
 ghost use Rattle.conc_history_check.specs.Lets as lets_spec;
+ghost use Rattle.conc_history_check.specs.Kept.{IsKept};
 ghost use Rattle.conc_history_check.specs.Live.{AreNoted};
 ghost use Rattle.conc_history_check.specs.Prepared.{IsPrepared};
 
@@ -128,13 +129,13 @@ fn better_at(position: Position<'_>, best: Option<u64>, i: usize) -> Option<u64>
 // The least turn of the requests that may be let out.
 fn least_turn(position: Position<'_>) -> Option<u64>
     requires prepared { IsPrepared position.plan.now position.prepared.now }
-    requires live { AreNoted position }
+    requires kept { IsKept position }
     ensures { result ≡ least (turns_spec.turns_of
         (next_spec.may_let position.entry.plan.now position.entry.state.now)
         position.entry.plan.now.requests) }
 {
     let mut best = None;
-    for i in 0..position.plan.requests.len() {
+    for i in position.active.from..position.active.to {
         best = better_at(position, best, i);
     }
     best
@@ -152,7 +153,7 @@ fn event_at(plan: &Plan, turn: Option<u64>) -> Option<Event>
 #[tactic(auto, unfolding(conc_base_law::specs::Next::forced_let))]
 pub(crate) fn forced_let(position: Position<'_>) -> Option<Event>
     requires prepared { IsPrepared position.plan.now position.prepared.now }
-    requires live { AreNoted position }
+    requires kept { IsKept position }
     ensures { result ≡ next_spec.forced_let position.entry.plan.now position.entry.state.now }
 {
     event_at(position.plan, least_turn(position))

@@ -2,6 +2,7 @@
 //! are kept from one position to the next. The judge of a history's text, with its table, stands on it.
 #![tactic(auto)]
 
+mod active;
 mod checker;
 mod findings;
 mod forcing;
@@ -15,6 +16,7 @@ mod position;
 mod positions;
 mod prepared;
 mod readings;
+mod starts;
 mod table;
 mod verdict;
 

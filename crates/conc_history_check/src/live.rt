@@ -1,12 +1,14 @@
 ghost use Rattle.std.specs.Prelude.{◌≡◌, ◌<◌, IfOk, None, Option, length, map, slice_get, suc};
 ghost use Rattle.conc_types.specs.declared.event.RequestId.{RequestId};
 ghost use Rattle.conc_event_classes.specs.Classes.{AreClasses};
+ghost use Rattle.conc_history_check.specs.Active.{IsActive};
 ghost use Rattle.conc_history_check.specs.At as at_spec;
 ghost use Rattle.conc_history_check.specs.Live as spec;
 ghost use Rattle.conc_history_check.specs.Live.{AreLive, AreLiveTo};
 
 use conc_event_classes::Classes;
 use conc_event_decisions::is_live;
+use conc_event_reach::Span;
 use conc_types::{NoMemory, Plan, RequestId, Seq, State};
 use std::alloc::Global;
 
@@ -64,14 +66,16 @@ pub(crate) fn note_live(
     plan: &Plan,
     classes: &Classes,
     state: &State,
+    active: Span,
     live: &mut Seq<Option<RequestId>>,
 )
     requires classes { AreClasses plan.now classes.now }
+    requires active { IsActive plan.now state.now active }
     requires room { length live.old ≡ length classes.now.sizes }
     ensures { AreLive plan.now classes.now state.now live.new }
 {
     clear(live);
-    for i in 0..plan.requests.len() {
+    for i in active.from..active.to {
         note(plan, classes, state, live, i);
     }
 }

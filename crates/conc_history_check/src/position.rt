@@ -1,8 +1,9 @@
 use crate::prepared::Prepared;
+use conc_event_reach::Span;
 use conc_types::{Plan, RequestId, Seq, State};
 
-/// A position of a history: its state, with a live request of each class, the plan, and what was
-/// prepared of the plan.
+/// A position of a history: its state and what is kept beside it, the plan, and what was prepared of
+/// the plan.
 #[derive(Clone, Copy)]
 pub(crate) struct Position<'a> {
     pub plan: &'a Plan,
@@ -10,4 +11,8 @@ pub(crate) struct Position<'a> {
     pub state: &'a State,
     /// For each class a live request of it, or none where it has none.
     pub live: &'a Seq<Option<RequestId>>,
+    /// Where requests may be active: each other one is quiet.
+    pub active: Span,
+    /// The place of the first command that is not done, from 0.
+    pub undone: usize,
 }

@@ -1,5 +1,4 @@
-use Rattle.std.proofs.Common.{◌≡◌, ◌+◌, Some, add-one, refl, reverse, take, slice_get, ◌∙◌}
-use Rattle.std.proofs.lemmas.List.{take_rest}
+use Rattle.std.proofs.Common.{◌≡◌, Some, add-one, refl, reverse, take, slice_get, ◌∙◌}
 use Rattle.std.proofs.lemmas.Option.{slice_get_read}
 use Rattle.conc_history_check.proofs.EachPosition.{lawful_here, lawful_without}
 use Rattle.conc_history_check.proofs.positions.is_lawful_at.Goals as goal
@@ -13,9 +12,8 @@ returns c =
     (c.may_come.ensures
     ∙ elim c.match-e.branch [
       | in-Tick w ↦
-          lawful_here _ c.args.readings.now.list c.args.events.now c.args.i c.args.findings.now _ _ at c.requires.read.taken
-          (w.next-is
-          ∙ rw (take_rest c.args.events.now (c.args.i + 1), add-one) at (w.known_next-next.ensures (reverse (take c.args.i c.args.events.now)) c.requires.read.taken))
+          lawful_here _ c.args.life.readings.now.list c.args.events.now c.args.i c.args.findings.now _ _ at c.requires.read.taken
+          (w.next-is ∙ rw add-one at (w.known_next-next.ensures (reverse (take c.args.i c.args.events.now)) c.requires.read.taken))
       | in_default w ↦
-          lawful_without _ c.args.readings.now.list c.args.events.now c.args.i c.args.findings.now _ _ at c.requires.read.taken w.in_default.not-Tick
+          lawful_without _ c.args.life.readings.now.list c.args.events.now c.args.i c.args.findings.now _ _ at c.requires.read.taken w.in_default.not-Tick
     ])

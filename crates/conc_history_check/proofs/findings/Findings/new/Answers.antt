@@ -1,12 +1,18 @@
-use Rattle.std.proofs.Common.{refl}
+use Rattle.std.proofs.Common.{[], refl, arith}
 use Rattle.conc_base_law.specs.Before.{earlier_lives, last_life}
 use Rattle.conc_base_law.specs.Readings.{ticks}
 use Rattle.conc_base_law.specs.State.{now}
+use Rattle.conc_history_check.proofs.Quiet.{active-whole}
 use Rattle.conc_history_check.proofs.findings.Findings.new.Goals as goal
+
+pub note_live-requires-clause-active : goal.note_live-requires-clause-active
+note_live-requires-clause-active c = active-whole c.args.plan.now [] _ _ c.in_ok-state.ensures (omega (arith, c.len.ensures)) (omega (arith, c.len.ensures)) (omega (arith, c.len.ensures))
 
 pub returns : goal.returns
 unfolding earlier_lives last_life ticks now
 returns c = record {
   taken = record { state = c.in_ok-state.ensures; earlier = refl; ticks = refl };
   live = c.note_live.ensures;
+  active = active-whole c.args.plan.now [] _ _ c.in_ok-state.ensures (omega (arith, c.len.ensures)) (omega (arith, c.len.ensures)) (omega (arith, c.len.ensures));
+  undone = c.first_undone.ensures;
 }

@@ -3,12 +3,12 @@ use Rattle.std.specs.List.{list_any, range_with_len}
 use Rattle.conc_base_law.specs.Next.{may_start}
 use Rattle.conc_base_law.specs.Places.{all_places}
 use Rattle.conc_history_check.proofs.Places.{somewhere}
-use Rattle.conc_history_check.proofs.judging.one_may_start_somewhere.Goals as goal
+use Rattle.conc_history_check.proofs.starts.one_may_start_somewhere.Goals as goal
 
 pub returns : goal.returns
 unfolding all_places
 returns c =
     c.one_may_start_among.ensures
-    ∙ ap (λ n. list_any (λ p. list_any (λ r. may_start c.args.plan.now c.args.state.now r p) c.args.plan.now.requests) (map (λ index. record { index = index }) (range_with_len 0 n)))
+    ∙ ap (λ n. list_any (λ p. list_any (λ r. may_start c.args.position.plan.now c.args.position.state.now r p) c.args.position.plan.now.requests) (map (λ index. record { index = index }) (range_with_len 0 n)))
     c.place_count.ensures.count
-    ∙ somewhere c.args.plan.now c.args.state.now
+    ∙ somewhere c.args.position.plan.now c.args.position.state.now
