@@ -1,3 +1,3 @@
 pub mod Joined
 pub mod Accepting
-pub mod EmptyDisks
+pub mod Underway

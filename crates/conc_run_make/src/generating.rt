@@ -3,40 +3,19 @@ ghost use Rattle.conc_types.specs.declared.error.ReadFail.TheVariants.{NoMemory 
 ghost use Rattle.conc_run_make.specs.Generated.{AreGenerated};
 
 use conc_data_columns::keep_columns;
-use conc_data_digests::InputDigest;
 use conc_make::{Inputs, make};
 use conc_plan::make_plan;
-use conc_run_state::Input;
 use conc_script::{read_clock, read_script};
 use conc_setup::read_setup;
 use conc_tables::read_table;
-use conc_types::{Digests, NoMemory, Plan, ReadFail, Readings, Seq, Table};
+use conc_types::{NoMemory, Plan, ReadFail, Readings, Seq, Table};
 use std::alloc::Global;
 
-/// The name of the table in the setup.
-const TABLE_NAME: &[u8] = b"m.csv";
-
-/// What generated files give for a run: the plan, the readings, and the digests of the input.
+/// What generated files give for a run: the plan and the readings.
 #[derive(Drop)]
 pub(crate) struct Generated {
     pub(crate) plan: Plan,
     pub(crate) readings: Readings,
-    pub(crate) digests: Digests,
-}
-
-impl Generated {
-    /// What a run of the files is of.
-    pub(crate) fn input(&self) -> Input<'_>
-        ensures plan { result.plan.now ≡ self.now.plan }
-        ensures readings { result.readings.now ≡ self.now.readings }
-        ensures digests { result.digests.now ≡ self.now.digests }
-    {
-        Input {
-            plan: &self.plan,
-            readings: &self.readings,
-            digests: &self.digests,
-        }
-    }
 }
 
 // The value of a file that is accepted.
@@ -59,12 +38,6 @@ fn one_table(alloc: Global, table: Table) -> Result<Seq<Table>, NoMemory>
     Ok(Seq::from_vec(tables))
 }
 
-fn digests_of(inputs: &Inputs) -> Digests {
-    InputDigest::new(&inputs.setup, &inputs.script)
-        .with_table(TABLE_NAME, &inputs.table)
-        .finish()
-}
-
 /// What the files give that are made of this seed with so many submissions. Want of memory is its only
 /// failure, since the readers accept the files and a plan of them has no fault.
 pub(crate) fn generate(alloc: Global, seed: u64, size: u32) -> Result<Generated, NoMemory>
@@ -80,10 +53,5 @@ pub(crate) fn generate(alloc: Global, seed: u64, size: u32) -> Result<Generated,
     let tables = one_table(alloc, table)?;
     let plan = accepted(make_plan(alloc, setup, script, tables))?;
     let plan = keep_columns(alloc, plan);
-    let digests = digests_of(&inputs);
-    Ok(Generated {
-        plan,
-        readings,
-        digests,
-    })
+    Ok(Generated { plan, readings })
 }

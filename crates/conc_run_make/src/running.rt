@@ -1,40 +1,24 @@
-ghost use Rattle.std.specs.Prelude.{[], IfOk, IsFalse};
+ghost use Rattle.std.specs.Prelude.{[], IfOk};
 ghost use Rattle.conc_base_law.specs.Alone.{Alone};
-ghost use Rattle.conc_run_state.specs.Causes.{is_refusal};
-ghost use Rattle.conc_run_state.specs.Works.{list_in};
 
 use crate::generating::Generated;
-use conc_edge_devices::MemDisk;
-use conc_run::run_plan;
-use conc_run_state::{HistoryFail, Stores, Work};
-use conc_types::NoMemory;
+use conc_machine::Machine;
+use conc_run_choice::next_event;
+use conc_types::{Event, NoMemory};
 use std::alloc::Global;
 
-// The want of memory that a run in memory was stopped by: its disks are to fail in no call, so they fail
-// where there is no memory.
-fn want_of_memory(fail: HistoryFail) -> NoMemory
-    requires { IsFalse (is_refusal fail) }
+/// The finished history, without workers, of what was generated, from no events. It is kept in memory and
+/// in no journal, and the texts of its reports are not kept.
+pub(crate) fn run_in_memory(alloc: Global, generated: &Generated) -> Result<Vec<Event>, NoMemory>
+    ensures { IfOk result (λ history. Alone generated.now.plan generated.now.readings.list []
+        history.items) }
 {
-    match fail {
-        HistoryFail::DiskFault { .. } | HistoryFail::NoMemory => NoMemory,
-        _ => unreachable!(),
+    let mut machine = Machine::new(alloc, &generated.plan)?;
+    machine.take_readings(alloc, &generated.readings)?;
+    let mut history = Vec::new(alloc);
+    while let Some(next) = next_event(alloc, &machine)? {
+        history.push(next.event)?;
+        machine.apply(next.event);
     }
-}
-
-/// The finished run, without workers, of what was generated, over a journal and a spool in memory that
-/// have nothing yet.
-pub(crate) fn run_in_memory(alloc: Global, generated: &Generated) -> Result<Work<'_>, NoMemory>
-    ensures { IfOk result (λ work. Alone generated.now.plan generated.now.readings.list []
-        (list_in work)) }
-{
-    let mut journal = MemDisk::new(alloc, Vec::new(alloc), Vec::new(alloc));
-    let mut spool = MemDisk::new(alloc, Vec::new(alloc), Vec::new(alloc));
-    let mut stores = Stores {
-        journal: &mut journal,
-        spool: &mut spool,
-    };
-    match run_plan(alloc, &generated.input(), &mut stores) {
-        Ok(work) => Ok(work),
-        Err(fail) => Err(want_of_memory(fail)),
-    }
+    Ok(history)
 }

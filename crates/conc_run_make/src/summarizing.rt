@@ -30,7 +30,7 @@ fn text_of(
 }
 
 /// The summary of the run, without workers, of the inputs that are made of this seed with so many
-/// submissions. The run goes over a journal and a spool in memory that have nothing, and is finished.
+/// submissions. The run begins with no events, is kept in memory, and is finished.
 ///
 /// The summary has nine lines, each a word, a blank and a number: `seed` and `size`, as they are given;
 /// `requests`, how many the plan has, the members of sets among them; `events`, how many the history
@@ -43,6 +43,6 @@ pub fn summarize(alloc: Global, seed: u64, size: u32) -> Result<Vec<u8>, NoMemor
     ensures { IfOk result (λ text. IsSummary seed size text.items) }
 {
     let generated = generate(alloc, seed, size)?;
-    let work = run_in_memory(alloc, &generated)?;
-    text_of(alloc, seed, size, &generated.plan, work.journal.events())
+    let history = run_in_memory(alloc, &generated)?;
+    text_of(alloc, seed, size, &generated.plan, &history)
 }

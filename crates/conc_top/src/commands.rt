@@ -55,7 +55,7 @@ fn asked(alloc: Global, words: &[String]) -> Result<Command, Exit>
 ///   is finished. It names the first line that is not lawful.
 /// - `status SETUP SCRIPT` writes the table of the requests as they stand after the journal's events.
 /// - `output SETUP SCRIPT NUMBER` writes the text of the report with which the request ended.
-/// - `make SEED SIZE` makes inputs of a seed with so many submissions, runs them over disks in memory, and
+/// - `make SEED SIZE` makes inputs of a seed with so many submissions, runs them in memory, over no disks, and
 ///   writes a summary.
 /// - `repeat REPEATS` reads a file of repeats, and writes the script to which it expands.
 ///
