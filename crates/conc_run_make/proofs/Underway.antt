@@ -5,6 +5,7 @@ use Rattle.conc_types.specs.declared.plan.Plan.{Plan}
 use Rattle.conc_types.specs.declared.script.Reading.{Reading}
 use Rattle.conc_types.specs.declared.script.Readings.{Readings}
 use Rattle.conc_base_law.specs.Alone.{Alone, Follows, next_alone}
+use Rattle.conc_base_law.specs.Before.{last_life}
 use Rattle.conc_base_law.specs.Law.{is_lawful, Lawful, LawfulSoFar}
 use Rattle.conc_base_law.specs.Remaining.{remaining}
 use Rattle.conc_base_law.proofs.AloneLawful.{next_alone-follows}
@@ -35,6 +36,10 @@ none-lawful : (plan : Plan) (readings : List Reading) → Lawful plan readings [
 unfolding is_lawful
 none-lawful plan readings = refl
 
+pub no-life : last_life [] ≡ []
+unfolding last_life
+no-life = refl
+
 -- a new machine that took the readings
 pub begins : (plan : Plan) (readings : Readings) (machine : Machine) → plan_of machine ≡ plan → readings_of machine ≡ Some readings.list → StandsFor machine []
     → IsUnderway plan readings machine []
@@ -50,6 +55,10 @@ so-far : (plan : Plan) (readings : Readings) (list : List Event) → Lawful plan
 so-far plan readings list lawful = lawful_is_lawful_so_far plan readings.list (reverse list) readings.in_order lawful
 
 module _ (plan : Plan) (readings : Readings) (machine : Machine) (list : List Event) (under : IsUnderway plan readings machine list) where
+  -- what comes next by the machine's plan
+  pub comes : (o : Option Event) → o ≡ next_alone (plan_of machine) readings.list (reverse list) → next_in plan readings list ≡ o
+  comes o is = ap (λ (p : Plan). next_alone p readings.list (reverse list)) (sym under.plan_is) ∙ sym is
+
   module _ (e : Event) (next : next_in plan readings list ≡ Some e) where
     -- it takes in the event that comes next
     pub goes-on : (machine' : Machine) → plan_of machine' ≡ plan_of machine → readings_of machine' ≡ readings_of machine → StandsFor machine' (e ∷ reverse list)

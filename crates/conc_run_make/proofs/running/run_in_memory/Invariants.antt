@@ -1,8 +1,8 @@
 use Rattle.conc_run_make.proofs.Underway.{IsUnderway, left_in}
 use Rattle.conc_run_make.proofs.running.run_in_memory.Given as goal
 
-abbrev pub invariant-loop-next : goal.invariant-loop-next
-invariant-loop-next l = IsUnderway l.generated.now.plan l.generated.now.readings l.machine l.history.items
+abbrev pub invariant-loop-history : goal.invariant-loop-history
+invariant-loop-history l = IsUnderway l.generated.plan l.generated.readings l.machine l.history.items
 
-abbrev pub decreases-loop-next : goal.decreases-loop-next
-decreases-loop-next l = left_in l.generated.now.plan l.generated.now.readings l.history.items
+abbrev pub decreases-loop-history : goal.decreases-loop-history
+decreases-loop-history l = left_in l.generated.plan l.generated.readings l.history.items
