@@ -1,4 +1,4 @@
-use Rattle.std.proofs.Common.{◌≡◌, ◌∙◌, ◌<◌, ◌++◌, ◌∷◌, [], List, None, Some, ap, reverse, subst, sym}
+use Rattle.std.proofs.Common.{◌∙◌, ◌<◌, [], List, None, Some, ap, reverse, subst, sym}
 use Rattle.std.specs.Option.{option_map}
 use Rattle.conc_types.specs.declared.event.Event.{Event}
 use Rattle.conc_run_choice.specs.Choices.{event_of}
