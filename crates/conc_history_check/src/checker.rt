@@ -59,7 +59,7 @@ fn is_finished(
         plan,
         prepared,
         state: &findings.state,
-        live: &findings.live,
+        marks: &findings.marks,
         active: findings.active,
         undone: findings.undone,
     };

@@ -10,7 +10,7 @@ ghost use Rattle.conc_event_queue.specs.Turns as turns_spec;
 ghost use Rattle.conc_history_check.specs.At as at_spec;
 ghost use Rattle.conc_history_check.specs.Lets as lets_spec;
 ghost use Rattle.conc_history_check.specs.Kept.{IsKept};
-ghost use Rattle.conc_history_check.specs.Live.{AreNoted};
+ghost use Rattle.conc_history_check.specs.Marks.{AreMarks};
 ghost use Rattle.conc_history_check.specs.Prepared.{IsPrepared};
 
 use crate::free::is_free;
@@ -72,7 +72,8 @@ fn comes_before(turn: u64, best: Option<u64>) -> bool
 // The best turn so far, or that of r where r may be let out and its turn comes before.
 fn better(position: Position<'_>, best: Option<u64>, r: &Req) -> Option<u64>
     requires prepared { IsPrepared position.plan.now position.prepared.now }
-    requires live { AreNoted position }
+    requires marks { AreMarks position.plan.now position.prepared.now.classes position.state.now
+        position.marks.now }
     requires own { Has position.plan.now.requests r.now }
     ensures { result ≡ lesser best
         (then_some (next_spec.may_let position.entry.plan.now position.entry.state.now r.now)
@@ -112,7 +113,8 @@ fn waits_at(state: &State, i: usize) -> bool
 // before. It looks at the request only where its facts let it wait.
 fn better_at(position: Position<'_>, best: Option<u64>, i: usize) -> Option<u64>
     requires prepared { IsPrepared position.plan.now position.prepared.now }
-    requires live { AreNoted position }
+    requires marks { AreMarks position.plan.now position.prepared.now.classes position.state.now
+        position.marks.now }
     requires within { i < length position.plan.now.requests }
     ensures { (r : Req) → slice_get position.entry.plan.now.requests i ≡ Some r → result
         ≡ lesser best

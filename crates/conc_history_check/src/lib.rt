@@ -12,6 +12,7 @@ mod laws;
 mod lets;
 mod lines;
 mod live;
+mod marks;
 mod position;
 mod positions;
 mod prepared;
