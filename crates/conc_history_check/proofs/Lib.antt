@@ -21,3 +21,4 @@ pub mod Same
 pub mod Near
 pub mod After
 pub mod Lives
+pub mod Puts

@@ -38,12 +38,11 @@ set-at {T} xs i y within =
     slice_get-set_same xs i w.0 y w.1
 
 -- what is written stands there
-pub slot-own : (queue new : List (Option ℕ)) (r : Req) (b test : Bool) → HasSlot queue r → new ≡ set queue (r.number.number - 1) (then_some b r.number.number) → b ≡ test
-    → slot_of new r ≡ Some (then_some test r.number.number)
-slot-own queue new r b test there is same =
+pub slot-own : (queue new : List (Option ℕ)) (r : Req) (b : Bool) → HasSlot queue r → new ≡ set queue (r.number.number - 1) (then_some b r.number.number)
+    → slot_of new r ≡ Some (then_some b r.number.number)
+slot-own queue new r b there is =
     ap (λ l. slice_get l (r.number.number - 1)) is
     ∙ set-at queue (r.number.number - 1) (then_some b r.number.number) (omega (arith, there.0, there.1))
-    ∙ ap (λ (t : Bool). Some (then_some t r.number.number)) same
 
 -- the other slots stay
 pub slot-other : (queue new : List (Option ℕ)) (r q : Req) (b : Bool) (x : Option (Option ℕ)) → HasSlot queue r → HasSlot queue q → (q.number.number ≡ r.number.number → ⊥)
@@ -92,13 +91,12 @@ get-set_other (x ∷ xs) (suc i) (suc k) y d ne = get-set_other xs i k y d (λ (
 abbrev pub Put : List (List (Option ℕ)) → List (List (Option ℕ)) → ℕ → ℕ → Option ℕ → Type 0
 Put queues new c slot key = new ≡ set queues c (set (get_or queues c []) slot key)
 
-pub class-own : (classes : Classes) (queues new : List (List (Option ℕ))) (r : Req) (key test : Option ℕ) → (class_at classes r < length queues) × (slot_at classes r < length (get_or queues (class_at classes r) []))
-    → Put queues new (class_at classes r) (slot_at classes r) key → key ≡ test → slot_in_class classes new r ≡ Some test
-class-own classes queues new r key test there is same =
+pub class-own : (classes : Classes) (queues new : List (List (Option ℕ))) (r : Req) (key : Option ℕ) → (class_at classes r < length queues) × (slot_at classes r < length (get_or queues (class_at classes r) []))
+    → Put queues new (class_at classes r) (slot_at classes r) key → slot_in_class classes new r ≡ Some key
+class-own classes queues new r key there is =
     ap (λ l. slice_get (queue_at l (class_at classes r)) (slot_at classes r)) is
     ∙ ap (λ q. slice_get q (slot_at classes r)) (get-set queues (class_at classes r) _ [] there.0)
     ∙ set-at (get_or queues (class_at classes r) []) (slot_at classes r) key there.1
-    ∙ ap (λ (k : Option ℕ). Some k) same
 
 -- no two requests have one slot
 slots-apart : (plan : Plan) (classes : Classes) → AreClasses plan classes → (r q : Req) → Has plan.requests r → Has plan.requests q → (q.number.number ≡ r.number.number → ⊥)

@@ -1,0 +1,28 @@
+use Rattle.std.proofs.Common.{◌≡◌, ◌-◌, [], get_or, length, set, sym, ◌∙◌, ap, arith}
+use Rattle.std.specs.Bool.{then_some}
+use Rattle.conc_event_classes.specs.Classes.{class_at}
+use Rattle.conc_history_check.proofs.Puts.{IsPut, put-kept, put-own, put-room}
+use Rattle.conc_history_check.proofs.Slots.{class-there, has-slot}
+use Rattle.conc_history_check.proofs.marks.Marks.put.Goals as goal
+
+pub put_number-requires : goal.put_number-requires
+put_number-requires c = has-slot c.args.plan.now c.args.self.now.left c.args.r.now c.requires.room.left c.requires.known
+
+pub put_number-requires-2 : goal.put_number-requires-2
+put_number-requires-2 c = has-slot c.args.plan.now c.args.self.now.running c.args.r.now c.requires.room.running c.requires.known
+
+pub put_number-requires-3 : goal.put_number-requires-3
+put_number-requires-3 c = has-slot c.args.plan.now c.args.self.now.waiting c.args.r.now c.requires.room.waiting c.requires.known
+
+pub put_number-requires-4 : goal.put_number-requires-4
+put_number-requires-4 c = has-slot c.args.plan.now c.args.self.now.steps c.args.r.now c.requires.room.steps c.requires.known
+
+pub put_in_class-requires-clause-queue : goal.put_in_class-requires-clause-queue
+put_in_class-requires-clause-queue c =
+    let there = class-there c.args.plan.now c.args.prepared.now.classes c.requires.prepared.classes c.args.self.now.live.items c.requires.room.live c.args.r.now c.requires.known in
+    omega (arith, there.0, c.class-class.ensures)
+
+pub put_in_class-requires-clause-slot : goal.put_in_class-requires-clause-slot
+put_in_class-requires-clause-slot c =
+    let there = class-there c.args.plan.now c.args.prepared.now.classes c.requires.prepared.classes c.args.self.now.live.items c.requires.room.live c.args.r.now c.requires.known in
+    omega (arith, there.1, c.slot-slot.ensures, ap (λ n. length (get_or c.args.self.now.live.items n [])) c.class-class.ensures)
