@@ -14,9 +14,9 @@ use Rattle.conc_event_effects.specs.Advance.{IsAfter}
 use Rattle.conc_event_queue.proofs.Maps.{place_of_request}
 use Rattle.conc_event_reach.specs.Spans.{LeavesOthers}
 use Rattle.conc_event_reach.specs.declared.span.Span.{Span}
-use Rattle.conc_history_check.specs.Marks.{AreMarkedAround, AreMarks, HaveRoom, KeepsMarks, is_near}
+use Rattle.conc_history_check.specs.Marks.{AreMarkedAround, AreMarks, HaveRoom, IsMarkedSince, KeepsMarks, is_near}
 use Rattle.conc_history_check.specs.declared.marks.Marks.{Marks}
-use Rattle.conc_history_check.proofs.Near.{IsNearNone, near-member, near-or-not, near-self}
+use Rattle.conc_history_check.proofs.Near.{IsNearNone, near-member, near-or-not, near-parent, near-self, parent-there}
 use Rattle.conc_history_check.proofs.Quiet.{facts-outside}
 use Rattle.conc_history_check.proofs.Same.{marked-same}
 
@@ -32,14 +32,21 @@ facts-same plan e old new reach leaves after q none x has near =
     ∙ sym (numbered-at old.facts x.number.number p.0 (omega (arith, p.2))))
 
 -- the others keep what was said of them
-pub marks-after : (plan : Plan) (classes : Classes) (e : Event) (old new : State) (reach : Span) (was is : Marks) → LeavesOthers plan e reach → IsAfter plan old new e
-    → AreMarks plan classes old was → HaveRoom plan classes is → KeepsMarks plan classes new was is → AreMarkedAround plan classes new reach is → AreMarks plan classes new is
-marks-after plan classes e old new reach was is leaves after are room kept around = record {
+pub marks-after : (plan : Plan) (classes : Classes) (e : Event) (old new : State) (reach : Span) (was mid is : Marks) → LeavesOthers plan e reach → IsAfter plan old new e
+    → AreMarks plan classes old was → HaveRoom plan classes is → KeepsMarks plan classes new was mid → AreMarkedAround plan classes new reach mid → KeepsMarks plan classes new mid is
+    → ((q : Req) → Has plan.requests q → IsMarkedSince plan classes old.time new q is) → AreMarks plan classes new is
+marks-after plan classes e old new reach was mid is leaves after are room kept around keeps since = record {
   room = room;
   all = λ q has. elim (near-or-not plan reach q) [
-    | inl some ↦ around some.0 some.1 some.2 some.3 q has some.4
-    | inr none ↦
-        let same = facts-same plan e old new reach leaves after q none in
-        kept q has (marked-same plan classes old new q was (same q has (near-self q)) (λ stage x has_x member. same x has_x (near-member x q stage member)) (are.all q has))
+    | inl some ↦ keeps q has (around some.0 some.1 some.2 some.3 q has some.4)
+    | inr none ↦ elim (since q has) [
+      | inl come ↦
+          let same = facts-same plan e old new reach leaves after q none in
+          keeps q has (kept q has (marked-same plan classes old new q was (same q has (near-self q)) come
+          (λ stage x has_x member. same x has_x (near-member x q stage member))
+          (λ set parent_is. same set (parent-there plan q set parent_is) (near-parent plan q set parent_is))
+          (are.all q has)))
+      | inr marked ↦ marked
+    ]
   ];
 }

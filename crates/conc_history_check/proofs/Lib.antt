@@ -22,3 +22,4 @@ pub mod Near
 pub mod After
 pub mod Lives
 pub mod Puts
+pub mod Classed

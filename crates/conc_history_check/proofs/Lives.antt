@@ -2,6 +2,7 @@
 use Rattle.std.proofs.Common.{◌≡◌, ℕ, zero, suc, ◌≤◌, Bool, true, false, List, [], ◌∷◌, Option, None, Some, refl, sym, ◌∙◌, ap, inl, inr, arith}
 use Rattle.std.specs.Prelude.{if◌then◌else◌, IsSome, is_some, nat_lt, slice_get}
 use Rattle.std.specs.Bool.{then_some}
+use Rattle.std.specs.Option.{option_and_then}
 use Rattle.std.proofs.lemmas.Bool.{cases_lt, le-ltb, lt-ltb}
 use Rattle.conc_types.specs.declared.facts.State.{State}
 use Rattle.conc_types.specs.declared.plan.Plan.{Plan}
@@ -21,17 +22,17 @@ use Rattle.conc_history_check.specs.declared.marks.Marks.{Marks}
 pub least-slot : (queue : List (Option ℕ)) (k : ℕ) → least queue ≡ Some k → (i : ℕ) × (slice_get queue i ≡ Some (Some k))
 unfolding least
 least-slot [] k h = cc
-least-slot (x ∷ xs) k h = by x (least xs) refl h where
+least-slot (x ∷ xs) k h = by x (least xs) refl (least-slot xs k) h where
   earlier : (i : ℕ) × (slice_get xs i ≡ Some (Some k)) → (x' : Option ℕ) → (i : ℕ) × (slice_get (x' ∷ xs) i ≡ Some (Some k))
   earlier (i, at) x' = (suc i, at)
 
-  by : (x' o : Option ℕ) → least xs ≡ o → lesser x' o ≡ Some k → (i : ℕ) × (slice_get (x' ∷ xs) i ≡ Some (Some k))
-  by None o is e = earlier (least-slot xs k (is ∙ e)) None
-  by (Some a) None is e = (0, ap (λ (o : Option ℕ). Some o) e)
-  by (Some a) (Some b) is e = elim (cases_lt b a) [
+  by : (x' o : Option ℕ) → least xs ≡ o → (least xs ≡ Some k → (i : ℕ) × (slice_get xs i ≡ Some (Some k))) → lesser x' o ≡ Some k → (i : ℕ) × (slice_get (x' ∷ xs) i ≡ Some (Some k))
+  by None o is rest e = earlier (rest (is ∙ e)) None
+  by (Some a) None is rest e = (0, ap (λ (o : Option ℕ). Some o) e)
+  by (Some a) (Some b) is rest e = elim (cases_lt b a) [
     | inl less ↦
         let same : ◌≡◌ {A = Option ℕ} (Some b) (Some k) = ap (λ (t : Bool). Some (if t then b else a)) (sym (lt-ltb b a less)) ∙ e in
-        earlier (least-slot xs k (is ∙ same)) (Some a)
+        earlier (rest (is ∙ same)) (Some a)
     | inr more ↦
         let same : ◌≡◌ {A = Option ℕ} (Some a) (Some k) = ap (λ (t : Bool). Some (if t then b else a)) (sym (le-ltb b a more)) ∙ e in
         (0, ap (λ (o : Option ℕ). Some o) same)
@@ -58,6 +59,13 @@ least-of (x ∷ xs) (suc i) k at = by x (least xs) (least-of xs i k at) where
     | inr more ↦ (a, ap (λ (t : Bool). Some (if t then b else a)) (le-ltb b a more), omega (arith, own, later.2, more))
   ]
 
+-- the least of the queue at a place, where there is one
+pub noted-queue : (live : List (List (Option ℕ))) (c : ℕ) → option_and_then least (slice_get live c) ≡ least (queue_at live c)
+unfolding least
+noted-queue [] c = refl
+noted-queue (x ∷ xs) zero = refl
+noted-queue (x ∷ xs) (suc c) = noted-queue xs c
+
 -- ---- live requests
 
 -- a key that stands there is the number of a request that passes
@@ -73,9 +81,9 @@ lives plan classes s marks are = record {
       (are.all q has).live ∙ ap (λ b. Some (then_some b q.number.number)) live in
       let l : (m : ℕ) × (least (queue_at marks.live.items (class_at classes q)) ≡ Some m) × (m ≤ q.number.number) =
       least-of (queue_at marks.live.items (class_at classes q)) (slot_at classes q) q.number.number there in
-      ap is_some l.1;
+      ap is_some (noted-queue marks.live.items (class_at classes q) ∙ l.1);
   own = λ c number is.
-      let at : (i : ℕ) × (slice_get (queue_at marks.live.items c) i ≡ Some (Some number)) = least-slot (queue_at marks.live.items c) number is in
+      let at : (i : ℕ) × (slice_get (queue_at marks.live.items c) i ≡ Some (Some number)) = least-slot (queue_at marks.live.items c) number (sym (noted-queue marks.live.items c) ∙ is) in
       owned c number at.0 at.1 (are.room.live.own c at.0 number at.1);
 } where
   owned : (c number i : ℕ) → slice_get (queue_at marks.live.items c) i ≡ Some (Some number)

@@ -1,7 +1,7 @@
 -- Requests of which something can depend on another one.
-use Rattle.std.proofs.Common.{◌≡◌, ◌⊎◌, ℕ, zero, suc, Bool, true, false, ◌&&◌, ◌||◌, List, [], ◌∷◌, Option, None, Some, refl, sym, ◌∙◌, ap, inl, inr}
+use Rattle.std.proofs.Common.{◌≡◌, ◌⊎◌, ℕ, zero, suc, Bool, true, false, ◌&&◌, ◌||◌, ◌==◌, List, [], ◌∷◌, Option, None, Some, refl, sym, ◌∙◌, ap, inl, inr}
 use Rattle.std.specs.Prelude.{IsTrue, slice_get}
-use Rattle.std.proofs.lemmas.Bool.{and_from, and_parts, cases_Bool, eq-eqb, eqb-true, or_left, or_right}
+use Rattle.std.proofs.lemmas.Bool.{and_from, and_parts, cases_Bool, eq-eqb, eqb-true, or_left}
 use Rattle.conc_types.specs.declared.event.RequestId.{RequestId}
 use Rattle.conc_types.specs.declared.plan.Plan.{Plan}
 use Rattle.conc_types.specs.declared.plan.Req.{Req}
@@ -20,6 +20,16 @@ use Rattle.conc_history_check.proofs.Slots.{same_number}
 
 -- ---- who is near
 
+second-of : (a b c : Bool) → b ≡ true → (a || (b || c)) ≡ true
+second-of true b c h = refl
+second-of false true c h = refl
+second-of false false c h = cc
+
+third-of : (a b c : Bool) → c ≡ true → (a || (b || c)) ≡ true
+third-of true b c h = refl
+third-of false true c h = refl
+third-of false false c h = h
+
 pub near-self : (r : Req) → is_near r r ≡ true
 unfolding is_near
 near-self r = or_left _ _ (eq-eqb r.number.number r.number.number refl)
@@ -27,7 +37,18 @@ near-self r = or_left _ _ (eq-eqb r.number.number r.number.number refl)
 -- a request to its members
 pub near-member : (x q : Req) (stage : ℕ) → is_member q.number stage x ≡ true → is_near x q ≡ true
 unfolding is_near is_member
-near-member x q stage member = or_right _ _ (or_right _ _ (and_parts _ _ member).0)
+near-member x q stage member =
+    third-of (id_eq x.number q.number) (some_and (id_eq x.number) q.parent) (some_and (id_eq q.number) x.parent)
+    (and_parts (some_and (id_eq q.number) x.parent) (x.stage == stage) member).0
+
+-- and the set of which it is one to the request
+pub near-parent : (plan : Plan) (q set : Req) → parent plan q ≡ Some set → is_near set q ≡ true
+unfolding is_near parent
+near-parent plan q set is =
+    let p : (id : RequestId) × (q.parent ≡ Some id) × (request plan id ≡ Some set) = and_then-some (request plan) q.parent set is in
+    let number : set.number.number ≡ p.0.number = (found plan p.0 set p.2).0 in
+    second-of (id_eq set.number q.number) (some_and (id_eq set.number) q.parent) (some_and (id_eq q.number) set.parent)
+    (ap (some_and (id_eq set.number)) p.1 ∙ eq-eqb set.number.number p.0.number number)
 
 either-way : (a b c : Bool) → (a || (b || c)) ≡ true → (a ≡ true) ⊎ (b ≡ true) ⊎ (c ≡ true)
 either-way true b c h = inl refl

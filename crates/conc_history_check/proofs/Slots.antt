@@ -1,5 +1,5 @@
 -- The slots of requests in queues, and what is written there.
-use Rattle.std.proofs.Common.{◌≡◌, ℕ, zero, suc, ◌+◌, ◌-◌, ◌<◌, ◌≤◌, Bool, List, [], ◌∷◌, ◌++◌, length, get_or, map, set, take, Option, None, Some, refl, sym, ◌∙◌, ap, inl, inr, subst, arith}
+use Rattle.std.proofs.Common.{◌≡◌, ℕ, zero, suc, ◌+◌, ◌-◌, ◌<◌, ◌≤◌, Bool, List, [], ◌∷◌, ◌++◌, length, get_or, map, set, take, Option, None, Some, refl, sym, ◌∙◌, ap, inl, inr, subst, add-one, arith}
 use Rattle.std.specs.Prelude.{slice_get}
 use Rattle.std.specs.Bool.{then_some}
 use Rattle.std.proofs.lemmas.Bool.{cases_eq}
@@ -180,9 +180,11 @@ lengths-more [] q = refl
 lengths-more (x ∷ xs) q = ap (λ l. length x ∷ l) (lengths-more xs q)
 
 sizes-next : (sizes : List ℕ) (k : ℕ) → k < length sizes → take k sizes ++ get_or sizes k 0 ∷ [] ≡ take (k + 1) sizes
-sizes-next [] k within = absurd (omega (arith, within))
-sizes-next (x ∷ xs) zero within = refl
-sizes-next (x ∷ xs) (suc k) within = ap (λ l. x ∷ l) (sizes-next xs k (omega (arith, within)))
+sizes-next sizes k within = rw (add-one k) (at sizes k within) where
+  at : (sizes : List ℕ) (k : ℕ) → k < length sizes → take k sizes ++ get_or sizes k 0 ∷ [] ≡ take (suc k) sizes
+  at [] k within = absurd (omega (arith, within))
+  at (x ∷ xs) zero within = refl
+  at (x ∷ xs) (suc k) within = ap (λ l. x ∷ l) (at xs k (omega (arith, within)))
 
 take-whole : (n : ℕ) (xs : List ℕ) → length xs ≤ n → take n xs ≡ xs
 take-whole zero [] h = refl
@@ -193,6 +195,9 @@ take-whole (suc n) (x ∷ xs) h = ap (λ l. x ∷ l) (take-whole n xs (omega (ar
 -- the queues of the first classes have the lengths that they need, and no keys
 abbrev pub AreVacantTo : Classes → ℕ → List (List (Option ℕ)) → Type 0
 AreVacantTo classes n queues = (map length queues ≡ take n classes.sizes) × AreKeyless queues
+
+pub vacant-start : (classes : Classes) (queues : List (List (Option ℕ))) → queues ≡ [] → AreVacantTo classes 0 queues
+vacant-start classes queues is = (ap (map length) is, subst AreKeyless (sym is) keyless-none)
 
 pub vacant-more : (classes : Classes) (n : ℕ) (queues new : List (List (Option ℕ))) → n < length classes.sizes → AreVacantTo classes n queues
     → new ≡ queues ++ vacant (get_or classes.sizes n 0) ∷ [] → AreVacantTo classes (n + 1) new

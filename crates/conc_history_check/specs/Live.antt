@@ -1,5 +1,5 @@
 -- A live request of each class: the one with the least number.
-use Rattle.std.specs.Prelude.{◌≡◌, ℕ, IsSome, IsTrue, List, Option, Some, is_some}
+use Rattle.std.specs.Prelude.{◌≡◌, ℕ, IsSome, IsTrue, List, Option, Some, is_some, slice_get}
 use Rattle.std.specs.List.{find}
 use Rattle.std.specs.Option.{option_and_then}
 use Rattle.conc_types.specs.declared.facts.State.{State}
@@ -10,11 +10,10 @@ use Rattle.conc_base_law.specs.Words.{Has}
 use Rattle.conc_event_classes.specs.Classes.{class_at, rivals_at}
 use Rattle.conc_event_classes.specs.declared.classes.Classes.{Classes}
 use Rattle.conc_event_queue.specs.Least.{least}
-use Rattle.conc_history_check.specs.Marks.{queue_at}
 
 -- the number of the request that is noted for a class
 unfoldable pub noted : List (List (Option ℕ)) → ℕ → Option ℕ
-noted live c = least (queue_at live c)
+noted live c = option_and_then least (slice_get live c)
 
 -- the request with the number is live and of the class
 abbrev pub IsLiveOf : Plan → Classes → State → ℕ → ℕ → Type 0

@@ -1,15 +1,17 @@
 -- Which requests stand in queues, so that no pass over all of them is needed.
-use Rattle.std.specs.Prelude.{◌≡◌, ℕ, ◌-◌, ◌<◌, ◌≤◌, Bool, not, ◌&&◌, ◌||◌, IsTrue, List, [], length, map, Option, Some, slice_get, slice_index_or}
+use Rattle.std.specs.Prelude.{◌≡◌, ◌⊎◌, ℕ, ◌-◌, ◌<◌, ◌≤◌, Bool, not, ◌&&◌, ◌||◌, IsTrue, List, [], length, map, Option, Some, slice_get, slice_index_or}
 use Rattle.std.specs.Bool.{then_some}
+use Rattle.conc_types.specs.declared.event.Moment.{Moment}
 use Rattle.conc_types.specs.declared.facts.State.{State}
 use Rattle.conc_types.specs.declared.plan.Plan.{Plan}
 use Rattle.conc_types.specs.declared.plan.Req.{Req}
 use Rattle.conc_types.specs.Words.{some_and}
-use Rattle.conc_base_law.specs.Next.{has_step, is_left_running, runs_somewhere}
-use Rattle.conc_base_law.specs.State.{facts_at, is_live, is_running}
+use Rattle.conc_base_law.specs.Next.{has_step, is_left_running, is_ready, runs_somewhere}
+use Rattle.conc_base_law.specs.State.{facts_at, has_come, is_live, is_running}
 use Rattle.conc_base_law.specs.Words.{Has, id_eq}
 use Rattle.conc_event_classes.specs.Classes.{class_at, slot_at}
 use Rattle.conc_event_classes.specs.declared.classes.Classes.{Classes}
+use Rattle.conc_event_queue.specs.Turns.{turn}
 use Rattle.conc_event_reach.specs.Spans.{is_within}
 use Rattle.conc_event_reach.specs.declared.span.Span.{Span}
 use Rattle.conc_history_check.specs.declared.marks.Marks.{Marks}
@@ -44,6 +46,7 @@ pub record HaveRoom (plan : Plan) (classes : Classes) (marks : Marks) : Type 0 w
   pub waiting : length marks.waiting ≡ length plan.requests
   pub steps : length marks.steps ≡ length plan.requests
   pub live : AreQueues plan classes marks.live.items
+  pub ready : AreQueues plan classes marks.ready.items
 
 -- ---- what they say
 
@@ -51,13 +54,14 @@ pub record HaveRoom (plan : Plan) (classes : Classes) (marks : Marks) : Type 0 w
 unfoldable pub waits_to_start : State → Req → Bool
 waits_to_start s r = (facts_at s r).let_out && not (is_running (facts_at s r))
 
--- the slots of a request say what the state does: its number stands where the request passes
+-- the slots of a request say what the state does: its number stands where the request passes, and its turn where it is ready
 pub record IsMarked (plan : Plan) (classes : Classes) (s : State) (r : Req) (marks : Marks) : Type 0 where
   pub left : slot_of marks.left r ≡ Some (then_some (is_left_running s r) r.number.number)
   pub running : slot_of marks.running r ≡ Some (then_some (runs_somewhere s r) r.number.number)
   pub waiting : slot_of marks.waiting r ≡ Some (then_some (waits_to_start s r) r.number.number)
   pub steps : slot_of marks.steps r ≡ Some (then_some (has_step plan s r) r.number.number)
   pub live : slot_in_class classes marks.live.items r ≡ Some (then_some (is_live (facts_at s r)) r.number.number)
+  pub ready : slot_in_class classes marks.ready.items r ≡ Some (then_some (is_ready plan s r) (turn r))
 
 -- so those of each request
 pub record AreMarks (plan : Plan) (classes : Classes) (s : State) (marks : Marks) : Type 0 where
@@ -82,6 +86,10 @@ AreMarkedWithin plan classes s span marks =
 -- those of each request do whose marks can depend on r
 abbrev pub AreMarkedNear : Plan → Classes → State → Req → Marks → Type 0
 AreMarkedNear plan classes s r marks = (q : Req) → Has plan.requests q → IsTrue (is_near r q) → IsMarked plan classes s q marks
+
+-- the slots of a request do, unless its start has come as little, or as well, as it had before
+abbrev pub IsMarkedSince : Plan → Classes → Option Moment → State → Req → Marks → Type 0
+IsMarkedSince plan classes before s q marks = (has_come before q.start ≡ has_come s.time q.start) ⊎ IsMarked plan classes s q marks
 
 -- so of each r within the span
 abbrev pub AreMarkedAround : Plan → Classes → State → Span → Marks → Type 0

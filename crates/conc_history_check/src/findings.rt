@@ -98,11 +98,13 @@ impl Findings {
         ensures { (past : List Event) → AreFindings plan.now prepared.now past self.old
             → AreFindings plan.now prepared.now (e.now ∷ past) self.new }
     {
+        let before = self.state.time;
         let reached = prepared.spans.reach(plan, *e);
         let touched = self.active.cover(reached);
         self.take_in(plan, prepared, e);
         self.active = narrowed(plan, &self.state, touched);
         self.undone = first_undone(&self.state, self.undone);
         self.marks.put_around(plan, prepared, &self.state, reached);
+        self.marks.put_come(plan, prepared, &self.state, before);
     }
 }

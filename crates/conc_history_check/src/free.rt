@@ -15,11 +15,7 @@ use conc_event_decisions::blocks;
 use conc_event_queue::Queue;
 use conc_types::{Plan, Req, State};
 
-fn first_noted<'a>(
-    classes: &'a Classes,
-    live: &Vec<Queue>,
-    class: u32,
-) -> Option<&'a u32>
+fn first_noted<'a>(classes: &'a Classes, live: &Vec<Queue>, class: u32) -> Option<&'a u32>
     ensures { option_copied result ≡ find (λ d. is_some (live_spec.noted live.now.items d))
         (rivals_at classes.now class) }
 {

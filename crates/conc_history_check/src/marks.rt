@@ -1,23 +1,30 @@
-ghost use Rattle.std.specs.Prelude.{◌≡◌, ◌-◌, ◌<◌, ◌≤◌, IfOk, [], length, slice_index_or, slice_set};
+ghost use Rattle.std.specs.Prelude.{◌≡◌, ◌-◌, ◌<◌, ◌≤◌, IfOk, IsTrue, [], length, slice_index_or, slice_set};
 ghost use Rattle.std.specs.Bool.{then_some};
+ghost use Rattle.conc_types.specs.declared.event.Moment.{Moment};
+ghost use Rattle.conc_types.specs.declared.plan.Req.{Req};
+ghost use Rattle.conc_base_law.specs.Next as next_spec;
 ghost use Rattle.conc_base_law.specs.State as state_spec;
 ghost use Rattle.conc_base_law.specs.Words.{Has};
 ghost use Rattle.conc_event_classes.specs.Classes.{AreClasses};
+ghost use Rattle.conc_event_queue.specs.Turns as turns_spec;
 ghost use Rattle.conc_history_check.specs.Marks as spec;
-ghost use Rattle.conc_history_check.specs.Marks.{AreMarkedAround, AreMarkedNear, AreMarkedWithin, AreMarks, AreQueues, HasSlot, HaveRoom, IsMarked, KeepsMarks};
+ghost use Rattle.conc_history_check.specs.Marks.{AreMarkedAround, AreMarkedNear, AreMarkedWithin, AreMarks, AreQueues, HasSlot, HaveRoom, IsMarked, IsMarkedSince, KeepsMarks};
 ghost use Rattle.conc_history_check.specs.Prepared.{IsPrepared};
 
 use crate::prepared::Prepared;
+use crate::ready::is_ready;
 use conc_event_classes::Classes;
-use conc_event_decisions::{facts_at, has_step, is_left_running, is_live, runs_somewhere};
-use conc_event_queue::Queue;
+use conc_event_decisions::{
+    facts_at, has_come, has_step, is_left_running, is_live, runs_somewhere,
+};
+use conc_event_queue::{Queue, turn};
 use conc_event_reach::Span;
 use conc_rules::parent;
-use conc_types::{NoMemory, Plan, Req, State};
+use conc_types::{Moment, NoMemory, Plan, Req, State};
 use std::alloc::Global;
 
-/// The numbers of requests at which something may be due, in queues with a slot for each request, so
-/// that the least of them is known at once.
+/// Requests at which something may be due, in queues with a slot for each request, so that the first of them is known at once. In
+/// those of the ready ones their turns stand, and in the others their numbers.
 #[derive(Drop)]
 pub(crate) struct Marks {
     /// Those that ran at the stop of the system.
@@ -30,6 +37,8 @@ pub(crate) struct Marks {
     pub steps: Queue,
     /// For each class its live ones.
     pub live: Vec<Queue>,
+    /// For each class those that can be let out unless a live request excludes them.
+    pub ready: Vec<Queue>,
 }
 
 // ---- slots
@@ -90,6 +99,26 @@ fn live_number(state: &State, r: &Req) -> Option<u64>
     is_live(facts_at(state, r)).then_some(r.number.number as u64)
 }
 
+// The turn of r, if it is ready.
+fn ready_turn(plan: &Plan, prepared: &Prepared, state: &State, r: &Req) -> Option<u64>
+    requires prepared { IsPrepared plan.now prepared.now }
+    requires known { Has plan.now.requests r.now }
+    ensures { result ≡ then_some (next_spec.is_ready plan.now state.now r.now) (turns_spec.turn r.now) }
+{
+    is_ready(plan, prepared, state, r).then_some(turn(r))
+}
+
+// Whether the same starts have come at two moments, as they are equal.
+fn is_same_time(before: Option<Moment>, now: Option<Moment>) -> bool
+    ensures { IsTrue result → (t : Moment) → state_spec.has_come before t ≡ state_spec.has_come now t }
+{
+    match (before, now) {
+        (None, None) => true,
+        (Some(b), Some(n)) => b.seconds == n.seconds,
+        _ => false,
+    }
+}
+
 impl Marks {
     // No request in any queue, with room for all.
     fn vacant(alloc: Global, plan: &Plan, classes: &Classes) -> Result<Marks, NoMemory>
@@ -103,6 +132,7 @@ impl Marks {
             waiting: Queue::new(alloc, count)?,
             steps: Queue::new(alloc, count)?,
             live: vacant_queues(alloc, plan, classes)?,
+            ready: vacant_queues(alloc, plan, classes)?,
         })
     }
 
@@ -142,6 +172,8 @@ impl Marks {
         let class = prepared.classes.class(r) as usize;
         let slot = prepared.classes.slot(r) as usize;
         put_in_class(&mut self.live, class, slot, live_number(state, r));
+        let turn = ready_turn(plan, prepared, state, r);
+        put_in_class(&mut self.ready, class, slot, turn);
     }
 
     // Puts the requests within a span anew.
@@ -186,6 +218,51 @@ impl Marks {
     {
         for i in span.from..span.to {
             self.put_near(plan, prepared, state, &plan.requests.as_slice()[i]);
+        }
+    }
+
+    // Puts a request anew, if its start has come since a moment, or has come no more.
+    fn put_if_come(
+        &mut self,
+        plan: &Plan,
+        prepared: &Prepared,
+        state: &State,
+        before: Option<Moment>,
+        r: &Req,
+    )
+        requires prepared { IsPrepared plan.now prepared.now }
+        requires room { HaveRoom plan.now prepared.now.classes self.old }
+        requires known { Has plan.now.requests r.now }
+        ensures room { HaveRoom plan.now prepared.now.classes self.new }
+        ensures kept { KeepsMarks plan.now prepared.now.classes state.now self.old self.new }
+        ensures own { IsMarkedSince plan.now prepared.now.classes before state.now r.now self.new }
+    {
+        if has_come(before, r.start) != has_come(state.time, r.start) {
+            self.put(plan, prepared, state, r);
+        }
+    }
+
+    /// Puts those anew whose start has come since a moment, or has come no more. It looks through the requests
+    /// only where the moment is another one.
+    pub fn put_come(
+        &mut self,
+        plan: &Plan,
+        prepared: &Prepared,
+        state: &State,
+        before: Option<Moment>,
+    )
+        requires prepared { IsPrepared plan.now prepared.now }
+        requires room { HaveRoom plan.now prepared.now.classes self.old }
+        ensures room { HaveRoom plan.now prepared.now.classes self.new }
+        ensures kept { KeepsMarks plan.now prepared.now.classes state.now self.old self.new }
+        ensures since { (q : Req) → Has plan.now.requests q
+            → IsMarkedSince plan.now prepared.now.classes before state.now q self.new }
+    {
+        if is_same_time(before, state.time) {
+            return;
+        }
+        for i in 0..plan.requests.len() {
+            self.put_if_come(plan, prepared, state, before, &plan.requests.as_slice()[i]);
         }
     }
 }

@@ -1,10 +1,10 @@
-use Rattle.std.proofs.Common.{◌++◌, [], ◌∷◌, refl, subst, sym, ◌∙◌, ap, arith}
+use Rattle.std.proofs.Common.{◌++◌, [], ◌∷◌, ◌∙◌, ap, arith}
 use Rattle.conc_event_queue.specs.Least.{vacant}
-use Rattle.conc_history_check.proofs.Slots.{keyless-none, vacant-all, vacant-more}
+use Rattle.conc_history_check.proofs.Slots.{vacant-all, vacant-more, vacant-start}
 use Rattle.conc_history_check.proofs.marks.vacant_queues.Goals as goal
 
 pub loop-class-init : goal.loop-class-init
-loop-class-init c = (refl, keyless-none)
+loop-class-init c = vacant-start c.args.classes.now _ c.in_ok-queues.ensures.items
 
 pub loop-class-preserved : goal.loop-class-preserved
 loop-class-preserved c =

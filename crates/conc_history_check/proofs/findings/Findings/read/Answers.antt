@@ -29,8 +29,8 @@ returns c = λ past are.
       taken = record { state = taken.state; earlier = taken.earlier; ticks = taken.ticks };
       marks =
           marks-after c.args.plan.now c.args.prepared.now.classes c.args.e.now c.args.self.now.state c.take_in.new.self.state c.reach-reached.result
-          c.args.self.now.marks c.put_around.new.self (c.reach-reached.ensures.leaves c.requires.prepared.spans) c.take_in.ensures.after are.marks
-          c.put_around.ensures.room (subst (λ m. KeepsMarks c.args.plan.now c.args.prepared.now.classes c.take_in.new.self.state m c.put_around.new.self) c.take_in.ensures.marks c.put_around.ensures.kept) c.put_around.ensures.around;
+          c.args.self.now.marks c.put_around.new.self c.put_come.new.self (c.reach-reached.ensures.leaves c.requires.prepared.spans) c.take_in.ensures.after are.marks
+          c.put_come.ensures.room (subst (λ m. KeepsMarks c.args.plan.now c.args.prepared.now.classes c.take_in.new.self.state m c.put_around.new.self) c.take_in.ensures.marks c.put_around.ensures.kept) c.put_around.ensures.around c.put_come.ensures.kept c.put_come.ensures.since;
       active = c.narrowed-self.ensures;
       undone = c.first_undone-self.ensures;
     }

@@ -9,4 +9,5 @@ returns c = record {
   waiting = ap length c.in_ok-new-3.ensures ∙ length-vacant _ ∙ c.len-count.ensures;
   steps = ap length c.in_ok-new-4.ensures ∙ length-vacant _ ∙ c.len-count.ensures;
   live = c.in_ok-vacant_queues.ensures;
+  ready = c.in_ok-vacant_queues-2.ensures;
 }
