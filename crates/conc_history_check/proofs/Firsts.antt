@@ -1,11 +1,9 @@
 -- The numbers that stand in a queue are those of the requests that pass, so that the least is that of the first.
-use Rattle.std.proofs.Common.{◌≡◌, ℕ, zero, suc, ◌+◌, Bool, true, false, not, ◌&&◌, ◌||◌, List, [], ◌∷◌, length, map, Option, None, Some, refl, sym, ◌∙◌, ap, inl, inr, arith}
-use Rattle.std.specs.Prelude.{is_none, is_some, slice_get}
+use Rattle.std.proofs.Common.{◌≡◌, ℕ, suc, Bool, true, false, not, ◌&&◌, ◌||◌, List, [], ◌∷◌, length, map, Option, None, Some, refl, sym, ◌∙◌, ap, inl, inr, arith}
+use Rattle.std.specs.Prelude.{is_some, slice_get}
 use Rattle.std.specs.Bool.{then_some}
 use Rattle.std.specs.List.{find, list_any}
 use Rattle.std.specs.Option.{option_and_then}
-use Rattle.std.proofs.lemmas.Bool.{and_left, and_right}
-use Rattle.conc_types.specs.declared.event.PlaceId.{PlaceId}
 use Rattle.conc_types.specs.declared.facts.State.{State}
 use Rattle.conc_types.specs.declared.plan.Plan.{Plan}
 use Rattle.conc_types.specs.declared.plan.Req.{Req}
@@ -100,11 +98,11 @@ starts-not : (plan : Plan) (s : State) (r : Req) → waits_to_start s r ≡ fals
 unfolding waits_to_start may_start may_start_somewhere
 starts-not plan s r h = any-never (may_start plan s r) (all_places plan) (λ place. waits-not (facts_at s r).let_out (is_running (facts_at s r)) _ h)
 
-none-some : (o : Option ℕ) → is_none o ≡ true → o ≡ None
+none-some : (o : Option ℕ) → is_some o ≡ false → o ≡ None
 none-some None h = refl
 none-some (Some n) h = cc
 
-pub none_waits : (position : Position) → IsKept position → is_none (least position.marks.now.waiting) ≡ true
+pub none_waits : (position : Position) → IsKept position → is_some (least position.marks.now.waiting) ≡ false
     → list_any (may_start_somewhere position.plan.now position.state.now) position.plan.now.requests ≡ false
 unfolding numbers_of
 none_waits position kept none =

@@ -1,7 +1,7 @@
 -- Requests of which something can depend on another one.
-use Rattle.std.proofs.Common.{◌≡◌, ◌⊎◌, ℕ, zero, suc, Bool, true, false, ◌&&◌, ◌||◌, ◌==◌, List, [], ◌∷◌, Option, None, Some, refl, sym, ◌∙◌, ap, inl, inr}
+use Rattle.std.proofs.Common.{◌≡◌, ◌⊎◌, ℕ, zero, suc, Bool, true, false, ◌&&◌, ◌||◌, ◌==◌, List, [], ◌∷◌, Some, refl, sym, ◌∙◌, ap, inl, inr}
 use Rattle.std.specs.Prelude.{IsTrue, slice_get}
-use Rattle.std.proofs.lemmas.Bool.{and_from, and_parts, cases_Bool, eq-eqb, eqb-true, or_left}
+use Rattle.std.proofs.lemmas.Bool.{and_parts, cases_Bool, eq-eqb, eqb-true, or_left}
 use Rattle.conc_types.specs.declared.event.RequestId.{RequestId}
 use Rattle.conc_types.specs.declared.plan.Plan.{Plan}
 use Rattle.conc_types.specs.declared.plan.Req.{Req}
@@ -16,7 +16,6 @@ use Rattle.conc_event_reach.specs.declared.span.Span.{Span}
 use Rattle.conc_event_reach.specs.declared.spans.Spans.{Spans}
 use Rattle.conc_event_queue.proofs.Maps.{place_of_request}
 use Rattle.conc_history_check.specs.Marks.{is_near}
-use Rattle.conc_history_check.proofs.Slots.{same_number}
 
 -- ---- who is near
 

@@ -14,7 +14,7 @@ use Rattle.conc_base_law.specs.Words.{Has}
 use Rattle.conc_event_classes.specs.Classes.{AreClasses, class_at, slot_at}
 use Rattle.conc_event_classes.specs.declared.classes.Classes.{Classes}
 use Rattle.conc_event_queue.specs.Turns.{turn}
-use Rattle.conc_history_check.specs.Marks.{HaveRoom, HasSlot, IsMarked, IsMarkedSince, KeepsMarks, waits_to_start}
+use Rattle.conc_history_check.specs.Marks.{HaveRoom, IsMarked, IsMarkedSince, KeepsMarks, waits_to_start}
 use Rattle.conc_history_check.specs.declared.marks.Marks.{Marks}
 use Rattle.conc_history_check.proofs.Slots.{class-other, class-own, class-there, has-slot, Put, queues-put, same_number, slot-other, slot-own}
 

@@ -1,5 +1,4 @@
-use Rattle.std.proofs.Common.{◌+◌, ◌<◌, length, ap, sym, ◌∙◌, subst, arith}
-use Rattle.std.proofs.lemmas.List.{length-map}
+use Rattle.std.proofs.Common.{◌+◌, ◌<◌, sym, subst, arith}
 use Rattle.conc_event_classes.specs.Classes.{class_at}
 use Rattle.conc_history_check.specs.Lets.{IsLeastTurn}
 use Rattle.conc_history_check.proofs.Classed.{least-turn-is, least-turn-more, least-turn-start}

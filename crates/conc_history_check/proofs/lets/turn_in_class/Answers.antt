@@ -1,4 +1,4 @@
-use Rattle.std.proofs.Common.{◌≡◌, ℕ, Option, None, Some, sym, ◌∙◌}
+use Rattle.std.proofs.Common.{◌≡◌, Option, None, Some, sym, ◌∙◌}
 use Rattle.conc_types.specs.declared.plan.Req.{Req}
 use Rattle.conc_history_check.proofs.Classed.{class-first}
 use Rattle.conc_history_check.proofs.lets.turn_in_class.Goals as goal

@@ -1,4 +1,4 @@
-use Rattle.std.proofs.Common.{◌<◌, length, sym, ◌∙◌, arith}
+use Rattle.std.proofs.Common.{◌<◌, length, arith}
 use Rattle.std.proofs.lemmas.Option.{slice_get_within}
 use Rattle.conc_event_queue.proofs.Maps.{place_of_request}
 use Rattle.conc_event_reach.proofs.Within.{bounds_within}

@@ -1,7 +1,5 @@
-use Rattle.std.proofs.Common.{◌≡◌, ◌-◌, [], get_or, length, set, sym, ◌∙◌, ap, arith}
-use Rattle.std.specs.Bool.{then_some}
-use Rattle.conc_event_classes.specs.Classes.{class_at}
-use Rattle.conc_history_check.proofs.Puts.{IsPut, put-kept, put-own, put-room}
+use Rattle.std.proofs.Common.{[], get_or, length, ap, arith}
+use Rattle.conc_history_check.proofs.Puts.{put-kept, put-own, put-room}
 use Rattle.conc_history_check.proofs.Slots.{class-there, has-slot}
 use Rattle.conc_history_check.proofs.marks.Marks.put.Goals as goal
 

@@ -1,4 +1,4 @@
-use Rattle.std.proofs.Common.{◌≡◌, Option, None, Some, inl, inr, refl, sym, ◌∙◌, subst, ap}
+use Rattle.std.proofs.Common.{◌≡◌, Option, None, Some, inl, inr, sym, ◌∙◌, subst}
 use Rattle.conc_types.specs.declared.plan.Req.{Req}
 use Rattle.conc_history_check.specs.Marks.{IsMarked}
 use Rattle.conc_history_check.proofs.Near.{member-within, near-parts, parent-there, set-parent}
