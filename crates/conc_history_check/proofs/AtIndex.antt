@@ -1,6 +1,6 @@
 -- The facts of the request at an index stand at that index.
-use Rattle.std.proofs.Common.{◌≡◌, ℕ, ◌+◌, Bool, true, false, not, ◌&&◌, Option, None, Some, refl, sym, ◌∙◌, ap, arith}
-use Rattle.std.specs.Prelude.{if◌then◌else◌, slice_get, unwrap_or}
+use Rattle.std.proofs.Common.{◌≡◌, ℕ, ◌+◌, Bool, true, false, not, ◌&&◌, Option, None, Some, refl, ◌∙◌, ap, arith}
+use Rattle.std.specs.Prelude.{slice_get, unwrap_or}
 use Rattle.conc_types.specs.declared.facts.Facts.{Facts}
 use Rattle.conc_types.specs.declared.facts.State.{State}
 use Rattle.conc_types.specs.declared.plan.Plan.{Plan}
@@ -10,37 +10,13 @@ use Rattle.conc_base_law.specs.Next.{can_run, is_free, is_ready, may_let}
 use Rattle.conc_base_law.specs.State.{facts_at, has_come, is_completed, is_live, is_waiting, no_facts}
 use Rattle.conc_base_law.proofs.Numbering.{numbered-at}
 use Rattle.conc_event_queue.proofs.Maps.{request_at_place}
-use Rattle.conc_base_law.specs.Stages.{set_step}
-use Rattle.conc_history_check.specs.At.{live_at, open_at, waits_at}
-use Rattle.conc_history_check.specs.Steps.{own_step}
+use Rattle.conc_history_check.specs.At.{waits_at}
 
 -- what is read at the index is what is found by the number
 pub at-number : (plan : Plan) (s : State) (i : ℕ) (r : Req) → slice_get plan.requests i ≡ Some r → numbered s.facts r.number.number ≡ slice_get s.facts i
 at-number plan s i r at =
     let number : r.number.number ≡ i + 1 = (request_at_place plan i r at).0 in
     numbered-at s.facts r.number.number i (omega (arith, number))
-
-live-facts : (o : Option Facts) → live_at o ≡ is_live (unwrap_or o no_facts)
-live-facts None = refl
-live-facts (Some own) = refl
-
-pub live-index : (plan : Plan) (s : State) (i : ℕ) (r : Req) → slice_get plan.requests i ≡ Some r → live_at (slice_get s.facts i) ≡ is_live (facts_at s r)
-unfolding facts_at
-live-index plan s i r at =
-    live-facts (slice_get s.facts i) ∙ ap (λ (o : Option Facts). is_live (unwrap_or o no_facts)) (sym (at-number plan s i r at))
-
-open-facts : (o : Option Facts) → open_at o ≡ (unwrap_or o no_facts).opened
-open-facts None = refl
-open-facts (Some own) = refl
-
--- a request that is not open has no step of its own
-pub step-index : (plan : Plan) (s : State) (i : ℕ) (r : Req) → slice_get plan.requests i ≡ Some r → open_at (slice_get s.facts i) ≡ false
-    → own_step plan s r ≡ None
-unfolding facts_at own_step
-step-index plan s i r at h =
-    let closed : (unwrap_or (numbered s.facts r.number.number) no_facts).opened ≡ false =
-    sym (open-facts (numbered s.facts r.number.number)) ∙ ap open_at (at-number plan s i r at) ∙ h in
-    ap (λ b. if b then set_step plan s r else None) closed
 
 -- a request that does not wait is not ready
 ready-from : (entered live completed held rest : Bool) → (entered && (not live && (not completed && not held))) ≡ false

@@ -1,11 +1,9 @@
 -- Which requests no live one excludes, by a live request of each class.
-use Rattle.std.proofs.Common.{◌≡◌, ◌+◌, ℕ, Bool, true, false, not, ◌&&◌, ◌||◌, ◌==◌, List, [], ◌∷◌, Option, None, Some, refl, sym, ◌∙◌, ap, inl, inr}
-use Rattle.std.specs.Prelude.{slice_get, is_some, unwrap_or, if◌then◌else◌}
+use Rattle.std.proofs.Common.{◌≡◌, ℕ, Bool, true, false, not, ◌&&◌, ◌||◌, ◌==◌, List, [], ◌∷◌, Option, None, Some, refl, sym, ◌∙◌, ap, inl, inr}
+use Rattle.std.specs.Prelude.{is_some, unwrap_or, if◌then◌else◌}
 use Rattle.std.specs.List.{find, list_any}
 use Rattle.std.specs.Option.{option_and_then}
 use Rattle.std.proofs.lemmas.Bool.{and_from, and_right, both_ways, eq-eqb, eqb-true, false_from_ne_true, or_left, or_right}
-use Rattle.std.proofs.lemmas.Option.{slice_get_within}
-use Rattle.conc_types.specs.declared.event.RequestId.{RequestId}
 use Rattle.conc_types.specs.declared.facts.Facts.{Facts}
 use Rattle.conc_types.specs.declared.facts.State.{State}
 use Rattle.conc_types.specs.declared.plan.Plan.{Plan}
@@ -17,7 +15,7 @@ use Rattle.conc_base_law.specs.Plans.{are_exclusive, parent_item}
 use Rattle.conc_base_law.specs.State.{facts_at, is_live, no_facts}
 use Rattle.conc_base_law.specs.Words.{Has, id_eq}
 use Rattle.conc_base_law.proofs.Numbering.{found}
-use Rattle.conc_event_queue.proofs.Maps.{place_of_request}
+use Rattle.conc_event_queue.specs.Turns.{request_numbered}
 use Rattle.conc_event_classes.specs.Classes.{AreClasses, are_rivals, clash, class_at, rivals_at, excludes_kin_at}
 use Rattle.conc_event_classes.specs.declared.classes.Classes.{Classes}
 use Rattle.conc_history_check.specs.Live.{AreLive, IsLiveOf, noted, rival_noted}
@@ -73,7 +71,7 @@ unfolding blocks are_exclusive excludes clash
 blocks-by plan s r q = refl
 
 -- where no rival is noted, none is live
-pub free-none : (plan : Plan) (classes : Classes) (s : State) (live : List (Option RequestId)) (r : Req) → AreClasses plan classes → AreLive plan classes s live
+pub free-none : (plan : Plan) (classes : Classes) (s : State) (live : List (List (Option ℕ))) (r : Req) → AreClasses plan classes → AreLive plan classes s live
     → Has plan.requests r → rival_noted classes live (class_at classes r) ≡ None → is_free plan s r ≡ true
 unfolding is_free rival_noted are_rivals
 free-none plan classes s live r are lives has none =
@@ -90,8 +88,7 @@ free-none plan classes s live r are lives has none =
       apart q hq is =
           clash-comm plan q r ∙ are.rivals r q has hq
           ∙ any-none (λ x. x == class_at classes q) (rivals_at classes (class_at classes r)) (λ d hd. false_from_ne_true (d == class_at classes q) (λ same.
-          let place : (k : ℕ) × (slice_get plan.requests k ≡ Some q) × (q.number.number ≡ k + 1) = place_of_request plan q hq in
-          let some : is_some (noted live (class_at classes q)) ≡ true = lives.known place.0 q (slice_get_within plan.requests place.0 q place.1) place.1 is in
+          let some : is_some (noted live (class_at classes q)) ≡ true = lives.known q hq is in
           both_ways _ (ap (λ c. is_some (noted live c)) (sym (eqb-true d (class_at classes q) same)) ∙ unnoted d hd) some))
 
       by : (q : Req) → Has plan.requests q → (b : Bool) → is_live (facts_at s q) ≡ b
@@ -111,7 +108,7 @@ other_number plan s q r hq hr is not = false_from_ne_true (id_eq q.number r.numb
       facts_at_number n = unwrap_or (numbered s.facts n) no_facts
 
 -- a rival that is noted is live, and excludes the request unless they are kin
-pub free-not : (plan : Plan) (classes : Classes) (s : State) (live : List (Option RequestId)) (r : Req) (id : RequestId) → AreClasses plan classes → AreLive plan classes s live
+pub free-not : (plan : Plan) (classes : Classes) (s : State) (live : List (List (Option ℕ))) (r : Req) (id : ℕ) → AreClasses plan classes → AreLive plan classes s live
     → Has plan.requests r → is_live (facts_at s r) ≡ false → rival_noted classes live (class_at classes r) ≡ Some id → excludes_kin_at classes (class_at classes r) ≡ false
     → is_free plan s r ≡ false
 unfolding is_free rival_noted are_rivals
@@ -119,8 +116,7 @@ free-not plan classes s live r id are lives has idle some excludes_kin = by _ re
   at : (d : ℕ) → find (λ d. is_some (noted live d)) (rivals_at classes (class_at classes r)) ≡ Some d → noted live d ≡ Some id → is_free plan s r ≡ false
   at d is here = one (lives.own d id here) where
     one : IsLiveOf plan classes s d id → is_free plan s r ≡ false
-    one (q, there, is_live_there, class) =
-        let hq : Has plan.requests q = (found plan id q there).1 in
+    one (q, hq, number, is_live_there, class) =
         let rivals : are_rivals classes (class_at classes r) (class_at classes q) ≡ true =
         any-has (λ x. x == class_at classes q) (rivals_at classes (class_at classes r)) d (find-some _ (rivals_at classes (class_at classes r)) d is).0 (eq-eqb d (class_at classes q) (sym class)) in
         let clashes : clash plan q r ≡ true = clash-comm plan q r ∙ are.rivals r q has hq ∙ rivals in
@@ -137,3 +133,8 @@ free-not plan classes s live r id are lives has idle some excludes_kin = by _ re
 pub free-blocked : (plan : Plan) (s : State) (r q : Req) → Has plan.requests q → blocks plan s r q ≡ true → is_free plan s r ≡ false
 unfolding is_free
 free-blocked plan s r q hq h = ap not (any-has (blocks plan s r) plan.requests q hq h)
+
+-- one that is found by its number is one of the plan
+pub numbered-there : (plan : Plan) (number : ℕ) (q : Req) → request_numbered plan number ≡ Some q → Has plan.requests q
+unfolding request_numbered
+numbered-there plan number q is = (found plan (record { number = number }) q is).1

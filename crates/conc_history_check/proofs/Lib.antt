@@ -1,15 +1,11 @@
 pub mod EachPosition
 pub mod Rooms
-pub mod Cleared
 pub mod Reading
-pub mod Noted
 pub mod FreeOnes
 pub mod Turns
 pub mod Runnable
-pub mod FirstStep
 pub mod Places
 pub mod LastLives
-pub mod NoneLeft
 pub mod AtIndex
 pub mod Anys
 pub mod Due
@@ -19,3 +15,11 @@ pub mod Starting
 pub mod Undone
 pub mod Comparing
 pub mod Offsets
+pub mod Slots
+pub mod Firsts
+pub mod Same
+pub mod Near
+pub mod After
+pub mod Lives
+pub mod Puts
+pub mod Classed

@@ -17,7 +17,7 @@ use Rattle.conc_event_reach.proofs.Within.{bounds_within, within-bounds}
 use Rattle.conc_base_law.specs.Facts.{facts_of}
 use Rattle.conc_base_law.specs.State.{state}
 use Rattle.conc_history_check.specs.Active.{AreQuiet, IsActive, IsOutside, quiet_at}
-use Rattle.conc_history_check.specs.At.{left_at, live_at, open_at, waits_at}
+use Rattle.conc_history_check.specs.At.{waits_at}
 
 -- ---- outside of a span
 
@@ -75,32 +75,20 @@ all-same plan named e (r ∷ rs) [] i same = refl
 all-same plan named e (r ∷ rs) (own ∷ facts) zero same = ap (λ (o : Facts). Some o) (same r own refl)
 all-same plan named e (r ∷ rs) (own ∷ facts) (suc i) same = all-same plan named e rs facts i same
 
+-- the facts of a request that the event does not reach stay
+pub facts-outside : (plan : Plan) (e : Event) (old new : State) (reach : Span) (i : ℕ) → LeavesOthers plan e reach → IsAfter plan old new e → is_within i reach ≡ false
+    → slice_get new.facts i ≡ slice_get old.facts i
+facts-outside plan e old new reach i leaves after off =
+    let named = named_facts old.facts (named_by plan e) in
+    ap (λ (l : List Facts). slice_get l i) after.facts ∙ all-same plan named e plan.requests old.facts i (λ r own at. leaves i r at off named own)
+
 -- outside of what it reaches the same requests are quiet
 pub quiet-after : (plan : Plan) (e : Event) (old new : State) (active reach touched : Span) → AreQuiet old active → LeavesOthers plan e reach → IsCover active reach touched → IsAfter plan old new e → AreQuiet new touched
 quiet-after plan e old new active reach touched quiet leaves cover after = λ i outside.
     let off = outside-not i touched outside in
-    let named = named_facts old.facts (named_by plan e) in
-    let unreached = outside-part i reach touched (cover.second i) off in
-    let same : slice_get new.facts i ≡ slice_get old.facts i =
-    ap (λ (l : List Facts). slice_get l i) after.facts ∙ all-same plan named e plan.requests old.facts i (λ r own at. leaves i r at unreached named own) in
-    ap quiet_at same ∙ quiet i (not-outside i active (outside-part i active touched (cover.first i) off))
+    ap quiet_at (facts-outside plan e old new reach i leaves after (outside-part i reach touched (cover.second i) off)) ∙ quiet i (not-outside i active (outside-part i active touched (cover.first i) off))
 
 -- ---- what a quiet request is not
-
-not-live : (let_out opened rest : Bool) → (not (let_out || opened) && rest) ≡ true → (let_out || opened) ≡ false
-not-live true opened rest is = cc
-not-live false true rest is = cc
-not-live false false rest is = refl
-
-not-open : (let_out opened rest : Bool) → (not (let_out || opened) && rest) ≡ true → opened ≡ false
-not-open true opened rest is = cc
-not-open false true rest is = cc
-not-open false false rest is = refl
-
-not-left : (live running started rest : Bool) → (not live && (not running && rest)) ≡ true → (running && not started) ≡ false
-not-left true running started rest is = cc
-not-left false true started rest is = cc
-not-left false false started rest is = refl
 
 not-waiting : (live running entered completed held : Bool) → (not live && (not running && (not entered || completed))) ≡ true → (entered && (not live && (not completed && not held))) ≡ false
 not-waiting true running entered completed held is = cc
@@ -108,18 +96,6 @@ not-waiting false true entered completed held is = cc
 not-waiting false false false completed held is = refl
 not-waiting false false true false held is = cc
 not-waiting false false true true held is = refl
-
-pub quiet-live : (o : Option Facts) → quiet_at o ≡ true → live_at o ≡ false
-quiet-live None is = refl
-quiet-live (Some own) is = not-live own.let_out own.opened _ is
-
-pub quiet-open : (o : Option Facts) → quiet_at o ≡ true → open_at o ≡ false
-quiet-open None is = refl
-quiet-open (Some own) is = not-open own.let_out own.opened _ is
-
-pub quiet-left : (o : Option Facts) → quiet_at o ≡ true → left_at o ≡ false
-quiet-left None is = refl
-quiet-left (Some own) is = not-left (own.let_out || own.opened) (is_some own.place) own.started _ is
 
 pub quiet-waits : (o : Option Facts) → quiet_at o ≡ true → waits_at o ≡ false
 quiet-waits None is = refl

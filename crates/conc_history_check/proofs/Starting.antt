@@ -9,12 +9,12 @@ use Rattle.conc_types.specs.declared.facts.State.{State}
 use Rattle.conc_types.specs.declared.plan.Plan.{Plan}
 use Rattle.conc_types.specs.declared.plan.Req.{Req}
 use Rattle.conc_types.specs.Words.{numbered, some_and}
-use Rattle.conc_base_law.specs.Next.{may_start, runs_at, runs_somewhere}
-use Rattle.conc_base_law.specs.State.{facts_at, is_running, no_facts}
+use Rattle.conc_base_law.specs.Next.{may_start, runs_at}
+use Rattle.conc_base_law.specs.State.{facts_at, no_facts}
 use Rattle.conc_base_law.proofs.Positions.{slice_get-some}
 use Rattle.conc_event_reach.specs.declared.span.Span.{Span}
 use Rattle.conc_history_check.specs.Active.{IsActive, quiet_at}
-use Rattle.conc_history_check.specs.At.{here_at, let_at, running_at}
+use Rattle.conc_history_check.specs.At.{here_at, let_at}
 use Rattle.conc_history_check.proofs.Anys.{any-end, any-later}
 use Rattle.conc_history_check.proofs.AtIndex.{at-number}
 use Rattle.conc_history_check.proofs.Skips.{skips, skips-past}
@@ -25,17 +25,9 @@ let-facts : (o : Option Facts) → let_at o ≡ (unwrap_or o no_facts).let_out
 let-facts None = refl
 let-facts (Some own) = refl
 
-running-facts : (o : Option Facts) → running_at o ≡ is_running (unwrap_or o no_facts)
-running-facts None = refl
-running-facts (Some own) = refl
-
 here-facts : (place : PlaceId) (o : Option Facts) → here_at place o ≡ some_and (λ p. p.index == place.index) (unwrap_or o no_facts).place
 here-facts place None = refl
 here-facts place (Some own) = refl
-
-pub running-index : (plan : Plan) (s : State) (i : ℕ) (r : Req) → slice_get plan.requests i ≡ Some r → running_at (slice_get s.facts i) ≡ runs_somewhere s r
-unfolding facts_at runs_somewhere
-running-index plan s i r at = running-facts (slice_get s.facts i) ∙ ap (λ (o : Option Facts). is_running (unwrap_or o no_facts)) (sym (at-number plan s i r at))
 
 pub here-index : (plan : Plan) (s : State) (place : PlaceId) (i : ℕ) (r : Req) → slice_get plan.requests i ≡ Some r → here_at place (slice_get s.facts i) ≡ runs_at s place r
 unfolding facts_at runs_at
@@ -66,10 +58,6 @@ quiet-let : (o : Option Facts) → quiet_at o ≡ true → let_at o ≡ false
 quiet-let None is = refl
 quiet-let (Some own) is = not-let own.let_out own.opened _ is
 
-quiet-running : (o : Option Facts) → quiet_at o ≡ true → running_at o ≡ false
-quiet-running None is = refl
-quiet-running (Some own) is = not-running (own.let_out || own.opened) (is_some own.place) _ is
-
 quiet-here : (place : PlaceId) (o : Option Facts) → quiet_at o ≡ true → here_at place o ≡ false
 quiet-here place None is = refl
 quiet-here place (Some own) is = not-here place own.place (not-running (own.let_out || own.opened) (is_some own.place) _ is)
@@ -93,9 +81,6 @@ module _ (plan : Plan) (s : State) (span : Span) (active : IsActive plan s span)
   any-none i past same =
       let last = skips-past Same i (length plan.requests) (λ k least less. skip k less (active.quiet k (inr (omega (arith, least, past))))) same in
       sym last.2 ∙ any-end test plan.requests last.0 last.1
-
-pub quiet-runs_somewhere : (plan : Plan) (s : State) (i : ℕ) (r : Req) → slice_get plan.requests i ≡ Some r → quiet_at (slice_get s.facts i) ≡ true → runs_somewhere s r ≡ false
-quiet-runs_somewhere plan s i r at quiet = sym (running-index plan s i r at) ∙ quiet-running (slice_get s.facts i) quiet
 
 pub quiet-runs_at : (plan : Plan) (s : State) (place : PlaceId) (i : ℕ) (r : Req) → slice_get plan.requests i ≡ Some r → quiet_at (slice_get s.facts i) ≡ true → runs_at s place r ≡ false
 quiet-runs_at plan s place i r at quiet = sym (here-index plan s place i r at) ∙ quiet-here place (slice_get s.facts i) quiet

@@ -10,7 +10,7 @@ use Rattle.conc_base_law.specs.State.{now, state}
 use Rattle.conc_history_check.specs.declared.findings.Findings.{Findings}
 use Rattle.conc_history_check.specs.declared.prepared.Prepared.{Prepared}
 use Rattle.conc_history_check.specs.Active.{IsActive, IsFirstUndone}
-use Rattle.conc_history_check.specs.Live.{AreLive}
+use Rattle.conc_history_check.specs.Marks.{AreMarks}
 
 -- the last tick of the earlier lives and the ticks of the last life, after one more event
 abbrev pub earlier_after : Option Moment → Option Moment → Event → Option Moment
@@ -29,9 +29,9 @@ pub record HasTaken (plan : Plan) (past : List Event) (f : Findings) : Type 0 wh
   pub earlier : f.earlier ≡ now (earlier_lives past)
   pub ticks : f.ticks ≡ ticks past
 
--- the same, with a live request of each class, where requests may be active, and the first command that is not done
+-- the same, with the marks of the requests, where they may be active, and the first command that is not done
 pub record AreFindings (plan : Plan) (prepared : Prepared) (past : List Event) (f : Findings) : Type 0 where
   pub taken : HasTaken plan past f
-  pub live : AreLive plan prepared.classes f.state f.live
+  pub marks : AreMarks plan prepared.classes f.state f.marks
   pub active : IsActive plan f.state f.active
   pub undone : IsFirstUndone f.state f.undone

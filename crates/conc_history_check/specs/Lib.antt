@@ -4,8 +4,8 @@ pub mod Kept
 pub mod Positions
 pub mod Prepared
 pub mod Live
+pub mod Marks
 pub mod Findings
 pub mod Lets
-pub mod Steps
 pub mod Starts
 pub mod Verdicts

@@ -59,7 +59,7 @@ fn is_finished(
         plan,
         prepared,
         state: &findings.state,
-        live: &findings.live,
+        marks: &findings.marks,
         active: findings.active,
         undone: findings.undone,
     };
@@ -67,8 +67,8 @@ fn is_finished(
 }
 
 /// Whether a history is finished, where it is lawful; else the first position, from 1, whose event may
-/// not stand there. The events are read in one pass; for each of them the requests are looked through that
-/// may be active.
+/// not stand there. The events are read in one pass; for each of them those requests are looked at that it
+/// can concern.
 pub fn check(
     alloc: Global,
     plan: &Plan,

@@ -1,17 +1,18 @@
-ghost use Rattle.std.specs.Prelude.{◌≡◌, ◌∷◌, ◌+◌, ◌<◌, ◌^◌, [], IfOk, List, length};
+ghost use Rattle.std.specs.Prelude.{◌≡◌, ◌∷◌, ◌+◌, ◌<◌, ◌^◌, [], IfOk, List};
 ghost use Rattle.conc_types.specs.declared.event.Event.{Event};
 ghost use Rattle.conc_event_effects.specs.Advance.{IsAfter};
 ghost use Rattle.conc_history_check.specs.Active.{IsActive, IsFirstUndone};
 ghost use Rattle.conc_history_check.specs.Findings.{AreFindings, HasTaken, earlier_after, ticks_after};
+ghost use Rattle.conc_history_check.specs.Marks.{HaveRoom};
 ghost use Rattle.conc_history_check.specs.Prepared.{IsPrepared};
 
 use crate::active::{first_undone, narrowed};
-use crate::live::{note_live, room_for_live};
+use crate::marks::Marks;
 use crate::prepared::Prepared;
 use conc_event_effects::begin;
 use conc_event_reach::Span;
 use conc_history_replay::take_in;
-use conc_types::{Event, Moment, NoMemory, Plan, RequestId, Seq, State};
+use conc_types::{Event, Moment, NoMemory, Plan, State};
 use std::alloc::Global;
 
 /// What is read of the events before a position.
@@ -22,8 +23,8 @@ pub(crate) struct Findings {
     pub earlier: Option<Moment>,
     /// How many ticks the last life has.
     pub ticks: usize,
-    /// For each class a live request of it, or none where it has none.
-    pub live: Seq<Option<RequestId>>,
+    /// At which requests something may be due.
+    pub marks: Marks,
     /// Where requests may be active: each other one is quiet.
     pub active: Span,
     /// The place of the first command that is not done, from 0.
@@ -37,18 +38,16 @@ impl Findings {
         ensures { IfOk result (AreFindings plan.now prepared.now []) }
     {
         let state = begin(alloc, plan)?;
-        let mut live = room_for_live(alloc, &prepared.classes)?;
         let active = Span {
             from: 0,
             to: plan.requests.len(),
         };
-        note_live(plan, &prepared.classes, &state, active, &mut live);
         Ok(Findings {
             undone: first_undone(&state, 0),
+            marks: Marks::new(alloc, plan, prepared, &state)?,
             state,
             earlier: None,
             ticks: 0,
-            live,
             active,
         })
     }
@@ -61,7 +60,7 @@ impl Findings {
             ≡ earlier_after self.old.state.time self.old.earlier e.now }
         ensures ticks { self.new.ticks ≡ ticks_after self.old.ticks e.now }
         ensures state { self.new.state ≡ self.old.state }
-        ensures live { self.new.live ≡ self.old.live }
+        ensures marks { self.new.marks ≡ self.old.marks }
         ensures undone { self.new.undone ≡ self.old.undone }
     {
         match *e {
@@ -82,7 +81,7 @@ impl Findings {
         ensures read { (past : List Event) → HasTaken plan.now past self.old
             → HasTaken plan.now (e.now ∷ past) self.new }
         ensures after { IsAfter plan.now self.old.state self.new.state e.now }
-        ensures live { self.new.live ≡ self.old.live }
+        ensures marks { self.new.marks ≡ self.old.marks }
         ensures undone { self.new.undone ≡ self.old.undone }
     {
         self.note_life(e);
@@ -93,22 +92,19 @@ impl Findings {
     pub fn read(&mut self, plan: &Plan, prepared: &Prepared, e: &Event)
         requires prepared { IsPrepared plan.now prepared.now }
         requires few { self.old.ticks + 1 < 2 ^ 64 }
-        requires room { length self.old.live ≡ length prepared.now.classes.sizes }
+        requires room { HaveRoom plan.now prepared.now.classes self.old.marks }
         requires active { IsActive plan.now self.old.state self.old.active }
         requires undone { IsFirstUndone self.old.state self.old.undone }
         ensures { (past : List Event) → AreFindings plan.now prepared.now past self.old
             → AreFindings plan.now prepared.now (e.now ∷ past) self.new }
     {
-        let touched = self.active.cover(prepared.spans.reach(plan, *e));
+        let before = self.state.time;
+        let reached = prepared.spans.reach(plan, *e);
+        let touched = self.active.cover(reached);
         self.take_in(plan, prepared, e);
         self.active = narrowed(plan, &self.state, touched);
         self.undone = first_undone(&self.state, self.undone);
-        note_live(
-            plan,
-            &prepared.classes,
-            &self.state,
-            self.active,
-            &mut self.live,
-        );
+        self.marks.put_around(plan, prepared, &self.state, reached);
+        self.marks.put_come(plan, prepared, &self.state, before);
     }
 }

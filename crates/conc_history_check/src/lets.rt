@@ -1,63 +1,25 @@
-ghost use Rattle.std.specs.Prelude.{◌≡◌, ◌<◌, Some, false, length, slice_get, unwrap_or};
+ghost use Rattle.std.specs.Prelude.{◌≡◌, ◌<◌, Some, length, slice_get};
 ghost use Rattle.std.specs.Bool.{then_some};
 ghost use Rattle.std.specs.Option.{option_and_then, option_map};
 ghost use Rattle.conc_types.specs.declared.plan.Req.{Req};
-ghost use Rattle.conc_types.specs.Words.{numbered};
 ghost use Rattle.conc_base_law.specs.Next as next_spec;
 ghost use Rattle.conc_base_law.specs.Words.{Has};
+ghost use Rattle.conc_event_classes.specs.Classes.{class_at};
 ghost use Rattle.conc_event_queue.specs.Least.{least, lesser};
 ghost use Rattle.conc_event_queue.specs.Turns as turns_spec;
 ghost use Rattle.conc_history_check.specs.At as at_spec;
 ghost use Rattle.conc_history_check.specs.Lets as lets_spec;
+ghost use Rattle.conc_history_check.specs.Lets.{IsLeastTurn};
 ghost use Rattle.conc_history_check.specs.Kept.{IsKept};
-ghost use Rattle.conc_history_check.specs.Live.{AreNoted};
+ghost use Rattle.conc_history_check.specs.Marks.{AreMarks, queue_at};
 ghost use Rattle.conc_history_check.specs.Prepared.{IsPrepared};
 
 use crate::free::is_free;
 use crate::position::Position;
-use crate::prepared::Prepared;
-use conc_event_decisions::{facts_at, has_come, is_completed, is_live, is_waiting, let_event};
-use conc_event_queue::{request_at_turn, turn};
-use conc_types::{Event, Facts, Plan, Req, Seq, State};
-
-fn flag_numbered(flags: &Seq<bool>, number: u32) -> bool
-    ensures { result ≡ unwrap_or (numbered flags.now number) false }
-{
-    if number == 0 {
-        return false;
-    }
-    flags
-        .as_slice()
-        .get(number as usize - 1)
-        .copied()
-        .unwrap_or(false)
-}
-
-// Whether r is a set, or of an enabled program and admitted by some manager.
-fn is_runnable(_plan: &Plan, prepared: &Prepared, r: &Req) -> bool
-    requires prepared { IsPrepared _plan.now prepared.now }
-    requires own { Has _plan.now.requests r.now }
-    ensures { result ≡ next_spec.can_run _plan.now r.now }
-{
-    flag_numbered(&prepared.runnable, r.number.number)
-}
-
-// Whether r can be let out, or opened, unless a live request excludes it.
-#[tactic(auto, unfolding(conc_base_law::specs::Next::is_ready))]
-fn is_ready(plan: &Plan, prepared: &Prepared, state: &State, r: &Req) -> bool
-    requires prepared { IsPrepared plan.now prepared.now }
-    requires own { Has plan.now.requests r.now }
-    ensures { result ≡ next_spec.is_ready plan.now state.now r.now }
-{
-    let facts = facts_at(state, r);
-    facts.entered
-        && !is_live(facts)
-        && !is_completed(facts)
-        && !facts.held
-        && has_come(state.time, r.start)
-        && is_runnable(plan, prepared, r)
-        && !is_waiting(plan, state, r)
-}
+use crate::ready::is_ready;
+use conc_event_decisions::{is_completed, is_live, let_event};
+use conc_event_queue::{lesser, request_at_turn, turn};
+use conc_types::{Event, Facts, Plan, Req, State};
 
 // Whether the turn comes before the best one so far.
 fn comes_before(turn: u64, best: Option<u64>) -> bool
@@ -72,7 +34,8 @@ fn comes_before(turn: u64, best: Option<u64>) -> bool
 // The best turn so far, or that of r where r may be let out and its turn comes before.
 fn better(position: Position<'_>, best: Option<u64>, r: &Req) -> Option<u64>
     requires prepared { IsPrepared position.plan.now position.prepared.now }
-    requires live { AreNoted position }
+    requires marks { AreMarks position.plan.now position.prepared.now.classes position.state.now
+        position.marks.now }
     requires own { Has position.plan.now.requests r.now }
     ensures { result ≡ lesser best
         (then_some (next_spec.may_let position.entry.plan.now position.entry.state.now r.now)
@@ -112,7 +75,8 @@ fn waits_at(state: &State, i: usize) -> bool
 // before. It looks at the request only where its facts let it wait.
 fn better_at(position: Position<'_>, best: Option<u64>, i: usize) -> Option<u64>
     requires prepared { IsPrepared position.plan.now position.prepared.now }
-    requires live { AreNoted position }
+    requires marks { AreMarks position.plan.now position.prepared.now.classes position.state.now
+        position.marks.now }
     requires within { i < length position.plan.now.requests }
     ensures { (r : Req) → slice_get position.entry.plan.now.requests i ≡ Some r → result
         ≡ lesser best
@@ -126,8 +90,8 @@ fn better_at(position: Position<'_>, best: Option<u64>, i: usize) -> Option<u64>
     better(position, best, r)
 }
 
-// The least turn of the requests that may be let out.
-fn least_turn(position: Position<'_>) -> Option<u64>
+// The least turn of the requests that may be let out. It looks at all that may be active.
+fn least_of_all(position: Position<'_>) -> Option<u64>
     requires prepared { IsPrepared position.plan.now position.prepared.now }
     requires kept { IsKept position }
     ensures { result ≡ least (turns_spec.turns_of
@@ -137,6 +101,77 @@ fn least_turn(position: Position<'_>) -> Option<u64>
     let mut best = None;
     for i in position.active.from..position.active.to {
         best = better_at(position, best, i);
+    }
+    best
+}
+
+// The least turn of those of a class that may be let out, of which r is the first that is ready. It looks at all requests only where
+// r is excluded and the class may exclude kin of its own.
+fn turn_from(position: Position<'_>, _class: usize, first: u64, r: &Req) -> Option<u64>
+    requires prepared { IsPrepared position.plan.now position.prepared.now }
+    requires kept { IsKept position }
+    requires first { least (queue_at position.marks.now.ready.items _class) ≡ Some first }
+    requires at { turns_spec.request_at_turn position.plan.now first ≡ Some r.now }
+    ensures { IsLeastTurn position.entry.plan.now position.entry.state.now
+        (λ q. class_at position.entry.prepared.now.classes q ≡ _class) result }
+{
+    if is_free(position, r) {
+        return Some(first);
+    }
+    let classes = &position.prepared.classes;
+    if !classes.excludes_kin(classes.class(r)) {
+        return None;
+    }
+    least_of_all(position)
+}
+
+// The same, where the first that is ready has this turn.
+fn turn_in_class(position: Position<'_>, class: usize, first: u64) -> Option<u64>
+    requires prepared { IsPrepared position.plan.now position.prepared.now }
+    requires kept { IsKept position }
+    requires first { least (queue_at position.marks.now.ready.items class) ≡ Some first }
+    ensures { IsLeastTurn position.entry.plan.now position.entry.state.now
+        (λ q. class_at position.entry.prepared.now.classes q ≡ class) result }
+{
+    match request_at_turn(position.plan, first) {
+        Some(r) => turn_from(position, class, first, r),
+        None => None,
+    }
+}
+
+// The turn of the first request of a class that is ready.
+fn first_ready(position: Position<'_>, class: usize) -> Option<u64>
+    requires within { class < length position.marks.now.ready.items }
+    ensures { result ≡ least (queue_at position.entry.marks.now.ready.items class) }
+{
+    position.marks.ready[class].least()
+}
+
+// The least turn of those of a class that may be let out.
+fn least_in_class(position: Position<'_>, class: usize) -> Option<u64>
+    requires prepared { IsPrepared position.plan.now position.prepared.now }
+    requires kept { IsKept position }
+    requires within { class < length position.marks.now.ready.items }
+    ensures { IsLeastTurn position.entry.plan.now position.entry.state.now
+        (λ q. class_at position.entry.prepared.now.classes q ≡ class) result }
+{
+    match first_ready(position, class) {
+        Some(first) => turn_in_class(position, class, first),
+        None => None,
+    }
+}
+
+// The least turn of the requests that may be let out, class by class.
+fn least_turn(position: Position<'_>) -> Option<u64>
+    requires prepared { IsPrepared position.plan.now position.prepared.now }
+    requires kept { IsKept position }
+    ensures { result ≡ least (turns_spec.turns_of
+        (next_spec.may_let position.entry.plan.now position.entry.state.now)
+        position.entry.plan.now.requests) }
+{
+    let mut best = None;
+    for class in 0..position.marks.ready.len() {
+        best = lesser(best, least_in_class(position, class));
     }
     best
 }

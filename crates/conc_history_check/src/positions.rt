@@ -80,7 +80,7 @@ pub(crate) fn is_lawful_at(
         plan,
         prepared,
         state: &findings.state,
-        live: &findings.live,
+        marks: &findings.marks,
         active: findings.active,
         undone: findings.undone,
     };

@@ -1,9 +1,10 @@
-ghost use Rattle.std.specs.Prelude.{◌≡◌, ◌+◌, ◌<◌, ◌^◌, map, slice_get};
+ghost use Rattle.std.specs.Prelude.{◌≡◌, ◌+◌, ◌<◌, ◌^◌, is_some, map, slice_get};
 ghost use Rattle.std.specs.List.{list_any, range_with_len};
 ghost use Rattle.conc_types.specs.Plans as plans_spec;
 ghost use Rattle.conc_types.specs.Words.{some_and};
 ghost use Rattle.conc_base_law.specs.Next as next_spec;
 ghost use Rattle.conc_base_law.specs.Next.{may_start_somewhere};
+ghost use Rattle.conc_event_queue.specs.Least.{least};
 ghost use Rattle.conc_history_check.specs.At as at_spec;
 ghost use Rattle.conc_history_check.specs.Kept.{IsKept};
 ghost use Rattle.conc_history_check.specs.Starts as spec;
@@ -21,15 +22,6 @@ fn facts_of(position: Position<'_>, i: usize) -> Option<Facts>
     position.state.facts.as_slice().get(i).copied()
 }
 
-fn runs_at(position: Position<'_>, i: usize) -> bool
-    ensures { result ≡ at_spec.running_at (slice_get position.entry.state.now.facts i) }
-{
-    match facts_of(position, i) {
-        Some(own) => own.place.is_some(),
-        None => false,
-    }
-}
-
 fn runs_here(position: Position<'_>, place: PlaceId, i: usize) -> bool
     ensures { result ≡ at_spec.here_at place (slice_get position.entry.state.now.facts i) }
 {
@@ -40,17 +32,13 @@ fn runs_here(position: Position<'_>, place: PlaceId, i: usize) -> bool
 }
 
 /// Whether a request runs.
+#[tactic(auto, using(crate::proofs::Firsts::any_running))]
 pub(crate) fn one_runs(position: Position<'_>) -> bool
     requires { IsKept position }
     ensures { result ≡ list_any (next_spec.runs_somewhere position.entry.state.now)
         position.entry.plan.now.requests }
 {
-    for i in position.active.from..position.active.to {
-        if runs_at(position, i) {
-            return true;
-        }
-    }
-    false
+    position.marks.running.least().is_some()
 }
 
 // Whether a request runs at the place.
@@ -134,11 +122,21 @@ fn one_may_start_among(position: Position<'_>, from: u32, count: u32) -> bool
             || one_may_start_among(position, from + 1, count - 1))
 }
 
-/// Whether a request may start somewhere.
+// Whether a request is let out and does not run.
+fn one_waits(position: Position<'_>) -> bool
+    ensures { result ≡ is_some (least position.entry.marks.now.waiting) }
+{
+    position.marks.waiting.least().is_some()
+}
+
+/// Whether a request may start somewhere. It looks at places only where one is let out and does not run.
 pub(crate) fn one_may_start_somewhere(position: Position<'_>) -> bool
     requires { IsKept position }
     ensures { result ≡ list_any (may_start_somewhere position.entry.plan.now position.entry.state.now)
         position.entry.plan.now.requests }
 {
+    if !one_waits(position) {
+        return false;
+    }
     one_may_start_among(position, 0, place_count(position.plan))
 }

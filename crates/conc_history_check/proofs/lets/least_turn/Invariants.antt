@@ -1,11 +1,8 @@
-use Rattle.std.proofs.Common.{◌≡◌, drop}
-use Rattle.conc_base_law.specs.Next.{may_let}
-use Rattle.conc_event_queue.specs.Least.{least, lesser}
-use Rattle.conc_event_queue.specs.Turns.{turns_of}
+use Rattle.std.proofs.Common.{◌<◌}
+use Rattle.conc_event_classes.specs.Classes.{class_at}
+use Rattle.conc_history_check.specs.Lets.{IsLeastTurn}
 use Rattle.conc_history_check.proofs.lets.least_turn.Given as goal
 
--- the least turn is the best one so far, or a lesser one of those that follow
-abbrev pub invariant-loop-i : goal.invariant-loop-i
-invariant-loop-i l =
-    lesser l.best (least (turns_of (may_let l.position.plan.now l.position.state.now) (drop l.i l.position.plan.now.requests)))
-    ≡ least (turns_of (may_let l.position.plan.now l.position.state.now) l.position.plan.now.requests)
+-- the best turn is the least of the classes so far
+abbrev pub invariant-loop-class : goal.invariant-loop-class
+invariant-loop-class l = IsLeastTurn l.position.plan.now l.position.state.now (λ q. class_at l.position.prepared.now.classes q < l.class) l.best

@@ -5,14 +5,11 @@ use Rattle.conc_base_law.specs.State.{now}
 use Rattle.conc_history_check.proofs.Quiet.{active-whole}
 use Rattle.conc_history_check.proofs.findings.Findings.new.Goals as goal
 
-pub note_live-requires-clause-active : goal.note_live-requires-clause-active
-note_live-requires-clause-active c = active-whole c.args.plan.now [] _ _ c.in_ok-state.ensures (omega (arith, c.len.ensures)) (omega (arith, c.len.ensures)) (omega (arith, c.len.ensures))
-
 pub returns : goal.returns
 unfolding earlier_lives last_life ticks now
 returns c = record {
   taken = record { state = c.in_ok-state.ensures; earlier = refl; ticks = refl };
-  live = c.note_live.ensures;
+  marks = c.in_ok-new.ensures;
   active = active-whole c.args.plan.now [] _ _ c.in_ok-state.ensures (omega (arith, c.len.ensures)) (omega (arith, c.len.ensures)) (omega (arith, c.len.ensures));
   undone = c.first_undone.ensures;
 }
