@@ -1,5 +1,5 @@
 -- The least turn of those that may be let: the least candidate, or one of a class that may exclude kin.
-use Rattle.std.proofs.Common.{◌≡◌, ℕ, zero, suc, ◌+◌, ◌%◌, ◌<◌, ◌≤◌, Bool, true, false, ◌&&◌, ◌||◌, ◌==◌, nat_le, nat_lt, List, [], get_or, length, map, take, Option, None, Some, if◌then◌else◌, refl, sym, ◌∙◌, ap, inl, inr, arith}
+use Rattle.std.proofs.Common.{◌≡◌, ℕ, zero, suc, ◌+◌, ◌%◌, ◌<◌, ◌≤◌, Bool, true, false, ◌&&◌, ◌||◌, ◌==◌, nat_le, nat_lt, List, [], ◌∷◌, get_or, length, map, take, Option, None, Some, if◌then◌else◌, refl, sym, ◌∙◌, ap, inl, inr, arith}
 use Rattle.std.specs.Prelude.{slice_get}
 use Rattle.std.specs.List.{filter, list_any, range_with_len}
 use Rattle.std.proofs.lemmas.Bool.{and_left, and_parts, and_right, both_ways, cases_eq, eq-eqb, false_from_ne_true, ne_eqb}
@@ -117,6 +117,44 @@ class-first_with_only_kin_rivals plan classes s are c rivals e t is h =
     let has : Has plan.requests r.0 = (found plan (record { number = t % 32768 }) r.0 (at_turn plan t r.0 r.1)).1 in
     let kin_marked : ((class_at classes r.0 == c) && may_let plan s r.0) ≡ true = sym (kin_marked-may_let plan classes s are c r.0 has) ∙ ap (λ n. has_only_kin_rivals plan classes s c n r.0) (sym e) ∙ r.2 in
     class-first plan classes s c t r.0 is r.1 (and_parts _ _ kin_marked).1
+
+one-element : {T : Type 0} (xs : List T) (x y : T) → length xs ≡ 1 → Has xs x → Has xs y → x ≡ y
+one-element [] x y one hx hy = absurd hx
+one-element (z ∷ []) x y one hx hy = elim hx [
+  | inr later ↦ absurd later
+  | inl e ↦ elim hy [ inr later ↦ absurd later | inl f ↦ e ∙ sym f ]
+]
+one-element (z ∷ w ∷ xs) x y one hx hy = absurd (omega (arith, one))
+
+-- where the first of those that are ready may not be let, and the class has no other request, none may be
+pub class-single : (plan : Plan) (classes : Classes) (s : State) → AreClasses plan classes → (c rivals : ℕ) → rivals ≡ live_rivals plan classes s c
+    → (t : ℕ) → least (turns_of (is_ready plan s) (of_class plan classes c)) ≡ Some t
+    → some_and (has_only_kin_rivals plan classes s c rivals) (request_at_turn plan t) ≡ false → c < length classes.sizes → get_or classes.sizes c 0 ≡ 1
+    → None ≡ turn_in_class plan classes s c
+unfolding turn_in_class turns_of
+class-single plan classes s are c rivals e t is excluded within size = sym (least_of-none (may_let plan s) (of_class plan classes c) (λ y has.
+    ap (may_let plan s) (one-element (of_class plan classes c) y first.0 single has first.1.element) ∙ not_let)) where
+      first : (x : Req) × HasLeast (is_ready plan s) turn (of_class plan classes c) t x
+      first = least-some (is_ready plan s) turn (of_class plan classes c) t is
+
+      single : length (of_class plan classes c) ≡ 1
+      single =
+          let there : (n : ℕ) × (slice_get classes.sizes c ≡ Some n) = place-some classes.sizes c within in
+          are.sized c there.0 there.1 ∙ sym (get_or_from_slice_get classes.sizes c there.0 0 there.1) ∙ size
+
+      known : Has plan.requests first.0 × (class_at classes first.0 ≡ c)
+      known = of_class-has plan classes c first.0 first.1.element
+
+      own : request_at_turn plan t ≡ Some first.0
+      own = ap (request_at_turn plan) (sym first.1.own) ∙ request_at_turn-own plan first.0 known.0
+
+      not_let : may_let plan s first.0 ≡ false
+      not_let =
+          ap (λ b. b && may_let plan s first.0) (sym (eq-eqb (class_at classes first.0) c known.1))
+          ∙ sym (kin_marked-may_let plan classes s are c first.0 known.0)
+          ∙ ap (λ n. has_only_kin_rivals plan classes s c n first.0) (sym e)
+          ∙ ap (some_and (has_only_kin_rivals plan classes s c rivals)) (sym own)
+          ∙ excluded
 
 -- ---- candidates
 

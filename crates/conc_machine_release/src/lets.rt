@@ -135,7 +135,7 @@ impl Lets {
 
     // The least turn of those of a class that may be let, where the class may exclude kin, and the first
     // that is ready has this turn. Where rivals are live, it looks at that one, and through all requests
-    // only where that one is excluded.
+    // only where that one is excluded and the class has more than one.
     fn turn_in_class(&self, position: Position<'_>, class: u32, first: u64) -> Option<u64>
         requires classes { AreClasses position.plan.now position.classes.now }
         requires spans { AreSpans position.plan.now position.spans.now }
@@ -153,6 +153,9 @@ impl Lets {
         }
         if has_turn_only_kin_rivals(position, class, rivals, first) {
             return Some(first);
+        }
+        if position.classes.size(class) == 1 {
+            return None;
         }
         least_with_only_kin_rivals(position, class, rivals)
     }
