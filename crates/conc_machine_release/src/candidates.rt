@@ -3,7 +3,7 @@ ghost use Rattle.conc_base_law.specs.Words.{Has};
 ghost use Rattle.conc_event_classes.specs.Classes.{AreClasses};
 ghost use Rattle.conc_event_reach.specs.Spans.{AreSpans};
 ghost use Rattle.conc_machine_release.specs.Candidates as spec;
-ghost use Rattle.conc_machine_release.specs.Candidates.{HaveQueues, IsCandidate, PutsRight, classes_within, touched, where_changed};
+ghost use Rattle.conc_machine_release.specs.Candidates.{HaveQueues, PutsRight, classes_within, touched, where_changed};
 
 use crate::position::Position;
 use conc_event_classes::Classes;
