@@ -42,6 +42,8 @@ kept-alike plan classes before after lets facts come are = record {
       (waiting-same plan before after q (λ set p. ap (λ f. f.begun.bits) (facts set))))));
   rivals = are.rivals ∙ map_range-same (live_rivals plan classes before) (live_rivals plan classes after) 0 (length classes.sizes)
       (λ c le. rivals-alike plan classes before after facts c);
+  candidates = are.candidates;
+  kin = are.kin;
   window = λ t since next r has. come r has ∙ are.window t since next r has;
   few = are.few;
 }

@@ -5,6 +5,7 @@ pub mod Loops
 pub mod Free
 pub mod Written
 pub mod Counts
+pub mod PutRight
 pub mod Choice
 pub mod NoEvents
 pub mod Alike

@@ -1,9 +1,10 @@
 -- Lists, element by element.
-use Rattle.std.proofs.Common.{◌≡◌, ℕ, zero, suc, ◌+◌, ◌<◌, ◌≤◌, Bool, true, false, not, ◌&&◌, ◌||◌, ◌==◌, cond, List, [], ◌∷◌, length, get_or, map, set, take, drop, add-one, Option, None, Some, refl, sym, ◌∙◌, ap, inl, inr, arith}
+use Rattle.std.proofs.Common.{◌≡◌, ℕ, zero, suc, ◌+◌, ◌<◌, ◌≤◌, Bool, true, false, not, ◌&&◌, ◌||◌, ◌==◌, cond, List, [], ◌∷◌, ◌++◌, length, get_or, map, set, take, drop, add-one, Option, None, Some, refl, sym, ◌∙◌, ap, inl, inr, arith}
 use Rattle.std.specs.Prelude.{slice_get}
 use Rattle.std.specs.List.{filter, list_any, range_with_len}
-use Rattle.std.proofs.lemmas.Bool.{ne_eqb}
+use Rattle.std.proofs.lemmas.Bool.{cases_eq, ne_eqb, or_left}
 use Rattle.std.proofs.lemmas.List.{length-take}
+use Rattle.std.proofs.lemmas.List.Elements.{filter-append}
 use Rattle.std.proofs.lemmas.List.Filters.{length-filter_more}
 use Rattle.conc_base_law.specs.Words.{Has}
 
@@ -61,6 +62,41 @@ range-get a zero k x h = cc
 range-get a (suc n) zero x h = let e : a ≡ x = cc in (omega arith, omega arith)
 range-get a (suc n) (suc k) x h = let r : (x ≡ a + 1 + k) × (k < n) = range-get (a + 1) n k x h in (omega (arith, r.0), omega (arith, r.1))
 
+-- a number is one of a range
+pub range-has : (a n c : ℕ) → a ≤ c → c < a + n → Has (range_with_len a n) c
+range-has a zero c more less = absurd (omega arith)
+range-has a (suc n) c more less = elim (cases_eq c a) [
+  | inl e ↦ inl e
+  | inr ne ↦ inr (range-has (a + 1) n c (omega (arith, more, ne)) (omega (arith, less)))
+]
+
+pub range-below : (a n c : ℕ) → Has (range_with_len a n) c → c < a + n
+range-below a zero c h = absurd h
+range-below a (suc n) c h = elim h [
+  | inl e ↦ omega (arith, e)
+  | inr later ↦ omega (arith, range-below (a + 1) n c later)
+]
+
+range-step : (n a j : ℕ) → a + n ≡ j → range_with_len a (suc n) ≡ range_with_len a n ++ j ∷ []
+range-step zero a j e = let same : a ≡ j = omega arith in ap (λ k. k ∷ []) same
+range-step (suc n) a j e = ap (λ l. a ∷ l) (range-step n (a + 1) j (omega arith))
+
+range-more : (n : ℕ) → range_with_len 0 (n + 1) ≡ range_with_len 0 n ++ n ∷ []
+range-more n = rw (add-one n) (range-step n 0 n (omega arith))
+
+-- one number more, where it passes and where it does not
+pub filter-range_one : (p : ℕ → Bool) (n : ℕ) → p n ≡ true → filter p (range_with_len 0 (n + 1)) ≡ filter p (range_with_len 0 n) ++ n ∷ []
+filter-range_one p n h =
+    ap (filter p) (range-more n) ∙ filter-append p (range_with_len 0 n) (n ∷ []) ∙ ap (λ b. filter p (range_with_len 0 n) ++ cond b (n ∷ []) []) h
+
+pub filter-range_none : (p : ℕ → Bool) (n : ℕ) → p n ≡ false → filter p (range_with_len 0 (n + 1)) ≡ filter p (range_with_len 0 n)
+filter-range_none p n h =
+    ap (filter p) (range-more n) ∙ filter-append p (range_with_len 0 n) (n ∷ []) ∙ ap (λ b. filter p (range_with_len 0 n) ++ cond b (n ∷ []) []) h
+    ∙ none (filter p (range_with_len 0 n)) where
+      none : (xs : List ℕ) → xs ++ [] ≡ xs
+      none [] = refl
+      none (x ∷ xs) = ap (λ l. x ∷ l) (none xs)
+
 -- what is made of a number of a range stands at its place
 pub map_range-get : {T : Type 0} (f : ℕ → T) (a n c m : ℕ) → m ≡ a + c → c < n → slice_get (map f (range_with_len a n)) c ≡ Some (f m)
 map_range-get f a zero c m e h = absurd (omega arith)
@@ -116,6 +152,32 @@ filter-has {T} p (x ∷ xs) y h = by (p x) refl (filter-has p xs y) h where
     | inr later ↦ let r : Has xs y × (p y ≡ true) = rest later in (inr r.0, r.1)
   ]
   by false e rest h = let r : Has xs y × (p y ≡ true) = rest h in (inr r.0, r.1)
+
+-- an element that passes is one of the filter
+pub has-filter : {T : Type 0} (p : T → Bool) (xs : List T) (y : T) → Has xs y → p y ≡ true → Has (filter p xs) y
+has-filter p [] y h e = absurd h
+has-filter {T} p (x ∷ xs) y h e = elim h [
+  | inl same ↦ here (p x) same (ap p (sym same) ∙ e)
+  | inr later ↦ there (p x) (has-filter p xs y later e)
+] where
+  here : (b : Bool) → y ≡ x → b ≡ true → Has (cond b (x ∷ filter p xs) (filter p xs)) y
+  here true same t = inl same
+  here false same t = cc
+
+  there : (b : Bool) → Has (filter p xs) y → Has (cond b (x ∷ filter p xs) (filter p xs)) y
+  there true has = inr has
+  there false has = has
+
+-- where an element passes, some does
+pub any-has : {T : Type 0} (p : T → Bool) (xs : List T) (y : T) → Has xs y → p y ≡ true → list_any p xs ≡ true
+any-has p [] y h e = absurd h
+any-has p (x ∷ xs) y h e = elim h [
+  | inl same ↦ or_left (p x) (list_any p xs) (ap p (sym same) ∙ e)
+  | inr later ↦ ap (λ b. p x || b) (any-has p xs y later e) ∙ or_right (p x)
+] where
+  or_right : (b : Bool) → (b || true) ≡ true
+  or_right true = refl
+  or_right false = refl
 
 -- one more element, where it passes
 pub length-filter_cons : {T : Type 0} (p : T → Bool) (x : T) (xs : List T) → length (filter p (x ∷ xs)) ≡ cond (p x) 1 0 + length (filter p xs)

@@ -15,6 +15,7 @@ use Rattle.conc_event_queue.specs.Turns.{turn, turns_of}
 use Rattle.conc_event_classes.specs.Classes.{are_rising, AreClasses, class_at, of_class, rivals_at, slot_at}
 use Rattle.conc_event_classes.specs.declared.classes.Classes.{Classes}
 use Rattle.conc_base_law.specs.Next.{is_ready}
+use Rattle.conc_machine_release.specs.Candidates.{candidate}
 use Rattle.conc_machine_release.specs.Lets.{AreLets, live_rivals}
 use Rattle.conc_machine_release.specs.Refresh.{HaveSlots, put_in, queues_of}
 use Rattle.conc_machine_release.specs.declared.lets.Lets.{Lets}
@@ -78,13 +79,21 @@ HaveSlots-kept plan classes s lets classes-are are = ap (map length) are.ready �
 pub length-kept : (plan : Plan) (classes : Classes) (s : State) (lets : Lets) → AreLets plan classes s lets → length lets.rivals ≡ length classes.sizes
 length-kept plan classes s lets are = ap length are.rivals ∙ length-map-range_with_len (live_rivals plan classes s) 0 (length classes.sizes)
 
+-- and a candidate
+pub length-candidates : (plan : Plan) (classes : Classes) (s : State) (lets : Lets) → AreLets plan classes s lets → length lets.candidates ≡ length classes.sizes
+length-candidates plan classes s lets are = ap length are.candidates ∙ length-map-range_with_len (candidate lets.ready.items lets.rivals) 0 (length classes.sizes)
+
 rising-below : (most : ℕ) (xs : List ℕ) → are_rising most xs ≡ true → All (λ x. x < most) xs
 rising-below most [] h k d within = absurd (omega (arith, within))
 rising-below most (x ∷ xs) h zero d within = ltb-true x most (and_parts _ _ h).0
 rising-below most (x ∷ xs) h (suc k) d within = rising-below most xs (and_parts _ _ (and_parts _ _ h).1).1 k d (omega (arith, within))
 
--- and so for each class that excludes another one
+-- each class that excludes another one is a class
+pub rivals-known : (plan : Plan) (classes : Classes) → AreClasses plan classes → (c : ℕ) → All (λ x. x < length classes.sizes) (rivals_at classes c)
+rivals-known plan classes are c = rising-below (length classes.sizes) (rivals_at classes c) (are.rising c)
+
+-- and there is a count for it
 pub rivals-counted : (plan : Plan) (classes : Classes) (s : State) (lets : Lets) → AreClasses plan classes → AreLets plan classes s lets → (c : ℕ)
     → All (λ x. x < length lets.rivals) (rivals_at classes c)
 rivals-counted plan classes s lets classes-are are c k d within =
-    omega (arith, rising-below (length classes.sizes) (rivals_at classes c) (classes-are.rising c) k d within, length-kept plan classes s lets are)
+    omega (arith, rivals-known plan classes classes-are c k d within, length-kept plan classes s lets are)

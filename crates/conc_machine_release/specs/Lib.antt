@@ -1,3 +1,4 @@
+pub mod Candidates
 pub mod Lets
 pub mod Refresh
 pub mod Rivals

@@ -1,5 +1,6 @@
 ghost use Rattle.std.specs.Prelude.{◌≡◌, ◌≤◌, IfOk, length, map, slice_index};
-ghost use Rattle.std.specs.List.{range_with_len};
+ghost use Rattle.std.specs.List.{filter, range_with_len};
+ghost use Rattle.conc_event_classes.specs.Classes.{excludes_kin_at};
 ghost use Rattle.conc_event_queue.specs.Least.{vacant};
 
 use conc_event_classes::Classes;
@@ -34,4 +35,22 @@ pub(crate) fn zeros(alloc: Global, count: u32) -> Result<Seq<u32>, NoMemory>
         counts.push(0)?;
     }
     Ok(Seq::from_vec(counts))
+}
+
+/// Those of the first classes, so many, that may exclude kin.
+pub(crate) fn kin_classes(
+    alloc: Global,
+    classes: &Classes,
+    count: u32,
+) -> Result<Seq<u32>, NoMemory>
+    ensures { IfOk result (λ kin. kin ≡ filter (excludes_kin_at classes.now)
+        (range_with_len 0 count)) }
+{
+    let mut kin = Vec::new(alloc);
+    for class in 0..count {
+        if classes.excludes_kin(class) {
+            kin.push(class)?;
+        }
+    }
+    Ok(Seq::from_vec(kin))
 }

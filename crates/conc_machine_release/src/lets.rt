@@ -1,4 +1,4 @@
-ghost use Rattle.std.specs.Prelude.{◌≡◌, ◌<◌, [], IfOk, Some, length, slice_index};
+ghost use Rattle.std.specs.Prelude.{◌≡◌, ◌<◌, [], IfOk, Some, length, slice_index, slice_index_or};
 ghost use Rattle.conc_base_law.specs.Next as next_spec;
 ghost use Rattle.conc_base_law.specs.State.{state};
 ghost use Rattle.conc_event_classes.specs.Classes.{AreClasses, of_class};
@@ -9,8 +9,9 @@ ghost use Rattle.conc_event_reach.specs.Spans.{AreSpans};
 ghost use Rattle.conc_machine_release.specs.Forced as forced_spec;
 ghost use Rattle.conc_machine_release.specs.Lets.{AreLets};
 
+use crate::candidates::{put_within, renew_candidates};
 use crate::forced::{event_at, has_turn_only_kin_rivals, least_with_only_kin_rivals};
-use crate::fresh::{vacant_queues, zeros};
+use crate::fresh::{kin_classes, vacant_queues, zeros};
 use crate::position::Position;
 use crate::refresh::refresh_span;
 use crate::renewal::{recount, renew};
@@ -28,6 +29,10 @@ pub struct Lets {
     ready: Vec<Queue>,
     // For each class how many live requests are of a class that excludes it.
     rivals: Seq<u32>,
+    // For each class that counts none, the first of its requests that are ready.
+    candidates: Queue,
+    // The classes that may exclude kin.
+    kin: Seq<u32>,
     // The moments between which no start of a request comes.
     window: StartWindow,
 }
@@ -45,6 +50,8 @@ impl Lets {
         Ok(Lets {
             ready: vacant_queues(alloc, classes, count)?,
             rivals: zeros(alloc, count)?,
+            candidates: Queue::new(alloc, count as usize)?,
+            kin: kin_classes(alloc, classes, count)?,
             window: StartWindow::NONE,
         })
     }
@@ -74,6 +81,14 @@ impl Lets {
         };
         renew(&mut self.ready, position, r, old);
         recount(&mut self.rivals, classes, after, r, old);
+        renew_candidates(
+            &mut self.candidates,
+            self.ready.as_slice(),
+            &self.rivals,
+            position,
+            r,
+            old,
+        );
     }
 
     /// Takes in another moment of the last tick. It looks through the requests only where a start
@@ -91,6 +106,14 @@ impl Lets {
             to: plan.requests.len(),
         };
         refresh_span(&mut self.ready, plan, classes, after, all);
+        put_within(
+            &mut self.candidates,
+            self.ready.as_slice(),
+            &self.rivals,
+            plan,
+            classes,
+            all,
+        );
         self.window = StartWindow::at(plan, after.time);
     }
 
@@ -102,9 +125,17 @@ impl Lets {
         self.rivals.as_slice()[class]
     }
 
-    // The least turn of those of a class that may be let, where the first that is ready has this turn.
-    // Where rivals are live and the class may exclude kin, it looks at that one, and through all requests
-    // only where that one is excluded.
+    // The first of a class that are ready.
+    fn first_ready(&self, class: usize) -> Option<u64>
+        requires { class < length self.now.ready.items }
+        ensures { result ≡ least (slice_index_or self.now.ready.items class []) }
+    {
+        self.ready[class].least()
+    }
+
+    // The least turn of those of a class that may be let, where the class may exclude kin, and the first
+    // that is ready has this turn. Where rivals are live, it looks at that one, and through all requests
+    // only where that one is excluded and the class has more than one.
     fn turn_in_class(&self, position: Position<'_>, class: u32, first: u64) -> Option<u64>
         requires classes { AreClasses position.plan.now position.classes.now }
         requires spans { AreSpans position.plan.now position.spans.now }
@@ -120,16 +151,16 @@ impl Lets {
         if rivals == 0 {
             return Some(first);
         }
-        if !position.classes.excludes_kin(class) {
-            return None;
-        }
         if has_turn_only_kin_rivals(position, class, rivals, first) {
             return Some(first);
+        }
+        if position.classes.size(class) == 1 {
+            return None;
         }
         least_with_only_kin_rivals(position, class, rivals)
     }
 
-    // The least turn of those that may be let.
+    // The least turn of those that may be let: the least candidate, or one of a class that may exclude kin.
     fn least_turn(&self, position: Position<'_>) -> Option<u64>
         requires classes { AreClasses position.plan.now position.classes.now }
         requires spans { AreSpans position.plan.now position.spans.now }
@@ -139,12 +170,12 @@ impl Lets {
             (next_spec.may_let position.entry.plan.now position.entry.state.now)
             position.entry.plan.now.requests) }
     {
-        let mut best = None;
-        for (class, queue) in self.ready.iter().enumerate() {
-            let Some(first) = queue.least() else {
+        let mut best = self.candidates.least();
+        for class in self.kin.as_slice() {
+            let Some(first) = self.first_ready(*class as usize) else {
                 continue;
             };
-            let turn = self.turn_in_class(position, class as u32, first);
+            let turn = self.turn_in_class(position, *class, first);
             best = lesser(best, turn);
         }
         best

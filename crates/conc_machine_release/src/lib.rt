@@ -2,6 +2,7 @@
 //! requests exclude each class.
 #![tactic(auto)]
 
+mod candidates;
 mod forced;
 mod fresh;
 mod kin;

@@ -1,5 +1,5 @@
 use Rattle.std.proofs.Common.{sym, ◌∙◌, arith}
-use Rattle.conc_machine_release.proofs.Choice.{class-blocked, class-first_with_only_kin_rivals, class-free, class-kin_marked, rivals-kept}
+use Rattle.conc_machine_release.proofs.Choice.{class-first_with_only_kin_rivals, class-free, class-kin_marked, class-single, rivals-kept}
 use Rattle.conc_machine_release.proofs.Slots.{length-kept}
 use Rattle.conc_machine_release.proofs.lets.Lets.turn_in_class.Goals as goal
 
@@ -12,17 +12,17 @@ returns-then-rivals-eq0 c =
     let rivals = sym (rivals-kept c.args.position.plan.now c.args.position.classes.now c.args.position.state.now c.args.self.now c.requires.related c.args.class c.requires.within) ∙ sym c.rival_count-rivals.ensures in
     sym c.requires.first ∙ class-free c.args.position.plan.now c.args.position.classes.now c.args.position.state.now c.requires.classes c.args.class (rivals ∙ c.if-rivals-eq0.true)
 
-pub returns-then-not-excludes_kin : goal.returns-then-not-excludes_kin
-returns-then-not-excludes_kin c =
-    let rivals = sym (rivals-kept c.args.position.plan.now c.args.position.classes.now c.args.position.state.now c.args.self.now c.requires.related c.args.class c.requires.within) ∙ sym c.rival_count-rivals.ensures in
-    class-blocked c.args.position.plan.now c.args.position.classes.now c.args.position.state.now c.requires.classes c.args.class (λ z. c.if-rivals-eq0.false (sym rivals ∙ z))
-    (sym c.if-not-excludes_kin.ensures)
-
 pub returns-then-has_turn_only_kin_rivals : goal.returns-then-has_turn_only_kin_rivals
 returns-then-has_turn_only_kin_rivals c =
     class-first_with_only_kin_rivals c.args.position.plan.now c.args.position.classes.now c.args.position.state.now c.requires.classes c.args.class c.rival_count-rivals.result
     (c.rival_count-rivals.ensures ∙ rivals-kept c.args.position.plan.now c.args.position.classes.now c.args.position.state.now c.args.self.now c.requires.related c.args.class c.requires.within)
     c.args.first c.requires.first (sym c.if-has_turn_only_kin_rivals.ensures)
+
+pub returns-then-size-eq1 : goal.returns-then-size-eq1
+returns-then-size-eq1 c =
+    class-single c.args.position.plan.now c.args.position.classes.now c.args.position.state.now c.requires.classes c.args.class c.rival_count-rivals.result
+    (c.rival_count-rivals.ensures ∙ rivals-kept c.args.position.plan.now c.args.position.classes.now c.args.position.state.now c.args.self.now c.requires.related c.args.class c.requires.within)
+    c.args.first c.requires.first (sym c.has_turn_only_kin_rivals.ensures ∙ c.if-has_turn_only_kin_rivals.false) c.requires.within (sym c.size.ensures ∙ c.if-size-eq1.true)
 
 pub returns : goal.returns
 returns c =
