@@ -21,4 +21,5 @@ returns c = λ past are.
       live = c.note_live.ensures;
       active = c.narrowed-self.ensures;
       undone = c.first_undone-self.ensures;
+      started = c.take_in.ensures.started;
     }
