@@ -1,5 +1,5 @@
-use Rattle.std.proofs.Common.{◌≡◌, length, sym, ◌∙◌, ap, subst}
-use Rattle.conc_event_effects.specs.Advance.{all_after, done_after}
+use Rattle.std.proofs.Common.{length, sym, ◌∙◌, ap, subst}
+use Rattle.conc_event_effects.specs.Advance.{done_after}
 use Rattle.conc_event_reach.specs.Started.{AreStartedWithin}
 use Rattle.conc_machine.specs.Indexes.{first_undone}
 use Rattle.conc_machine.proofs.Frames.{AreParts-alike, length-after}
