@@ -1,5 +1,5 @@
 -- An event leaves the facts of each request that it is not about as they are.
-use Rattle.std.proofs.Common.{◌≡◌, ℕ, Bool, true, false, ◌&&◌, Option, None, Some, refl, ◌∙◌, ap, inl, inr}
+use Rattle.std.proofs.Common.{◌≡◌, ℕ, Bool, true, false, ◌&&◌, Option, None, Some, refl, sym, ◌∙◌, ap, inl, inr}
 use Rattle.std.specs.Prelude.{◌==◌}
 use Rattle.std.specs.Option.{option_and_then, option_or}
 use Rattle.std.proofs.lemmas.Bool.{both_ways, cases_Bool, or_parts}
@@ -115,6 +115,12 @@ unchanged plan named (event.Started q p) r own h = rw (h, and-false (is_set r.it
 unchanged plan named (event.Ended q o x) r own h = rw (h, and-false (is_set r.item), or-none own.outcome) refl
 unchanged plan named event.Resume r own h = absurd (both_ways true h refl)
 unchanged plan named (event.Interrupt q) r own h = rw (h, and-false (is_set r.item), or-none own.outcome) refl
+
+-- a resume changes nothing of a request that was not started in the life that ends
+pub unchanged-resume : (plan : Plan) (named : Facts) (r : Req) (own : Facts) → own.started ≡ false → facts_after plan named event.Resume r own ≡ own
+unfolding act_of facts_after entered_after held_after opened_after stage_after begun_after let_after place_after started_after terminated_after unlet_by held_by cancelled_by unheld_by outcome_by
+unchanged-resume plan named r own none =
+    rw (and-false (is_set r.item), or-none own.outcome) (ap (λ (b : Bool). record own { started = b }) (sym none))
 
 -- an event leaves those outside a span around all that it is about
 leaves-outside : (plan : Plan) (e : Event) (span : Span) → IsAround plan (is_about plan e) span → LeavesOthers plan e span

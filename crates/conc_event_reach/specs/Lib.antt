@@ -1,3 +1,4 @@
 pub mod Spans
 pub mod Reach
+pub mod Started
 pub mod Widened

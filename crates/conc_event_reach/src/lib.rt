@@ -4,6 +4,8 @@
 
 mod span;
 mod spans;
+mod started;
 
 pub use span::Span;
 pub use spans::Spans;
+pub use started::started_after;

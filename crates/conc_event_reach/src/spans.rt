@@ -46,8 +46,8 @@ fn widen_set(members: &mut Seq<Span>, set: Option<RequestId>, index: usize)
     }
 }
 
-// Where the request with this number stands.
-fn span_of_request(plan: &Plan, id: RequestId) -> Span
+/// Where the request with this number stands.
+pub(crate) fn span_of_request(plan: &Plan, id: RequestId) -> Span
     ensures { IsAround plan.now (is_request id) result }
 {
     let number = id.number as usize;

@@ -7,6 +7,7 @@ use Rattle.conc_types.specs.declared.plan.Plan.{Plan}
 use Rattle.conc_base_law.specs.Before.{earlier_lives}
 use Rattle.conc_base_law.specs.Readings.{ticks}
 use Rattle.conc_base_law.specs.State.{now, state}
+use Rattle.conc_event_reach.specs.Started.{AreStartedWithin}
 use Rattle.conc_history_check.specs.declared.findings.Findings.{Findings}
 use Rattle.conc_history_check.specs.declared.prepared.Prepared.{Prepared}
 use Rattle.conc_history_check.specs.Active.{IsActive, IsFirstUndone}
@@ -29,9 +30,11 @@ pub record HasTaken (plan : Plan) (past : List Event) (f : Findings) : Type 0 wh
   pub earlier : f.earlier ≡ now (earlier_lives past)
   pub ticks : f.ticks ≡ ticks past
 
--- the same, with the marks of the requests, where they may be active, and the first command that is not done
+-- the same, with the marks of the requests, where they may be active, the first command that is not done, and where
+-- those stand that were started in this life
 pub record AreFindings (plan : Plan) (prepared : Prepared) (past : List Event) (f : Findings) : Type 0 where
   pub taken : HasTaken plan past f
   pub marks : AreMarks plan prepared.classes f.state f.marks
   pub active : IsActive plan f.state f.active
   pub undone : IsFirstUndone f.state f.undone
+  pub started : AreStartedWithin plan f.state.facts f.started

@@ -1,6 +1,7 @@
 ghost use Rattle.std.specs.Prelude.{◌≡◌, ◌∷◌, ◌+◌, ◌<◌, ◌^◌, [], IfOk, List};
 ghost use Rattle.conc_types.specs.declared.event.Event.{Event};
 ghost use Rattle.conc_event_effects.specs.Advance.{IsAfter};
+ghost use Rattle.conc_event_reach.specs.Started.{AreStartedWithin};
 ghost use Rattle.conc_history_check.specs.Active.{IsActive, IsFirstUndone};
 ghost use Rattle.conc_history_check.specs.Findings.{AreFindings, HasTaken, earlier_after, ticks_after};
 ghost use Rattle.conc_history_check.specs.Marks.{HaveRoom};
@@ -29,6 +30,8 @@ pub(crate) struct Findings {
     pub active: Span,
     /// The place of the first command that is not done, from 0.
     pub undone: usize,
+    /// Where the requests stand that were started in this life.
+    pub started: Span,
 }
 
 impl Findings {
@@ -49,6 +52,7 @@ impl Findings {
             earlier: None,
             ticks: 0,
             active,
+            started: Span::NONE,
         })
     }
 
@@ -62,6 +66,7 @@ impl Findings {
         ensures state { self.new.state ≡ self.old.state }
         ensures marks { self.new.marks ≡ self.old.marks }
         ensures undone { self.new.undone ≡ self.old.undone }
+        ensures started { self.new.started ≡ self.old.started }
     {
         match *e {
             Event::Tick { .. } => self.ticks += 1,
@@ -78,14 +83,23 @@ impl Findings {
     fn take_in(&mut self, plan: &Plan, prepared: &Prepared, e: &Event)
         requires prepared { IsPrepared plan.now prepared.now }
         requires few { self.old.ticks + 1 < 2 ^ 64 }
+        requires started { AreStartedWithin plan.now self.old.state.facts self.old.started }
         ensures read { (past : List Event) → HasTaken plan.now past self.old
             → HasTaken plan.now (e.now ∷ past) self.new }
         ensures after { IsAfter plan.now self.old.state self.new.state e.now }
         ensures marks { self.new.marks ≡ self.old.marks }
         ensures undone { self.new.undone ≡ self.old.undone }
+        ensures started { AreStartedWithin plan.now self.new.state.facts self.new.started }
     {
         self.note_life(e);
-        take_in(plan, &prepared.spans, &prepared.entries, &mut self.state, e);
+        take_in(
+            plan,
+            &prepared.spans,
+            &prepared.entries,
+            &mut self.state,
+            &mut self.started,
+            e,
+        );
     }
 
     /// Reads one more event, and keeps what stands behind it. It takes no memory.
@@ -95,6 +109,7 @@ impl Findings {
         requires room { HaveRoom plan.now prepared.now.classes self.old.marks }
         requires active { IsActive plan.now self.old.state self.old.active }
         requires undone { IsFirstUndone self.old.state self.old.undone }
+        requires started { AreStartedWithin plan.now self.old.state.facts self.old.started }
         ensures { (past : List Event) → AreFindings plan.now prepared.now past self.old
             → AreFindings plan.now prepared.now (e.now ∷ past) self.new }
     {

@@ -7,14 +7,15 @@ ghost use Rattle.conc_event_effects.specs.Advance as advance_spec;
 ghost use Rattle.conc_event_effects.specs.Advance.{all_after, done_after, IsAfter, one_by};
 ghost use Rattle.conc_base_law.specs.Kinds.{tick_of};
 ghost use Rattle.conc_base_law.specs.State as spec;
-ghost use Rattle.conc_event_reach.specs.Spans.{AreSpans, LeavesOthers, is_within};
+ghost use Rattle.conc_event_reach.specs.Spans.{AreSpans, is_within};
+ghost use Rattle.conc_event_reach.specs.Started.{AreStartedWithin, LeavesFacts};
 ghost use Rattle.conc_history_replay.specs.Changes as changes_spec;
 ghost use Rattle.conc_history_replay.specs.Entries.{AreEntries, IsEntry};
 
 use crate::changes::{change_alone, own_after};
 use crate::entries::Entries;
 use conc_event_effects::{begin, mark_done, named_facts, used_after};
-use conc_event_reach::{Span, Spans};
+use conc_event_reach::{Span, Spans, started_after};
 use conc_types::{Event, Facts, NoMemory, Plan, RequestId, Seq, State};
 use std::alloc::Global;
 
@@ -46,7 +47,7 @@ fn step_one(plan: &Plan, e: Event, facts: &mut Seq<Facts>, id: RequestId)
 
 // Makes the facts of all requests what they are after an event that changes those within a span alone.
 fn step_within(plan: &Plan, named: Facts, e: Event, facts: &mut Seq<Facts>, span: Span)
-    requires { LeavesOthers plan.now e span }
+    requires { LeavesFacts plan.now e facts.old span }
     ensures { facts.new ≡ all_after plan.now named e plan.now.requests facts.old }
 {
     for i in span.from..span.to {
@@ -136,15 +137,16 @@ fn take_in_one(plan: &Plan, state: &mut State, e: Event, id: RequestId)
     settle(state, e);
 }
 
-// Takes any event into the state.
+// Takes any event into the state. Those that were started in this life stand within a span.
 #[inline(never)]
-fn take_in_any(plan: &Plan, spans: &Spans, state: &mut State, e: &Event)
-    requires { AreSpans plan.now spans.now }
-    ensures { IsAfter plan.now state.old state.new e.now }
+fn take_in_any(plan: &Plan, spans: &Spans, state: &mut State, started: Span, e: Event)
+    requires spans { AreSpans plan.now spans.now }
+    requires started { AreStartedWithin plan.now state.old.facts started }
+    ensures { IsAfter plan.now state.old state.new e }
 {
-    let e = *e;
     let named = named_facts(plan, state.facts.as_slice(), e);
-    step_within(plan, named, e, &mut state.facts, spans.reach(plan, e));
+    let span = spans.reach_in_life(plan, started, e);
+    step_within(plan, named, e, &mut state.facts, span);
     settle(state, e);
 }
 
@@ -165,26 +167,34 @@ fn take_in_command(
     spans: &Spans,
     entries: &Entries,
     state: &mut State,
-    e: &Event,
+    started: Span,
     number: u32,
 )
-    requires is { e.now ≡ event.Command number }
     requires spans { AreSpans plan.now spans.now }
     requires entries { AreEntries plan.now entries.now }
-    ensures { IsAfter plan.now state.old state.new e.now }
+    requires started { AreStartedWithin plan.now state.old.facts started }
+    ensures { IsAfter plan.now state.old state.new (event.Command number) }
 {
     match entries.span(plan, number) {
         Some(span) => take_in_entry(plan, state, number, span),
-        None => take_in_any(plan, spans, state, e),
+        None => take_in_any(plan, spans, state, started, Event::Command { number }),
     }
 }
 
-/// Takes one more event into the state. What most events are is asked first: they change the facts of
-/// one request, or enter some. It is put into its caller, since a history is taken in event by event.
+// Takes one more event into the state. What most events are is asked first: they change the facts of
+// one request, or enter some.
 #[inline(always)]
-pub fn take_in(plan: &Plan, spans: &Spans, entries: &Entries, state: &mut State, e: &Event)
+fn take_in_state(
+    plan: &Plan,
+    spans: &Spans,
+    entries: &Entries,
+    state: &mut State,
+    started: Span,
+    e: &Event,
+)
     requires spans { AreSpans plan.now spans.now }
     requires entries { AreEntries plan.now entries.now }
+    requires started { AreStartedWithin plan.now state.old.facts started }
     ensures { IsAfter plan.now state.old state.new e.now }
 {
     match *e {
@@ -206,23 +216,56 @@ pub fn take_in(plan: &Plan, spans: &Spans, entries: &Entries, state: &mut State,
             };
             take_in_alone(plan, state, ended, request)
         }
-        Event::Command { number } => take_in_command(plan, spans, entries, state, e, number),
+        Event::Command { number } => {
+            take_in_command(plan, spans, entries, state, started, number)
+        }
         Event::OpenSet { set } => take_in_one(plan, state, Event::OpenSet { set }, set),
         Event::Stage { set, stage } => {
             take_in_one(plan, state, Event::Stage { set, stage }, set)
         }
-        _ => take_in_any(plan, spans, state, e),
+        _ => take_in_any(plan, spans, state, started, *e),
     }
 }
 
-// Takes one more event: the state after some events becomes the state after these and the event.
-fn advance(plan: &Plan, spans: &Spans, entries: &Entries, state: &mut State, e: &Event)
+/// Takes one more event into the state, and into the span within which those stand that were started in
+/// this life, so that a life costs no look at the others. It is put into its caller, since a history is
+/// taken in event by event.
+#[inline(always)]
+pub fn take_in(
+    plan: &Plan,
+    spans: &Spans,
+    entries: &Entries,
+    state: &mut State,
+    started: &mut Span,
+    e: &Event,
+)
     requires spans { AreSpans plan.now spans.now }
     requires entries { AreEntries plan.now entries.now }
-    ensures { (past : List Event) → state.old ≡ spec.state plan.now past
-        → state.new ≡ spec.state plan.now (e.now ∷ past) }
+    requires started { AreStartedWithin plan.now state.old.facts started.old }
+    ensures after { IsAfter plan.now state.old state.new e.now }
+    ensures started { AreStartedWithin plan.now state.new.facts started.new }
 {
-    take_in(plan, spans, entries, state, e);
+    take_in_state(plan, spans, entries, state, *started, e);
+    *started = started_after(plan, *started, *e);
+}
+
+// Takes one more event: the state after some events becomes the state after these and the event.
+fn advance(
+    plan: &Plan,
+    spans: &Spans,
+    entries: &Entries,
+    state: &mut State,
+    started: &mut Span,
+    e: &Event,
+)
+    requires spans { AreSpans plan.now spans.now }
+    requires entries { AreEntries plan.now entries.now }
+    requires started { AreStartedWithin plan.now state.old.facts started.old }
+    ensures state { (past : List Event) → state.old ≡ spec.state plan.now past
+        → state.new ≡ spec.state plan.now (e.now ∷ past) }
+    ensures started { AreStartedWithin plan.now state.new.facts started.new }
+{
+    take_in(plan, spans, entries, state, started, e);
 }
 
 /// The state after these events of the plan, which stand in the order in which they came. Each event
@@ -233,8 +276,9 @@ pub fn state_after(alloc: Global, plan: &Plan, events: &[Event]) -> Result<State
     let spans = Spans::new(alloc, plan)?;
     let entries = Entries::new(alloc, plan, &spans)?;
     let mut state = begin(alloc, plan)?;
+    let mut started = Span::NONE;
     for e in events {
-        advance(plan, &spans, &entries, &mut state, e);
+        advance(plan, &spans, &entries, &mut state, &mut started, e);
     }
     Ok(state)
 }

@@ -4,17 +4,17 @@ use Rattle.conc_types.specs.declared.event.Event.{Event}
 use Rattle.conc_types.specs.declared.facts.Facts.{Facts}
 use Rattle.conc_types.specs.declared.plan.Plan.{Plan}
 use Rattle.conc_event_effects.specs.Advance.{all_after}
-use Rattle.conc_event_reach.specs.Spans.{LeavesOthers}
+use Rattle.conc_event_reach.specs.Started.{LeavesFacts}
 use Rattle.conc_event_reach.specs.declared.span.Span.{Span}
-use Rattle.conc_event_reach.proofs.Passes.{all_after-before}
+use Rattle.conc_event_reach.proofs.Passes.{pass-before}
 use Rattle.conc_machine.specs.Indexes.{AreFacts}
 use Rattle.conc_machine.specs.declared.indexes.Indexes.{Indexes}
 
 -- nothing has changed before the first of them
-pub AreFacts-none : (plan : Plan) (indexes : Indexes) (named : Facts) (e : Event) (span : Span) → LeavesOthers plan e span
+pub AreFacts-none : (plan : Plan) (indexes : Indexes) (named : Facts) (e : Event) (span : Span) → LeavesFacts plan e indexes.state.facts span
     → AreFacts indexes indexes (all_after plan named e (take span.from plan.requests) indexes.state.facts)
 AreFacts-none plan indexes named e span leaves = record {
-  facts = sym (all_after-before plan named e span indexes.state.facts leaves);
+  facts = sym (pass-before plan named e span indexes.state.facts leaves);
   empty = refl;
   time = refl;
   used = refl;

@@ -5,6 +5,7 @@ use Rattle.conc_types.specs.declared.plan.Plan.{Plan}
 use Rattle.conc_event_classes.specs.Classes.{AreClasses}
 use Rattle.conc_machine_release.specs.Lets.{AreLets}
 use Rattle.conc_event_reach.specs.Spans.{AreSpans}
+use Rattle.conc_event_reach.specs.Started.{AreStartedWithin}
 use Rattle.conc_machine_starts.specs.Starts.{AreStarts}
 use Rattle.conc_machine_steps.specs.Steps.{AreRunning, AreSteps}
 use Rattle.conc_machine.specs.declared.indexes.Indexes.{Indexes}
@@ -25,11 +26,12 @@ pub record AreParts (plan : Plan) (indexes : Indexes) : Type 0 where
   pub lets : AreLets plan indexes.classes indexes.state indexes.lets
   pub starts : AreStarts plan indexes.state indexes.starts
 
--- and the next command is the first that is not done
+-- and the next command is the first that is not done, and the span holds those that were started in this life
 pub record AreIndexes (plan : Plan) (indexes : Indexes) : Type 0 where
   pub parts : AreParts plan indexes
   pub flags : length indexes.state.done ≡ length plan.script.commands
   pub command : indexes.next_command ≡ first_undone indexes.state.done
+  pub started : AreStartedWithin plan indexes.state.facts indexes.started
 
 -- all is kept as it was but the facts, which are these
 pub record AreFacts (before after : Indexes) (all : List Facts) : Type 0 where

@@ -1,5 +1,5 @@
 use conc_event_classes::Classes;
-use conc_event_reach::Spans;
+use conc_event_reach::{Span, Spans};
 use conc_machine_release::Lets;
 use conc_machine_starts::Starts;
 use conc_machine_steps::{Running, Steps};
@@ -17,4 +17,6 @@ pub(crate) struct Indexes {
     pub(crate) starts: Starts,
     /// The first command that is not done, from 0.
     pub(crate) next_command: usize,
+    /// Where the requests stand that were started in this life. A resume changes theirs alone.
+    pub(crate) started: Span,
 }

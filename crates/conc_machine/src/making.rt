@@ -12,7 +12,7 @@ use crate::machine::Machine;
 use crate::taking::take_in;
 use conc_event_classes::Classes;
 use conc_event_effects::begin;
-use conc_event_reach::Spans;
+use conc_event_reach::{Span, Spans};
 use conc_machine_release::Lets;
 use conc_machine_starts::Starts;
 use conc_machine_steps::{Running, Steps};
@@ -34,6 +34,7 @@ fn begun(alloc: Global, plan: &Plan) -> Result<Indexes, NoMemory>
         starts: Starts::new(alloc, plan)?,
         classes,
         next_command: 0,
+        started: Span::NONE,
     })
 }
 

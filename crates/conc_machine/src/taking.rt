@@ -8,6 +8,7 @@ use crate::commands::first_undone;
 use crate::indexes::Indexes;
 use crate::writing::write_all;
 use conc_event_effects::{mark_done, named_facts, used_after};
+use conc_event_reach::started_after;
 use conc_types::{Event, Plan};
 
 // Takes in the command of an event, if it is one.
@@ -39,10 +40,12 @@ pub(crate) fn take_in(plan: &Plan, indexes: &mut Indexes, e: Event)
     ensures after { IsAfter plan.now indexes.old.state indexes.new.state e }
 {
     let named = named_facts(plan, indexes.state.facts.as_slice(), e);
-    let span = indexes.spans.reach(plan, e);
+    let span = indexes.spans.reach_in_life(plan, indexes.started, e);
+    let started = started_after(plan, indexes.started, e);
     write_all(plan, indexes, named, e, span);
     take_command(indexes, e);
     indexes.state.used = used_after(indexes.state.used, e);
     indexes.state.empty = false;
     take_tick(plan, indexes, e);
+    indexes.started = started;
 }

@@ -1,6 +1,6 @@
 ghost use Rattle.std.specs.Prelude.{◌≡◌, ◌<◌, ◌≤◌, length, slice_get, slice_set};
 ghost use Rattle.conc_event_effects.specs.Advance.{all_after, one_by};
-ghost use Rattle.conc_event_reach.specs.Spans.{LeavesOthers};
+ghost use Rattle.conc_event_reach.specs.Started.{LeavesFacts};
 ghost use Rattle.conc_machine.specs.Indexes.{AreFacts, AreParts};
 
 use crate::indexes::Indexes;
@@ -51,7 +51,7 @@ fn write_next(plan: &Plan, indexes: &mut Indexes, named: Facts, e: Event, i: usi
 pub(crate) fn write_all(plan: &Plan, indexes: &mut Indexes, named: Facts, e: Event, span: Span)
     requires parts { AreParts plan.now indexes.old }
     requires inside { span.to ≤ length plan.now.requests }
-    requires leaves { LeavesOthers plan.now e span }
+    requires leaves { LeavesFacts plan.now e indexes.old.state.facts span }
     ensures parts { AreParts plan.now indexes.new }
     ensures facts { AreFacts indexes.old indexes.new
         (all_after plan.now named e plan.now.requests indexes.old.state.facts) }

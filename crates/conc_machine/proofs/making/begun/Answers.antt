@@ -1,4 +1,5 @@
-use Rattle.std.proofs.Common.{sym, subst}
+use Rattle.std.proofs.Common.{sym, subst, refl}
+use Rattle.conc_event_reach.proofs.InLife.{none-started}
 use Rattle.conc_machine_release.specs.Lets.{AreLets}
 use Rattle.conc_machine_starts.specs.Starts.{AreStarts}
 use Rattle.conc_machine_steps.specs.Steps.{AreRunning, AreSteps}
@@ -21,4 +22,5 @@ returns-clause-indexes c =
       };
       flags = all-flags plan _ c.in_ok-begin.ensures;
       command = first-command plan _ c.in_ok-begin.ensures;
+      started = none-started plan _ _ c.in_ok-begin.ensures refl;
     }

@@ -1,6 +1,6 @@
 use Rattle.std.proofs.Common.{add-one, arith}
 use Rattle.conc_event_effects.proofs.Passes.{all_after-more}
-use Rattle.conc_event_reach.proofs.Passes.{all_after-from}
+use Rattle.conc_event_reach.proofs.Passes.{pass-from}
 use Rattle.conc_machine.proofs.Passes.{AreFacts-is, AreFacts-none, AreFacts-then}
 use Rattle.conc_machine.proofs.writing.write_all.Goals as goal
 
@@ -20,4 +20,4 @@ loop-i-preserved c =
 pub returns-clause-facts : goal.returns-clause-facts
 returns-clause-facts c =
     AreFacts-is c.args.indexes.now c.loop-i.indexes _ _ c.loop-i.invariant.1
-    (all_after-from c.args.plan.now c.args.named c.args.e c.args.span c.args.indexes.now.state.facts c.loop-i.i c.requires.leaves (omega (arith, c.loop-i-test.false)))
+    (pass-from c.args.plan.now c.args.named c.args.e c.args.span c.args.indexes.now.state.facts c.loop-i.i c.requires.leaves (omega (arith, c.loop-i-test.false)))

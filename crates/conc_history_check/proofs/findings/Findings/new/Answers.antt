@@ -2,6 +2,7 @@ use Rattle.std.proofs.Common.{[], refl, arith}
 use Rattle.conc_base_law.specs.Before.{earlier_lives, last_life}
 use Rattle.conc_base_law.specs.Readings.{ticks}
 use Rattle.conc_base_law.specs.State.{now}
+use Rattle.conc_event_reach.proofs.InLife.{none-started}
 use Rattle.conc_history_check.proofs.Quiet.{active-whole}
 use Rattle.conc_history_check.proofs.findings.Findings.new.Goals as goal
 
@@ -12,4 +13,5 @@ returns c = record {
   marks = c.in_ok-new.ensures;
   active = active-whole c.args.plan.now [] _ _ c.in_ok-state.ensures (omega (arith, c.len.ensures)) (omega (arith, c.len.ensures)) (omega (arith, c.len.ensures));
   undone = c.first_undone.ensures;
+  started = none-started c.args.plan.now _ _ c.in_ok-state.ensures refl;
 }

@@ -33,4 +33,5 @@ returns c = λ past are.
           c.put_come.ensures.room (subst (λ m. KeepsMarks c.args.plan.now c.args.prepared.now.classes c.take_in.new.self.state m c.put_around.new.self) c.take_in.ensures.marks c.put_around.ensures.kept) c.put_around.ensures.around c.put_come.ensures.kept c.put_come.ensures.since;
       active = c.narrowed-self.ensures;
       undone = c.first_undone-self.ensures;
+      started = c.take_in.ensures.started;
     }
