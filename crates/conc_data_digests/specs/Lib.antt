@@ -1,3 +1,5 @@
 pub mod Stamps
 pub mod Inputs
+pub mod Files
+pub mod Sources
 pub mod Taken

@@ -3,8 +3,11 @@
 #![tactic(auto)]
 
 mod coding;
+mod digests;
+mod files;
 mod input;
 mod stamps;
 
+pub use digests::LazyDigests;
 pub use input::InputDigest;
 pub use stamps::stamps_of;

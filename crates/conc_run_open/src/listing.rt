@@ -5,9 +5,10 @@ ghost use Rattle.conc_run_open.specs.Listing.{HasListCause, IsListed};
 
 use crate::judging::resume_whole;
 use crate::reading::open_own;
+use conc_data_digests::LazyDigests;
 use conc_disk::Disk;
 use conc_run_state::HistoryFail;
-use conc_types::{Digests, Event, Plan};
+use conc_types::{Event, Plan};
 use std::alloc::Global;
 
 /// The events in the journal of a run of this plan, whose input has these digests; none where no journal
@@ -18,7 +19,7 @@ use std::alloc::Global;
 pub fn read_list<D: Disk>(
     alloc: Global,
     plan: &Plan,
-    digests: &Digests,
+    digests: &LazyDigests,
     journal: &mut D,
 ) -> Result<Vec<Event>, HistoryFail>
     ensures listed { IfOk result (λ events. IsListed plan.now digests.now (D.state journal.old)

@@ -17,12 +17,13 @@ ghost use Rattle.conc_run_open.specs.Refusals.{IsUnopened, IsUnreadable};
 use crate::extents::count_bytes;
 use crate::judging::refuse_short;
 use crate::scripts::first_other;
+use conc_data_digests::LazyDigests;
 use conc_disk::Disk;
 use conc_journal::{Journal, Opened};
 use conc_journal_image::{Label, Version, base_of};
 use conc_journal_spool::{Spool, SpoolFail};
 use conc_run_state::{DiskName, HistoryFail};
-use conc_types::{Digests, Event, Plan};
+use conc_types::{Event, Plan};
 use std::alloc::Global;
 
 // 15 bytes and 17 bytes that are 0.
@@ -45,19 +46,19 @@ fn told(label: Label) -> [u8; 32]
 }
 
 // What a label of this version has for this input.
-fn told_for(version: Version, digests: &Digests) -> [u8; 32]
+fn told_for(version: Version, digests: &LazyDigests) -> [u8; 32]
     ensures { result ≡ causes_spec.told_for version digests.now }
 {
     match version {
-        Version::One => digests.full,
-        Version::Two => padded(base_of(&digests.base)),
+        Version::One => digests.full(),
+        Version::Two => padded(base_of(&digests.base())),
     }
 }
 
 // Why a journal with this label is not that of this input, if it is not.
 fn judge_input(
     plan: &Plan,
-    digests: &Digests,
+    digests: &LazyDigests,
     label: Label,
     journal: &Journal,
 ) -> Option<HistoryFail>
@@ -80,7 +81,7 @@ fn judge_input(
 pub(crate) fn open_own<D: Disk>(
     alloc: Global,
     plan: &Plan,
-    digests: &Digests,
+    digests: &LazyDigests,
     disk: &mut D,
 ) -> Result<Opened, HistoryFail>
     ensures found { IfOk result (λ opened. IfSome (D.state disk.old).seen

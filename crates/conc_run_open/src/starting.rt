@@ -11,15 +11,16 @@ ghost use Rattle.conc_run_state.specs.Inputs.{IsBegunFor, IsOfVersionTwo};
 ghost use Rattle.conc_run_open.specs.Examined.{MayStartWith};
 ghost use Rattle.conc_run_open.specs.Starting.{HasOpened, IsOpened, IsRenewed, resume_behind, SurvivesBetween};
 
+use conc_data_digests::LazyDigests;
 use conc_disk::{Disk, DiskFault};
 use conc_journal::{Journal, Receipt};
-use conc_types::{Digests, Event};
+use conc_types::{Event};
 
 // Brings a journal that was begun to version 2, with these stamps, unless it is of that version.
 fn renew<D: Disk>(
     journal: &mut Journal,
     disk: &mut D,
-    digests: &Digests,
+    digests: &LazyDigests,
     due: &[u64],
 ) -> Result<(), DiskFault>
     requires may { (plan : Plan) × MayStartWith plan digests.now due.now journal.old }
@@ -40,7 +41,7 @@ fn renew<D: Disk>(
         (D.state disk.old) (D.state disk.new) }
 {
     if journal.is_of_version_one() {
-        journal.migrate(disk, &digests.base, due)
+        journal.migrate(disk, &digests.base(), due)
     } else {
         Ok(())
     }
@@ -78,7 +79,7 @@ fn resume<D: Disk>(journal: &mut Journal, disk: &mut D) -> Result<Option<Receipt
 pub(crate) fn start<D: Disk>(
     journal: &mut Journal,
     disk: &mut D,
-    digests: &Digests,
+    digests: &LazyDigests,
     due: &[u64],
 ) -> Result<Option<Receipt>, DiskFault>
     requires may { (plan : Plan) × MayStartWith plan digests.now due.now journal.old }
@@ -100,7 +101,7 @@ pub(crate) fn start<D: Disk>(
         (opening (list_of journal.old)) (D.state disk.old) (D.state disk.new) }
 {
     if !journal.takes_events() {
-        journal.begin(disk, digests)?;
+        journal.begin(disk, &digests.both())?;
         return Ok(None);
     }
     renew(journal, disk, digests, due)?;

@@ -6,9 +6,10 @@ ghost use Rattle.conc_run_open.specs.Texts.{HasEnd, HasNoEnd, HasText, HasTextCa
 use crate::TextFail;
 use crate::judging::resume_whole;
 use crate::reading::{open_own, open_texts};
+use conc_data_digests::LazyDigests;
 use conc_disk::Disk;
 use conc_run_state::Stores;
-use conc_types::{Digests, Event, Extent, Plan, RequestId};
+use conc_types::{Event, Extent, Plan, RequestId};
 use std::alloc::Global;
 
 // Where the report of this request stands, if the event is its end and has one.
@@ -45,7 +46,7 @@ fn find_report(events: &[Event], id: RequestId) -> Option<Extent>
 pub fn read_text<D: Disk, E: Disk>(
     alloc: Global,
     plan: &Plan,
-    digests: &Digests,
+    digests: &LazyDigests,
     id: RequestId,
     stores: &mut Stores<'_, D, E>,
 ) -> Result<Vec<u8>, TextFail>

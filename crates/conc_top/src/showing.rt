@@ -10,13 +10,14 @@ ghost use Rattle.conc_top.specs.Ways.{exit_of};
 use crate::Exit;
 use crate::context::Context;
 use crate::printing::write_text;
+use conc_data_digests::LazyDigests;
 use conc_disk::Disk;
 use conc_history::{put_plan, put_status_table};
 use conc_outside::{Shelf, Sink};
 use conc_run_open::{TextFail, read_list, read_text};
 use conc_run_state::Stores;
 use conc_top_inputs::{InTurn, accept};
-use conc_types::{Digests, Name, Plan, RequestId};
+use conc_types::{Name, Plan, RequestId};
 use std::alloc::Global;
 
 // Prints the listing of the plan.
@@ -32,7 +33,7 @@ fn print_listing<O: Sink>(alloc: Global, plan: &Plan, out: &mut O) -> Result<(),
 fn print_table<O: Sink, D: Disk>(
     alloc: Global,
     plan: &Plan,
-    digests: &Digests,
+    digests: &LazyDigests,
     journal: &mut D,
     out: &mut O,
 ) -> Result<(), Exit>
@@ -59,7 +60,7 @@ fn exit_for_text(fail: TextFail, id: RequestId) -> Exit
 fn print_report<O: Sink, D: Disk, E: Disk>(
     alloc: Global,
     plan: &Plan,
-    digests: &Digests,
+    digests: &LazyDigests,
     id: RequestId,
     stores: &mut Stores<'_, D, E>,
     out: &mut O,

@@ -15,19 +15,6 @@ TookTables old new names contents =
     (setup script : List ℕ) (before : List (List ℕ × List ℕ)) → HasTaken old setup script before
     → HasTaken new setup script (before ++ zip names contents)
 
--- the digest of a setup and a script, by other names for their bytes
-pub taken-of : (digest : InputDigest) (setup script a b : List ℕ) → a ≡ setup → b ≡ script → HasTaken digest a b [] → HasTaken digest setup script []
-taken-of digest setup script a b same_setup same_script taken =
-    subst (λ s. HasTaken digest s script []) same_setup (subst (λ s. HasTaken digest a s []) same_script taken)
-
--- what one more table adds, by other names for its bytes
-pub adds-of : (mid new : InputDigest) (name bytes n b : List ℕ) → n ≡ name → b ≡ bytes
-    → ((setup script : List ℕ) (before : List (List ℕ × List ℕ)) → HasTaken mid setup script before → HasTaken new setup script (before ++ (n, b) ∷ []))
-    → (setup script : List ℕ) (before : List (List ℕ × List ℕ)) → HasTaken mid setup script before → HasTaken new setup script (before ++ (name, bytes) ∷ [])
-adds-of mid new name bytes n b same_name same_bytes adds setup script before taken =
-    subst (λ x. HasTaken new setup script (before ++ (x, bytes) ∷ [])) same_name
-    (subst (λ x. HasTaken new setup script (before ++ (n, x) ∷ [])) same_bytes (adds setup script before taken))
-
 zip-push : {A B : Type 0} (ks : List A) (vs : List B) (k : A) (v : B) → length vs ≡ length ks → zip (ks ++ k ∷ []) (vs ++ v ∷ []) ≡ zip ks vs ++ (k, v) ∷ []
 zip-push [] [] k v same = refl
 zip-push [] (w ∷ vs) k v same = absurd (omega (arith, same))

@@ -11,10 +11,11 @@ use crate::clocks::read_readings;
 use crate::pace::Pace;
 use crate::reading::{Start, read_start, read_tables};
 use crate::{FileNames, InputFail};
+use conc_data_digests::LazyDigests;
 use conc_edge_clock::Clock;
 use conc_outside::Shelf;
 use conc_plan::make_plan;
-use conc_types::{Digests, FileKind, Name, Plan, ReadFail, Readings, Seq};
+use conc_types::{FileKind, Name, Plan, ReadFail, Readings, Seq};
 use std::alloc::Global;
 
 /// What files give, once all are accepted.
@@ -22,7 +23,7 @@ use std::alloc::Global;
 pub struct Accepted {
     pub plan: Plan,
     /// Of the files that were read, but for the clock's.
-    pub digests: Digests,
+    pub digests: LazyDigests,
 }
 
 impl Accepted {

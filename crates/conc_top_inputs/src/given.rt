@@ -123,12 +123,12 @@ pub(crate) fn judge_table<F: Shelf, P: Pace>(
     let file = TableFile {
         number,
         name: name.as_bytes(),
-        bytes: &bytes,
+        bytes,
     };
-    let (table, digest) = pace.read_and_digest(alloc, file, digest);
+    let (table, digest) = pace.read_and_digest(alloc, file, digest)?;
     let progress = Progress {
         bytes: total,
         digest,
     };
-    Ok((table?, progress))
+    Ok((table, progress))
 }

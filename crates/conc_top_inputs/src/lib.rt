@@ -15,5 +15,5 @@ pub use accepting::{Accepted, accept, accept_timed};
 pub use conc_data_columns::{InTurn, OnThreads};
 pub use error::InputFail;
 pub use names::FileNames;
-pub use pace::{Digested, Pace, TableFile};
+pub use pace::{Pace, TableFile};
 pub use single::read_file;

@@ -39,7 +39,7 @@ pub(crate) fn read_start<F: Shelf>(
     let judged = judge_script(alloc, shelf, script, &setup_read);
     let (script_read, script_bytes) = named(alloc, script, judged)?;
     Ok(Start {
-        digest: InputDigest::new(&setup_bytes, &script_bytes),
+        digest: InputDigest::new(alloc, setup_bytes, script_bytes),
         setup: setup_read,
         script: script_read,
     })

@@ -18,6 +18,7 @@ use super::driving::{end, log, release, see_claim, start, withdraw};
 use super::hands::{claim_at, permit_of, sees_it_withdrawn, serve};
 use crate::Disks;
 use conc_board::{Board, Hand, Lead, Permit};
+use conc_data_digests::LazyDigests;
 use conc_edge_devices::MemDisk;
 use conc_plan::make_plan;
 use conc_run_desk::{Desk, KeepFail};
@@ -493,7 +494,7 @@ fn over_disks<Rt: Abort>(
     requires one { count_of_requests plan.now ≡ 1 }
     requires two { count_of_places plan.now ≡ 2 }
 {
-    let digests = digests();
+    let digests = LazyDigests::from(digests());
     let input = Input {
         plan,
         readings,

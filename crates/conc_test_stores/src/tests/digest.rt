@@ -1,11 +1,27 @@
 use super::expect::same;
 use conc_data_digests::InputDigest;
-use conc_types::Digests;
+use conc_types::{Digests, NoMemory};
+use std::alloc::Global;
+
+// The digest of the setup `s` and the script `ab`.
+fn begun(alloc: Global) -> Result<InputDigest, NoMemory> {
+    Ok(InputDigest::new(
+        alloc,
+        b"s".to_vec(alloc)?,
+        b"ab".to_vec(alloc)?,
+    ))
+}
+
+// And of the table `t.csv`, whose bytes are kept.
+fn kept(alloc: Global) -> Result<Digests, NoMemory> {
+    let digest = begun(alloc)?.keep_table(b"t.csv".to_vec(alloc)?, b"k,v".to_vec(alloc)?)?;
+    Ok(digest.finish().both())
+}
 
 // `printf` of the message `00 .. 01 s 00 .. 02 ab 00 .. 05 t.csv 00 .. 03 k,v` into sha256sum, and of the same
 // without the script, which is `00 .. 02 ab`.
 #[test]
-fn digests_an_input(rt: HostRuntime) {
+fn digests_an_input(rt: HostRuntime) -> Result<(), NoMemory> {
     let wanted = Digests {
         full: [
             0xd9, 0x3c, 0x51, 0xe1, 0x4e, 0x6c, 0x14, 0xc2, 0x7d, 0x12, 0x8d, 0x8f, 0x5e, 0x2a,
@@ -18,8 +34,9 @@ fn digests_an_input(rt: HostRuntime) {
             0x4a, 0x2e, 0x99, 0x9e,
         ],
     };
-    let digest = InputDigest::new(b"s", b"ab").with_table(b"t.csv", b"k,v");
-    same(&rt, digest.finish(), wanted);
-    let digest = InputDigest::new(b"s", b"ab").with_table_on_threads(&rt, b"t.csv", b"k,v");
-    same(&rt, digest.finish(), wanted);
+    let alloc = rt.alloc();
+    same(&rt, kept(alloc)?, wanted);
+    let digest = begun(alloc)?.with_table_on_threads(&rt, b"t.csv", b"k,v");
+    same(&rt, digest.finish().both(), wanted);
+    Ok(())
 }

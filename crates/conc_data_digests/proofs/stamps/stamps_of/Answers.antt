@@ -1,7 +1,7 @@
-use Rattle.std.proofs.Common.{◌≡◌, ℕ, ◌+◌, ◌<◌, ◌≤◌, List, [], ◌∷◌, ◌++◌, drop, get_or, length, replicate, refl, sym, ap, ◌∙◌}
+use Rattle.std.proofs.Common.{◌≡◌, ℕ, ◌+◌, ◌<◌, ◌≤◌, List, [], ◌∷◌, ◌++◌, drop, get_or, length, replicate, sym, ap, ◌∙◌}
 use Rattle.std.proofs.lemmas.List.{append-nil, append_assoc, drop_all, drop_more}
 use Rattle.conc_types.specs.declared.script.Order.{Order}
-use Rattle.conc_data_digests.specs.Stamps.{hash_behind, stamp_of, stamps_behind, stamps_of}
+use Rattle.conc_data_digests.specs.Stamps.{hash_behind, stamp_of, stamps_behind}
 use Rattle.conc_data_digests.proofs.Counting.{length-stamps_behind}
 use Rattle.conc_data_digests.proofs.stamps.stamps_of.Goals as goal
 

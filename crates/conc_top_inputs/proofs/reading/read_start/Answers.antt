@@ -3,7 +3,6 @@ use Rattle.conc_types.specs.declared.refusal.FileKind.TheVariants as kind
 use Rattle.conc_outside.specs.Files.{Gives}
 use Rattle.conc_top_inputs.specs.Given.{named, sources}
 use Rattle.conc_top_inputs.proofs.Acceptance.{no-start}
-use Rattle.conc_top_inputs.proofs.Digesting.{taken-of}
 use Rattle.conc_top_inputs.proofs.FileFailing.{stops-at}
 use Rattle.conc_top_inputs.proofs.reading.read_start.Goals as goal
 
@@ -37,7 +36,7 @@ returns-clause-answer g c =
         };
         setup = refl;
         script = refl;
-        digest = taken-of c.new.result c.in_ok-setup_read.setup_bytes.items c.in_ok-script_read.script_bytes.items c.deref.result.now c.deref-2.result.now c.deref.ensures.value c.deref-2.ensures.value c.new.ensures;
+        digest = c.new.ensures;
       };
       err = λ before after clock. tt;
     }
