@@ -1,6 +1,5 @@
 ghost use Rattle.std.specs.Prelude.{◌≡◌, unwrap_or, false};
-ghost use Rattle.std.specs.List.{find, list_any};
-ghost use Rattle.std.specs.Option.{option_copied};
+ghost use Rattle.std.specs.List.{list_any};
 ghost use Rattle.conc_types.specs.Words as words_spec;
 ghost use Rattle.conc_base_law.specs.Next as next_spec;
 ghost use Rattle.conc_event_decisions.specs.Members.{AreMembers};
@@ -19,26 +18,6 @@ pub fn is_left_running(state: &State, r: &Req) -> bool
 {
     let facts = facts_at(state, r);
     is_running(facts) && !facts.started
-}
-
-fn first_left_running<'a>(plan: &'a Plan, state: &State) -> Option<&'a Req>
-    ensures { option_copied result ≡ find (next_spec.is_left_running state.now) plan.now.requests }
-{
-    plan.requests
-        .as_slice()
-        .iter()
-        .find(|r| is_left_running(state, r))
-}
-
-/// The interrupt that is forced, if one is due: that of the first request that ran at the stop.
-#[tactic(auto, unfolding(conc_base_law::specs::Next::forced_interrupt))]
-pub fn forced_interrupt(plan: &Plan, state: &State) -> Option<Event>
-    ensures { result ≡ next_spec.forced_interrupt plan.now state.now }
-{
-    match first_left_running(plan, state) {
-        Some(r) => Some(Event::Interrupt { request: r.number }),
-        None => None,
-    }
 }
 
 // ---- commands

@@ -10,9 +10,7 @@ mod stages;
 mod statuses;
 
 pub use equality::is_same_event;
-pub use forcing::{
-    blocks, forced_interrupt, has_step, is_due, is_free, is_left_running, is_ready, let_event,
-};
+pub use forcing::{blocks, has_step, is_due, is_free, is_left_running, is_ready, let_event};
 pub use lookup::{facts_at, has_come, is_completed, is_live, is_not_earlier, is_waiting};
 pub use permits::{is_usable_now, may_end, may_end_by_id, runs_somewhere};
 pub use stages::set_step;

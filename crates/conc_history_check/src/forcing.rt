@@ -11,7 +11,7 @@ ghost use Rattle.conc_history_check.specs.Prepared.{IsPrepared};
 use crate::lets::forced_let;
 use crate::live::least_request;
 use crate::position::Position;
-use conc_event_decisions::{forced_interrupt, is_due, set_step};
+use conc_event_decisions::{is_due, set_step};
 use conc_types::{Event, Plan, Req, State};
 
 // ---- interrupts
@@ -26,14 +26,14 @@ fn first_left(position: Position<'_>) -> Option<&Req>
     least_request(position.plan, &position.marks.left)
 }
 
-// The interrupt that is forced, if one is due. It looks for its request only where there is one.
+// The interrupt that is forced, if one is due.
 #[tactic(auto, unfolding(conc_base_law::specs::Next::forced_interrupt))]
 fn due_interrupt(position: Position<'_>) -> Option<Event>
     requires { IsKept position }
     ensures { result ≡ next_spec.forced_interrupt position.entry.plan.now position.entry.state.now }
 {
     match first_left(position) {
-        Some(_) => forced_interrupt(position.plan, position.state),
+        Some(r) => Some(Event::Interrupt { request: r.number }),
         None => None,
     }
 }

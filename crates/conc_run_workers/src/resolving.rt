@@ -13,8 +13,8 @@ use conc_run_desk::Desk;
 use conc_run_state::RunFail;
 use conc_time::place_count;
 use conc_types::{Event, PlaceId, RequestId};
+use std::hint;
 use std::sync::Wait;
-use std::thread;
 
 // How often the resolver looks at the places before it sleeps.
 const LOOKS: u32 = 64;
@@ -231,7 +231,7 @@ impl<D: Disk, E: Disk, T: Teller> Resolver<'_, '_, '_, D, E, T> {
         ensures { Steps D.Disk E.Disk T.Teller result self.old self.new }
     {
         for _ in 0..LOOKS {
-            thread::yield_now();
+            hint::spin_loop();
             if self.see_to_places(rt)? {
                 return Ok(());
             }

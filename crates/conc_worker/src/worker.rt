@@ -10,8 +10,8 @@ use conc_edge_gate::Gate;
 use conc_pool_lanes::{HandPass, Lanes};
 use conc_types::{PlaceId, Plan, RequestId};
 use std::alloc::Global;
+use std::hint;
 use std::sync::Wait;
-use std::thread;
 
 // How often a hand that does nothing looks into the lanes before it looks at all requests, and sleeps.
 const LOOKS: u32 = 64;
@@ -80,7 +80,7 @@ impl Worker<'_> {
                 if let Some(next) = self.look(rt, hand, pass, first, Search::Lanes) {
                     return next;
                 }
-                thread::yield_now();
+                hint::spin_loop();
             }
             let key = self.board.hands_bell().prepare_wait();
             if let Some(next) = self.look(rt, hand, pass, first, Search::Everywhere) {
@@ -176,7 +176,7 @@ impl Worker<'_> {
                     Served::NotYet(same) => claim = same,
                     Served::Posted(_) | Served::Withdrawn => return,
                 }
-                thread::yield_now();
+                hint::spin_loop();
             }
             let key = self.board.hands_bell().prepare_wait();
             match serve_once(self.alloc, self.board, self.plan, hand, claim, gate) {
