@@ -12,7 +12,7 @@ use Rattle.conc_base_law.proofs.Numbering.{numbered-at}
 use Rattle.conc_event_classes.specs.declared.classes.Classes.{Classes}
 use Rattle.conc_event_effects.specs.Advance.{IsAfter}
 use Rattle.conc_event_queue.proofs.Maps.{place_of_request}
-use Rattle.conc_event_reach.specs.Spans.{LeavesOthers}
+use Rattle.conc_event_reach.specs.Started.{LeavesFacts}
 use Rattle.conc_event_reach.specs.declared.span.Span.{Span}
 use Rattle.conc_history_check.specs.Marks.{AreMarkedAround, AreMarks, HaveRoom, IsMarkedSince, KeepsMarks, is_near}
 use Rattle.conc_history_check.specs.declared.marks.Marks.{Marks}
@@ -21,7 +21,7 @@ use Rattle.conc_history_check.proofs.Quiet.{facts-outside}
 use Rattle.conc_history_check.proofs.Same.{marked-same}
 
 -- the facts of a request that the event does not reach stay
-facts-same : (plan : Plan) (e : Event) (old new : State) (reach : Span) → LeavesOthers plan e reach → IsAfter plan old new e → (q : Req) → IsNearNone plan reach q
+facts-same : (plan : Plan) (e : Event) (old new : State) (reach : Span) → LeavesFacts plan e old.facts reach → IsAfter plan old new e → (q : Req) → IsNearNone plan reach q
     → (x : Req) → Has plan.requests x → is_near x q ≡ true → facts_at new x ≡ facts_at old x
 unfolding facts_at
 facts-same plan e old new reach leaves after q none x has near =
@@ -32,7 +32,7 @@ facts-same plan e old new reach leaves after q none x has near =
     ∙ sym (numbered-at old.facts x.number.number p.0 (omega (arith, p.2))))
 
 -- the others keep what was said of them
-pub marks-after : (plan : Plan) (classes : Classes) (e : Event) (old new : State) (reach : Span) (was mid is : Marks) → LeavesOthers plan e reach → IsAfter plan old new e
+pub marks-after : (plan : Plan) (classes : Classes) (e : Event) (old new : State) (reach : Span) (was mid is : Marks) → LeavesFacts plan e old.facts reach → IsAfter plan old new e
     → AreMarks plan classes old was → HaveRoom plan classes is → KeepsMarks plan classes new was mid → AreMarkedAround plan classes new reach mid → KeepsMarks plan classes new mid is
     → ((q : Req) → Has plan.requests q → IsMarkedSince plan classes old.time new q is) → AreMarks plan classes new is
 marks-after plan classes e old new reach was mid is leaves after are room kept around keeps since = record {

@@ -11,7 +11,8 @@ use Rattle.conc_types.specs.declared.plan.Req.{Req}
 use Rattle.conc_event_effects.specs.Advance.{IsAfter, all_after, named_by, named_facts}
 use Rattle.conc_event_effects.specs.Step.{facts_after}
 use Rattle.conc_event_reach.specs.Reach.{IsCover}
-use Rattle.conc_event_reach.specs.Spans.{LeavesOthers, is_within}
+use Rattle.conc_event_reach.specs.Spans.{is_within}
+use Rattle.conc_event_reach.specs.Started.{LeavesFacts}
 use Rattle.conc_event_reach.specs.declared.span.Span.{Span}
 use Rattle.conc_event_reach.proofs.Within.{bounds_within, within-bounds}
 use Rattle.conc_base_law.specs.Facts.{facts_of}
@@ -67,23 +68,24 @@ active-whole plan past s span is from least most =
 
 -- ---- after an event
 
-all-same : (plan : Plan) (named : Facts) (e : Event) (rs : List Req) (facts : List Facts) (i : ℕ) → ((r : Req) (own : Facts) → slice_get rs i ≡ Some r → facts_after plan named e r own ≡ own)
+all-same : (plan : Plan) (named : Facts) (e : Event) (rs : List Req) (facts : List Facts) (i : ℕ)
+    → ((r : Req) (own : Facts) → slice_get rs i ≡ Some r → slice_get facts i ≡ Some own → facts_after plan named e r own ≡ own)
     → slice_get (all_after plan named e rs facts) i ≡ slice_get facts i
 unfolding all_after
 all-same plan named e [] facts i same = refl
 all-same plan named e (r ∷ rs) [] i same = refl
-all-same plan named e (r ∷ rs) (own ∷ facts) zero same = ap (λ (o : Facts). Some o) (same r own refl)
+all-same plan named e (r ∷ rs) (own ∷ facts) zero same = ap (λ (o : Facts). Some o) (same r own refl refl)
 all-same plan named e (r ∷ rs) (own ∷ facts) (suc i) same = all-same plan named e rs facts i same
 
 -- the facts of a request that the event does not reach stay
-pub facts-outside : (plan : Plan) (e : Event) (old new : State) (reach : Span) (i : ℕ) → LeavesOthers plan e reach → IsAfter plan old new e → is_within i reach ≡ false
+pub facts-outside : (plan : Plan) (e : Event) (old new : State) (reach : Span) (i : ℕ) → LeavesFacts plan e old.facts reach → IsAfter plan old new e → is_within i reach ≡ false
     → slice_get new.facts i ≡ slice_get old.facts i
 facts-outside plan e old new reach i leaves after off =
     let named = named_facts old.facts (named_by plan e) in
-    ap (λ (l : List Facts). slice_get l i) after.facts ∙ all-same plan named e plan.requests old.facts i (λ r own at. leaves i r at off named own)
+    ap (λ (l : List Facts). slice_get l i) after.facts ∙ all-same plan named e plan.requests old.facts i (λ r own at found. leaves i r own at found off named)
 
 -- outside of what it reaches the same requests are quiet
-pub quiet-after : (plan : Plan) (e : Event) (old new : State) (active reach touched : Span) → AreQuiet old active → LeavesOthers plan e reach → IsCover active reach touched → IsAfter plan old new e → AreQuiet new touched
+pub quiet-after : (plan : Plan) (e : Event) (old new : State) (active reach touched : Span) → AreQuiet old active → LeavesFacts plan e old.facts reach → IsCover active reach touched → IsAfter plan old new e → AreQuiet new touched
 quiet-after plan e old new active reach touched quiet leaves cover after = λ i outside.
     let off = outside-not i touched outside in
     ap quiet_at (facts-outside plan e old new reach i leaves after (outside-part i reach touched (cover.second i) off)) ∙ quiet i (not-outside i active (outside-part i active touched (cover.first i) off))

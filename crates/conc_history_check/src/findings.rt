@@ -114,7 +114,7 @@ impl Findings {
             → AreFindings plan.now prepared.now (e.now ∷ past) self.new }
     {
         let before = self.state.time;
-        let reached = prepared.spans.reach(plan, *e);
+        let reached = prepared.spans.reach_in_life(plan, self.started, *e);
         let touched = self.active.cover(reached);
         self.take_in(plan, prepared, e);
         self.active = narrowed(plan, &self.state, touched);
