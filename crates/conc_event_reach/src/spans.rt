@@ -133,8 +133,8 @@ impl Spans {
         }
     }
 
-    /// Where the requests stand whose facts the event can change.
-    pub fn reach(&self, plan: &Plan, e: Event) -> Span
+    // Where the requests stand whose facts the event can change.
+    fn reach(&self, plan: &Plan, e: Event) -> Span
         ensures leaves { AreSpans plan.now self.now → LeavesOthers plan.now e result }
         ensures inside { AreSpans plan.now self.now → result.to ≤ length plan.now.requests }
     {
