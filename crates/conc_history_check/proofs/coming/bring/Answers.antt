@@ -6,7 +6,7 @@ pub loop-r-init : goal.loop-r-init
 loop-r-init c = brought-start c.args.plan.now c.args.prepared.now.classes c.args._before c.args.state.now c.args.marks.now c.args.coming.now c.requires.room c.requires.coming c.requires.later
 
 pub next_come-requires : goal.next_come-requires
-next_come-requires c = brought-keys c.args.plan.now c.args.prepared.now.classes c.args._before c.args.state.now c.args.marks.now c.loop-r.coming c.loop-r.marks c.loop-r.invariant
+next_come-requires c = record { keys = brought-keys c.args.plan.now c.args.prepared.now.classes c.args._before c.args.state.now c.args.marks.now c.loop-r.coming c.loop-r.marks c.loop-r.invariant }
 
 pub take_next-requires-clause-room : goal.take_next-requires-clause-room
 take_next-requires-clause-room c = c.loop-r.invariant.room
