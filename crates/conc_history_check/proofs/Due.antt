@@ -31,7 +31,7 @@ none-come s setup next seconds m (order ∷ orders) ok late =
     let miss : is_due s (m, order) ≡ false = and_right _ _ (late order.at above) in
     rw miss (none-come s setup (next + entered_by setup order.act) order.at.seconds (m + 1) orders q.1 (λ t behind. late t (omega (arith, above, behind))))
 
-later-not_come : (time : Option Moment) (t u : Moment) → t.seconds ≤ u.seconds → has_come time t ≡ false → has_come time u ≡ false
+pub later-not_come : (time : Option Moment) (t u : Moment) → t.seconds ≤ u.seconds → has_come time t ≡ false → has_come time u ≡ false
 unfolding has_come
 later-not_come None t u behind h = refl
 later-not_come (Some n) t u behind h = grind (arith, nat_tests)

@@ -23,3 +23,4 @@ pub mod After
 pub mod Lives
 pub mod Puts
 pub mod Classed
+pub mod Brought

@@ -1,20 +1,19 @@
 -- One request that is put anew.
-use Rattle.std.proofs.Common.{◌≡◌, ℕ, ◌-◌, Bool, List, length, set, true, Option, Some, eqb, sym, ◌∙◌, ap, inl, inr, subst}
+use Rattle.std.proofs.Common.{◌≡◌, ℕ, ◌-◌, Bool, List, length, set, Option, Some, sym, ◌∙◌, ap, inl, inr, subst}
 use Rattle.std.specs.Bool.{then_some}
-use Rattle.std.specs.Prelude.{nat_le}
-use Rattle.std.proofs.lemmas.Bool.{cases_eq, eqb-true}
+use Rattle.std.proofs.lemmas.Bool.{cases_eq}
 use Rattle.std.proofs.lemmas.List.{length-set}
 use Rattle.conc_types.specs.declared.event.Moment.{Moment}
 use Rattle.conc_types.specs.declared.facts.State.{State}
 use Rattle.conc_types.specs.declared.plan.Plan.{Plan}
 use Rattle.conc_types.specs.declared.plan.Req.{Req}
 use Rattle.conc_base_law.specs.Next.{has_step, is_left_running, is_ready, runs_somewhere}
-use Rattle.conc_base_law.specs.State.{facts_at, has_come, is_live}
+use Rattle.conc_base_law.specs.State.{facts_at, is_live}
 use Rattle.conc_base_law.specs.Words.{Has}
 use Rattle.conc_event_classes.specs.Classes.{AreClasses, class_at, slot_at}
 use Rattle.conc_event_classes.specs.declared.classes.Classes.{Classes}
 use Rattle.conc_event_queue.specs.Turns.{turn}
-use Rattle.conc_history_check.specs.Marks.{HaveRoom, IsMarked, IsMarkedSince, KeepsMarks, waits_to_start}
+use Rattle.conc_history_check.specs.Marks.{HaveRoom, HasSlot, IsMarked, IsMarkedSince, KeepsMarks, waits_to_start}
 use Rattle.conc_history_check.specs.declared.marks.Marks.{Marks}
 use Rattle.conc_history_check.proofs.Slots.{class-other, class-own, class-there, has-slot, Put, queues-put, same_number, slot-other, slot-own}
 
@@ -70,8 +69,3 @@ pub since-kept : (plan : Plan) (classes : Classes) (before : Option Moment) (s :
     → IsMarkedSince plan classes before s q was → IsMarkedSince plan classes before s q is
 since-kept plan classes before s q was is has kept (inl same) = inl same
 since-kept plan classes before s q was is has kept (inr marked) = inr (kept q has marked)
-
--- at two moments of one second the same starts have come
-pub same-come : (before now : Option Moment) (b n : Moment) → before ≡ Some b → now ≡ Some n → eqb b.seconds n.seconds ≡ true → (t : Moment) → has_come before t ≡ has_come now t
-unfolding has_come
-same-come before now b n was is same t = rw (was, is) (ap (λ s. nat_le t.seconds s) (eqb-true b.seconds n.seconds same))

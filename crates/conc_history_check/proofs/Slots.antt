@@ -1,9 +1,9 @@
 -- The slots of requests in queues, and what is written there.
-use Rattle.std.proofs.Common.{◌≡◌, ℕ, zero, suc, ◌+◌, ◌-◌, ◌<◌, ◌≤◌, Bool, List, [], ◌∷◌, ◌++◌, length, get_or, map, set, take, Option, Some, refl, sym, ◌∙◌, ap, inl, inr, subst, add-one, arith}
+use Rattle.std.proofs.Common.{◌≡◌, ℕ, zero, suc, ◌+◌, ◌-◌, ◌<◌, ◌≤◌, Bool, List, [], ◌∷◌, ◌++◌, length, get_or, map, set, take, Option, None, Some, refl, sym, ◌∙◌, ap, inl, inr, subst, add-one, arith}
 use Rattle.std.specs.Prelude.{slice_get}
 use Rattle.std.specs.Bool.{then_some}
 use Rattle.std.proofs.lemmas.Bool.{cases_eq}
-use Rattle.std.proofs.lemmas.List.{length-set}
+use Rattle.std.proofs.lemmas.List.{length-map, length-set}
 use Rattle.std.proofs.lemmas.Option.{slice_get_within}
 use Rattle.conc_types.specs.declared.plan.Plan.{Plan}
 use Rattle.conc_types.specs.declared.plan.Req.{Req}
@@ -38,6 +38,17 @@ set-at {T} xs i y within =
     slice_get-set_same xs i w.0 y w.1
 
 -- what is written stands there
+pub slot-set : (queue new : List (Option ℕ)) (r : Req) (key : Option ℕ) → HasSlot queue r → new ≡ set queue (r.number.number - 1) key → slot_of new r ≡ Some key
+slot-set queue new r key there is = ap (λ l. slice_get l (r.number.number - 1)) is ∙ set-at queue (r.number.number - 1) key (omega (arith, there.0, there.1))
+
+-- and in the other slots what stood there
+pub slot-set_other : (queue new : List (Option ℕ)) (r q : Req) (key : Option ℕ) → 0 < r.number.number → 0 < q.number.number → (q.number.number ≡ r.number.number → ⊥)
+    → new ≡ set queue (r.number.number - 1) key → slot_of new q ≡ slot_of queue q
+slot-set_other queue new r q key some other ne is =
+    ap (λ l. slice_get l (q.number.number - 1)) is
+    ∙ slice_get-set_other queue (r.number.number - 1) (q.number.number - 1) key
+    (λ (e : q.number.number - 1 ≡ r.number.number - 1). ne (omega (arith, e, some, other)))
+
 pub slot-own : (queue new : List (Option ℕ)) (r : Req) (b : Bool) → HasSlot queue r → new ≡ set queue (r.number.number - 1) (then_some b r.number.number)
     → slot_of new r ≡ Some (then_some b r.number.number)
 slot-own queue new r b there is =

@@ -11,6 +11,7 @@ use Rattle.conc_event_reach.specs.Started.{AreStartedWithin}
 use Rattle.conc_history_check.specs.declared.findings.Findings.{Findings}
 use Rattle.conc_history_check.specs.declared.prepared.Prepared.{Prepared}
 use Rattle.conc_history_check.specs.Active.{IsActive, IsFirstUndone}
+use Rattle.conc_history_check.specs.Coming.{AreComing}
 use Rattle.conc_history_check.specs.Marks.{AreMarks}
 
 -- the last tick of the earlier lives and the ticks of the last life, after one more event
@@ -30,11 +31,12 @@ pub record HasTaken (plan : Plan) (past : List Event) (f : Findings) : Type 0 wh
   pub earlier : f.earlier ≡ now (earlier_lives past)
   pub ticks : f.ticks ≡ ticks past
 
--- the same, with the marks of the requests, where they may be active, the first command that is not done, and where
--- those stand that were started in this life
+-- the same, with the marks of the requests, those whose start has not come, where they may be active, the first command that is
+-- not done, and where those stand that were started in this life
 pub record AreFindings (plan : Plan) (prepared : Prepared) (past : List Event) (f : Findings) : Type 0 where
   pub taken : HasTaken plan past f
   pub marks : AreMarks plan prepared.classes f.state f.marks
+  pub coming : AreComing plan f.state.time f.coming
   pub active : IsActive plan f.state f.active
   pub undone : IsFirstUndone f.state f.undone
   pub started : AreStartedWithin plan f.state.facts f.started

@@ -5,6 +5,7 @@ pub mod Positions
 pub mod Prepared
 pub mod Live
 pub mod Marks
+pub mod Coming
 pub mod Findings
 pub mod Lets
 pub mod Starts

@@ -91,6 +91,10 @@ AreMarkedNear plan classes s r marks = (q : Req) → Has plan.requests q → IsT
 abbrev pub IsMarkedSince : Plan → Classes → Option Moment → State → Req → Marks → Type 0
 IsMarkedSince plan classes before s q marks = (has_come before q.start ≡ has_come s.time q.start) ⊎ IsMarked plan classes s q marks
 
+-- so those of each request
+abbrev pub AreMarkedSince : Plan → Classes → Option Moment → State → Marks → Type 0
+AreMarkedSince plan classes before s marks = (q : Req) → Has plan.requests q → IsMarkedSince plan classes before s q marks
+
 -- so of each r within the span
 abbrev pub AreMarkedAround : Plan → Classes → State → Span → Marks → Type 0
 AreMarkedAround plan classes s span marks =

@@ -3,14 +3,17 @@ ghost use Rattle.conc_types.specs.declared.event.Event.{Event};
 ghost use Rattle.conc_event_effects.specs.Advance.{IsAfter};
 ghost use Rattle.conc_event_reach.specs.Started.{AreStartedWithin};
 ghost use Rattle.conc_history_check.specs.Active.{IsActive, IsFirstUndone};
+ghost use Rattle.conc_history_check.specs.Coming.{AreComing};
 ghost use Rattle.conc_history_check.specs.Findings.{AreFindings, HasTaken, earlier_after, ticks_after};
 ghost use Rattle.conc_history_check.specs.Marks.{HaveRoom};
 ghost use Rattle.conc_history_check.specs.Prepared.{IsPrepared};
 
 use crate::active::{first_undone, narrowed};
+use crate::coming::{come, renew_all};
 use crate::marks::Marks;
 use crate::prepared::Prepared;
 use conc_event_effects::begin;
+use conc_event_queue::Queue;
 use conc_event_reach::Span;
 use conc_history_replay::take_in;
 use conc_types::{Event, Moment, NoMemory, Plan, State};
@@ -26,6 +29,8 @@ pub(crate) struct Findings {
     pub ticks: usize,
     /// At which requests something may be due.
     pub marks: Marks,
+    /// Those whose start has not come.
+    pub coming: Queue,
     /// Where requests may be active: each other one is quiet.
     pub active: Span,
     /// The place of the first command that is not done, from 0.
@@ -45,12 +50,16 @@ impl Findings {
             from: 0,
             to: plan.requests.len(),
         };
+        let mut marks = Marks::vacant(alloc, plan, &prepared.classes)?;
+        let mut coming = Queue::new(alloc, plan.requests.len())?;
+        renew_all(&mut marks, &mut coming, plan, prepared, &state);
         Ok(Findings {
             undone: first_undone(&state, 0),
-            marks: Marks::new(alloc, plan, prepared, &state)?,
             state,
             earlier: None,
             ticks: 0,
+            marks,
+            coming,
             active,
             started: Span::NONE,
         })
@@ -65,6 +74,7 @@ impl Findings {
         ensures ticks { self.new.ticks ≡ ticks_after self.old.ticks e.now }
         ensures state { self.new.state ≡ self.old.state }
         ensures marks { self.new.marks ≡ self.old.marks }
+        ensures coming { self.new.coming ≡ self.old.coming }
         ensures undone { self.new.undone ≡ self.old.undone }
         ensures started { self.new.started ≡ self.old.started }
     {
@@ -88,6 +98,7 @@ impl Findings {
             → HasTaken plan.now (e.now ∷ past) self.new }
         ensures after { IsAfter plan.now self.old.state self.new.state e.now }
         ensures marks { self.new.marks ≡ self.old.marks }
+        ensures coming { self.new.coming ≡ self.old.coming }
         ensures undone { self.new.undone ≡ self.old.undone }
         ensures started { AreStartedWithin plan.now self.new.state.facts self.new.started }
     {
@@ -107,6 +118,7 @@ impl Findings {
         requires prepared { IsPrepared plan.now prepared.now }
         requires few { self.old.ticks + 1 < 2 ^ 64 }
         requires room { HaveRoom plan.now prepared.now.classes self.old.marks }
+        requires coming { AreComing plan.now self.old.state.time self.old.coming }
         requires active { IsActive plan.now self.old.state self.old.active }
         requires undone { IsFirstUndone self.old.state self.old.undone }
         requires started { AreStartedWithin plan.now self.old.state.facts self.old.started }
@@ -120,6 +132,13 @@ impl Findings {
         self.active = narrowed(plan, &self.state, touched);
         self.undone = first_undone(&self.state, self.undone);
         self.marks.put_around(plan, prepared, &self.state, reached);
-        self.marks.put_come(plan, prepared, &self.state, before);
+        come(
+            &mut self.marks,
+            &mut self.coming,
+            plan,
+            prepared,
+            &self.state,
+            before,
+        );
     }
 }

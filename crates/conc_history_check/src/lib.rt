@@ -5,6 +5,7 @@
 
 mod active;
 mod checker;
+mod coming;
 mod findings;
 mod forcing;
 mod free;

@@ -1,14 +1,12 @@
-ghost use Rattle.std.specs.Prelude.{◌≡◌, ◌-◌, ◌<◌, ◌≤◌, IfOk, IsTrue, [], length, slice_index_or, slice_set};
+ghost use Rattle.std.specs.Prelude.{◌≡◌, ◌-◌, ◌<◌, ◌≤◌, IfOk, [], length, slice_index_or, slice_set};
 ghost use Rattle.std.specs.Bool.{then_some};
-ghost use Rattle.conc_types.specs.declared.event.Moment.{Moment};
-ghost use Rattle.conc_types.specs.declared.plan.Req.{Req};
 ghost use Rattle.conc_base_law.specs.Next as next_spec;
 ghost use Rattle.conc_base_law.specs.State as state_spec;
 ghost use Rattle.conc_base_law.specs.Words.{Has};
 ghost use Rattle.conc_event_classes.specs.Classes.{AreClasses};
 ghost use Rattle.conc_event_queue.specs.Turns as turns_spec;
 ghost use Rattle.conc_history_check.specs.Marks as spec;
-ghost use Rattle.conc_history_check.specs.Marks.{AreMarkedAround, AreMarkedNear, AreMarkedWithin, AreMarks, AreQueues, HasSlot, HaveRoom, IsMarked, IsMarkedSince, KeepsMarks};
+ghost use Rattle.conc_history_check.specs.Marks.{AreMarkedAround, AreMarkedNear, AreMarkedWithin, AreQueues, HasSlot, HaveRoom, IsMarked, KeepsMarks};
 ghost use Rattle.conc_history_check.specs.Prepared.{IsPrepared};
 
 use crate::prepared::Prepared;
@@ -20,7 +18,7 @@ use conc_event_decisions::{
 use conc_event_queue::{Queue, turn};
 use conc_event_reach::Span;
 use conc_rules::parent;
-use conc_types::{Moment, NoMemory, Plan, Req, State};
+use conc_types::{NoMemory, Plan, Req, State};
 use std::alloc::Global;
 
 /// Requests at which something may be due, in queues with a slot for each request, so that the first of them is known at once. In
@@ -108,20 +106,9 @@ fn ready_turn(plan: &Plan, prepared: &Prepared, state: &State, r: &Req) -> Optio
     is_ready(plan, prepared, state, r).then_some(turn(r))
 }
 
-// Whether the same starts have come at two moments, as they are equal.
-fn is_same_time(before: Option<Moment>, now: Option<Moment>) -> bool
-    ensures { IsTrue result → (t : Moment) → state_spec.has_come before t ≡ state_spec.has_come now t }
-{
-    match (before, now) {
-        (None, None) => true,
-        (Some(b), Some(n)) => b.seconds == n.seconds,
-        _ => false,
-    }
-}
-
 impl Marks {
-    // No request in any queue, with room for all.
-    fn vacant(alloc: Global, plan: &Plan, classes: &Classes) -> Result<Marks, NoMemory>
+    /// No request in any queue, with room for all. It takes all the memory that the other calls need.
+    pub fn vacant(alloc: Global, plan: &Plan, classes: &Classes) -> Result<Marks, NoMemory>
         requires { AreClasses plan.now classes.now }
         ensures { IfOk result (HaveRoom plan.now classes.now) }
     {
@@ -136,27 +123,8 @@ impl Marks {
         })
     }
 
-    /// What the state says. It takes all the memory that the other calls need.
-    pub fn new(
-        alloc: Global,
-        plan: &Plan,
-        prepared: &Prepared,
-        state: &State,
-    ) -> Result<Marks, NoMemory>
-        requires { IsPrepared plan.now prepared.now }
-        ensures { IfOk result (AreMarks plan.now prepared.now.classes state.now) }
-    {
-        let mut marks = Marks::vacant(alloc, plan, &prepared.classes)?;
-        let all = Span {
-            from: 0,
-            to: plan.requests.len(),
-        };
-        marks.put_span(plan, prepared, state, all);
-        Ok(marks)
-    }
-
-    // Puts a request anew: what is said of it is what the state says.
-    fn put(&mut self, plan: &Plan, prepared: &Prepared, state: &State, r: &Req)
+    /// Puts a request anew: what is said of it is what the state says.
+    pub fn put(&mut self, plan: &Plan, prepared: &Prepared, state: &State, r: &Req)
         requires prepared { IsPrepared plan.now prepared.now }
         requires room { HaveRoom plan.now prepared.now.classes self.old }
         requires known { Has plan.now.requests r.now }
@@ -218,51 +186,6 @@ impl Marks {
     {
         for i in span.from..span.to {
             self.put_near(plan, prepared, state, &plan.requests.as_slice()[i]);
-        }
-    }
-
-    // Puts a request anew, if its start has come since a moment, or has come no more.
-    fn put_if_come(
-        &mut self,
-        plan: &Plan,
-        prepared: &Prepared,
-        state: &State,
-        before: Option<Moment>,
-        r: &Req,
-    )
-        requires prepared { IsPrepared plan.now prepared.now }
-        requires room { HaveRoom plan.now prepared.now.classes self.old }
-        requires known { Has plan.now.requests r.now }
-        ensures room { HaveRoom plan.now prepared.now.classes self.new }
-        ensures kept { KeepsMarks plan.now prepared.now.classes state.now self.old self.new }
-        ensures own { IsMarkedSince plan.now prepared.now.classes before state.now r.now self.new }
-    {
-        if has_come(before, r.start) != has_come(state.time, r.start) {
-            self.put(plan, prepared, state, r);
-        }
-    }
-
-    /// Puts those anew whose start has come since a moment, or has come no more. It looks through the requests
-    /// only where the moment is another one.
-    pub fn put_come(
-        &mut self,
-        plan: &Plan,
-        prepared: &Prepared,
-        state: &State,
-        before: Option<Moment>,
-    )
-        requires prepared { IsPrepared plan.now prepared.now }
-        requires room { HaveRoom plan.now prepared.now.classes self.old }
-        ensures room { HaveRoom plan.now prepared.now.classes self.new }
-        ensures kept { KeepsMarks plan.now prepared.now.classes state.now self.old self.new }
-        ensures since { (q : Req) → Has plan.now.requests q
-            → IsMarkedSince plan.now prepared.now.classes before state.now q self.new }
-    {
-        if is_same_time(before, state.time) {
-            return;
-        }
-        for i in 0..plan.requests.len() {
-            self.put_if_come(plan, prepared, state, before, &plan.requests.as_slice()[i]);
         }
     }
 }
