@@ -122,14 +122,13 @@ fn run(rt: &HostRuntime) -> Result<usize, Fail> {
 }
 
 fn main(rt: HostRuntime) -> ExitCode {
-    match run(&rt) {
-        Ok(count) => {
-            let _written = println!(rt; "{count}");
-            ExitCode::SUCCESS
-        }
+    let count = match run(&rt) {
+        Ok(count) => count,
         Err(fail) => {
             let _written = eprintln!(rt; "{fail:?}");
-            ExitCode::FAILURE
+            return ExitCode::FAILURE;
         }
-    }
+    };
+    let _written = println!(rt; "{count}");
+    ExitCode::SUCCESS
 }
