@@ -134,7 +134,7 @@ impl Spans {
     }
 
     // Where the requests stand whose facts the event can change.
-    fn reach(&self, plan: &Plan, e: Event) -> Span
+    pub(crate) fn reach(&self, plan: &Plan, e: Event) -> Span
         ensures leaves { AreSpans plan.now self.now → LeavesOthers plan.now e result }
         ensures inside { AreSpans plan.now self.now → result.to ≤ length plan.now.requests }
     {
