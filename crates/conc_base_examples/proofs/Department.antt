@@ -45,7 +45,9 @@ summary = record {
     error_over = None;
     few = lit≤ tt;
   };
+  post = None;
   short = refl;
+  sums = refl;
 }
 
 -- the invoices on hold, by supplier, with a warning where there are any
@@ -66,7 +68,9 @@ on_hold = record {
     error_over = None;
     few = lit≤ tt;
   };
+  post = None;
   short = refl;
+  sums = refl;
 }
 
 -- three places on workdays from 08:00 to before 18:00, six on 2025-03-31, and else one. It runs no ledger program of the user batch

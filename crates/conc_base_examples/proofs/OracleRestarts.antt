@@ -25,7 +25,7 @@ abbrev r94_setup : Setup
 unfolding texts
 r94_setup = record {
   tables = ((codes "t") ∷ []);
-  programs = (record { name = (codes "P0"); request_type = (codes "A"); enabled = true; run_alone = false; restart = false; job = record { table = (codes "t"); filters = []; group = (Some (codes "k")); sum = None; warn_over = (Some 0); error_over = None; few = lit≤ tt }; short = refl } ∷ record { name = (codes "P1"); request_type = (codes "A"); enabled = false; run_alone = false; restart = true; job = record { table = (codes "t"); filters = []; group = None; sum = None; warn_over = None; error_over = (Some 0); few = lit≤ tt }; short = refl } ∷ record { name = (codes "P2"); request_type = (codes "A"); enabled = true; run_alone = false; restart = true; job = record { table = (codes "t"); filters = []; group = None; sum = None; warn_over = (Some 0); error_over = (Some 1); few = lit≤ tt }; short = refl } ∷ []);
+  programs = (record { name = (codes "P0"); request_type = (codes "A"); enabled = true; run_alone = false; restart = false; job = record { table = (codes "t"); filters = []; group = (Some (codes "k")); sum = None; warn_over = (Some 0); error_over = None; few = lit≤ tt }; post = None; short = refl; sums = refl } ∷ record { name = (codes "P1"); request_type = (codes "A"); enabled = false; run_alone = false; restart = true; job = record { table = (codes "t"); filters = []; group = None; sum = None; warn_over = None; error_over = (Some 0); few = lit≤ tt }; post = None; short = refl; sums = refl } ∷ record { name = (codes "P2"); request_type = (codes "A"); enabled = true; run_alone = false; restart = true; job = record { table = (codes "t"); filters = []; group = None; sum = None; warn_over = (Some 0); error_over = (Some 1); few = lit≤ tt }; post = None; short = refl; sums = refl } ∷ []);
   entries = (record { owner = (item.Program 0); other = (item.Program 0); scope = scope.Set; reach = reach.Global } ∷ record { owner = (item.Program 0); other = (item.Set 0); scope = scope.Set; reach = reach.Domain } ∷ record { owner = (item.Set 0); other = (item.Program 2); scope = scope.Program; reach = reach.Domain } ∷ []);
   managers = (record { name = (codes "M0"); include = []; exclude = []; shifts = (record { date = None; days = 0; times = None; places = 3; valid = refl } ∷ []); few_rules = lit≤ tt; few_shifts = lit≤ tt } ∷ record { name = (codes "M1"); include = []; exclude = (record { program = (Some 2); request_type = None; user = None; names = refl } ∷ []); shifts = (record { date = None; days = 0; times = None; places = 3; valid = refl } ∷ []); few_rules = lit≤ tt; few_shifts = lit≤ tt } ∷ []);
   sets = (record { name = (codes "S0"); stages = (record { name = (codes "s0"); critical = true; links = ((Some 3) ∷ (Some 2) ∷ (Some 2) ∷ []); members = (0 ∷ []); near = refl; some = refl } ∷ record { name = (codes "s1"); critical = true; links = ((Some 3) ∷ (Some 2) ∷ (Some 2) ∷ []); members = (0 ∷ []); near = refl; some = refl } ∷ record { name = (codes "s2"); critical = false; links = ((Some 3) ∷ (Some 3) ∷ None ∷ []); members = (2 ∷ []); near = refl; some = refl } ∷ record { name = (codes "s3"); critical = false; links = (None ∷ None ∷ None ∷ []); members = (1 ∷ 2 ∷ []); near = refl; some = refl } ∷ []); some = refl; forward = refl } ∷ record { name = (codes "S1"); stages = (record { name = (codes "s0"); critical = true; links = ((Some 2) ∷ (Some 2) ∷ None ∷ []); members = (1 ∷ []); near = refl; some = refl } ∷ record { name = (codes "s1"); critical = true; links = ((Some 2) ∷ (Some 2) ∷ (Some 2) ∷ []); members = (0 ∷ []); near = refl; some = refl } ∷ record { name = (codes "s2"); critical = true; links = (None ∷ None ∷ None ∷ []); members = (2 ∷ []); near = refl; some = refl } ∷ []); some = refl; forward = refl } ∷ []);
@@ -104,7 +104,7 @@ abbrev r107_setup : Setup
 unfolding texts
 r107_setup = record {
   tables = ((codes "t") ∷ []);
-  programs = (record { name = (codes "P0"); request_type = (codes "A"); enabled = true; run_alone = false; restart = true; job = record { table = (codes "t"); filters = []; group = (Some (codes "k")); sum = None; warn_over = None; error_over = (Some 0); few = lit≤ tt }; short = refl } ∷ record { name = (codes "P1"); request_type = []; enabled = false; run_alone = false; restart = true; job = record { table = (codes "t"); filters = []; group = None; sum = (Some (codes "v")); warn_over = None; error_over = None; few = lit≤ tt }; short = refl } ∷ record { name = (codes "P2"); request_type = []; enabled = true; run_alone = false; restart = false; job = record { table = (codes "t"); filters = []; group = (Some (codes "k")); sum = None; warn_over = None; error_over = (Some 0); few = lit≤ tt }; short = refl } ∷ record { name = (codes "P3"); request_type = (codes "A"); enabled = true; run_alone = true; restart = false; job = record { table = (codes "t"); filters = []; group = None; sum = None; warn_over = (Some 0); error_over = (Some 1); few = lit≤ tt }; short = refl } ∷ []);
+  programs = (record { name = (codes "P0"); request_type = (codes "A"); enabled = true; run_alone = false; restart = true; job = record { table = (codes "t"); filters = []; group = (Some (codes "k")); sum = None; warn_over = None; error_over = (Some 0); few = lit≤ tt }; post = None; short = refl; sums = refl } ∷ record { name = (codes "P1"); request_type = []; enabled = false; run_alone = false; restart = true; job = record { table = (codes "t"); filters = []; group = None; sum = (Some (codes "v")); warn_over = None; error_over = None; few = lit≤ tt }; post = None; short = refl; sums = refl } ∷ record { name = (codes "P2"); request_type = []; enabled = true; run_alone = false; restart = false; job = record { table = (codes "t"); filters = []; group = (Some (codes "k")); sum = None; warn_over = None; error_over = (Some 0); few = lit≤ tt }; post = None; short = refl; sums = refl } ∷ record { name = (codes "P3"); request_type = (codes "A"); enabled = true; run_alone = true; restart = false; job = record { table = (codes "t"); filters = []; group = None; sum = None; warn_over = (Some 0); error_over = (Some 1); few = lit≤ tt }; post = None; short = refl; sums = refl } ∷ []);
   entries = (record { owner = (item.Program 1); other = (item.Set 1); scope = scope.Set; reach = reach.Global } ∷ []);
   managers = (record { name = (codes "M0"); include = []; exclude = []; shifts = (record { date = None; days = 0; times = None; places = 2; valid = refl } ∷ []); few_rules = lit≤ tt; few_shifts = lit≤ tt } ∷ []);
   sets = (record { name = (codes "S0"); stages = (record { name = (codes "s0"); critical = false; links = ((Some 2) ∷ (Some 2) ∷ (Some 2) ∷ []); members = (2 ∷ 3 ∷ []); near = refl; some = refl } ∷ record { name = (codes "s1"); critical = false; links = ((Some 2) ∷ (Some 2) ∷ (Some 2) ∷ []); members = (1 ∷ []); near = refl; some = refl } ∷ record { name = (codes "s2"); critical = false; links = (None ∷ None ∷ None ∷ []); members = (3 ∷ []); near = refl; some = refl } ∷ []); some = refl; forward = refl } ∷ record { name = (codes "S1"); stages = (record { name = (codes "s0"); critical = true; links = ((Some 1) ∷ (Some 2) ∷ (Some 2) ∷ []); members = (3 ∷ []); near = refl; some = refl } ∷ record { name = (codes "s1"); critical = false; links = ((Some 2) ∷ (Some 2) ∷ None ∷ []); members = (3 ∷ []); near = refl; some = refl } ∷ record { name = (codes "s2"); critical = false; links = (None ∷ None ∷ None ∷ []); members = (2 ∷ []); near = refl; some = refl } ∷ []); some = refl; forward = refl } ∷ []);
@@ -183,7 +183,7 @@ abbrev r57_setup : Setup
 unfolding texts
 r57_setup = record {
   tables = ((codes "t") ∷ []);
-  programs = (record { name = (codes "P0"); request_type = []; enabled = true; run_alone = true; restart = true; job = record { table = (codes "t"); filters = []; group = None; sum = (Some (codes "v")); warn_over = None; error_over = (Some 0); few = lit≤ tt }; short = refl } ∷ record { name = (codes "P1"); request_type = (codes "A"); enabled = true; run_alone = false; restart = false; job = record { table = (codes "t"); filters = []; group = (Some (codes "k")); sum = None; warn_over = None; error_over = (Some 0); few = lit≤ tt }; short = refl } ∷ []);
+  programs = (record { name = (codes "P0"); request_type = []; enabled = true; run_alone = true; restart = true; job = record { table = (codes "t"); filters = []; group = None; sum = (Some (codes "v")); warn_over = None; error_over = (Some 0); few = lit≤ tt }; post = None; short = refl; sums = refl } ∷ record { name = (codes "P1"); request_type = (codes "A"); enabled = true; run_alone = false; restart = false; job = record { table = (codes "t"); filters = []; group = (Some (codes "k")); sum = None; warn_over = None; error_over = (Some 0); few = lit≤ tt }; post = None; short = refl; sums = refl } ∷ []);
   entries = (record { owner = (item.Program 0); other = (item.Program 1); scope = scope.Program; reach = reach.Global } ∷ record { owner = (item.Set 1); other = (item.Set 1); scope = scope.Set; reach = reach.Domain } ∷ []);
   managers = (record { name = (codes "M0"); include = []; exclude = []; shifts = (record { date = None; days = 0; times = None; places = 2; valid = refl } ∷ record { date = None; days = 1; times = (Some (45000, 46800)); places = 1; valid = refl } ∷ []); few_rules = lit≤ tt; few_shifts = lit≤ tt } ∷ record { name = (codes "M1"); include = []; exclude = (record { program = (Some 1); request_type = None; user = None; names = refl } ∷ []); shifts = []; few_rules = lit≤ tt; few_shifts = lit≤ tt } ∷ []);
   sets = (record { name = (codes "S0"); stages = (record { name = (codes "s0"); critical = false; links = ((Some 2) ∷ (Some 1) ∷ None ∷ []); members = (0 ∷ []); near = refl; some = refl } ∷ record { name = (codes "s1"); critical = false; links = ((Some 2) ∷ (Some 2) ∷ (Some 2) ∷ []); members = (0 ∷ []); near = refl; some = refl } ∷ record { name = (codes "s2"); critical = false; links = (None ∷ None ∷ None ∷ []); members = (0 ∷ []); near = refl; some = refl } ∷ []); some = refl; forward = refl } ∷ record { name = (codes "S1"); stages = (record { name = (codes "s0"); critical = false; links = ((Some 1) ∷ (Some 1) ∷ (Some 1) ∷ []); members = (0 ∷ []); near = refl; some = refl } ∷ record { name = (codes "s1"); critical = true; links = (None ∷ None ∷ None ∷ []); members = (1 ∷ 0 ∷ []); near = refl; some = refl } ∷ []); some = refl; forward = refl } ∷ []);
@@ -262,7 +262,7 @@ abbrev r89_setup : Setup
 unfolding texts
 r89_setup = record {
   tables = ((codes "t") ∷ []);
-  programs = (record { name = (codes "P0"); request_type = (codes "A"); enabled = true; run_alone = false; restart = false; job = record { table = (codes "t"); filters = []; group = None; sum = None; warn_over = None; error_over = None; few = lit≤ tt }; short = refl } ∷ record { name = (codes "P1"); request_type = []; enabled = true; run_alone = false; restart = true; job = record { table = (codes "t"); filters = []; group = None; sum = None; warn_over = (Some 0); error_over = None; few = lit≤ tt }; short = refl } ∷ record { name = (codes "P2"); request_type = (codes "A"); enabled = false; run_alone = false; restart = true; job = record { table = (codes "t"); filters = []; group = (Some (codes "k")); sum = None; warn_over = (Some 0); error_over = None; few = lit≤ tt }; short = refl } ∷ record { name = (codes "P3"); request_type = (codes "A"); enabled = true; run_alone = false; restart = false; job = record { table = (codes "t"); filters = []; group = (Some (codes "k")); sum = None; warn_over = (Some 1); error_over = None; few = lit≤ tt }; short = refl } ∷ []);
+  programs = (record { name = (codes "P0"); request_type = (codes "A"); enabled = true; run_alone = false; restart = false; job = record { table = (codes "t"); filters = []; group = None; sum = None; warn_over = None; error_over = None; few = lit≤ tt }; post = None; short = refl; sums = refl } ∷ record { name = (codes "P1"); request_type = []; enabled = true; run_alone = false; restart = true; job = record { table = (codes "t"); filters = []; group = None; sum = None; warn_over = (Some 0); error_over = None; few = lit≤ tt }; post = None; short = refl; sums = refl } ∷ record { name = (codes "P2"); request_type = (codes "A"); enabled = false; run_alone = false; restart = true; job = record { table = (codes "t"); filters = []; group = (Some (codes "k")); sum = None; warn_over = (Some 0); error_over = None; few = lit≤ tt }; post = None; short = refl; sums = refl } ∷ record { name = (codes "P3"); request_type = (codes "A"); enabled = true; run_alone = false; restart = false; job = record { table = (codes "t"); filters = []; group = (Some (codes "k")); sum = None; warn_over = (Some 1); error_over = None; few = lit≤ tt }; post = None; short = refl; sums = refl } ∷ []);
   entries = (record { owner = (item.Set 1); other = (item.Set 0); scope = scope.Set; reach = reach.Global } ∷ []);
   managers = (record { name = (codes "M0"); include = []; exclude = []; shifts = []; few_rules = lit≤ tt; few_shifts = lit≤ tt } ∷ []);
   sets = (record { name = (codes "S0"); stages = (record { name = (codes "s0"); critical = false; links = ((Some 1) ∷ None ∷ (Some 1) ∷ []); members = (1 ∷ []); near = refl; some = refl } ∷ record { name = (codes "s1"); critical = false; links = (None ∷ None ∷ None ∷ []); members = (1 ∷ 0 ∷ []); near = refl; some = refl } ∷ []); some = refl; forward = refl } ∷ record { name = (codes "S1"); stages = (record { name = (codes "s0"); critical = false; links = (None ∷ (Some 2) ∷ (Some 1) ∷ []); members = (3 ∷ []); near = refl; some = refl } ∷ record { name = (codes "s1"); critical = false; links = ((Some 2) ∷ (Some 2) ∷ None ∷ []); members = (3 ∷ 0 ∷ []); near = refl; some = refl } ∷ record { name = (codes "s2"); critical = false; links = (None ∷ None ∷ None ∷ []); members = (3 ∷ []); near = refl; some = refl } ∷ []); some = refl; forward = refl } ∷ []);

@@ -19,7 +19,7 @@ abbrev d40_setup : Setup
 unfolding texts
 d40_setup = record {
   tables = ((codes "t") ∷ []);
-  programs = (record { name = (codes "P0"); request_type = (codes "A"); enabled = true; run_alone = false; restart = false; job = record { table = (codes "t"); filters = []; group = None; sum = None; warn_over = None; error_over = None; few = lit≤ tt }; short = refl } ∷ record { name = (codes "P1"); request_type = (codes "B"); enabled = true; run_alone = true; restart = false; job = record { table = (codes "t"); filters = []; group = None; sum = None; warn_over = None; error_over = None; few = lit≤ tt }; short = refl } ∷ record { name = (codes "P2"); request_type = (codes "A"); enabled = true; run_alone = false; restart = false; job = record { table = (codes "t"); filters = []; group = None; sum = None; warn_over = None; error_over = None; few = lit≤ tt }; short = refl } ∷ []);
+  programs = (record { name = (codes "P0"); request_type = (codes "A"); enabled = true; run_alone = false; restart = false; job = record { table = (codes "t"); filters = []; group = None; sum = None; warn_over = None; error_over = None; few = lit≤ tt }; post = None; short = refl; sums = refl } ∷ record { name = (codes "P1"); request_type = (codes "B"); enabled = true; run_alone = true; restart = false; job = record { table = (codes "t"); filters = []; group = None; sum = None; warn_over = None; error_over = None; few = lit≤ tt }; post = None; short = refl; sums = refl } ∷ record { name = (codes "P2"); request_type = (codes "A"); enabled = true; run_alone = false; restart = false; job = record { table = (codes "t"); filters = []; group = None; sum = None; warn_over = None; error_over = None; few = lit≤ tt }; post = None; short = refl; sums = refl } ∷ []);
   entries = (record { owner = (item.Set 1); other = (item.Set 0); scope = scope.Program; reach = reach.Domain } ∷ []);
   managers = (record { name = (codes "M"); include = (record { program = (Some 1); request_type = None; user = (Some (codes "ann")); names = refl } ∷ []); exclude = []; shifts = (record { date = None; days = 0; times = (Some (36000, 68400)); places = 0; valid = refl } ∷ record { date = (Some 739313); days = 0; times = (Some (57600, 75600)); places = 4; valid = refl } ∷ record { date = None; days = 64; times = None; places = 5; valid = refl } ∷ record { date = None; days = 6; times = None; places = 5; valid = refl } ∷ []); few_rules = lit≤ tt; few_shifts = lit≤ tt } ∷ record { name = (codes "N"); include = (record { program = None; request_type = (Some []); user = None; names = refl } ∷ record { program = (Some 2); request_type = None; user = (Some (codes "bob")); names = refl } ∷ []); exclude = (record { program = (Some 0); request_type = None; user = None; names = refl } ∷ []); shifts = []; few_rules = lit≤ tt; few_shifts = lit≤ tt } ∷ []);
   sets = (record { name = (codes "S0"); stages = (record { name = (codes "s"); critical = false; links = (None ∷ None ∷ None ∷ []); members = (0 ∷ []); near = refl; some = refl } ∷ []); some = refl; forward = refl } ∷ record { name = (codes "S1"); stages = (record { name = (codes "s"); critical = false; links = (None ∷ None ∷ None ∷ []); members = (0 ∷ []); near = refl; some = refl } ∷ []); some = refl; forward = refl } ∷ []);
@@ -60,7 +60,7 @@ abbrev d41_setup : Setup
 unfolding texts
 d41_setup = record {
   tables = ((codes "t") ∷ []);
-  programs = (record { name = (codes "P0"); request_type = (codes "A"); enabled = true; run_alone = false; restart = false; job = record { table = (codes "t"); filters = []; group = None; sum = None; warn_over = None; error_over = None; few = lit≤ tt }; short = refl } ∷ record { name = (codes "P1"); request_type = []; enabled = true; run_alone = false; restart = false; job = record { table = (codes "t"); filters = []; group = None; sum = None; warn_over = None; error_over = None; few = lit≤ tt }; short = refl } ∷ record { name = (codes "P2"); request_type = (codes "A"); enabled = true; run_alone = false; restart = false; job = record { table = (codes "t"); filters = []; group = None; sum = None; warn_over = None; error_over = None; few = lit≤ tt }; short = refl } ∷ []);
+  programs = (record { name = (codes "P0"); request_type = (codes "A"); enabled = true; run_alone = false; restart = false; job = record { table = (codes "t"); filters = []; group = None; sum = None; warn_over = None; error_over = None; few = lit≤ tt }; post = None; short = refl; sums = refl } ∷ record { name = (codes "P1"); request_type = []; enabled = true; run_alone = false; restart = false; job = record { table = (codes "t"); filters = []; group = None; sum = None; warn_over = None; error_over = None; few = lit≤ tt }; post = None; short = refl; sums = refl } ∷ record { name = (codes "P2"); request_type = (codes "A"); enabled = true; run_alone = false; restart = false; job = record { table = (codes "t"); filters = []; group = None; sum = None; warn_over = None; error_over = None; few = lit≤ tt }; post = None; short = refl; sums = refl } ∷ []);
   entries = (record { owner = (item.Program 2); other = (item.Set 0); scope = scope.Set; reach = reach.Domain } ∷ []);
   managers = (record { name = (codes "M"); include = []; exclude = (record { program = None; request_type = None; user = (Some (codes "bob")); names = refl } ∷ record { program = None; request_type = (Some (codes "B")); user = (Some (codes "ann")); names = refl } ∷ []); shifts = []; few_rules = lit≤ tt; few_shifts = lit≤ tt } ∷ record { name = (codes "N"); include = []; exclude = []; shifts = (record { date = None; days = 0; times = (Some (25200, 36000)); places = 4; valid = refl } ∷ []); few_rules = lit≤ tt; few_shifts = lit≤ tt } ∷ []);
   sets = (record { name = (codes "S0"); stages = (record { name = (codes "s"); critical = false; links = (None ∷ None ∷ None ∷ []); members = (0 ∷ []); near = refl; some = refl } ∷ []); some = refl; forward = refl } ∷ record { name = (codes "S1"); stages = (record { name = (codes "s"); critical = false; links = (None ∷ None ∷ None ∷ []); members = (0 ∷ []); near = refl; some = refl } ∷ []); some = refl; forward = refl } ∷ []);
@@ -101,7 +101,7 @@ abbrev d42_setup : Setup
 unfolding texts
 d42_setup = record {
   tables = ((codes "t") ∷ []);
-  programs = (record { name = (codes "P0"); request_type = (codes "B"); enabled = true; run_alone = true; restart = false; job = record { table = (codes "t"); filters = []; group = None; sum = None; warn_over = None; error_over = None; few = lit≤ tt }; short = refl } ∷ record { name = (codes "P1"); request_type = (codes "B"); enabled = true; run_alone = false; restart = false; job = record { table = (codes "t"); filters = []; group = None; sum = None; warn_over = None; error_over = None; few = lit≤ tt }; short = refl } ∷ record { name = (codes "P2"); request_type = []; enabled = true; run_alone = true; restart = false; job = record { table = (codes "t"); filters = []; group = None; sum = None; warn_over = None; error_over = None; few = lit≤ tt }; short = refl } ∷ []);
+  programs = (record { name = (codes "P0"); request_type = (codes "B"); enabled = true; run_alone = true; restart = false; job = record { table = (codes "t"); filters = []; group = None; sum = None; warn_over = None; error_over = None; few = lit≤ tt }; post = None; short = refl; sums = refl } ∷ record { name = (codes "P1"); request_type = (codes "B"); enabled = true; run_alone = false; restart = false; job = record { table = (codes "t"); filters = []; group = None; sum = None; warn_over = None; error_over = None; few = lit≤ tt }; post = None; short = refl; sums = refl } ∷ record { name = (codes "P2"); request_type = []; enabled = true; run_alone = true; restart = false; job = record { table = (codes "t"); filters = []; group = None; sum = None; warn_over = None; error_over = None; few = lit≤ tt }; post = None; short = refl; sums = refl } ∷ []);
   entries = (record { owner = (item.Set 1); other = (item.Set 1); scope = scope.Set; reach = reach.Domain } ∷ record { owner = (item.Program 0); other = (item.Set 1); scope = scope.Program; reach = reach.Domain } ∷ record { owner = (item.Set 1); other = (item.Set 0); scope = scope.Program; reach = reach.Global } ∷ []);
   managers = (record { name = (codes "M"); include = []; exclude = []; shifts = (record { date = None; days = 127; times = None; places = 2; valid = refl } ∷ []); few_rules = lit≤ tt; few_shifts = lit≤ tt } ∷ record { name = (codes "N"); include = (record { program = None; request_type = None; user = (Some (codes "ann")); names = refl } ∷ []); exclude = (record { program = (Some 1); request_type = None; user = (Some (codes "bob")); names = refl } ∷ []); shifts = (record { date = (Some 739313); days = 0; times = None; places = 0; valid = refl } ∷ record { date = None; days = 0; times = None; places = 3; valid = refl } ∷ record { date = (Some 739313); days = 0; times = None; places = 4; valid = refl } ∷ []); few_rules = lit≤ tt; few_shifts = lit≤ tt } ∷ []);
   sets = (record { name = (codes "S0"); stages = (record { name = (codes "s"); critical = false; links = (None ∷ None ∷ None ∷ []); members = (0 ∷ []); near = refl; some = refl } ∷ []); some = refl; forward = refl } ∷ record { name = (codes "S1"); stages = (record { name = (codes "s"); critical = false; links = (None ∷ None ∷ None ∷ []); members = (0 ∷ []); near = refl; some = refl } ∷ []); some = refl; forward = refl } ∷ []);
@@ -142,7 +142,7 @@ abbrev d43_setup : Setup
 unfolding texts
 d43_setup = record {
   tables = ((codes "t") ∷ []);
-  programs = (record { name = (codes "P0"); request_type = []; enabled = true; run_alone = false; restart = false; job = record { table = (codes "t"); filters = []; group = None; sum = None; warn_over = None; error_over = None; few = lit≤ tt }; short = refl } ∷ record { name = (codes "P1"); request_type = []; enabled = true; run_alone = false; restart = false; job = record { table = (codes "t"); filters = []; group = None; sum = None; warn_over = None; error_over = None; few = lit≤ tt }; short = refl } ∷ record { name = (codes "P2"); request_type = (codes "A"); enabled = true; run_alone = false; restart = false; job = record { table = (codes "t"); filters = []; group = None; sum = None; warn_over = None; error_over = None; few = lit≤ tt }; short = refl } ∷ []);
+  programs = (record { name = (codes "P0"); request_type = []; enabled = true; run_alone = false; restart = false; job = record { table = (codes "t"); filters = []; group = None; sum = None; warn_over = None; error_over = None; few = lit≤ tt }; post = None; short = refl; sums = refl } ∷ record { name = (codes "P1"); request_type = []; enabled = true; run_alone = false; restart = false; job = record { table = (codes "t"); filters = []; group = None; sum = None; warn_over = None; error_over = None; few = lit≤ tt }; post = None; short = refl; sums = refl } ∷ record { name = (codes "P2"); request_type = (codes "A"); enabled = true; run_alone = false; restart = false; job = record { table = (codes "t"); filters = []; group = None; sum = None; warn_over = None; error_over = None; few = lit≤ tt }; post = None; short = refl; sums = refl } ∷ []);
   entries = (record { owner = (item.Set 1); other = (item.Set 0); scope = scope.Program; reach = reach.Global } ∷ record { owner = (item.Set 1); other = (item.Program 1); scope = scope.Set; reach = reach.Global } ∷ []);
   managers = (record { name = (codes "M"); include = []; exclude = []; shifts = (record { date = (Some 739312); days = 0; times = None; places = 3; valid = refl } ∷ []); few_rules = lit≤ tt; few_shifts = lit≤ tt } ∷ record { name = (codes "N"); include = []; exclude = []; shifts = (record { date = None; days = 127; times = (Some (3600, 64800)); places = 1; valid = refl } ∷ []); few_rules = lit≤ tt; few_shifts = lit≤ tt } ∷ []);
   sets = (record { name = (codes "S0"); stages = (record { name = (codes "s"); critical = false; links = (None ∷ None ∷ None ∷ []); members = (0 ∷ []); near = refl; some = refl } ∷ []); some = refl; forward = refl } ∷ record { name = (codes "S1"); stages = (record { name = (codes "s"); critical = false; links = (None ∷ None ∷ None ∷ []); members = (0 ∷ []); near = refl; some = refl } ∷ []); some = refl; forward = refl } ∷ []);
@@ -183,7 +183,7 @@ abbrev d44_setup : Setup
 unfolding texts
 d44_setup = record {
   tables = ((codes "t") ∷ []);
-  programs = (record { name = (codes "P0"); request_type = (codes "A"); enabled = true; run_alone = false; restart = false; job = record { table = (codes "t"); filters = []; group = None; sum = None; warn_over = None; error_over = None; few = lit≤ tt }; short = refl } ∷ record { name = (codes "P1"); request_type = (codes "B"); enabled = true; run_alone = false; restart = false; job = record { table = (codes "t"); filters = []; group = None; sum = None; warn_over = None; error_over = None; few = lit≤ tt }; short = refl } ∷ record { name = (codes "P2"); request_type = []; enabled = true; run_alone = false; restart = false; job = record { table = (codes "t"); filters = []; group = None; sum = None; warn_over = None; error_over = None; few = lit≤ tt }; short = refl } ∷ []);
+  programs = (record { name = (codes "P0"); request_type = (codes "A"); enabled = true; run_alone = false; restart = false; job = record { table = (codes "t"); filters = []; group = None; sum = None; warn_over = None; error_over = None; few = lit≤ tt }; post = None; short = refl; sums = refl } ∷ record { name = (codes "P1"); request_type = (codes "B"); enabled = true; run_alone = false; restart = false; job = record { table = (codes "t"); filters = []; group = None; sum = None; warn_over = None; error_over = None; few = lit≤ tt }; post = None; short = refl; sums = refl } ∷ record { name = (codes "P2"); request_type = []; enabled = true; run_alone = false; restart = false; job = record { table = (codes "t"); filters = []; group = None; sum = None; warn_over = None; error_over = None; few = lit≤ tt }; post = None; short = refl; sums = refl } ∷ []);
   entries = (record { owner = (item.Set 0); other = (item.Program 1); scope = scope.Set; reach = reach.Domain } ∷ record { owner = (item.Program 2); other = (item.Program 0); scope = scope.Program; reach = reach.Domain } ∷ record { owner = (item.Set 1); other = (item.Set 1); scope = scope.Program; reach = reach.Global } ∷ []);
   managers = (record { name = (codes "M"); include = []; exclude = (record { program = None; request_type = None; user = (Some (codes "bob")); names = refl } ∷ []); shifts = (record { date = (Some 739314); days = 0; times = None; places = 2; valid = refl } ∷ record { date = (Some 739313); days = 0; times = (Some (21600, 54000)); places = 1; valid = refl } ∷ []); few_rules = lit≤ tt; few_shifts = lit≤ tt } ∷ record { name = (codes "N"); include = (record { program = (Some 2); request_type = None; user = (Some (codes "bob")); names = refl } ∷ record { program = None; request_type = (Some []); user = (Some (codes "bob")); names = refl } ∷ []); exclude = []; shifts = (record { date = (Some 739314); days = 0; times = None; places = 5; valid = refl } ∷ record { date = None; days = 58; times = (Some (50400, 82800)); places = 5; valid = refl } ∷ record { date = None; days = 0; times = None; places = 5; valid = refl } ∷ record { date = (Some 739312); days = 0; times = (Some (0, 64800)); places = 4; valid = refl } ∷ record { date = None; days = 0; times = None; places = 2; valid = refl } ∷ record { date = None; days = 7; times = None; places = 0; valid = refl } ∷ []); few_rules = lit≤ tt; few_shifts = lit≤ tt } ∷ []);
   sets = (record { name = (codes "S0"); stages = (record { name = (codes "s"); critical = false; links = (None ∷ None ∷ None ∷ []); members = (0 ∷ []); near = refl; some = refl } ∷ []); some = refl; forward = refl } ∷ record { name = (codes "S1"); stages = (record { name = (codes "s"); critical = false; links = (None ∷ None ∷ None ∷ []); members = (0 ∷ []); near = refl; some = refl } ∷ []); some = refl; forward = refl } ∷ []);
@@ -224,7 +224,7 @@ abbrev d45_setup : Setup
 unfolding texts
 d45_setup = record {
   tables = ((codes "t") ∷ []);
-  programs = (record { name = (codes "P0"); request_type = (codes "A"); enabled = true; run_alone = false; restart = false; job = record { table = (codes "t"); filters = []; group = None; sum = None; warn_over = None; error_over = None; few = lit≤ tt }; short = refl } ∷ record { name = (codes "P1"); request_type = (codes "A"); enabled = true; run_alone = true; restart = false; job = record { table = (codes "t"); filters = []; group = None; sum = None; warn_over = None; error_over = None; few = lit≤ tt }; short = refl } ∷ record { name = (codes "P2"); request_type = (codes "A"); enabled = true; run_alone = true; restart = false; job = record { table = (codes "t"); filters = []; group = None; sum = None; warn_over = None; error_over = None; few = lit≤ tt }; short = refl } ∷ []);
+  programs = (record { name = (codes "P0"); request_type = (codes "A"); enabled = true; run_alone = false; restart = false; job = record { table = (codes "t"); filters = []; group = None; sum = None; warn_over = None; error_over = None; few = lit≤ tt }; post = None; short = refl; sums = refl } ∷ record { name = (codes "P1"); request_type = (codes "A"); enabled = true; run_alone = true; restart = false; job = record { table = (codes "t"); filters = []; group = None; sum = None; warn_over = None; error_over = None; few = lit≤ tt }; post = None; short = refl; sums = refl } ∷ record { name = (codes "P2"); request_type = (codes "A"); enabled = true; run_alone = true; restart = false; job = record { table = (codes "t"); filters = []; group = None; sum = None; warn_over = None; error_over = None; few = lit≤ tt }; post = None; short = refl; sums = refl } ∷ []);
   entries = (record { owner = (item.Set 1); other = (item.Program 2); scope = scope.Program; reach = reach.Domain } ∷ []);
   managers = (record { name = (codes "M"); include = []; exclude = (record { program = (Some 2); request_type = None; user = (Some (codes "ann")); names = refl } ∷ []); shifts = []; few_rules = lit≤ tt; few_shifts = lit≤ tt } ∷ record { name = (codes "N"); include = (record { program = (Some 1); request_type = None; user = None; names = refl } ∷ []); exclude = (record { program = None; request_type = (Some (codes "A")); user = None; names = refl } ∷ []); shifts = []; few_rules = lit≤ tt; few_shifts = lit≤ tt } ∷ []);
   sets = (record { name = (codes "S0"); stages = (record { name = (codes "s"); critical = false; links = (None ∷ None ∷ None ∷ []); members = (0 ∷ []); near = refl; some = refl } ∷ []); some = refl; forward = refl } ∷ record { name = (codes "S1"); stages = (record { name = (codes "s"); critical = false; links = (None ∷ None ∷ None ∷ []); members = (0 ∷ []); near = refl; some = refl } ∷ []); some = refl; forward = refl } ∷ []);
@@ -265,7 +265,7 @@ abbrev d46_setup : Setup
 unfolding texts
 d46_setup = record {
   tables = ((codes "t") ∷ []);
-  programs = (record { name = (codes "P0"); request_type = []; enabled = true; run_alone = false; restart = false; job = record { table = (codes "t"); filters = []; group = None; sum = None; warn_over = None; error_over = None; few = lit≤ tt }; short = refl } ∷ record { name = (codes "P1"); request_type = (codes "B"); enabled = true; run_alone = false; restart = false; job = record { table = (codes "t"); filters = []; group = None; sum = None; warn_over = None; error_over = None; few = lit≤ tt }; short = refl } ∷ record { name = (codes "P2"); request_type = []; enabled = true; run_alone = false; restart = false; job = record { table = (codes "t"); filters = []; group = None; sum = None; warn_over = None; error_over = None; few = lit≤ tt }; short = refl } ∷ []);
+  programs = (record { name = (codes "P0"); request_type = []; enabled = true; run_alone = false; restart = false; job = record { table = (codes "t"); filters = []; group = None; sum = None; warn_over = None; error_over = None; few = lit≤ tt }; post = None; short = refl; sums = refl } ∷ record { name = (codes "P1"); request_type = (codes "B"); enabled = true; run_alone = false; restart = false; job = record { table = (codes "t"); filters = []; group = None; sum = None; warn_over = None; error_over = None; few = lit≤ tt }; post = None; short = refl; sums = refl } ∷ record { name = (codes "P2"); request_type = []; enabled = true; run_alone = false; restart = false; job = record { table = (codes "t"); filters = []; group = None; sum = None; warn_over = None; error_over = None; few = lit≤ tt }; post = None; short = refl; sums = refl } ∷ []);
   entries = (record { owner = (item.Program 2); other = (item.Set 0); scope = scope.Program; reach = reach.Domain } ∷ []);
   managers = (record { name = (codes "M"); include = []; exclude = (record { program = None; request_type = (Some (codes "A")); user = None; names = refl } ∷ []); shifts = (record { date = None; days = 0; times = None; places = 0; valid = refl } ∷ record { date = None; days = 0; times = (Some (50400, 54000)); places = 0; valid = refl } ∷ record { date = None; days = 0; times = None; places = 3; valid = refl } ∷ record { date = (Some 739314); days = 0; times = (Some (28800, 79200)); places = 1; valid = refl } ∷ []); few_rules = lit≤ tt; few_shifts = lit≤ tt } ∷ record { name = (codes "N"); include = (record { program = (Some 1); request_type = None; user = (Some (codes "ann")); names = refl } ∷ []); exclude = (record { program = None; request_type = None; user = (Some (codes "bob")); names = refl } ∷ []); shifts = (record { date = None; days = 0; times = None; places = 5; valid = refl } ∷ []); few_rules = lit≤ tt; few_shifts = lit≤ tt } ∷ []);
   sets = (record { name = (codes "S0"); stages = (record { name = (codes "s"); critical = false; links = (None ∷ None ∷ None ∷ []); members = (0 ∷ []); near = refl; some = refl } ∷ []); some = refl; forward = refl } ∷ record { name = (codes "S1"); stages = (record { name = (codes "s"); critical = false; links = (None ∷ None ∷ None ∷ []); members = (0 ∷ []); near = refl; some = refl } ∷ []); some = refl; forward = refl } ∷ []);
@@ -306,7 +306,7 @@ abbrev d47_setup : Setup
 unfolding texts
 d47_setup = record {
   tables = ((codes "t") ∷ []);
-  programs = (record { name = (codes "P0"); request_type = (codes "A"); enabled = true; run_alone = true; restart = false; job = record { table = (codes "t"); filters = []; group = None; sum = None; warn_over = None; error_over = None; few = lit≤ tt }; short = refl } ∷ record { name = (codes "P1"); request_type = (codes "B"); enabled = true; run_alone = false; restart = false; job = record { table = (codes "t"); filters = []; group = None; sum = None; warn_over = None; error_over = None; few = lit≤ tt }; short = refl } ∷ record { name = (codes "P2"); request_type = (codes "A"); enabled = true; run_alone = false; restart = false; job = record { table = (codes "t"); filters = []; group = None; sum = None; warn_over = None; error_over = None; few = lit≤ tt }; short = refl } ∷ []);
+  programs = (record { name = (codes "P0"); request_type = (codes "A"); enabled = true; run_alone = true; restart = false; job = record { table = (codes "t"); filters = []; group = None; sum = None; warn_over = None; error_over = None; few = lit≤ tt }; post = None; short = refl; sums = refl } ∷ record { name = (codes "P1"); request_type = (codes "B"); enabled = true; run_alone = false; restart = false; job = record { table = (codes "t"); filters = []; group = None; sum = None; warn_over = None; error_over = None; few = lit≤ tt }; post = None; short = refl; sums = refl } ∷ record { name = (codes "P2"); request_type = (codes "A"); enabled = true; run_alone = false; restart = false; job = record { table = (codes "t"); filters = []; group = None; sum = None; warn_over = None; error_over = None; few = lit≤ tt }; post = None; short = refl; sums = refl } ∷ []);
   entries = (record { owner = (item.Set 0); other = (item.Set 1); scope = scope.Program; reach = reach.Global } ∷ record { owner = (item.Set 0); other = (item.Set 1); scope = scope.Program; reach = reach.Global } ∷ record { owner = (item.Program 2); other = (item.Program 1); scope = scope.Program; reach = reach.Domain } ∷ []);
   managers = (record { name = (codes "M"); include = []; exclude = (record { program = None; request_type = (Some []); user = None; names = refl } ∷ []); shifts = (record { date = None; days = 21; times = (Some (28800, 61200)); places = 0; valid = refl } ∷ record { date = None; days = 0; times = None; places = 2; valid = refl } ∷ record { date = (Some 739314); days = 0; times = (Some (46800, 68400)); places = 2; valid = refl } ∷ record { date = None; days = 127; times = (Some (43200, 86400)); places = 2; valid = refl } ∷ record { date = None; days = 0; times = (Some (10800, 72000)); places = 1; valid = refl } ∷ record { date = None; days = 91; times = None; places = 0; valid = refl } ∷ []); few_rules = lit≤ tt; few_shifts = lit≤ tt } ∷ record { name = (codes "N"); include = []; exclude = (record { program = (Some 1); request_type = None; user = None; names = refl } ∷ record { program = (Some 0); request_type = (Some []); user = None; names = refl } ∷ []); shifts = (record { date = None; days = 0; times = None; places = 5; valid = refl } ∷ record { date = None; days = 0; times = None; places = 4; valid = refl } ∷ record { date = (Some 739313); days = 0; times = (Some (18000, 79200)); places = 1; valid = refl } ∷ record { date = None; days = 2; times = None; places = 4; valid = refl } ∷ record { date = (Some 739313); days = 0; times = (Some (0, 50400)); places = 5; valid = refl } ∷ record { date = (Some 739312); days = 0; times = (Some (3600, 28800)); places = 1; valid = refl } ∷ []); few_rules = lit≤ tt; few_shifts = lit≤ tt } ∷ []);
   sets = (record { name = (codes "S0"); stages = (record { name = (codes "s"); critical = false; links = (None ∷ None ∷ None ∷ []); members = (0 ∷ []); near = refl; some = refl } ∷ []); some = refl; forward = refl } ∷ record { name = (codes "S1"); stages = (record { name = (codes "s"); critical = false; links = (None ∷ None ∷ None ∷ []); members = (0 ∷ []); near = refl; some = refl } ∷ []); some = refl; forward = refl } ∷ []);

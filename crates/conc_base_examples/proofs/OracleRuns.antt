@@ -25,7 +25,7 @@ abbrev c83_setup : Setup
 unfolding texts
 c83_setup = record {
   tables = ((codes "t") ∷ []);
-  programs = (record { name = (codes "P0"); request_type = []; enabled = true; run_alone = true; restart = false; job = record { table = (codes "t"); filters = []; group = None; sum = None; warn_over = None; error_over = None; few = lit≤ tt }; short = refl } ∷ record { name = (codes "P1"); request_type = (codes "A"); enabled = true; run_alone = false; restart = false; job = record { table = (codes "t"); filters = []; group = None; sum = (Some (codes "v")); warn_over = (Some 0); error_over = (Some 1); few = lit≤ tt }; short = refl } ∷ record { name = (codes "P2"); request_type = []; enabled = false; run_alone = false; restart = true; job = record { table = (codes "t"); filters = []; group = (Some (codes "k")); sum = None; warn_over = (Some 0); error_over = (Some 1); few = lit≤ tt }; short = refl } ∷ []);
+  programs = (record { name = (codes "P0"); request_type = []; enabled = true; run_alone = true; restart = false; job = record { table = (codes "t"); filters = []; group = None; sum = None; warn_over = None; error_over = None; few = lit≤ tt }; post = None; short = refl; sums = refl } ∷ record { name = (codes "P1"); request_type = (codes "A"); enabled = true; run_alone = false; restart = false; job = record { table = (codes "t"); filters = []; group = None; sum = (Some (codes "v")); warn_over = (Some 0); error_over = (Some 1); few = lit≤ tt }; post = None; short = refl; sums = refl } ∷ record { name = (codes "P2"); request_type = []; enabled = false; run_alone = false; restart = true; job = record { table = (codes "t"); filters = []; group = (Some (codes "k")); sum = None; warn_over = (Some 0); error_over = (Some 1); few = lit≤ tt }; post = None; short = refl; sums = refl } ∷ []);
   entries = (record { owner = (item.Set 1); other = (item.Set 0); scope = scope.Set; reach = reach.Domain } ∷ []);
   managers = (record { name = (codes "M0"); include = []; exclude = (record { program = (Some 1); request_type = None; user = None; names = refl } ∷ []); shifts = []; few_rules = lit≤ tt; few_shifts = lit≤ tt } ∷ []);
   sets = (record { name = (codes "S0"); stages = (record { name = (codes "s0"); critical = false; links = ((Some 1) ∷ (Some 1) ∷ (Some 1) ∷ []); members = (0 ∷ []); near = refl; some = refl } ∷ record { name = (codes "s1"); critical = false; links = (None ∷ None ∷ None ∷ []); members = (0 ∷ 2 ∷ []); near = refl; some = refl } ∷ []); some = refl; forward = refl } ∷ record { name = (codes "S1"); stages = (record { name = (codes "s0"); critical = false; links = (None ∷ None ∷ None ∷ []); members = (0 ∷ []); near = refl; some = refl } ∷ record { name = (codes "s1"); critical = false; links = ((Some 2) ∷ (Some 2) ∷ (Some 2) ∷ []); members = (2 ∷ []); near = refl; some = refl } ∷ record { name = (codes "s2"); critical = true; links = (None ∷ None ∷ None ∷ []); members = (1 ∷ []); near = refl; some = refl } ∷ []); some = refl; forward = refl } ∷ []);
@@ -100,7 +100,7 @@ abbrev c57_setup : Setup
 unfolding texts
 c57_setup = record {
   tables = ((codes "t") ∷ []);
-  programs = (record { name = (codes "P0"); request_type = []; enabled = true; run_alone = true; restart = true; job = record { table = (codes "t"); filters = []; group = None; sum = (Some (codes "v")); warn_over = None; error_over = (Some 0); few = lit≤ tt }; short = refl } ∷ record { name = (codes "P1"); request_type = (codes "A"); enabled = true; run_alone = false; restart = false; job = record { table = (codes "t"); filters = []; group = (Some (codes "k")); sum = None; warn_over = None; error_over = (Some 0); few = lit≤ tt }; short = refl } ∷ []);
+  programs = (record { name = (codes "P0"); request_type = []; enabled = true; run_alone = true; restart = true; job = record { table = (codes "t"); filters = []; group = None; sum = (Some (codes "v")); warn_over = None; error_over = (Some 0); few = lit≤ tt }; post = None; short = refl; sums = refl } ∷ record { name = (codes "P1"); request_type = (codes "A"); enabled = true; run_alone = false; restart = false; job = record { table = (codes "t"); filters = []; group = (Some (codes "k")); sum = None; warn_over = None; error_over = (Some 0); few = lit≤ tt }; post = None; short = refl; sums = refl } ∷ []);
   entries = (record { owner = (item.Program 0); other = (item.Program 1); scope = scope.Program; reach = reach.Global } ∷ record { owner = (item.Set 1); other = (item.Set 1); scope = scope.Set; reach = reach.Domain } ∷ []);
   managers = (record { name = (codes "M0"); include = []; exclude = []; shifts = (record { date = None; days = 0; times = None; places = 2; valid = refl } ∷ record { date = None; days = 1; times = (Some (45000, 46800)); places = 1; valid = refl } ∷ []); few_rules = lit≤ tt; few_shifts = lit≤ tt } ∷ record { name = (codes "M1"); include = []; exclude = (record { program = (Some 1); request_type = None; user = None; names = refl } ∷ []); shifts = []; few_rules = lit≤ tt; few_shifts = lit≤ tt } ∷ []);
   sets = (record { name = (codes "S0"); stages = (record { name = (codes "s0"); critical = false; links = ((Some 2) ∷ (Some 1) ∷ None ∷ []); members = (0 ∷ []); near = refl; some = refl } ∷ record { name = (codes "s1"); critical = false; links = ((Some 2) ∷ (Some 2) ∷ (Some 2) ∷ []); members = (0 ∷ []); near = refl; some = refl } ∷ record { name = (codes "s2"); critical = false; links = (None ∷ None ∷ None ∷ []); members = (0 ∷ []); near = refl; some = refl } ∷ []); some = refl; forward = refl } ∷ record { name = (codes "S1"); stages = (record { name = (codes "s0"); critical = false; links = ((Some 1) ∷ (Some 1) ∷ (Some 1) ∷ []); members = (0 ∷ []); near = refl; some = refl } ∷ record { name = (codes "s1"); critical = true; links = (None ∷ None ∷ None ∷ []); members = (1 ∷ 0 ∷ []); near = refl; some = refl } ∷ []); some = refl; forward = refl } ∷ []);
@@ -171,7 +171,7 @@ abbrev c6_setup : Setup
 unfolding texts
 c6_setup = record {
   tables = ((codes "t") ∷ []);
-  programs = (record { name = (codes "P0"); request_type = (codes "A"); enabled = true; run_alone = false; restart = true; job = record { table = (codes "t"); filters = []; group = None; sum = None; warn_over = (Some 0); error_over = (Some 1); few = lit≤ tt }; short = refl } ∷ record { name = (codes "P1"); request_type = []; enabled = true; run_alone = false; restart = true; job = record { table = (codes "t"); filters = []; group = (Some (codes "k")); sum = (Some (codes "v")); warn_over = None; error_over = None; few = lit≤ tt }; short = refl } ∷ record { name = (codes "P2"); request_type = (codes "A"); enabled = true; run_alone = false; restart = true; job = record { table = (codes "t"); filters = []; group = None; sum = None; warn_over = (Some 1); error_over = None; few = lit≤ tt }; short = refl } ∷ record { name = (codes "P3"); request_type = (codes "A"); enabled = false; run_alone = false; restart = false; job = record { table = (codes "t"); filters = []; group = None; sum = None; warn_over = (Some 0); error_over = (Some 1); few = lit≤ tt }; short = refl } ∷ []);
+  programs = (record { name = (codes "P0"); request_type = (codes "A"); enabled = true; run_alone = false; restart = true; job = record { table = (codes "t"); filters = []; group = None; sum = None; warn_over = (Some 0); error_over = (Some 1); few = lit≤ tt }; post = None; short = refl; sums = refl } ∷ record { name = (codes "P1"); request_type = []; enabled = true; run_alone = false; restart = true; job = record { table = (codes "t"); filters = []; group = (Some (codes "k")); sum = (Some (codes "v")); warn_over = None; error_over = None; few = lit≤ tt }; post = None; short = refl; sums = refl } ∷ record { name = (codes "P2"); request_type = (codes "A"); enabled = true; run_alone = false; restart = true; job = record { table = (codes "t"); filters = []; group = None; sum = None; warn_over = (Some 1); error_over = None; few = lit≤ tt }; post = None; short = refl; sums = refl } ∷ record { name = (codes "P3"); request_type = (codes "A"); enabled = false; run_alone = false; restart = false; job = record { table = (codes "t"); filters = []; group = None; sum = None; warn_over = (Some 0); error_over = (Some 1); few = lit≤ tt }; post = None; short = refl; sums = refl } ∷ []);
   entries = (record { owner = (item.Set 0); other = (item.Set 0); scope = scope.Program; reach = reach.Global } ∷ record { owner = (item.Program 3); other = (item.Set 0); scope = scope.Set; reach = reach.Domain } ∷ []);
   managers = (record { name = (codes "M0"); include = []; exclude = []; shifts = []; few_rules = lit≤ tt; few_shifts = lit≤ tt } ∷ []);
   sets = (record { name = (codes "S0"); stages = (record { name = (codes "s0"); critical = true; links = ((Some 1) ∷ (Some 1) ∷ (Some 1) ∷ []); members = (1 ∷ []); near = refl; some = refl } ∷ record { name = (codes "s1"); critical = false; links = (None ∷ None ∷ None ∷ []); members = (2 ∷ []); near = refl; some = refl } ∷ []); some = refl; forward = refl } ∷ []);
@@ -242,7 +242,7 @@ abbrev c130_setup : Setup
 unfolding texts
 c130_setup = record {
   tables = ((codes "t") ∷ []);
-  programs = (record { name = (codes "P0"); request_type = (codes "A"); enabled = true; run_alone = false; restart = true; job = record { table = (codes "t"); filters = []; group = None; sum = (Some (codes "v")); warn_over = None; error_over = None; few = lit≤ tt }; short = refl } ∷ record { name = (codes "P1"); request_type = (codes "A"); enabled = true; run_alone = false; restart = true; job = record { table = (codes "t"); filters = []; group = (Some (codes "k")); sum = None; warn_over = None; error_over = (Some 0); few = lit≤ tt }; short = refl } ∷ record { name = (codes "P2"); request_type = []; enabled = true; run_alone = true; restart = false; job = record { table = (codes "t"); filters = []; group = None; sum = None; warn_over = None; error_over = (Some 0); few = lit≤ tt }; short = refl } ∷ record { name = (codes "P3"); request_type = (codes "A"); enabled = true; run_alone = true; restart = false; job = record { table = (codes "t"); filters = []; group = None; sum = None; warn_over = (Some 0); error_over = None; few = lit≤ tt }; short = refl } ∷ []);
+  programs = (record { name = (codes "P0"); request_type = (codes "A"); enabled = true; run_alone = false; restart = true; job = record { table = (codes "t"); filters = []; group = None; sum = (Some (codes "v")); warn_over = None; error_over = None; few = lit≤ tt }; post = None; short = refl; sums = refl } ∷ record { name = (codes "P1"); request_type = (codes "A"); enabled = true; run_alone = false; restart = true; job = record { table = (codes "t"); filters = []; group = (Some (codes "k")); sum = None; warn_over = None; error_over = (Some 0); few = lit≤ tt }; post = None; short = refl; sums = refl } ∷ record { name = (codes "P2"); request_type = []; enabled = true; run_alone = true; restart = false; job = record { table = (codes "t"); filters = []; group = None; sum = None; warn_over = None; error_over = (Some 0); few = lit≤ tt }; post = None; short = refl; sums = refl } ∷ record { name = (codes "P3"); request_type = (codes "A"); enabled = true; run_alone = true; restart = false; job = record { table = (codes "t"); filters = []; group = None; sum = None; warn_over = (Some 0); error_over = None; few = lit≤ tt }; post = None; short = refl; sums = refl } ∷ []);
   entries = (record { owner = (item.Program 3); other = (item.Program 0); scope = scope.Set; reach = reach.Domain } ∷ record { owner = (item.Set 1); other = (item.Set 1); scope = scope.Set; reach = reach.Global } ∷ record { owner = (item.Set 1); other = (item.Program 3); scope = scope.Set; reach = reach.Global } ∷ []);
   managers = (record { name = (codes "M0"); include = []; exclude = []; shifts = (record { date = None; days = 0; times = None; places = 2; valid = refl } ∷ []); few_rules = lit≤ tt; few_shifts = lit≤ tt } ∷ []);
   sets = (record { name = (codes "S0"); stages = (record { name = (codes "s0"); critical = false; links = ((Some 2) ∷ (Some 1) ∷ (Some 2) ∷ []); members = (1 ∷ []); near = refl; some = refl } ∷ record { name = (codes "s1"); critical = true; links = ((Some 2) ∷ (Some 2) ∷ (Some 2) ∷ []); members = (3 ∷ []); near = refl; some = refl } ∷ record { name = (codes "s2"); critical = false; links = (None ∷ None ∷ None ∷ []); members = (1 ∷ []); near = refl; some = refl } ∷ []); some = refl; forward = refl } ∷ record { name = (codes "S1"); stages = (record { name = (codes "s0"); critical = true; links = ((Some 1) ∷ None ∷ None ∷ []); members = (3 ∷ []); near = refl; some = refl } ∷ record { name = (codes "s1"); critical = true; links = (None ∷ None ∷ None ∷ []); members = (1 ∷ 0 ∷ []); near = refl; some = refl } ∷ []); some = refl; forward = refl } ∷ []);
@@ -313,7 +313,7 @@ abbrev c84_setup : Setup
 unfolding texts
 c84_setup = record {
   tables = ((codes "t") ∷ []);
-  programs = (record { name = (codes "P0"); request_type = (codes "A"); enabled = true; run_alone = false; restart = true; job = record { table = (codes "t"); filters = []; group = None; sum = (Some (codes "v")); warn_over = None; error_over = None; few = lit≤ tt }; short = refl } ∷ record { name = (codes "P1"); request_type = []; enabled = true; run_alone = false; restart = true; job = record { table = (codes "t"); filters = []; group = None; sum = None; warn_over = (Some 1); error_over = None; few = lit≤ tt }; short = refl } ∷ record { name = (codes "P2"); request_type = []; enabled = true; run_alone = false; restart = true; job = record { table = (codes "t"); filters = []; group = (Some (codes "k")); sum = None; warn_over = None; error_over = None; few = lit≤ tt }; short = refl } ∷ []);
+  programs = (record { name = (codes "P0"); request_type = (codes "A"); enabled = true; run_alone = false; restart = true; job = record { table = (codes "t"); filters = []; group = None; sum = (Some (codes "v")); warn_over = None; error_over = None; few = lit≤ tt }; post = None; short = refl; sums = refl } ∷ record { name = (codes "P1"); request_type = []; enabled = true; run_alone = false; restart = true; job = record { table = (codes "t"); filters = []; group = None; sum = None; warn_over = (Some 1); error_over = None; few = lit≤ tt }; post = None; short = refl; sums = refl } ∷ record { name = (codes "P2"); request_type = []; enabled = true; run_alone = false; restart = true; job = record { table = (codes "t"); filters = []; group = (Some (codes "k")); sum = None; warn_over = None; error_over = None; few = lit≤ tt }; post = None; short = refl; sums = refl } ∷ []);
   entries = (record { owner = (item.Program 0); other = (item.Program 2); scope = scope.Set; reach = reach.Domain } ∷ record { owner = (item.Program 0); other = (item.Program 2); scope = scope.Program; reach = reach.Domain } ∷ []);
   managers = (record { name = (codes "M0"); include = []; exclude = []; shifts = (record { date = None; days = 0; times = None; places = 1; valid = refl } ∷ record { date = None; days = 0; times = (Some (45000, 46800)); places = 3; valid = refl } ∷ []); few_rules = lit≤ tt; few_shifts = lit≤ tt } ∷ record { name = (codes "M1"); include = []; exclude = []; shifts = []; few_rules = lit≤ tt; few_shifts = lit≤ tt } ∷ []);
   sets = (record { name = (codes "S0"); stages = (record { name = (codes "s0"); critical = false; links = (None ∷ (Some 1) ∷ (Some 2) ∷ []); members = (1 ∷ []); near = refl; some = refl } ∷ record { name = (codes "s1"); critical = true; links = ((Some 2) ∷ (Some 2) ∷ (Some 2) ∷ []); members = (0 ∷ []); near = refl; some = refl } ∷ record { name = (codes "s2"); critical = false; links = (None ∷ None ∷ None ∷ []); members = (1 ∷ []); near = refl; some = refl } ∷ []); some = refl; forward = refl } ∷ []);

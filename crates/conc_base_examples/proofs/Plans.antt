@@ -84,7 +84,9 @@ program_over warn_over error_over name = record {
     error_over = error_over;
     few = lit≤ tt;
   };
+  post = None;
   short = no_type;
+  sums = refl;
 }
 
 abbrev pub program : List ℕ → Program

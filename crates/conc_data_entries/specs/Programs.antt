@@ -1,5 +1,5 @@
 -- Programs and their filters, as the tables of a setup file give them.
-use Rattle.std.specs.Prelude.{ℕ, codes, Bool, true, false, List, [], ◌∷◌, Option, Result}
+use Rattle.std.specs.Prelude.{ℕ, codes, Bool, true, false, List, [], ◌∷◌, Option, None, Result, refl}
 use Rattle.toml.specs.Data.{Data, Members, get_member}
 use Rattle.conc_types.specs.declared.kind.RefusalKind.{RefusalKind}
 use Rattle.conc_types.specs.declared.kind.RefusalKind.TheVariants as refused
@@ -87,7 +87,9 @@ to_program parts = record {
   run_alone = parts.1.1.1.0;
   restart = parts.1.1.1.1.0;
   job = parts.1.1.1.1.1;
+  post = None;
   short = parts.1.0.short;
+  sums = refl;
 }
 
 unfoldable pub program_of : Members → Result Program RefusalKind

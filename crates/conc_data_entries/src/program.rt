@@ -159,6 +159,7 @@ fn program_with(
         run_alone,
         restart,
         job,
+        post: None,
     }
 }
 

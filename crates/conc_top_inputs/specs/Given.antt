@@ -117,6 +117,7 @@ IsNext exposed names kind.Script name = HasSetup exposed.files names × (name �
 IsNext exposed names kind.Clock name = HasScript exposed.files names × (names.clock ≡ Some name) × (is_system name ≡ false)
 IsNext exposed names (kind.Table number) name = IsNextTable exposed names number name
 IsNext exposed names kind.Repeats name = ⊥
+IsNext exposed names kind.Parts name = ⊥
 
 -- all files were there and accepted, with these tables
 pub record HasAll (exposed : Exposed) (names : Names) (tables : List Table) : Type 0 where

@@ -26,6 +26,7 @@ HasFault exposed names kind.Script name next bytes fault = script_fault next.0.s
 HasFault exposed names kind.Clock name next bytes fault = clock_fault bytes ≡ Some fault
 HasFault exposed names (kind.Table number) name next bytes fault = fault_of_table (sum_by length next.given.contents) bytes ≡ Some fault
 HasFault exposed names kind.Repeats name next bytes fault = ⊥
+HasFault exposed names kind.Parts name next bytes fault = ⊥
 
 -- all files before were accepted, and the one that was next has this fault
 pub record IsFileRefused (exposed : Exposed) (names : Names) (refusal : Refusal) (name : List ℕ) : Type 0 where

@@ -142,6 +142,7 @@ module _ (files : Files) (before after : ClockState) (names : Names) (accepted :
   file-unrefused (kind.Table number) name next bytes fault given has =
       no-fault (fault_of_table (sum_by length next.given.contents) bytes) fault (table-faultless number name next bytes given) has
   file-unrefused kind.Repeats name next bytes fault given has = absurd has
+  file-unrefused kind.Parts name next bytes fault given has = absurd has
 
   plan-unrefused : (refusal : Refusal) (name : List ℕ) → IsPlanRefused (exposed-of files before after) names refusal name → ⊥
   plan-unrefused refusal name is =

@@ -28,3 +28,7 @@ is_rule program request_type user =
 -- each link, where there is one, is the place of one of 64 stages, from 0
 abbrev pub are_links : List (Option ℕ) → Bool
 are_links links = list_all (none_or (λ place. nat_lt place 64)) links
+
+-- a program that posts has a column that its rows are grouped by, and one that is summed up
+abbrev pub posts_sums : Option (List ℕ) → Option (List ℕ) → Option (List ℕ) → Bool
+posts_sums post group sum = is_none post || (is_some group && is_some sum)

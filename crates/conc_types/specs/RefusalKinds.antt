@@ -29,11 +29,19 @@ number_of refused.TooLarge = 33
 number_of refused.UnknownTable = 40
 number_of refused.UnknownColumn = 41
 number_of refused.TooManyRequests = 42
+number_of refused.BadTarget = 43
+number_of refused.NotExclusive = 44
 number_of refused.NotRepeats = 50
 number_of refused.BadRepeat = 51
 number_of refused.UnknownUnit = 52
 number_of refused.PastEnd = 53
 number_of refused.TooManyCommands = 54
+number_of refused.NotParts = 60
+number_of refused.BadPart = 61
+number_of refused.UnknownPart = 62
+number_of refused.ListedTwice = 63
+number_of refused.NotListed = 64
+number_of refused.Gap = 65
 
 -- the one of two kinds that has the lesser number
 abbrev pub lesser_of : RefusalKind → RefusalKind → RefusalKind

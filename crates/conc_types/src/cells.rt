@@ -1,4 +1,5 @@
-ghost use Rattle.std.specs.Prelude.{◌≡◌, ◌++◌, ◌<◌, ◌∷◌, [], IfOk, OnErr, OnOk, length, option_map, slice_get};
+ghost use Rattle.std.specs.Prelude.{◌≡◌, ◌++◌, ◌<◌, ◌∷◌, [], OnErr, OnOk, length, option_map, slice_get};
+ghost use Rattle.conc_types.specs.Cells.{AreEnds, cut};
 ghost use Rattle.conc_types.specs.Cells as spec;
 
 use crate::NoMemory;
@@ -48,15 +49,13 @@ impl Cells {
         }
     }
 
-    /// No string, and room for so many bytes in so many strings.
-    #[tactic(auto, unfolding(crate::specs::Cells::cut, crate::specs::Cells::AreEnds))]
-    pub fn with_capacity(alloc: Global, bytes: usize, cells: usize) -> Result<Cells, NoMemory>
-        ensures { IfOk result (λ made. made ≡ []) }
+    /// The strings that lie one after the other in these bytes and end at these places. It takes no
+    /// memory.
+    pub fn from_parts(bytes: Vec<u8>, ends: Vec<u32>) -> Cells
+        requires { AreEnds 0 ends (length bytes) }
+        ensures { result ≡ cut 0 ends bytes }
     {
-        Ok(Cells {
-            bytes: Vec::with_capacity(alloc, bytes)?,
-            ends: Vec::with_capacity(alloc, cells)?,
-        })
+        Cells { bytes, ends }
     }
 
     /// Appends a string. Without memory for it, or with more than `u32::MAX` bytes in all, the

@@ -52,6 +52,12 @@ pub enum RefusalKind {
     UnknownColumn = 41,
     /// A command with which there are more requests than a limit allows.
     TooManyRequests = 42,
+    /// A table that a program posts to and that is not one of the setup's, or does not have exactly
+    /// two columns.
+    BadTarget = 43,
+    /// A program that posts to a table which an earlier program, or itself, reads or posts to, or
+    /// that reads what an earlier one posts to, without an entry of type global that names both.
+    NotExclusive = 44,
     /// A record of a file of repeats that does not have nine fields of UTF-8, or a first one that is
     /// not the header.
     NotRepeats = 50,
@@ -64,6 +70,19 @@ pub enum RefusalKind {
     /// A record of a file of repeats with which there are more commands than a script can have, or
     /// such a file of too many bytes.
     TooManyCommands = 54,
+    /// A record of a file of parts that does not have three fields of UTF-8, or a first one that is
+    /// not the header.
+    NotParts = 60,
+    /// A field of such a record that does not have its form, or such a file of too many bytes.
+    BadPart = 61,
+    /// A part's program, set or manager that is not there.
+    UnknownPart = 62,
+    /// A program, a set or a manager that an earlier record lists.
+    ListedTwice = 63,
+    /// A program, a set or a manager that no record lists.
+    NotListed = 64,
+    /// A part's number that no record has, below the greatest.
+    Gap = 65,
 }
 
 impl RefusalKind {

@@ -34,7 +34,7 @@ pub use facts::{Facts, State};
 pub use item::{Entry, Item, Reach, Scope};
 pub use kept::{Amounts, NOT_KEPT, Numbering};
 pub use kind::RefusalKind;
-pub use limits::MOST_REPORT_BYTES;
+pub use limits::{MOST_POSTED_BYTES, MOST_POSTED_ROWS, MOST_REPORT_BYTES};
 pub use manager::{Manager, Rule, Shift};
 pub use name::{Name, is_name};
 pub use plan::{Plan, Req};

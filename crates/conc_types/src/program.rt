@@ -1,4 +1,5 @@
 ghost use Rattle.std.specs.Prelude.{◌≤◌, length, IsTrue};
+ghost use Rattle.conc_types.specs.Fields.{posts_sums};
 ghost use Rattle.conc_types.specs.Texts.{is_text};
 
 use crate::{Name, Seq, Text};
@@ -34,7 +35,8 @@ pub struct Job {
     ghost few: { length filters ≤ 16 },
 }
 
-/// A program. A request of a program with the mark `restart` runs again after a crash.
+/// A program. A request of a program with the mark `restart` runs again after a crash. A program
+/// that posts adds the groups of its report and their sums to a table, which has two columns.
 #[derive(Drop)]
 pub struct Program {
     pub name: Name,
@@ -43,5 +45,7 @@ pub struct Program {
     pub run_alone: bool,
     pub restart: bool,
     pub job: Job,
+    pub post: Option<Name>,
     ghost short: { IsTrue (is_text 80 request_type) },
+    ghost sums: { IsTrue (posts_sums post job.group job.sum) },
 }

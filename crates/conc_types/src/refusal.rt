@@ -8,6 +8,7 @@ pub enum FileKind {
     Clock,
     Table(u32),
     Repeats,
+    Parts,
 }
 
 /// Why a file is refused: the kind of the rule that it breaks, and the line that breaks it.
