@@ -1,5 +1,4 @@
 ghost use Rattle.std.specs.Prelude.{◌≡◌, ◌++◌, ◌<◌, ◌∷◌, [], OnErr, OnOk, length, option_map, slice_get};
-ghost use Rattle.conc_types.specs.Cells.{AreEnds, cut};
 ghost use Rattle.conc_types.specs.Cells as spec;
 
 use crate::NoMemory;
@@ -52,8 +51,8 @@ impl Cells {
     /// The strings that lie one after the other in these bytes and end at these places. It takes no
     /// memory.
     pub fn from_parts(bytes: Vec<u8>, ends: Vec<u32>) -> Cells
-        requires { AreEnds 0 ends (length bytes) }
-        ensures { result ≡ cut 0 ends bytes }
+        requires { spec.AreEnds 0 ends.items (length bytes.items) }
+        ensures { result ≡ spec.cut 0 ends.items bytes.items }
     {
         Cells { bytes, ends }
     }
