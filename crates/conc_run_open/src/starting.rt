@@ -14,7 +14,7 @@ ghost use Rattle.conc_run_open.specs.Starting.{HasOpened, IsOpened, IsRenewed, r
 use conc_data_digests::LazyDigests;
 use conc_disk::{Disk, DiskFault};
 use conc_journal::{Journal, Receipt};
-use conc_types::{Event};
+use conc_types::Event;
 
 // Brings a journal that was begun to version 2, with these stamps, unless it is of that version.
 fn renew<D: Disk>(

@@ -5,11 +5,7 @@ use std::alloc::Global;
 
 // The digest of the setup `s` and the script `ab`.
 fn begun(alloc: Global) -> Result<InputDigest, NoMemory> {
-    Ok(InputDigest::new(
-        alloc,
-        b"s".to_vec(alloc)?,
-        b"ab".to_vec(alloc)?,
-    ))
+    Ok(InputDigest::new(alloc, b"s".to_vec(alloc)?, b"ab".to_vec(alloc)?))
 }
 
 // And of the table `t.csv`, whose bytes are kept.
