@@ -1,3 +1,4 @@
+pub mod Joined
 pub mod Fields
 pub mod Names
 pub mod Rows

@@ -2,6 +2,7 @@
 #![tactic(auto)]
 
 mod columns;
+mod gathered;
 mod reading;
 
 pub use reading::{MOST_ROWS, read_table};

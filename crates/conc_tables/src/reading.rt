@@ -1,16 +1,17 @@
 ghost use Rattle.std.specs.Prelude.{◌≡◌, ◌≤◌, ◌++◌, length, IfErr, IfOk, OnOk, None as no_fault};
-ghost use Rattle.csv.specs.Records.{fields_of};
 ghost use Rattle.conc_types.specs.declared.refusal.FileKind.TheVariants as file;
 ghost use Rattle.conc_types.specs.Faults.{IsFailure};
 ghost use Rattle.conc_types.specs.Pieces.{concat};
+ghost use Rattle.conc_tables.specs.Gathered.{AreWhole, cells_of};
 ghost use Rattle.conc_tables.specs.Rows as spec;
 ghost use Rattle.conc_tables.specs.Rows.{rows_fault};
 ghost use Rattle.conc_tables.specs.Tables.{table_fault, SpellsTable};
 ghost use Rattle.conc_tables.specs.declared.reading.TheConstants.{MOST_ROWS};
 
 use crate::columns::{are_distinct, columns_of};
+use crate::gathered::Gathered;
 use conc_data_records::{ByteRecord, Records};
-use conc_types::{Cells, FileKind, NoMemory, ReadFail, RefusalKind, Table};
+use conc_types::{FileKind, ReadFail, RefusalKind, Table};
 use std::alloc::Global;
 
 /// How many bytes a table's file has at most.
@@ -35,25 +36,18 @@ fn row_fault(width: usize, line: u64, fields: usize) -> Option<RefusalKind>
     }
 }
 
-fn push_fields(cells: &mut Cells, row: &ByteRecord) -> Result<(), NoMemory>
-    ensures { OnOk result (cells.new ≡ cells.old ++ fields_of row.now) }
-{
-    for field in row.iter() {
-        cells.push(field)?;
-    }
-    Ok(())
-}
-
 // Reads the rows that are left into the cells, up to the first with a fault.
 fn read_rows(
     records: &mut Records<'_>,
     row: &mut ByteRecord,
     width: usize,
     number: u32,
-    cells: &mut Cells,
+    cells: &mut Gathered,
 ) -> Result<(), ReadFail>
+    requires whole { AreWhole cells.old }
+    ensures whole { OnOk result (AreWhole cells.new) }
     ensures faultless { OnOk result (rows_fault width 2 records.old ≡ no_fault) }
-    ensures cells { OnOk result (cells.new ≡ cells.old ++ concat records.old) }
+    ensures cells { OnOk result (cells_of cells.new ≡ cells_of cells.old ++ concat records.old) }
     ensures err { IfErr result (IsFailure (file.Table number) (rows_fault width 2 records.old)) }
 {
     let mut line = 2;
@@ -61,7 +55,7 @@ fn read_rows(
         if let Some(kind) = row_fault(width, line, row.len()) {
             return Err(ReadFail::refused(FileKind::Table(number), line, kind));
         }
-        push_fields(cells, row)?;
+        cells.push_row(row)?;
         line += 1;
     }
     Ok(())
@@ -95,7 +89,7 @@ pub fn read_table(alloc: Global, bytes: &[u8], number: u32) -> Result<Table, Rea
         return Err(ReadFail::refused(FileKind::Table(number), 1, RefusalKind::DuplicateColumn));
     }
     let columns = columns_of(alloc, &record)?;
-    let mut cells = Cells::with_capacity(alloc, bytes.len(), 0)?;
+    let mut cells = Gathered::with_capacity(alloc, bytes.len())?;
     read_rows(&mut records, &mut record, columns.len(), number, &mut cells)?;
-    Ok(Table::new(columns, cells))
+    Ok(Table::new(columns, cells.into_cells()))
 }

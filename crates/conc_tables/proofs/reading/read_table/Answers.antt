@@ -30,14 +30,14 @@ returns-in_err-read_rows-clause-err c =
 pub new-requires-clause-whole : goal.new-requires-clause-whole
 new-requires-clause-whole c =
     let faultless = rw (c.len.ensures, c.in_ok-columns.ensures) at c.in_ok-read_rows.ensures.faultless in
-    let cells = rw c.in_ok-cells.ensures at c.in_ok-read_rows.ensures.cells in
+    let cells = c.into_cells.ensures ∙ rw c.in_ok-cells.ensures.none at c.in_ok-read_rows.ensures.cells in
     let some = c.in_ok-read.ensures.fields c.if-not-branch.false in
     rw c.in_ok-columns.ensures (cells-whole _ _ _ some faultless cells).0
 
 pub new-requires-clause-few : goal.new-requires-clause-few
 new-requires-clause-few c =
     let faultless = rw (c.len.ensures, c.in_ok-columns.ensures) at c.in_ok-read_rows.ensures.faultless in
-    let cells = rw c.in_ok-cells.ensures at c.in_ok-read_rows.ensures.cells in
+    let cells = c.into_cells.ensures ∙ rw c.in_ok-cells.ensures.none at c.in_ok-read_rows.ensures.cells in
     let some = c.in_ok-read.ensures.fields c.if-not-branch.false in
     rw c.in_ok-columns.ensures (cells-whole _ _ _ some faultless cells).1
 
@@ -46,7 +46,7 @@ returns-clause-ok c =
     let records = sym c.of_text-records.ensures.all ∙ c.in_ok-read.ensures.some c.if-not-branch.false in
     let distinct = sym c.in_ok-are_distinct.ensures ∙ c.if-not-branch-2.false in
     let faultless = rw (c.len.ensures, c.in_ok-columns.ensures) at c.in_ok-read_rows.ensures.faultless in
-    let cells = rw c.in_ok-cells.ensures at c.in_ok-read_rows.ensures.cells in
+    let cells = c.into_cells.ensures ∙ rw c.in_ok-cells.ensures.none at c.in_ok-read_rows.ensures.cells in
     let even : list_all (has_length (length c.in_ok-columns.columns)) c.read.new.self ≡ true = rw c.in_ok-columns.ensures (rows-even (length (fields_of c.read.new.into)) 2 c.read.new.self faultless) in
     let rows = c.new.ensures.rows c.read.new.self (sym cells) even in
     record {
@@ -57,7 +57,7 @@ returns-clause-ok c =
 pub returns-clause-few : goal.returns-clause-few
 returns-clause-few c =
     let faultless = rw (c.len.ensures, c.in_ok-columns.ensures) at c.in_ok-read_rows.ensures.faultless in
-    let cells = rw c.in_ok-cells.ensures at c.in_ok-read_rows.ensures.cells in
+    let cells = c.into_cells.ensures ∙ rw c.in_ok-cells.ensures.none at c.in_ok-read_rows.ensures.cells in
     let even : list_all (has_length (length c.in_ok-columns.columns)) c.read.new.self ≡ true = rw c.in_ok-columns.ensures (rows-even (length (fields_of c.read.new.into)) 2 c.read.new.self faultless) in
     let rows = c.new.ensures.rows c.read.new.self (sym cells) even in
     let few = rows-few (length (fields_of c.read.new.into)) 2 c.read.new.self (omega arith) faultless in
