@@ -1,5 +1,5 @@
 -- The bytes of a journal in which a life is begun.
-use Rattle.std.proofs.Common.{◌≡◌, ◌⊎◌, inl, inr, ◌<◌, ℕ, List, [], ◌∷◌, length, take, Option, None, Some, Result, Ok, Err, OnOk, is_some, IsTrue, MatchOption, IsSomeAnd, IfSome, refl, sym, ◌∙◌, ap, subst, arith}
+use Rattle.std.proofs.Common.{◌≡◌, inl, inr, ◌<◌, ℕ, List, [], ◌∷◌, length, take, Option, None, Some, Result, Ok, Err, OnOk, is_some, IsTrue, MatchOption, IsSomeAnd, IfSome, refl, sym, subst, arith}
 use Rattle.std.specs.Option.{option_map}
 use Rattle.conc_types.specs.declared.digests.Digests.{Digests}
 use Rattle.conc_types.specs.declared.event.Event.{Event}

@@ -18,7 +18,7 @@ migrate-requires-clause-stamps g c =
 pub returns-then-is_of_version_one-clause-begun_for : goal.returns-then-is_of_version_one-clause-begun_for
 returns-then-is_of_version_one-clause-begun_for g c = λ plan may.
     let one = is-one c.args.journal.now.state (sym c.is_of_version_one.ensures ∙ c.if-is_of_version_one.true) in
-    migrated-for c.migrate.result plan c.args.digests.now one.0 c.args.due.now c.args.journal.now.events.items c.migrate.new.self may.due_are (c.migrate.ensures.migrated one.0 one.1) c.migrate.ensures.list c.migrate.ensures.stamps
+    migrated-for c.migrate.result plan c.args.digests.now one.0 c.args.due.now c.args.journal.now.events.items c.migrate.new.self may.due_are (rw c.base.ensures at (c.migrate.ensures.migrated one.0 one.1)) c.migrate.ensures.list c.migrate.ensures.stamps
 
 pub returns-then-is_of_version_one-clause-survives : goal.returns-then-is_of_version_one-clause-survives
 returns-then-is_of_version_one-clause-survives g c = λ plan may.
@@ -27,9 +27,9 @@ returns-then-is_of_version_one-clause-survives g c = λ plan may.
     let begun = is-begun plan c.args.digests.now journal may.may_start c.requires.begun in
     let named = one-named plan c.args.digests.now journal one.0 begun one.1 one.2 in
     record {
-      survives = migrating-left plan c.args.digests.now one.0 c.args.due.now journal.events.items (g.D.Disk.state c.args.disk.now) (g.D.Disk.state c.migrate.new.disk) one.2 named may.due_are (c.migrate.ensures.survives one.0 one.1);
+      survives = migrating-left plan c.args.digests.now one.0 c.args.due.now journal.events.items (g.D.Disk.state c.args.disk.now) (g.D.Disk.state c.migrate.new.disk) one.2 named may.due_are (rw c.base.ensures at (c.migrate.ensures.survives one.0 one.1));
       now = migrated-now c.migrate.result plan c.args.digests.now one.0 c.args.due.now journal.events.items c.migrate.new.self (g.D.Disk.state c.migrate.new.disk) one.2
-          named may.due_are (c.migrate.ensures.migrated one.0 one.1) (c.migrate.ensures.failed one.0 one.1) c.migrate.ensures.list c.migrate.ensures.stamps c.migrate.ensures.on;
+          named may.due_are (rw c.base.ensures at (c.migrate.ensures.migrated one.0 one.1)) (rw c.base.ensures at (c.migrate.ensures.failed one.0 one.1)) c.migrate.ensures.list c.migrate.ensures.stamps c.migrate.ensures.on;
     }
 
 pub returns-else-is_of_version_one-clause-begun_for : goal.returns-else-is_of_version_one-clause-begun_for
@@ -44,7 +44,7 @@ returns-else-is_of_version_one-clause-survives g c = λ plan may. record {
 pub returns-then-is_of_version_one-clause-version : goal.returns-then-is_of_version_one-clause-version
 returns-then-is_of_version_one-clause-version g c =
     let one = is-one c.args.journal.now.state (sym c.is_of_version_one.ensures ∙ c.if-is_of_version_one.true) in
-    migrated-two c.migrate.result one.0 (take 15 c.args.digests.now.base) c.migrate.new.self (c.migrate.ensures.migrated one.0 one.1)
+    migrated-two c.migrate.result one.0 (take 15 c.args.digests.now.base) c.migrate.new.self (rw c.base.ensures at (c.migrate.ensures.migrated one.0 one.1))
 
 pub returns-else-is_of_version_one-clause-version : goal.returns-else-is_of_version_one-clause-version
 returns-else-is_of_version_one-clause-version g c =
@@ -53,7 +53,7 @@ returns-else-is_of_version_one-clause-version g c =
 
 pub returns-then-is_of_version_one-clause-written : goal.returns-then-is_of_version_one-clause-written
 returns-then-is_of_version_one-clause-written g c = λ plan may.
-    migrated-renewed c.migrate.result plan c.args.digests.now c.args.journal.now.events.items c.args.due.now (g.D.Disk.state c.args.disk.now) (g.D.Disk.state c.migrate.new.disk) may.due_are c.migrate.ensures.written
+    migrated-renewed c.migrate.result plan c.args.digests.now c.args.journal.now.events.items c.args.due.now (g.D.Disk.state c.args.disk.now) (g.D.Disk.state c.migrate.new.disk) may.due_are (rw c.base.ensures at c.migrate.ensures.written)
 
 pub returns-else-is_of_version_one-clause-written : goal.returns-else-is_of_version_one-clause-written
 returns-else-is_of_version_one-clause-written g c = λ plan may. still-renewed plan c.args.digests.now c.args.journal.now.events.items (g.D.Disk.state c.args.disk.now)

@@ -17,20 +17,20 @@ begin-requires-clause-state g c = let may = c.requires.may in unbegun may.0 c.ar
 
 pub returns-in_err-begin-clause-survives : goal.returns-in_err-begin-clause-survives
 returns-in_err-begin-clause-survives g c = λ plan may. record {
-  survives = header-left plan c.args.digests.now c.args.journal.now.events.items (g.D.Disk.state c.args.disk.now) (g.D.Disk.state c.begin.new.disk) (sym c.begin.ensures.list ∙ c.begin.ensures.empty) c.begin.ensures.survives;
+  survives = header-left plan c.args.digests.now c.args.journal.now.events.items (g.D.Disk.state c.args.disk.now) (g.D.Disk.state c.begin.new.disk) (sym c.begin.ensures.list ∙ c.begin.ensures.empty) (rw c.both.ensures at c.begin.ensures.survives);
   now = header-now c.begin.result plan c.args.digests.now c.args.journal.now.events.items c.begin.new.self.events.items c.begin.new.self.stamps.items c.begin.new.self.state (g.D.Disk.state c.begin.new.disk)
-      c.begin.ensures.begun c.begin.ensures.failed c.begin.ensures.list c.begin.ensures.empty c.begin.ensures.stamps c.begin.ensures.on;
+      (rw c.both.ensures at c.begin.ensures.begun) (rw c.both.ensures at c.begin.ensures.failed) c.begin.ensures.list c.begin.ensures.empty c.begin.ensures.stamps c.begin.ensures.on;
 }
 
 pub returns-then-not-takes_events-clause-begun_for : goal.returns-then-not-takes_events-clause-begun_for
 returns-then-not-takes_events-clause-begun_for g c = λ plan may.
-    header-begun-for plan c.args.digests.now c.begin.new.self c.in_ok-begin.ensures.begun c.begin.ensures.empty c.begin.ensures.stamps
+    header-begun-for plan c.args.digests.now c.begin.new.self (rw c.both.ensures at c.in_ok-begin.ensures.begun) c.begin.ensures.empty c.begin.ensures.stamps
 
 pub returns-then-not-takes_events-clause-survives : goal.returns-then-not-takes_events-clause-survives
 returns-then-not-takes_events-clause-survives g c = λ plan may. record {
-  survives = header-left plan c.args.digests.now c.args.journal.now.events.items (g.D.Disk.state c.args.disk.now) (g.D.Disk.state c.begin.new.disk) (sym c.begin.ensures.list ∙ c.begin.ensures.empty) c.begin.ensures.survives;
+  survives = header-left plan c.args.digests.now c.args.journal.now.events.items (g.D.Disk.state c.args.disk.now) (g.D.Disk.state c.begin.new.disk) (sym c.begin.ensures.list ∙ c.begin.ensures.empty) (rw c.both.ensures at c.begin.ensures.survives);
   now = header-now c.begin.result plan c.args.digests.now c.args.journal.now.events.items c.begin.new.self.events.items c.begin.new.self.stamps.items c.begin.new.self.state (g.D.Disk.state c.begin.new.disk)
-      c.begin.ensures.begun c.begin.ensures.failed c.begin.ensures.list c.begin.ensures.empty c.begin.ensures.stamps c.begin.ensures.on;
+      (rw c.both.ensures at c.begin.ensures.begun) (rw c.both.ensures at c.begin.ensures.failed) c.begin.ensures.list c.begin.ensures.empty c.begin.ensures.stamps c.begin.ensures.on;
 }
 
 pub returns-in_err-renew-clause-survives : goal.returns-in_err-renew-clause-survives
@@ -65,7 +65,7 @@ pub returns-clause-opened : goal.returns-clause-opened
 returns-clause-opened g c = opened-same c.resume.result c.args.journal.now c.renew.new.journal c.resume.new.journal c.renew.ensures.list c.renew.ensures.room c.resume.ensures.opened
 
 pub returns-then-not-takes_events-clause-version : goal.returns-then-not-takes_events-clause-version
-returns-then-not-takes_events-clause-version g c = version-two c.begin.new.self (label_for c.args.digests.now) c.in_ok-begin.ensures.begun refl
+returns-then-not-takes_events-clause-version g c = version-two c.begin.new.self (label_for c.args.digests.now) (rw c.both.ensures at c.in_ok-begin.ensures.begun) refl
 
 pub returns-clause-version : goal.returns-clause-version
 returns-clause-version g c = c.resume.ensures.version c.in_ok-renew.ensures.version
@@ -76,7 +76,7 @@ pub returns-then-not-takes_events-clause-written : goal.returns-then-not-takes_e
 returns-then-not-takes_events-clause-written g c = λ plan may.
     header-opens plan c.args.digests.now c.args.journal.now (g.D.Disk.state c.args.disk.now) (g.D.Disk.state c.begin.new.disk)
     (unbegun plan c.args.digests.now c.args.journal.now may.may_start (sym c.takes_events.ensures ∙ c.if-not-takes_events.true)) c.requires.on (g.met.D.Disk.seen_is_left c.args.disk.now)
-    c.in_ok-begin.ensures.written c.begin.ensures.survives.exposes
+    (rw c.both.ensures at c.in_ok-begin.ensures.written) c.begin.ensures.survives.exposes
 
 pub returns-clause-written : goal.returns-clause-written
 returns-clause-written g c = λ plan may.
