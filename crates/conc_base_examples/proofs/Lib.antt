@@ -17,3 +17,9 @@ pub mod OracleWalks
 pub mod OracleRules
 pub mod OracleReports
 pub mod Steady
+pub mod PostedPlans
+pub mod Postings
+pub mod PostedEnds
+pub mod PostedRows
+pub mod PostedLimits
+pub mod PostingSetups

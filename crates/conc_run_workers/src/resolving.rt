@@ -17,7 +17,7 @@ use std::hint;
 use std::sync::Wait;
 
 // How often the resolver looks at the places before it sleeps.
-const LOOKS: u32 = 64;
+const LOOKS: u32 = 1_024;
 
 /// What the resolver keeps beside its desk, so that hands and it find work at once.
 #[derive(Drop)]

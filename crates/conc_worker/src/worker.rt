@@ -14,7 +14,7 @@ use std::hint;
 use std::sync::Wait;
 
 // How often a hand that does nothing looks into the lanes before it looks at all requests, and sleeps.
-const LOOKS: u32 = 64;
+const LOOKS: u32 = 1_024;
 
 // How often a hand that waits looks for the answer to its claim before it sleeps. A look reads one word.
 const POLLS: u32 = 64;

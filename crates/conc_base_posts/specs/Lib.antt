@@ -1,0 +1,8 @@
+pub mod Targets
+pub mod Posts
+pub mod Positions
+pub mod Ends
+pub mod Alone
+pub mod Laws
+pub mod StandLaws
+pub mod AloneLaws
