@@ -20,3 +20,4 @@ pub mod LastReport
 pub mod TwoCells
 pub mod Within
 pub mod WholeTables
+pub mod EndsNow

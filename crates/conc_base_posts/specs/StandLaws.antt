@@ -1,17 +1,23 @@
 -- The laws of posted rows in lawful histories of a plan whose postings are apart: what stands still between a start and its end.
-use Rattle.std.specs.Prelude.{◌≡◌, ℕ, ◌≤◌, List, ◌++◌, length, reverse, take, Some}
+use Rattle.std.specs.Prelude.{◌≡◌, ℕ, ◌≤◌, List, [], ◌∷◌, ◌++◌, length, reverse, take, Option, Some}
+use Rattle.std.specs.Option.{option_and_then}
 use Rattle.conc_types.specs.declared.event.Event.{Event}
+use Rattle.conc_types.specs.declared.event.Event.TheVariants as event
+use Rattle.conc_types.specs.declared.event.Extent.{Extent}
+use Rattle.conc_types.specs.declared.event.Outcome.{Outcome}
+use Rattle.conc_types.specs.declared.event.RequestId.{RequestId}
 use Rattle.conc_types.specs.declared.limits.TheConstants.{MOST_POSTED_BYTES, MOST_POSTED_ROWS}
 use Rattle.conc_types.specs.declared.plan.Plan.{Plan}
 use Rattle.conc_types.specs.declared.plan.Req.{Req}
 use Rattle.conc_types.specs.declared.program.Program.{Program}
 use Rattle.conc_types.specs.declared.table.Table.{Table}
+use Rattle.conc_types.specs.Plans.{request}
 use Rattle.conc_types.specs.Tables.{table_named}
 use Rattle.conc_base_law.specs.Law.{LawfulSoFar}
 use Rattle.conc_base_law.specs.Overlap.{IsInterval}
 use Rattle.conc_base_law.specs.Plans.{program_of}
 use Rattle.conc_base_law.specs.Words.{Has}
-use Rattle.conc_base_posts.specs.Positions.{posts_after, report_after, table_after}
+use Rattle.conc_base_posts.specs.Positions.{added, last_report, posts_after, report_after, table_after}
 use Rattle.conc_base_posts.specs.Posts.{bytes_of, posted}
 use Rattle.conc_base_posts.specs.Targets.{ArePostsApart}
 
@@ -57,3 +63,18 @@ TablesHaveAll =
     (plan : Plan) (history : List Event) (name : List ℕ) (table : Table) → ArePostsApart plan → LawfulSoFar plan history
     → table_named plan.setup plan.tables name ≡ Some table
     → (whole : Table) × (table_after plan (reverse history) name ≡ Some whole) × HasAll table whole (posted name (posts_after plan (reverse history)))
+
+-- so an end tells what its request would report now, in place of what it reported at its last start
+abbrev pub EndsTellTheirReports : Type 0
+EndsTellTheirReports =
+    (plan : Plan) (history : List Event) (id : RequestId) (o : Outcome) (x : Option Extent) → ArePostsApart plan
+    → LawfulSoFar plan (history ++ event.Ended id o x ∷ [])
+    → last_report plan (reverse history) id ≡ option_and_then (report_after plan (reverse history)) (request plan id)
+
+-- and posts the rows of that report
+abbrev pub EndsPostTheirRows : Type 0
+EndsPostTheirRows =
+    (plan : Plan) (history : List Event) (id : RequestId) (o : Outcome) (x : Option Extent) → ArePostsApart plan
+    → LawfulSoFar plan (history ++ event.Ended id o x ∷ [])
+    → posts_after plan (event.Ended id o x ∷ reverse history)
+    ≡ posts_after plan (reverse history) ++ added plan id o (option_and_then (report_after plan (reverse history)) (request plan id))

@@ -13,7 +13,10 @@ pub use alone::{
     choice_is_lawful,
 };
 pub use grown::grown_books_are_same;
-pub use standing::{posts_stay_within, reports_stand_still, tables_have_all, tables_stand_still};
+pub use standing::{
+    ends_post_their_rows, ends_tell_their_reports, posts_stay_within, reports_stand_still,
+    tables_have_all, tables_stand_still,
+};
 
 /// An end adds the rows of its own report at its last start, and no other event adds any. The
 /// report at a start is made over the tables as they stand before it.
