@@ -1,4 +1,4 @@
--- An end tells and posts what its request would report now.
+-- Where a request ends, it posts what it would report now.
 use Rattle.std.proofs.Common.{◌≡◌, List, ◌∷◌, ◌++◌, Option, None, Some, true, refl, sym, ◌∙◌, ap, subst, eq-eqb}
 use Rattle.std.specs.Option.{option_and_then}
 use Rattle.std.proofs.lemmas.Bool.{and_parts}
@@ -43,7 +43,7 @@ nothing-last plan past id o is none = last-made plan past id ∙ by (before_star
   by None = refl
   by (Some b) = reports b
 
--- behind a lawful history a request that may end tells what it would report now
+-- behind a lawful history a request that may end would report now what it reported at its last start
 pub tells-now : (plan : Plan) (past : List Event) (id : RequestId) (o : Outcome) (x : Option Extent) → ArePostsApart plan
     → is_lawful_so_far plan (event.Ended id o x ∷ past) ≡ true
     → last_report plan past id ≡ option_and_then (report_after plan past) (request plan id)

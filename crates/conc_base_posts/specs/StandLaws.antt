@@ -64,14 +64,14 @@ TablesHaveAll =
     → table_named plan.setup plan.tables name ≡ Some table
     → (whole : Table) × (table_after plan (reverse history) name ≡ Some whole) × HasAll table whole (posted name (posts_after plan (reverse history)))
 
--- so an end tells what its request would report now, in place of what it reported at its last start
-abbrev pub EndsTellTheirReports : Type 0
-EndsTellTheirReports =
+-- so where a request ends, the report at its last start is the one that it would make now
+abbrev pub LastReportsStand : Type 0
+LastReportsStand =
     (plan : Plan) (history : List Event) (id : RequestId) (o : Outcome) (x : Option Extent) → ArePostsApart plan
     → LawfulSoFar plan (history ++ event.Ended id o x ∷ [])
     → last_report plan (reverse history) id ≡ option_and_then (report_after plan (reverse history)) (request plan id)
 
--- and posts the rows of that report
+-- and an end posts the rows of that report
 abbrev pub EndsPostTheirRows : Type 0
 EndsPostTheirRows =
     (plan : Plan) (history : List Event) (id : RequestId) (o : Outcome) (x : Option Extent) → ArePostsApart plan

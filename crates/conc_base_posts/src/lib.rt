@@ -14,7 +14,7 @@ pub use alone::{
 };
 pub use grown::grown_books_are_same;
 pub use standing::{
-    ends_post_their_rows, ends_tell_their_reports, posts_stay_within, reports_stand_still,
+    ends_post_their_rows, last_reports_stand, posts_stay_within, reports_stand_still,
     tables_have_all, tables_stand_still,
 };
 

@@ -1,5 +1,5 @@
 //! What stands still between a start and its end, where the postings of a plan are apart.
-ghost use Rattle.conc_base_posts.specs.StandLaws.{EndsPostTheirRows, EndsTellTheirReports, PostsStayWithin, ReportsStandStill, TablesHaveAll, TablesStandStill};
+ghost use Rattle.conc_base_posts.specs.StandLaws.{EndsPostTheirRows, LastReportsStand, PostsStayWithin, ReportsStandStill, TablesHaveAll, TablesStandStill};
 
 /// While a request of a program runs, the table that it reads and the one to which it posts stay as
 /// they are.
@@ -22,9 +22,9 @@ pub fn tables_have_all()
     ensures { TablesHaveAll }
 {}
 
-/// An end tells what its request would report now.
-pub fn ends_tell_their_reports()
-    ensures { EndsTellTheirReports }
+/// Where a request ends, the report at its last start is the one that it would make now.
+pub fn last_reports_stand()
+    ensures { LastReportsStand }
 {}
 
 /// An end with outcome Normal or Warning posts the rows that its request would post now.
