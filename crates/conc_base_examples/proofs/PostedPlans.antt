@@ -135,7 +135,7 @@ plan_over setup tables commands fits = record {
 
 -- ---- runs without workers, where programs post
 
--- what such a run makes of these events, which are given with the latest first, in at most so many steps
+-- the events, latest first, after at most this many steps of such a run
 abbrev pub made : Plan → List Reading → ℕ → List Event → List Event
 made plan readings zero past = past
 made plan readings (suc n) past = made plan readings n (computed.added (next_alone plan readings past) past)

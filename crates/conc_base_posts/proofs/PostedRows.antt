@@ -68,7 +68,7 @@ pub record PostsTo (plan : Plan) (table : List ℕ) (id : RequestId) : Type 0 wh
   pub is_program : program_of plan req ≡ Some program
   pub is_target : program.post ≡ Some table
 
--- a number with a target is that of such a request
+-- an id that has a target names such a request
 pub target-posts : (plan : Plan) (table : List ℕ) (id : RequestId) → target_of plan id ≡ Some table → PostsTo plan table id
 unfolding target_of
 target-posts plan table id h =

@@ -30,7 +30,7 @@ is_posted_to setup table = list_any (posts_to table) setup.programs
 unfoldable pub touches_posts : Setup → Program → Bool
 touches_posts setup program = is_some program.post || is_posted_to setup program.job.table
 
--- r is a request of such a program
+-- the request's program touches postings
 unfoldable pub is_book_request : Plan → Req → Bool
 is_book_request plan r = some_and (touches_posts plan.setup) (program_of plan r)
 
