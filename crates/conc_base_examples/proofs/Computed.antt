@@ -39,7 +39,7 @@ abbrev pub added : Option Event → List Event → List Event
 added None past = past
 added (Some e) past = e ∷ past
 
--- what a run without workers makes of these events, which are given with the latest first, in at most so many steps
+-- the events, latest first, after at most this many steps of a run without workers
 abbrev pub made : Plan → List Reading → ℕ → List Event → List Event
 made plan readings zero past = past
 made plan readings (suc n) past = made plan readings n (added (next_alone plan readings past) past)
